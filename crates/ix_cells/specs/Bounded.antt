@@ -1,0 +1,29 @@
+-- A bounded list: items in order, and a capacity that their number does not pass.
+use Rattle.std.specs.Prelude.{◌≡◌, ℕ, ◌≤◌, List, [], length, refl}
+use Rattle.std.specs.Coded.{Coded, code_by, coded×, coded_ℕ, coded_list}
+
+pub record Bounded (T : Type 0) : Type 0 where
+  pub items : List T
+  pub capacity : ℕ
+
+-- a bounded list is stored as the pair of its parts
+abbrev pub bounded_code : {T : Type 0} → Coded T → Coded (Bounded T)
+bounded_code {T} code =
+    code_by (List T × ℕ) (coded× (coded_list code) coded_ℕ) (λ b. (b.items, b.capacity)) (λ p. record { items = p.0; capacity = p.1 }) (λ _. refl)
+
+module _ {T : Type 0} where
+  -- there are no more items than the capacity
+  abbrev pub IsWithin : Bounded T → Type 0
+  IsWithin b = length b.items ≤ b.capacity
+
+  -- there are as many items as the capacity
+  abbrev pub IsFull : Bounded T → Type 0
+  IsFull b = length b.items ≡ b.capacity
+
+  -- no item yet
+  abbrev pub empty_of : ℕ → Bounded T
+  empty_of capacity = record { items = []; capacity = capacity }
+
+  -- other items under the same capacity
+  abbrev pub with_items : Bounded T → List T → Bounded T
+  with_items b items = record { items = items; capacity = b.capacity }

@@ -1,0 +1,19 @@
+-- What a table is once a `&mut` to one of its items ends.
+use Rattle.std.specs.Prelude.{ℕ, Option, Some}
+use Rattle.std.specs.contracts.option.Option as option
+use Rattle.std.specs.Borrow.{Fml, RattleType, MutBor, Lends, unit}
+use Rattle.arrayvec.specs.ArrayVec.{ArrayVec, with_item as with_element}
+use Rattle.arrayvec.specs.contracts.array_vec.ArrayVec as array_vec
+
+-- the table is as it was, with the last value behind r at place i
+abbrev pub lends_place : (S T : RattleType) → (S.Denot → ℕ → T.Denot → S.Denot) → MutBor S.Denot → ℕ → MutBor T.Denot → Fml
+lends_place S T with_item s i r = Lends S T s r (with_item s.now i)
+
+-- the place holds the last value behind r
+abbrev pub lends_item : (T : RattleType) → MutBor (Option T.Denot) → MutBor T.Denot → Fml
+lends_item T s r = Lends (option.the_row T) T s r Some
+
+-- the row is as it was, with the last value behind r as its place i
+abbrev pub lends_inline_place : (T CAP : RattleType) → MutBor (ArrayVec (Option T.Denot)) → ℕ → MutBor (Option T.Denot) → Fml
+lends_inline_place T CAP s i r =
+    Lends (array_vec.the_row (option.the_row T) CAP unit) (option.the_row T) s r (with_element s.now i)

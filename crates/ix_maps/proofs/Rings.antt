@@ -1,0 +1,307 @@
+-- What a step on a place of a ring does to the items.
+use Rattle.std.proofs.Common.{◌≡◌, ℕ, zero, suc, ◌+◌, ◌-◌, ◌<◌, ◌≤◌, ◌≢◌, inl, inr, List, [], ◌∷◌, ◌++◌, length, take, drop, set, map, slice_get, true, Option, Some, None, IsSome, refl, sym, ap, ap₂, ◌∙◌, subst, arith}
+use Rattle.std.specs.Prelude.{replicate, if◌then◌else◌}
+use Rattle.std.proofs.lemmas.Bool.{cases_lt, cases_eq}
+use Rattle.std.proofs.lemmas.Bool.Decides.{nat_tests}
+use Rattle.std.proofs.lemmas.List.{append-nil, append_assoc, length-append, length-drop, length-map, length-replicate, length-set, drop-append-le, drop-drop, drop-set-add, drop-set-lt, drop_all, take-set-le, take_all, take_more_set, set-append_left, set-append_right, set-set, set_at, get_or-append_right, get_or-drop, get_or-replicate, get_or-take, get_or_append_left, map_push, replicate_more, take_at, drop_at, take-append-drop, take-replicate, drop-replicate, replicate-append-replicate}
+use Rattle.std.proofs.Math.Seq.{take-set-lt}
+use Rattle.ix_cells.specs.Bounded.{Bounded, empty_of, with_items}
+use Rattle.ix_cells.specs.Places.{place_at, IsEmptyAt, IsHeldAt, IsVacant}
+use Rattle.ix_maps.specs.QueueSteps.{appended, is_too_long, overflowed, popped}
+use Rattle.ix_maps.specs.Ring.{place_behind, next_place, turned, held_items, IsRingOf, IsRing}
+
+-- a place before the row's end
+behind_low : (start i capacity : ℕ) → i < capacity - start → place_behind start i capacity ≡ start + i
+behind_low start i capacity low = grind (arith, nat_tests)
+
+-- a place round past the row's end
+behind_high : (start i capacity : ℕ) → capacity - start ≤ i → place_behind start i capacity ≡ i - (capacity - start)
+behind_high start i capacity high = grind (arith, nat_tests)
+
+-- a place behind another is one of the row
+behind_within : (start i capacity : ℕ) → start ≤ capacity → i < capacity → place_behind start i capacity < capacity
+behind_within start i capacity within below = grind (arith, nat_tests)
+
+-- so is the next one
+next_within : (place capacity : ℕ) → place < capacity → next_place place capacity < capacity
+next_within place capacity below = grind (arith, nat_tests)
+
+module _ {T : Type 0} where
+  -- place i behind start holds what place i of the turned row holds
+  turned_at : (row : List (Option T)) (start i : ℕ) → start ≤ length row → i < length row → place_at row (place_behind start i (length row)) ≡ place_at (turned row start) i
+  turned_at row start i within below =
+      let len = length-drop start row in elim (cases_lt i (length row - start)) [
+        | inl low ↦ ap (place_at row) (behind_low start i _ low) ∙ sym (get_or_append_left (drop start row) _ None i (omega arith) ∙ get_or-drop start row i None)
+        | inr high ↦ ap (place_at row) (behind_high start i _ high) ∙ sym (get_or-append_right (drop start row) _ _ i None len high ∙ get_or-take start row _ None (omega arith))
+      ]
+
+  -- to set the one is to set the other
+  turned_set : (row : List (Option T)) (start i : ℕ) (v : Option T) → start ≤ length row → i < length row → turned (set row (place_behind start i (length row)) v) start ≡ set (turned row start) i v
+  turned_set row start i v within below =
+      let len = length-drop start row in elim (cases_lt i (length row - start)) [
+        | inl low ↦
+            ap (λ p. turned (set row p v) start) (behind_low start i _ low)
+            ∙ ap₂ ◌++◌ (drop-set-add start row i v) (take-set-le start row (start + i) v (omega arith))
+            ∙ sym (set-append_left (drop start row) _ i v (omega arith))
+        | inr high ↦
+            ap (λ p. turned (set row p v) start) (behind_high start i _ high)
+            ∙ ap₂ ◌++◌ (drop-set-lt start row _ v (omega arith)) (take-set-lt start row _ v (omega arith))
+            ∙ sym (set-append_right (drop start row) _ _ i v len high)
+      ]
+
+  -- a row turned to the next place
+  turned_on : (row : List (Option T)) (place : ℕ) → place < length row → turned row (next_place place (length row)) ≡ turned row (place + 1)
+  turned_on row place below = elim (cases_eq (place + 1) (length row)) [
+    | inl last ↦
+        let first : next_place place (length row) ≡ 0 = grind (arith, nat_tests) in
+        ap (turned row) first ∙ append-nil row ∙ sym (ap₂ ◌++◌ (drop_all (place + 1) row (omega arith)) (take_all (place + 1) row (omega arith)))
+    | inr other ↦
+        let next : next_place place (length row) ≡ place + 1 = grind (arith, nat_tests) in
+        ap (turned row) next
+  ]
+
+  -- a turned row but for its first place
+  turned_rest : (row : List (Option T)) (start : ℕ) → start < length row → drop 1 (turned row start) ≡ drop (start + 1) row ++ take start row
+  turned_rest row start below =
+      drop-append-le 1 (drop start row) _ (omega (arith, length-drop start row)) ∙ ap (λ r. r ++ take start row) (drop-drop 1 start row)
+
+  -- that place is set, and goes behind the others
+  turned_next : (row : List (Option T)) (start : ℕ) (v : Option T) → start < length row → turned (set row start v) (next_place start (length row)) ≡ drop 1 (turned row start) ++ v ∷ []
+  turned_next row start v below =
+      let rows = length-set row start v in
+      ap (λ capacity. turned (set row start v) (next_place start capacity)) (sym rows)
+      ∙ turned_on (set row start v) start (omega arith)
+      ∙ ap₂ ◌++◌ (drop-set-lt (start + 1) row start v (omega arith)) (take_more_set row start v below)
+      ∙ sym (append_assoc (drop (start + 1) row) _ _)
+      ∙ ap (λ r. r ++ v ∷ []) (sym (turned_rest row start below))
+
+  -- a row is empty if the turned one is
+  turned_vacant : (row : List (Option T)) (start capacity : ℕ) → start ≤ capacity → length (drop start row) ≡ capacity - start → turned row start ≡ replicate capacity None → row ≡ replicate capacity None
+  turned_vacant row start capacity within rest vacant =
+      sym (take-append-drop start row)
+      ∙ ap₂ ◌++◌ (sym (drop_at (drop start row) _ _ rest) ∙ ap (drop (capacity - start)) vacant) (sym (take_at _ (take start row) _ rest) ∙ ap (take (capacity - start)) vacant)
+      ∙ ap₂ ◌++◌ (drop-replicate (capacity - start) capacity None) (take-replicate (capacity - start) capacity None (omega arith))
+      ∙ replicate-append-replicate _ _ None
+      ∙ ap (λ k. replicate k None) (omega arith)
+
+  -- items, and empty places behind them, up to the capacity
+  abbrev filled : List T → ℕ → List (Option T)
+  filled items capacity = map Some items ++ replicate (capacity - length items) None
+
+  -- the items there
+  held_filled : (items : List T) (empty : ℕ) → held_items (map Some items ++ replicate empty None) ≡ items
+  held_filled [] zero = refl
+  held_filled [] (suc empty) = held_filled [] empty
+  held_filled (x ∷ items) empty = ap (λ r. x ∷ r) (held_filled items empty)
+
+  -- what place i holds where each place holds an item
+  read_map : (items : List T) (i : ℕ) → place_at (map Some items) i ≡ slice_get items i
+  read_map [] i = refl
+  read_map (x ∷ items) zero = refl
+  read_map (x ∷ items) (suc i) = read_map items i
+
+  -- the same where empty places stand behind them
+  read_filled : (items : List T) (capacity i : ℕ) → i < length items → place_at (filled items capacity) i ≡ slice_get items i
+  read_filled items capacity i below = get_or_append_left (map Some items) _ None i (omega (arith, length-map items Some)) ∙ read_map items i
+
+  -- the place behind the items is empty
+  free_filled : (items : List T) (capacity : ℕ) → length items < capacity → place_at (filled items capacity) (length items) ≡ None
+  free_filled items capacity room =
+      get_or-append_right (map Some items) _ _ (length items) None (length-map items Some) (omega arith) ∙ get_or-replicate (capacity - length items) _ None None (omega arith)
+
+  -- an item is put at that place
+  filled_more : (items : List T) (capacity : ℕ) (x : T) → length items < capacity → set (filled items capacity) (length items) (Some x) ≡ filled (appended items x) capacity
+  filled_more items capacity x room =
+      let more = length-append items (x ∷ []) in
+      let left : capacity - length items ≡ suc (capacity - suc (length items)) = omega arith in
+      ap (λ k. set (map Some items ++ replicate k None) (length items) (Some x)) left
+      ∙ set_at (map Some items) None _ (Some x) _ (length-map items Some)
+      ∙ sym (append_assoc (map Some items) (Some x ∷ []) _)
+      ∙ ap₂ (λ r k. r ++ replicate k None) (sym (map_push Some items x)) (omega arith)
+
+  -- the first item left, and an empty place came behind the others
+  filled_less : (items : List T) (capacity : ℕ) → 0 < length items → length items ≤ capacity → drop 1 (filled items capacity) ++ None ∷ [] ≡ filled (drop 1 items) capacity
+  filled_less [] capacity some fits = absurd (omega arith)
+  filled_less (x ∷ items) capacity some fits =
+      append_assoc (map Some items) _ _ ∙ ap (λ r. map Some items ++ r) (replicate_more _ None) ∙ ap (λ k. map Some items ++ replicate k None) (omega arith)
+
+  -- the first item left, and another one came behind the others
+  filled_over : (items : List T) (capacity : ℕ) (y : T) → 0 < length items → length items ≡ capacity → drop 1 (filled items capacity) ++ Some y ∷ [] ≡ filled (drop 1 (appended items y)) capacity
+  filled_over [] capacity y some full = absurd (omega arith)
+  filled_over (x ∷ items) capacity y some full =
+      let more = length-append items (y ∷ []) in
+      let none : capacity - suc (length items) ≡ 0 = omega arith in
+      ap (λ k. (map Some items ++ replicate k None) ++ Some y ∷ []) none
+      ∙ ap (λ r. r ++ Some y ∷ []) (append-nil (map Some items))
+      ∙ sym (map_push Some items y)
+      ∙ sym (append-nil _)
+      ∙ ap (λ k. map Some (items ++ y ∷ []) ++ replicate k None) {x = 0} (omega arith)
+
+  -- there is an item at each place of a list
+  item_there : (items : List T) (i : ℕ) → i < length items → IsSome (slice_get items i)
+  item_there [] i below = absurd (omega arith)
+  item_there (x ∷ items) zero below = refl
+  item_there (x ∷ items) (suc i) below = item_there items i (omega arith)
+
+  -- a row that is sound as a ring, and in which contracts see this list
+  pub record Shows (list : Bounded T) (row : List (Option T)) (start len : ℕ) : Type 0 where
+    pub sound : IsRing row start len
+    pub is : (let seen : Bounded T = record { items = held_items (turned row start); capacity = length row } in seen) ≡ list
+
+  -- what holds of such a row
+  record Facts (list : Bounded T) (row : List (Option T)) (start len : ℕ) : Type 0 where
+    ring : IsRingOf list.items row start
+    rows : length row ≡ list.capacity
+    counted : len ≡ length list.items
+
+  -- it holds
+  opened : (list : Bounded T) (row : List (Option T)) (start len : ℕ) → Shows list row start len → Facts list row start len
+  opened list row start len shows = record {
+    ring = subst (λ (b : Bounded T). IsRingOf b.items row start) shows.is shows.sound.ring;
+    rows = ap (λ (b : Bounded T). b.capacity) shows.is;
+    counted = shows.sound.counted ∙ ap (λ (b : Bounded T). length b.items) shows.is;
+  }
+
+  -- it is enough, also at an equal row and start
+  closed : (list : Bounded T) (row row' : List (Option T)) (start start' len : ℕ) → row' ≡ row → start' ≡ start → Facts list row start len → Shows list row' start' len
+  closed list row row' start start' len same_row same_start facts =
+      let held : held_items (turned row start) ≡ list.items = ap held_items facts.ring.in_turn ∙ held_filled list.items _ in
+      subst (λ r. Shows list r start' len) (sym same_row) (subst (λ s. Shows list row s len) (sym same_start) (record {
+        sound = record {
+          ring = subst (λ items. IsRingOf items row start) (sym held) facts.ring;
+          counted = facts.counted ∙ ap length (sym held);
+        };
+        is = ap₂ (λ items capacity. let b : Bounded T = record { items = items; capacity = capacity } in b) held facts.rows;
+      }))
+
+  -- a row with no item is a ring
+  pub ring_empty : (capacity : ℕ) (row : List (Option T)) → row ≡ replicate capacity None → Shows (empty_of capacity) row 0 0
+  ring_empty capacity row is =
+      let rows : length row ≡ capacity = ap length is ∙ length-replicate capacity None in
+      closed (empty_of capacity) row row 0 0 0 refl refl (record {
+        ring = record {
+          within = omega arith;
+          below = λ h. h;
+          fits = omega arith;
+          in_turn = append-nil row ∙ is ∙ ap (λ k. replicate k None) (omega arith);
+        };
+        rows = rows;
+        counted = refl;
+      })
+
+  -- a ring with no item is such a row
+  pub ring_vacant : (list : Bounded T) (row : List (Option T)) (start len : ℕ) → Shows list row start len → list.items ≡ [] → IsVacant row
+  ring_vacant list row start len shows none =
+      let ring = (opened list row start len shows).ring in
+      turned_vacant row start (length row) ring.within (length-drop start row) (ring.in_turn ∙ ap (λ items. filled items (length row)) none ∙ ap (λ k. replicate k None) (omega arith))
+
+  -- the place of item i holds it
+  pub ring_read : (list : Bounded T) (row : List (Option T)) (start len i capacity place : ℕ) → Shows list row start len → i < length list.items → capacity ≡ length row → place ≡ place_behind start i capacity → place_at row place ≡ slice_get list.items i
+  ring_read list row start len i capacity place shows below rows at =
+      let ring = (opened list row start len shows).ring in
+      let fits = ring.fits in
+      ap (place_at row) (at ∙ ap (place_behind start i) rows)
+      ∙ turned_at row start i ring.within (omega arith)
+      ∙ ap (λ r. place_at r i) ring.in_turn
+      ∙ read_filled list.items _ i below
+
+  -- so it holds one
+  pub ring_held : (list : Bounded T) (row : List (Option T)) (start len i capacity place : ℕ) → Shows list row start len → i < length list.items → capacity ≡ length row → place ≡ place_behind start i capacity → IsHeldAt row place
+  ring_held list row start len i capacity place shows below rows at =
+      subst IsSome (sym (ring_read list row start len i capacity place shows below rows at)) (item_there list.items i below)
+
+  -- the first item stands at the start
+  pub ring_first : (list : Bounded T) (row : List (Option T)) (start len : ℕ) → Shows list row start len → len ≢ 0 → IsHeldAt row start
+  ring_first list row start len shows some =
+      let facts = opened list row start len shows in
+      let fits = facts.ring.fits in
+      let counted = facts.counted in
+      let below = facts.ring.below (omega arith) in
+      ring_held list row start len 0 (length row) start shows (omega arith) refl (grind (arith, nat_tests))
+
+  -- the place behind the last item is empty
+  pub ring_free : (list : Bounded T) (row : List (Option T)) (start len capacity place : ℕ) → Shows list row start len → length list.items < list.capacity → capacity ≡ length row → place ≡ place_behind start len capacity → IsEmptyAt row place
+  ring_free list row start len capacity place shows room rows at =
+      let facts = opened list row start len shows in
+      let ring = facts.ring in
+      let space : length list.items < length row = let same = facts.rows in omega arith in
+      let there = at ∙ ap₂ (place_behind start) facts.counted rows in (
+        subst (λ p. p < length row) (sym there) (behind_within start _ (length row) ring.within space),
+        ap (place_at row) there ∙ turned_at row start _ ring.within space ∙ ap (λ r. place_at r (length list.items)) ring.in_turn ∙ free_filled list.items _ space,
+      )
+
+  -- an item is put at that place
+  pub ring_appended : (list : Bounded T) (row row' : List (Option T)) (start len capacity place : ℕ) (x : T) → Shows list row start len → length list.items < list.capacity → capacity ≡ length row → place ≡ place_behind start len capacity → row' ≡ set row place (Some x) → Shows (with_items list (appended list.items x)) row' start (len + 1)
+  ring_appended list row row' start len capacity place x shows room rows at put =
+      let facts = opened list row start len shows in
+      let ring = facts.ring in
+      let same = facts.rows in
+      let within = ring.within in
+      let counted = facts.counted in
+      let more = length-append list.items (x ∷ []) in
+      let last = length list.items in
+      let kept = length-set row (place_behind start last (length row)) (Some x) in
+      let there = put ∙ ap (λ p. set row p (Some x)) (at ∙ ap₂ (place_behind start) counted rows) in
+      let steps = turned_set row start last (Some x) within (omega arith) ∙ ap (λ r. set r last (Some x)) ring.in_turn ∙ filled_more list.items (length row) x (omega arith) in
+      closed (with_items list (appended list.items x)) _ row' start start (len + 1) there refl (record {
+        ring = record {
+          within = omega arith;
+          below = λ h. let below = ring.below (omega arith) in omega arith;
+          fits = omega arith;
+          in_turn = steps ∙ ap (filled (appended list.items x)) (sym kept);
+        };
+        rows = kept ∙ same;
+        counted = omega arith;
+      })
+
+  -- the first place of a ring is set, and the ring starts at the next
+  ring_next : (items : List T) (row : List (Option T)) (start : ℕ) (v : Option T) → start < length row → length items ≤ length row → drop 1 (turned row start) ++ v ∷ [] ≡ filled items (length row) → IsRingOf items (set row start v) (next_place start (length row))
+  ring_next items row start v below fits is =
+      let kept = length-set row start v in
+      let next = next_within start (length row) below in record {
+        within = omega arith;
+        below = λ _. omega arith;
+        fits = omega arith;
+        in_turn = turned_next row start v below ∙ is ∙ ap (filled items) (sym kept);
+      }
+
+  -- the first item is taken
+  pub ring_popped : (list : Bounded T) (row row' : List (Option T)) (start start' len capacity : ℕ) → Shows list row start len → len ≢ 0 → row' ≡ set row start None → capacity ≡ length row' → start' ≡ next_place start capacity → Shows (popped list) row' start' (len - 1)
+  ring_popped list row row' start start' len capacity shows some taken rows at =
+      let facts = opened list row start len shows in
+      let ring = facts.ring in
+      let fits = ring.fits in
+      let counted = facts.counted in
+      let kept = length-set row start None in
+      let less = length-drop 1 list.items in
+      let rest = ap (λ r. drop 1 r ++ None ∷ []) ring.in_turn ∙ filled_less list.items (length row) (omega arith) fits in
+      closed (popped list) _ row' _ start' (len - 1) taken (at ∙ ap (next_place start) (rows ∙ ap length taken ∙ kept)) (record {
+        ring = ring_next (drop 1 list.items) row start None (ring.below (omega arith)) (omega arith) rest;
+        rows = kept ∙ facts.rows;
+        counted = omega arith;
+      })
+
+  -- what is left of a full list that got another item
+  overflowed_full : (list : Bounded T) (y : T) → length list.items ≡ list.capacity → overflowed list y ≡ with_items list (drop 1 (appended list.items y))
+  overflowed_full list y full =
+      let more = length-append list.items (y ∷ []) in
+      let long : is_too_long list.capacity (appended list.items y) ≡ true = grind (arith, nat_tests) in
+      ap (λ b. with_items list (if b then drop 1 (appended list.items y) else appended list.items y)) long
+
+  -- the first item of a full ring is taken, and another one is put there
+  pub ring_overflowed : (list : Bounded T) (row row_between row' : List (Option T)) (start start' len capacity : ℕ) (y : T) → Shows list row start len → capacity ≤ len → capacity ≢ 0 → capacity ≡ length row → row_between ≡ set row start None → row' ≡ set row_between start (Some y) → start' ≡ next_place start capacity → Shows (overflowed list y) row' start' len
+  ring_overflowed list row row_between row' start start' len capacity y shows full some rows taken put at =
+      let facts = opened list row start len shows in
+      let ring = facts.ring in
+      let fits = ring.fits in
+      let same = facts.rows in
+      let counted = facts.counted in
+      let more = length-append list.items (y ∷ []) in
+      let less = length-drop 1 (appended list.items y) in
+      let both = put ∙ ap (λ r. set r start (Some y)) taken ∙ set-set row start None (Some y) in
+      let rest = ap (λ r. drop 1 r ++ Some y ∷ []) ring.in_turn ∙ filled_over list.items (length row) y (omega arith) (omega arith) in
+      subst (λ b. Shows b row' start' len) (sym (overflowed_full list y (omega arith))) (closed (with_items list (drop 1 (appended list.items y))) _ row' _ start' len both (at ∙ ap (next_place start) rows) (record {
+        ring = ring_next (drop 1 (appended list.items y)) row start (Some y) (ring.below (omega arith)) (omega arith) rest;
+        rows = length-set row start (Some y) ∙ same;
+        counted = omega arith;
+      }))

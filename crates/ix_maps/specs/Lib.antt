@@ -1,0 +1,3 @@
+pub use Rattle.ix_cells.specs.Bounded
+pub mod QueueSteps
+pub mod Ring

@@ -1,0 +1,5 @@
+pub mod Known
+pub mod Numbers
+pub mod Pieces
+pub mod Turning
+pub mod Writes

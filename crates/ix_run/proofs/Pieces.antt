@@ -1,0 +1,136 @@
+-- The replies to an input that comes in pieces.
+use Rattle.std.proofs.Common.{ℕ, ◌≡◌, ◌≤◌, ◌<◌, ◌≢◌, ◌+◌, ◌-◌, zero, suc, List, [], ◌∷◌, ◌++◌, Option, Some, None, All, length, take, drop, get_or, nat_le, nat_eq, Bool, true, false, refl, sym, ap, ◌∙◌, append_assoc, append-nil, arith, decimal, codes, cond, take-append-drop, IfSome, IfNone}
+use Rattle.std.proofs.lemmas.Grind.{common_steps}
+use Rattle.std.proofs.lemmas.Bool.{eqb-true}
+use Rattle.std.proofs.lemmas.List.{drop_more}
+use Rattle.memchr.specs.Find.{IsFirstByte, is_byte}
+use Rattle.ix_run.specs.Lines.{line_feed, IsOneLine, ended, lines_of, onto_first, Readable, readable, joined}
+use Rattle.ix_run.specs.Progress.{last_reply, replies_behind}
+use Rattle.ix_run.specs.Script.{State, line_reply, state_after, replies_from, replies_to, spaced, shown}
+
+-- no byte is a line feed, byte by byte
+abbrev pub Lacks : List ℕ → Type 0
+Lacks [] = Unit {0}
+Lacks (b ∷ bytes) = (nat_eq b line_feed ≡ false) × Lacks bytes
+
+not_true : (t : Bool) → (t ≡ true → ⊥) → t ≡ false
+not_true true h = absurd (h refl)
+not_true false h = refl
+
+pub lacks_of : (bytes : List ℕ) → IsOneLine bytes → Lacks bytes
+lacks_of [] h = tt
+lacks_of (b ∷ bytes) h =
+    (not_true (nat_eq b line_feed) (λ e. h 0 b (omega arith) (eqb-true b line_feed e)), lacks_of bytes (λ k d l. h (suc k) d (omega (arith, l))))
+
+long : (line bytes : List ℕ) → nat_le (length line) 200 ≡ false → nat_le (length (line ++ bytes)) 200 ≡ false
+long line bytes p = grind (arith, common_steps)
+
+joined_by : (line : List ℕ) (t : Bool) → nat_le (length line) 200 ≡ t → (b : ℕ) (bytes : List ℕ) → joined (cond t (Some line) None) (b ∷ bytes) ≡ readable (line ++ b ∷ bytes)
+joined_by line true e b bytes = refl
+joined_by line false e b bytes = rw (long line (b ∷ bytes) e) refl
+
+pub joined_nothing : (line : Readable) → joined line [] ≡ line
+joined_nothing None = refl
+joined_nothing (Some l) = refl
+
+-- two pieces are one
+pub joined_joined : (line : Readable) (a b : List ℕ) → joined (joined line a) b ≡ joined line (a ++ b)
+joined_joined None a b = refl
+joined_joined (Some l) [] b = refl
+joined_joined (Some l) (x ∷ xs) [] = joined_nothing (readable (l ++ x ∷ xs)) ∙ ap (λ t. readable (l ++ x ∷ t)) (sym (append-nil xs))
+joined_joined (Some l) (x ∷ xs) (y ∷ ys) =
+    joined_by (l ++ x ∷ xs) (nat_le (length (l ++ x ∷ xs)) 200) refl y ys ∙ ap readable (append_assoc l (x ∷ xs) (y ∷ ys))
+
+-- a piece with no line feed joins the line in hand
+pub piece_joins : (state : State) (line : Readable) (piece more : List ℕ) → Lacks piece → replies_behind state line (piece ++ more) ≡ replies_behind state (joined line piece) more
+piece_joins state line [] more n = ap (λ l. replies_behind state l more) (sym (joined_nothing line))
+piece_joins state line (b ∷ bytes) more (n, m) =
+    let step : replies_behind state line (b ∷ (bytes ++ more)) ≡ replies_behind state (joined line (b ∷ [])) (bytes ++ more) = rw n refl in
+    step ∙ piece_joins state (joined line (b ∷ [])) bytes more m ∙ ap (λ l. replies_behind state l more) (joined_joined line (b ∷ []) bytes)
+
+-- a piece that begins with the end of a line
+pub line_ends : (state : State) (line : Readable) (piece front back more : List ℕ) → piece ≡ front ++ line_feed ∷ back → Lacks front
+    → replies_behind state line (piece ++ more) ≡ ended (line_reply state (joined line front)) ++ replies_behind (state_after state (joined line front)) (Some []) (back ++ more)
+line_ends state line piece front back more e n =
+    ap (λ l. replies_behind state line (l ++ more)) e ∙ ap (λ l. replies_behind state line l) (append_assoc front (line_feed ∷ back) more)
+    ∙ piece_joins state line front (line_feed ∷ (back ++ more)) n
+
+-- the replies to lines, where the beginning of the first is in hand
+abbrev replies_on : State → Readable → List (List ℕ) → List ℕ
+replies_on state line [] = last_reply state line
+replies_on state line (l ∷ lines) = ended (line_reply state (joined line l)) ++ replies_from (state_after state (joined line l)) lines
+
+on_nothing : (state : State) (lines : List (List ℕ)) → replies_on state (Some []) lines ≡ replies_from state lines
+on_nothing state [] = refl
+on_nothing state ([] ∷ lines) = refl
+on_nothing state ((b ∷ bytes) ∷ lines) = refl
+
+last_at : (state : State) (l : List ℕ) (b : ℕ) (t : Bool) → last_reply state (cond t (Some (l ++ b ∷ [])) None) ≡ ended (line_reply state (cond t (Some (l ++ b ∷ [])) None))
+last_at state l b false = refl
+last_at state [] b true = refl
+last_at state (x ∷ xs) b true = refl
+
+last_joined : (state : State) (line : Readable) (b : ℕ) → last_reply state (joined line (b ∷ [])) ≡ ended (line_reply state (joined line (b ∷ [])))
+last_joined state None b = refl
+last_joined state (Some l) b = last_at state l b (nat_le (length (l ++ b ∷ [])) 200)
+
+on_joined : (state : State) (line : Readable) (b : ℕ) (lines : List (List ℕ)) → replies_on state (joined line (b ∷ [])) lines ≡ replies_on state line (onto_first b lines)
+on_joined state line b [] = last_joined state line b ∙ sym (append-nil (ended (line_reply state (joined line (b ∷ [])))))
+on_joined state line b (l ∷ lines) = ap (λ k. ended (line_reply state k) ++ replies_from (state_after state k) lines) (joined_joined line (b ∷ []) l)
+
+behind_by : (state : State) (line : Readable) (b : ℕ) (bytes : List ℕ) (t : Bool) → nat_eq b line_feed ≡ t
+    → ((state' : State) (line' : Readable) → replies_behind state' line' bytes ≡ replies_on state' line' (lines_of bytes))
+    → cond t (ended (line_reply state line) ++ replies_behind (state_after state line) (Some []) bytes) (replies_behind state (joined line (b ∷ [])) bytes)
+    ≡ replies_on state line (cond t ([] ∷ lines_of bytes) (onto_first b (lines_of bytes)))
+behind_by state line b bytes true e h =
+    ap (λ l. ended (line_reply state line) ++ l) (h (state_after state line) (Some []) ∙ on_nothing (state_after state line) (lines_of bytes))
+    ∙ ap (λ k. ended (line_reply state k) ++ replies_from (state_after state k) (lines_of bytes)) (sym (joined_nothing line))
+behind_by state line b bytes false e h = h state (joined line (b ∷ [])) ∙ on_joined state line b (lines_of bytes)
+
+behind_on : (state : State) (line : Readable) (bytes : List ℕ) → replies_behind state line bytes ≡ replies_on state line (lines_of bytes)
+behind_on state line [] = refl
+behind_on state line (b ∷ bytes) = behind_by state line b bytes (nat_eq b line_feed) refl (λ state' line'. behind_on state' line' bytes)
+
+-- byte by byte, the replies are those to the lines
+pub replies_from_start : (bytes : List ℕ) → replies_to bytes ≡ replies_behind None (Some []) bytes
+unfolding replies_to
+replies_from_start bytes = sym (behind_on None (Some []) bytes ∙ on_nothing None (lines_of bytes))
+
+pub shown_first : (items : List ℕ) (d : ℕ) → 0 < length items → shown items ≡ decimal (get_or items 0 d) ++ spaced (drop 1 items)
+shown_first [] d h = absurd (omega (arith, h))
+shown_first (x ∷ items) d h = refl
+
+spaced_from : (items : List ℕ) (i d : ℕ) → i < length items → spaced (drop i items) ≡ (codes " " ++ decimal (get_or items i d)) ++ spaced (drop (suc i) items)
+spaced_from [] i d h = absurd (omega (arith, h))
+spaced_from (x ∷ items) zero d h = refl
+spaced_from (x ∷ items) (suc i) d h = spaced_from items i d (omega (arith, h))
+
+-- one item more
+pub spaced_step : (items : List ℕ) (i d : ℕ) → i < length items → spaced (drop i items) ≡ (codes " " ++ decimal (get_or items i d)) ++ spaced (drop (i + 1) items)
+spaced_step items i d h =
+    let e : i + 1 ≡ suc i = omega arith in
+    rw e (spaced_from items i d h)
+
+-- where memchr finds a line feed, and where it finds none
+found_at : (xs : List ℕ) (i : ℕ) → IsFirstByte (is_byte 10) xs (Some i) → (i < length xs) × IsOneLine (take i xs) × (xs ≡ take i xs ++ line_feed ∷ drop (i + 1) xs)
+found_at xs i (first, here) =
+    let high = first.high in
+    let feed : get_or xs i 0 ≡ line_feed = eqb-true _ _ here in
+    let low : length (take i xs) ≤ i = grind (arith, common_steps) in
+    let cut : drop i xs ≡ line_feed ∷ drop (i + 1) xs = let d = drop_more xs i 0 high in d ∙ ap (λ b. b ∷ drop (i + 1) xs) feed in (
+      high,
+      λ k d l e. first.before k (omega arith) (omega (arith, l, low)) (let same : get_or xs k 0 ≡ line_feed = grind (arith, common_steps) in rw same refl),
+      sym (take-append-drop i xs) ∙ ap (λ l. take i xs ++ l) cut,
+    )
+
+pub ends_some : (xs : List ℕ) (r : Option ℕ) → IsFirstByte (is_byte 10) xs r → IfSome r (λ i. (i < length xs) × IsOneLine (take i xs) × (xs ≡ take i xs ++ line_feed ∷ drop (i + 1) xs))
+ends_some xs None h = tt
+ends_some xs (Some i) h = found_at xs i h
+
+pub ends_none : (xs : List ℕ) (r : Option ℕ) → IsFirstByte (is_byte 10) xs r → IfNone r (IsOneLine xs)
+ends_none xs None h = λ k d l e. h k (omega arith) l (let same : get_or xs k 0 ≡ line_feed = grind (arith, common_steps) in rw same refl)
+ends_none xs (Some i) h = tt
+
+-- a slice to the end
+pub rest_is : (xs : List ℕ) (k : ℕ) → take (length xs - k) (drop k xs) ≡ drop k xs
+rest_is xs k = grind (arith, common_steps)

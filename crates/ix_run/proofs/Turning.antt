@@ -1,0 +1,94 @@
+-- From piece to piece: what was put, and the text that is left.
+use Rattle.std.proofs.Common.{ℕ, ◌≡◌, ◌≢◌, List, [], ◌++◌, Option, Result, Ok, Err, refl, sym, ap, ◌∙◌, append_assoc, append-nil, subst}
+use Rattle.std.specs.Io.KnownBytes.{Appends, Consumes, IsAtEnd}
+use Rattle.ix_run.specs.Lines.{Readable}
+use Rattle.ix_run.specs.Outcome.{Answers, BeginsToAnswer}
+use Rattle.ix_run.specs.Progress.{Turns, Stops, replies_behind, last_reply}
+use Rattle.ix_run.specs.Script.{State, replies_to}
+use Rattle.ix_run.specs.Writing.{Puts, Begins}
+use Rattle.ix_run.specs.declared.run.script.ScriptFault.{ScriptFault}
+use Rattle.ix_run.specs.declared.run.script.ScriptFault.TheVariants as fault
+use Rattle.ix_run.proofs.Writes.{puts_here, puts_then, puts_begins, puts_halts}
+
+abbrev Known : Type 0
+Known = Option (List ℕ)
+
+abbrev Text : Type 0
+Text = List ℕ → List ℕ
+
+pub turns_then : (c d e : Known) (o p q : List ℕ) (f g h : Text) → Turns c o f d p g → Turns d p g e q h → Turns c o f e q h
+turns_then c d e o p q f g h (xs, a, r) (ys, b, s) =
+    (xs ++ ys, puts_then c d e o p q xs ys a b, λ m. r m ∙ ap (λ l. xs ++ l) (s m) ∙ sym (append_assoc xs ys (h m)))
+
+pub turns_stops : (c d e : Known) (o p : List ℕ) (f g : Text) → Turns c o f d p g → Stops d p g e → Stops c o f e
+turns_stops c d e o p f g (xs, a, r) (ys, b, s) =
+    (xs ++ ys, puts_begins c d e o p xs ys a b, λ m. ((s m).0, r m ∙ ap (λ l. xs ++ l) (s m).1 ∙ sym (append_assoc xs ys (s m).0)))
+
+pub turns_halt : (c d : Known) (o p : List ℕ) (f g : Text) → Turns c o f d p g → Stops c o f d
+turns_halt c d o p f g (xs, a, r) = (xs, puts_halts c d o p xs a, λ m. (g m, r m))
+
+-- all that is owed is written
+pub turns_written : (c d e : Known) (o p q : List ℕ) (f g : Text) → Turns c o f d p g → Puts d p [] e q → Turns c o f e q g
+turns_written c d e o p q f g (xs, a, r) b =
+    (xs ++ [], puts_then c d e o p q xs [] a b, λ m. r m ∙ ap (λ l. l ++ g m) (sym (append-nil xs)))
+
+pub turns_unwritten : (c d e : Known) (o p : List ℕ) (f g : Text) → Turns c o f d p g → Begins d p [] e → Stops c o f e
+turns_unwritten c d e o p f g (xs, a, r) b =
+    (xs ++ [], puts_begins c d e o p xs [] a b, λ m. (g m, r m ∙ ap (λ l. l ++ g m) (sym (append-nil xs))))
+
+-- more was read
+turns_read : (c d : Known) (o p read piece : List ℕ) (f g : Text) → Turns c o (λ m. f (read ++ m)) d p g → Turns c o (λ m. f ((read ++ piece) ++ m)) d p (λ m. g (piece ++ m))
+turns_read c d o p read piece f g (xs, a, r) = (xs, a, λ m. ap f (append_assoc read piece m) ∙ r (piece ++ m))
+
+-- a piece was read and fed
+pub fed_on : (c d e : Known) (p q read piece : List ℕ) (state : State) (line : Readable) (g : Text) → Turns c [] (λ m. replies_to (read ++ m)) d p (λ m. replies_behind state line m)
+    → Turns d p (λ m. replies_behind state line (piece ++ m)) e q g → Turns c [] (λ m. replies_to ((read ++ piece) ++ m)) e q g
+fed_on c d e p q read piece state line g a b =
+    turns_then c d e [] p q (λ m. replies_to ((read ++ piece) ++ m)) (λ m. replies_behind state line (piece ++ m)) g
+    (turns_read c d [] p read piece (λ m. replies_to m) (λ m. replies_behind state line m) a) b
+
+pub fed_stops : (c d e : Known) (p read piece : List ℕ) (state : State) (line : Readable) → Turns c [] (λ m. replies_to (read ++ m)) d p (λ m. replies_behind state line m)
+    → Stops d p (λ m. replies_behind state line (piece ++ m)) e → Stops c [] (λ m. replies_to ((read ++ piece) ++ m)) e
+fed_stops c d e p read piece state line a b =
+    turns_stops c d e [] p (λ m. replies_to ((read ++ piece) ++ m)) (λ m. replies_behind state line (piece ++ m))
+    (turns_read c d [] p read piece (λ m. replies_to m) (λ m. replies_behind state line m) a) b
+
+-- what was written is the replies
+puts_all : (c e : Known) (xs : List ℕ) → Puts c [] xs e [] → Appends c e xs
+puts_all c e xs (written, a, r) =
+    let P : List ℕ → Type 0 = λ l. Appends c e l in
+    let same : written ≡ xs = sym (append-nil written) ∙ sym r in
+    subst P same a
+
+-- the reader is at its end, and the last replies were put
+pub answered : (i j c d e : Known) (read : List ℕ) (state : State) (line : Readable) → Consumes i j read → IsAtEnd j
+    → Turns c [] (λ m. replies_to (read ++ m)) d [] (λ m. replies_behind state line m) → Puts d [] (last_reply state line) e [] → Answers i c j e
+answered i j c d e read state line k end (xs, a, r) b =
+    let whole : xs ++ last_reply state line ≡ replies_to read = sym (r []) ∙ ap (λ l. replies_to l) (append-nil read) in
+    let P : List ℕ → Type 0 = λ l. Appends c e l in
+    (read, k, end, subst P whole (puts_all c e (xs ++ last_reply state line) (puts_then c d e [] [] [] xs (last_reply state line) a b)))
+
+-- the writer failed at the last replies
+pub last_begins : (i j c d e : Known) (read : List ℕ) (state : State) (line : Readable) → Consumes i j read
+    → Turns c [] (λ m. replies_to (read ++ m)) d [] (λ m. replies_behind state line m) → Begins d [] (last_reply state line) e → BeginsToAnswer i c j e
+last_begins i j c d e read state line k (xs, a, r) b =
+    let whole : xs ++ last_reply state line ≡ replies_to read = sym (r []) ∙ ap (λ l. replies_to l) (append-nil read) in
+    let begun = puts_begins c d e [] [] xs (last_reply state line) a b in
+    (read, begun.0, begun.1, k, begun.2, sym whole ∙ begun.3)
+
+-- the script stopped on its way
+pub begins_to_answer : (i j c e : Known) (read : List ℕ) → Consumes i j read → Stops c [] (λ m. replies_to (read ++ m)) e → BeginsToAnswer i c j e
+begins_to_answer i j c e read k (xs, (written, rest, a, r), s) = (
+  read,
+  written,
+  rest ++ (s []).0,
+  k,
+  a,
+  sym (ap (λ l. replies_to l) (append-nil read)) ∙ (s []).1 ∙ ap (λ l. l ++ (s []).0) r ∙ append_assoc written rest (s []).0,
+)
+
+pub read_is_not_memory : (e : ScriptFault) → e ≡ fault.Read → e ≢ fault.OutOfMemory
+read_is_not_memory e p q = cc
+
+pub write_is_not_memory : (e : ScriptFault) → e ≡ fault.Write → e ≢ fault.OutOfMemory
+write_is_not_memory e p q = cc

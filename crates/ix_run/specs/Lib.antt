@@ -1,0 +1,9 @@
+pub mod Input
+pub mod Lines
+pub mod Outcome
+pub mod Progress
+pub mod QueueRun
+pub mod Reading
+pub mod Script
+pub mod Standing
+pub mod Writing

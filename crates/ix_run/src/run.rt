@@ -1,0 +1,15 @@
+//! Commands, their replies, and scripts of them.
+
+mod command;
+mod engine;
+mod partial_line;
+mod queues;
+mod reading;
+mod replies;
+mod reply_buffer;
+mod script;
+
+pub use command::{FixedCapacity, QueueCommand, QueueLine, Reply};
+pub use queues::run_queue_command;
+pub use reading::{read_header, read_number, read_queue_line};
+pub use script::{ScriptFault, exit_status, fault_line, script};
