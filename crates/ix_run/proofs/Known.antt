@@ -49,3 +49,9 @@ consumes_keeps None b c xs p q = tt
 consumes_keeps (Some x) None c xs p q = absurd p
 consumes_keeps (Some x) (Some y) None xs p q = absurd q
 consumes_keeps (Some x) (Some y) (Some z) xs p q = p ∙ ap (λ l. xs ++ l) (sym q)
+
+pub consumes_none : (a b c : Option (List ℕ)) (xs : List ℕ) → Consumes a b xs → Consumes b c [] → Consumes a c xs
+consumes_none None b c xs p q = tt
+consumes_none (Some x) None c xs p q = absurd p
+consumes_none (Some x) (Some y) None xs p q = absurd q
+consumes_none (Some x) (Some y) (Some z) xs p q = p ∙ ap (λ l. xs ++ l) q

@@ -129,7 +129,7 @@ with_number line front (Some n) make e t r (d, h) =
 spelled_by : (line : List ℕ) (pop show push over : Bool) → bytes_eq line (codes "pop") ≡ pop → bytes_eq line (codes "show") ≡ show → bytes_eq (take 5 line) (codes "push ") ≡ push
     → bytes_eq (take 5 line) (codes "over ") ≡ over
     → IfSome (cond pop (Some (Command Pop)) (cond show (Some Show) (cond push (option_map (λ n. Command (Push n)) (number_of (drop 5 line))) (cond over (option_map (λ n. Command (Over n)) (number_of (drop 5 line))) None))))
-        (λ asked. Spells line asked)
+    (λ asked. Spells line asked)
 spelled_by line true show push over a b c d = ((bytes_eq-Decides line (codes "pop")).0 a, tt)
 spelled_by line false true push over a b c d = (bytes_eq-Decides line (codes "show")).0 b
 spelled_by line false false true over a b c d =

@@ -1,5 +1,5 @@
 -- The replies to an input that comes in pieces.
-use Rattle.std.proofs.Common.{ℕ, ◌≡◌, ◌≤◌, ◌<◌, ◌≢◌, ◌+◌, ◌-◌, zero, suc, List, [], ◌∷◌, ◌++◌, Option, Some, None, All, length, take, drop, get_or, nat_le, nat_eq, Bool, true, false, refl, sym, ap, ◌∙◌, append_assoc, append-nil, arith, decimal, codes, cond, take-append-drop, IfSome, IfNone}
+use Rattle.std.proofs.Common.{ℕ, ◌≡◌, ◌≤◌, ◌<◌, ◌≢◌, ◌+◌, ◌-◌, zero, suc, List, [], ◌∷◌, ◌++◌, Option, Some, None, All, length, take, drop, get_or, nat_le, nat_eq, Bool, true, false, refl, sym, ap, ◌∙◌, append_assoc, append-nil, arith, decimal, codes, cond, take-append-drop, slice_get, IfSome, IfNone}
 use Rattle.std.proofs.lemmas.Grind.{common_steps}
 use Rattle.std.proofs.lemmas.Bool.{eqb-true}
 use Rattle.std.proofs.lemmas.List.{drop_more}
@@ -96,20 +96,21 @@ pub replies_from_start : (bytes : List ℕ) → replies_to bytes ≡ replies_beh
 unfolding replies_to
 replies_from_start bytes = sym (behind_on None (Some []) bytes ∙ on_nothing None (lines_of bytes))
 
-pub shown_first : (items : List ℕ) (d : ℕ) → 0 < length items → shown items ≡ decimal (get_or items 0 d) ++ spaced (drop 1 items)
-shown_first [] d h = absurd (omega (arith, h))
-shown_first (x ∷ items) d h = refl
+-- the first item and the others
+pub shown_first : (items : List ℕ) (x : ℕ) → slice_get items 0 ≡ Some x → shown items ≡ decimal x ++ spaced (drop 1 items)
+shown_first [] x h = absurd (cc)
+shown_first (y ∷ items) x h = let e : y ≡ x = cc in ap (λ n. decimal n ++ spaced items) e
 
-spaced_from : (items : List ℕ) (i d : ℕ) → i < length items → spaced (drop i items) ≡ (codes " " ++ decimal (get_or items i d)) ++ spaced (drop (suc i) items)
-spaced_from [] i d h = absurd (omega (arith, h))
-spaced_from (x ∷ items) zero d h = refl
-spaced_from (x ∷ items) (suc i) d h = spaced_from items i d (omega (arith, h))
+spaced_from : (items : List ℕ) (i x : ℕ) → slice_get items i ≡ Some x → spaced (drop i items) ≡ (codes " " ++ decimal x) ++ spaced (drop (suc i) items)
+spaced_from [] i x h = absurd (cc)
+spaced_from (y ∷ items) zero x h = let e : y ≡ x = cc in ap (λ n. (codes " " ++ decimal n) ++ spaced items) e
+spaced_from (y ∷ items) (suc i) x h = spaced_from items i x h
 
 -- one item more
-pub spaced_step : (items : List ℕ) (i d : ℕ) → i < length items → spaced (drop i items) ≡ (codes " " ++ decimal (get_or items i d)) ++ spaced (drop (i + 1) items)
-spaced_step items i d h =
+pub spaced_step : (items : List ℕ) (i x : ℕ) → slice_get items i ≡ Some x → spaced (drop i items) ≡ (codes " " ++ decimal x) ++ spaced (drop (i + 1) items)
+spaced_step items i x h =
     let e : i + 1 ≡ suc i = omega arith in
-    rw e (spaced_from items i d h)
+    rw e (spaced_from items i x h)
 
 -- where memchr finds a line feed, and where it finds none
 found_at : (xs : List ℕ) (i : ℕ) → IsFirstByte (is_byte 10) xs (Some i) → (i < length xs) × IsOneLine (take i xs) × (xs ≡ take i xs ++ line_feed ∷ drop (i + 1) xs)

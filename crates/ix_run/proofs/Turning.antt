@@ -1,14 +1,14 @@
 -- From piece to piece: what was put, and the text that is left.
-use Rattle.std.proofs.Common.{ℕ, ◌≡◌, ◌≢◌, List, [], ◌++◌, Option, Result, Ok, Err, refl, sym, ap, ◌∙◌, append_assoc, append-nil, subst}
+use Rattle.std.proofs.Common.{ℕ, ◌≡◌, ◌≢◌, List, [], ◌++◌, Option, Result, Ok, Err, OnOk, OnErr, refl, sym, ap, ◌∙◌, append_assoc, append-nil, subst}
 use Rattle.std.specs.Io.KnownBytes.{Appends, Consumes, IsAtEnd}
 use Rattle.ix_run.specs.Lines.{Readable}
 use Rattle.ix_run.specs.Outcome.{Answers, BeginsToAnswer}
-use Rattle.ix_run.specs.Progress.{Turns, Stops, replies_behind, last_reply}
+use Rattle.ix_run.specs.Progress.{Turns, Stops, Went, replies_behind, last_reply}
 use Rattle.ix_run.specs.Script.{State, replies_to}
-use Rattle.ix_run.specs.Writing.{Puts, Begins}
-use Rattle.ix_run.specs.declared.run.script.ScriptFault.{ScriptFault}
-use Rattle.ix_run.specs.declared.run.script.ScriptFault.TheVariants as fault
-use Rattle.ix_run.proofs.Writes.{puts_here, puts_then, puts_begins, puts_halts}
+use Rattle.ix_run.specs.Writing.{Puts, Begins, Wrote}
+use Rattle.ix_run.specs.declared.run.fault.ScriptFault.{ScriptFault}
+use Rattle.ix_run.specs.declared.run.fault.ScriptFault.TheVariants as fault
+use Rattle.ix_run.proofs.Writes.{puts_then, puts_begins, puts_halts, puts_and_written, puts_and_begins}
 
 abbrev Known : Type 0
 Known = Option (List ℕ)
@@ -28,13 +28,9 @@ pub turns_halt : (c d : Known) (o p : List ℕ) (f g : Text) → Turns c o f d p
 turns_halt c d o p f g (xs, a, r) = (xs, puts_halts c d o p xs a, λ m. (g m, r m))
 
 -- all that is owed is written
-pub turns_written : (c d e : Known) (o p q : List ℕ) (f g : Text) → Turns c o f d p g → Puts d p [] e q → Turns c o f e q g
-turns_written c d e o p q f g (xs, a, r) b =
-    (xs ++ [], puts_then c d e o p q xs [] a b, λ m. r m ∙ ap (λ l. l ++ g m) (sym (append-nil xs)))
-
-pub turns_unwritten : (c d e : Known) (o p : List ℕ) (f g : Text) → Turns c o f d p g → Begins d p [] e → Stops c o f e
-turns_unwritten c d e o p f g (xs, a, r) b =
-    (xs ++ [], puts_begins c d e o p xs [] a b, λ m. (g m, r m ∙ ap (λ l. l ++ g m) (sym (append-nil xs))))
+pub went_written : (c d e : Known) (o p q : List ℕ) (f g : Text) (r : Result (Unit {0}) ScriptFault) → Turns c o f d p g → Wrote d p [] e q r → Went c o f e q g r
+went_written c d e o p q f g (Ok u) (xs, a, s) b = (xs, puts_and_written c d e o p q xs a b, s)
+went_written c d e o p q f g (Err x) (xs, a, s) b = (b.0, (xs, puts_and_begins c d e o p xs a b.1, λ m. (g m, s m)))
 
 -- more was read
 turns_read : (c d : Known) (o p read piece : List ℕ) (f g : Text) → Turns c o (λ m. f (read ++ m)) d p g → Turns c o (λ m. f ((read ++ piece) ++ m)) d p (λ m. g (piece ++ m))
@@ -61,7 +57,7 @@ puts_all c e xs (written, a, r) =
     subst P same a
 
 -- the reader is at its end, and the last replies were put
-pub answered : (i j c d e : Known) (read : List ℕ) (state : State) (line : Readable) → Consumes i j read → IsAtEnd j
+answered : (i j c d e : Known) (read : List ℕ) (state : State) (line : Readable) → Consumes i j read → IsAtEnd j
     → Turns c [] (λ m. replies_to (read ++ m)) d [] (λ m. replies_behind state line m) → Puts d [] (last_reply state line) e [] → Answers i c j e
 answered i j c d e read state line k end (xs, a, r) b =
     let whole : xs ++ last_reply state line ≡ replies_to read = sym (r []) ∙ ap (λ l. replies_to l) (append-nil read) in
@@ -69,12 +65,23 @@ answered i j c d e read state line k end (xs, a, r) b =
     (read, k, end, subst P whole (puts_all c e (xs ++ last_reply state line) (puts_then c d e [] [] [] xs (last_reply state line) a b)))
 
 -- the writer failed at the last replies
-pub last_begins : (i j c d e : Known) (read : List ℕ) (state : State) (line : Readable) → Consumes i j read
+last_begins : (i j c d e : Known) (read : List ℕ) (state : State) (line : Readable) → Consumes i j read
     → Turns c [] (λ m. replies_to (read ++ m)) d [] (λ m. replies_behind state line m) → Begins d [] (last_reply state line) e → BeginsToAnswer i c j e
 last_begins i j c d e read state line k (xs, a, r) b =
     let whole : xs ++ last_reply state line ≡ replies_to read = sym (r []) ∙ ap (λ l. replies_to l) (append-nil read) in
     let begun = puts_begins c d e [] [] xs (last_reply state line) a b in
     (read, begun.0, begun.1, k, begun.2, sym whole ∙ begun.3)
+
+-- the script came to its end
+pub answered_on_ok : (i j c d e : Known) (read : List ℕ) (state : State) (line : Readable) (r : Result (Unit {0}) ScriptFault) → Consumes i j read → IsAtEnd j
+    → Turns c [] (λ m. replies_to (read ++ m)) d [] (λ m. replies_behind state line m) → Wrote d [] (last_reply state line) e [] r → OnOk r (Answers i c j e)
+answered_on_ok i j c d e read state line (Ok u) k end t w = answered i j c d e read state line k end t w
+answered_on_ok i j c d e read state line (Err f) k end t w = tt
+
+pub begins_on_err : (i j c d e : Known) (read : List ℕ) (state : State) (line : Readable) (r : Result (Unit {0}) ScriptFault) → Consumes i j read
+    → Turns c [] (λ m. replies_to (read ++ m)) d [] (λ m. replies_behind state line m) → Wrote d [] (last_reply state line) e [] r → OnErr r (BeginsToAnswer i c j e)
+begins_on_err i j c d e read state line (Ok u) k t w = tt
+begins_on_err i j c d e read state line (Err f) k t w = last_begins i j c d e read state line k t w.1
 
 -- the script stopped on its way
 pub begins_to_answer : (i j c e : Known) (read : List ℕ) → Consumes i j read → Stops c [] (λ m. replies_to (read ++ m)) e → BeginsToAnswer i c j e
@@ -86,9 +93,3 @@ begins_to_answer i j c e read k (xs, (written, rest, a, r), s) = (
   a,
   sym (ap (λ l. replies_to l) (append-nil read)) ∙ (s []).1 ∙ ap (λ l. l ++ (s []).0) r ∙ append_assoc written rest (s []).0,
 )
-
-pub read_is_not_memory : (e : ScriptFault) → e ≡ fault.Read → e ≢ fault.OutOfMemory
-read_is_not_memory e p q = cc
-
-pub write_is_not_memory : (e : ScriptFault) → e ≡ fault.Write → e ≢ fault.OutOfMemory
-write_is_not_memory e p q = cc

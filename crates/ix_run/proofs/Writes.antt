@@ -2,7 +2,7 @@
 use Rattle.std.proofs.Common.{ℕ, List, [], ◌≡◌, ◌++◌, Option, Result, Ok, Err, refl, sym, ap, ◌∙◌, append_assoc, append-nil}
 use Rattle.std.specs.Io.KnownBytes.{Appends, Keeps}
 use Rattle.ix_run.specs.Writing.{Puts, Begins, Wrote}
-use Rattle.ix_run.specs.declared.run.script.ScriptFault.{ScriptFault}
+use Rattle.ix_run.specs.declared.run.fault.ScriptFault.{ScriptFault}
 use Rattle.ix_run.proofs.Known.{appends_nothing, appends_then, appends_keeps}
 
 pub puts_here : (c : Option (List ℕ)) (owed bytes : List ℕ) → Puts c owed bytes c (owed ++ bytes)
@@ -60,3 +60,12 @@ puts_unflushed c d e o xs (m, a, r) k = (m, [], appends_keeps c d e m a k, r)
 -- and one that succeeds
 pub puts_kept : (c d e : Option (List ℕ)) (o p xs : List ℕ) → Puts c o xs d p → Keeps d e → Puts c o xs e p
 puts_kept c d e o p xs (m, a, r) k = (m, appends_keeps c d e m a k, r)
+
+-- what was put, and then all that is owed is written
+pub puts_and_written : (c d e : Option (List ℕ)) (o p q xs : List ℕ) → Puts c o xs d p → Puts d p [] e q → Puts c o xs e q
+puts_and_written c d e o p q xs (m, a, r) (n, b, s) =
+    (m ++ n, appends_then c d e m n a b, r ∙ ap (λ l. m ++ l) (sym (append-nil p) ∙ s) ∙ sym (append_assoc m n q))
+
+pub puts_and_begins : (c d e : Option (List ℕ)) (o p xs : List ℕ) → Puts c o xs d p → Begins d p [] e → Begins c o xs e
+puts_and_begins c d e o p xs (m, a, r) (n, rest, b, s) =
+    (m ++ n, rest, appends_then c d e m n a b, r ∙ ap (λ l. m ++ l) (sym (append-nil p) ∙ s) ∙ sym (append_assoc m n rest))

@@ -2,8 +2,8 @@
 use Rattle.std.specs.Prelude.{ℕ, ◌≡◌, List, ◌++◌, Option, Result, Ok, Err, codes}
 use Rattle.std.specs.Io.KnownBytes.{Appends, Consumes, IsAtEnd}
 use Rattle.ix_run.specs.Script.{replies_to}
-use Rattle.ix_run.specs.declared.run.script.ScriptFault.{ScriptFault}
-use Rattle.ix_run.specs.declared.run.script.ScriptFault.TheVariants.{Read, Write, OutOfMemory}
+use Rattle.ix_run.specs.declared.run.fault.ScriptFault.{ScriptFault}
+use Rattle.ix_run.specs.declared.run.fault.ScriptFault.TheVariants.{Read, Write, OutOfMemory}
 
 -- the reader is at its end, and the writer holds what it held and then the replies to the bytes that were read
 abbrev pub Answers : Option (List ℕ) → Option (List ℕ) → Option (List ℕ) → Option (List ℕ) → Type 0

@@ -3,8 +3,8 @@ use Rattle.std.specs.Prelude.{ℕ, ◌≡◌, List, [], ◌∷◌, ◌++◌, nat
 use Rattle.ix_run.specs.Lines.{Readable, joined, ended, line_feed}
 use Rattle.ix_run.specs.Script.{State, line_reply, state_after}
 use Rattle.ix_run.specs.Writing.{Puts, Begins}
-use Rattle.ix_run.specs.declared.run.script.ScriptFault.{ScriptFault}
-use Rattle.ix_run.specs.declared.run.script.ScriptFault.TheVariants as fault
+use Rattle.ix_run.specs.declared.run.fault.ScriptFault.{ScriptFault}
+use Rattle.ix_run.specs.declared.run.fault.ScriptFault.TheVariants as fault
 
 -- the reply to the last line, where there is one: behind the last line feed there is none
 abbrev pub last_reply : State → Readable → List ℕ

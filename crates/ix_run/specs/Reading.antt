@@ -35,11 +35,11 @@ capacity_of Eight = 8
 abbrev pub header_text : FixedCapacity → List ℕ
 header_text capacity = codes "queue fixed " ++ digit_text capacity
   where
-  digit_text : FixedCapacity → List ℕ
-  digit_text Zero = codes "0"
-  digit_text One = codes "1"
-  digit_text Three = codes "3"
-  digit_text Eight = codes "8"
+    digit_text : FixedCapacity → List ℕ
+    digit_text Zero = codes "0"
+    digit_text One = codes "1"
+    digit_text Three = codes "3"
+    digit_text Eight = codes "8"
 
 -- the number of digits that stand behind those of the number n
 abbrev pub value_after : ℕ → List ℕ → ℕ

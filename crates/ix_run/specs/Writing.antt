@@ -1,8 +1,8 @@
 -- Bytes on their way to a writer: what it holds, and what a buffer still owes it.
 use Rattle.std.specs.Prelude.{ℕ, ◌≡◌, List, ◌++◌, Option, Result, Ok, Err}
 use Rattle.std.specs.Io.KnownBytes.{Appends}
-use Rattle.ix_run.specs.declared.run.script.ScriptFault.{ScriptFault}
-use Rattle.ix_run.specs.declared.run.script.ScriptFault.TheVariants as fault
+use Rattle.ix_run.specs.declared.run.fault.ScriptFault.{ScriptFault}
+use Rattle.ix_run.specs.declared.run.fault.ScriptFault.TheVariants as fault
 
 -- bytes were put behind those that were owed; a beginning of all was written, and the rest is owed
 abbrev pub Puts : Option (List ℕ) → List ℕ → List ℕ → Option (List ℕ) → List ℕ → Type 0

@@ -2,14 +2,16 @@
 
 mod command;
 mod engine;
+mod fault;
 mod partial_line;
 mod queues;
 mod reading;
 mod replies;
 mod reply_buffer;
-mod script;
+mod scripts;
 
 pub use command::{FixedCapacity, QueueCommand, QueueLine, Reply};
+pub use fault::{ScriptFault, exit_status, fault_line};
 pub use queues::run_queue_command;
 pub use reading::{read_header, read_number, read_queue_line};
-pub use script::{ScriptFault, exit_status, fault_line, script};
+pub use scripts::script;

@@ -1,11 +1,9 @@
 //! A script on its way: it takes the input in pieces of any size, and answers each line.
-ghost use Rattle.std.specs.Prelude.{◌≡◌, ◌<◌, ◌+◌, ◌++◌, ◌∷◌, [], Some, None, IfSome, IfNone, OnOk, MatchResult, length, take, drop};
-ghost use Rattle.std.specs.Io.KnownBytes.{Appends};
-ghost use Rattle.ix_run.specs.declared.run.script.ScriptFault.TheVariants as ScriptFault;
+ghost use Rattle.std.specs.Prelude.{◌≡◌, ◌<◌, ◌+◌, ◌++◌, ◌∷◌, [], Some, None, IfSome, IfNone, OnOk, length, take, drop};
 ghost use Rattle.ix_run.specs.Lines.{IsOneLine, joined, readable, ended, line_feed};
 ghost use Rattle.ix_run.specs.Progress.{Went, replies_behind, last_reply};
 ghost use Rattle.ix_run.specs.Script.{line_reply, state_after};
-ghost use Rattle.ix_run.specs.Writing.{Wrote, Begins};
+ghost use Rattle.ix_run.specs.Writing.{Wrote};
 
 use crate::run::ScriptFault;
 use crate::run::partial_line::{MAX_LINE_LEN, PartialLine};
@@ -81,8 +79,8 @@ impl Engine {
         Ok(())
     }
 
-    /// Takes the next piece of the input.
-    pub fn feed<W: Write>(&mut self, piece: &[u8], writer: &mut W) -> Result<(), ScriptFault>
+    /// Answers the lines that end in `piece`, and keeps the beginning of the next one.
+    fn answer_lines<W: Write>(&mut self, piece: &[u8], writer: &mut W) -> Result<(), ScriptFault>
         ensures { Went (W.contents writer.old) self.old.replies (λ more. replies_behind self.old.standing self.old.line (piece.now ++ more))
             (W.contents writer.new) self.new.replies (λ more. replies_behind self.new.standing self.new.line more) result }
     {
@@ -94,6 +92,16 @@ impl Engine {
         }
         self.line.join(rest);
         Ok(())
+    }
+
+    /// Takes the next piece of the input, and writes all replies that are then owed.
+    pub fn feed<W: Write>(&mut self, piece: &[u8], writer: &mut W) -> Result<(), ScriptFault>
+        ensures went { Went (W.contents writer.old) self.old.replies (λ more. replies_behind self.old.standing self.old.line (piece.now ++ more))
+            (W.contents writer.new) [] (λ more. replies_behind self.new.standing self.new.line more) result }
+        ensures nothing_owed { OnOk result (self.new.replies ≡ []) }
+    {
+        self.answer_lines(piece, writer)?;
+        self.replies.write_to(writer)
     }
 
     /// Answers the last line, where it lacks its end.
@@ -108,9 +116,7 @@ impl Engine {
 
     /// Answers the last line, writes what is owed, and flushes the writer.
     pub fn finish<W: Write>(&mut self, writer: &mut W) -> Result<(), ScriptFault>
-        ensures { MatchResult result
-            (λ _. Appends (W.contents writer.old) (W.contents writer.new) (self.old.replies ++ last_reply self.old.standing self.old.line))
-            (λ e. (e ≡ ScriptFault.Write) × Begins (W.contents writer.old) self.old.replies (last_reply self.old.standing self.old.line) (W.contents writer.new)) }
+        ensures { Wrote (W.contents writer.old) self.old.replies (last_reply self.old.standing self.old.line) (W.contents writer.new) [] result }
     {
         self.answer_last(writer)?;
         self.replies.write_to(writer)?;

@@ -79,11 +79,7 @@ impl FixedQueue {
         }
     }
 
-    fn show<W: Write>(
-        &self,
-        replies: &mut ReplyBuffer,
-        writer: &mut W,
-    ) -> Result<(), ScriptFault>
+    fn show<W: Write>(&self, replies: &mut ReplyBuffer, writer: &mut W) -> Result<(), ScriptFault>
         ensures { Wrote (W.contents writer.old) replies.old (ended (shown (held_by self.now).items)) (W.contents writer.new) replies.new result }
     {
         match self {

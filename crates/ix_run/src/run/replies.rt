@@ -1,5 +1,5 @@
 //! The texts of replies.
-ghost use Rattle.std.specs.Prelude.{◌≡◌, ◌∷◌, ◌++◌, decimal};
+ghost use Rattle.std.specs.Prelude.{◌++◌, codes, decimal};
 ghost use Rattle.ix_run.specs.Lines.{ended};
 ghost use Rattle.ix_run.specs.Script.{reply_text, shown, spaced};
 ghost use Rattle.ix_run.specs.Writing.{Wrote, Puts, Begins};

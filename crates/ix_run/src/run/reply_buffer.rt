@@ -1,7 +1,7 @@
 //! Replies on their way to a writer.
 ghost use Rattle.std.specs.Prelude.{◌≡◌, ◌<◌, ◌≤◌, ◌+◌, ◌↔◌, ◌++◌, [], length, take, decimal, IsTrue, MatchResult, OnOk};
 ghost use Rattle.std.specs.Io.KnownBytes.{Appends, Keeps};
-ghost use Rattle.ix_run.specs.declared.run.script.ScriptFault.TheVariants as ScriptFault;
+ghost use Rattle.ix_run.specs.declared.run.fault.ScriptFault.TheVariants as ScriptFault;
 ghost use Rattle.ix_run.specs.Writing.{Wrote, Puts, Begins};
 
 use crate::run::ScriptFault;

@@ -1,46 +1,13 @@
 //! Scripts: input bytes to reply bytes.
-ghost use Rattle.std.specs.Prelude.{◌≡◌, ◌≢◌, ◌≤◌, Some, Ok, Err, IfOk, IfErr, OnOk, OnErr, MatchResult, length};
-ghost use Rattle.std.specs.Io.KnownBytes.{Consumes, IsAtEnd, Keeps};
-ghost use Rattle.ix_run.specs.declared.run.script.ScriptFault.TheVariants as ScriptFault;
+ghost use Rattle.std.specs.Prelude.{◌≡◌, ◌≢◌, IfErr, OnOk, OnErr};
+ghost use Rattle.ix_run.specs.declared.run.fault.ScriptFault.TheVariants as ScriptFault;
 ghost use Rattle.ix_run.specs.Input.{ReadOnce};
-ghost use Rattle.ix_run.specs.Outcome.{Answers, BeginsToAnswer, status_of, fault_text};
+ghost use Rattle.ix_run.specs.Outcome.{Answers, BeginsToAnswer};
 
+use crate::run::ScriptFault;
 use crate::run::engine::Engine;
 use std::alloc::Global;
 use std::io::{ErrorKind, Read, Write};
-
-/// Why a script stopped.
-#[derive(Clone, Copy, PartialEq, Eq, Debug)]
-pub enum ScriptFault {
-    /// The reader failed, or gave no end.
-    Read,
-    /// The writer or its flush failed, or a write took no byte.
-    Write,
-    /// There was no memory to make a container.
-    OutOfMemory,
-}
-
-/// The exit status that tells an outcome: 0, 1 after a read or a write fault, 2 without memory.
-pub fn exit_status(outcome: &Result<(), ScriptFault>) -> u8
-    ensures { result ≡ status_of outcome.now }
-{
-    match outcome {
-        Ok(()) => 0,
-        Err(ScriptFault::Read | ScriptFault::Write) => 1,
-        Err(ScriptFault::OutOfMemory) => 2,
-    }
-}
-
-/// The line that tells a fault, without its end.
-pub fn fault_line(fault: &ScriptFault) -> &'static str
-    ensures { result.now ≡ fault_text fault.now }
-{
-    match fault {
-        ScriptFault::Read => "boxes: read fault",
-        ScriptFault::Write => "boxes: write fault",
-        ScriptFault::OutOfMemory => "boxes: out of memory",
-    }
-}
 
 /// Reads once: so many bytes, or None where the system interrupted the read.
 fn read_once<R: Read>(reader: &mut R, buffer: &mut [u8]) -> Result<Option<usize>, ScriptFault>
@@ -88,10 +55,7 @@ pub fn script<R: Read, W: Write>(
         match read_once(reader, &mut input)? {
             None => {}
             Some(0) => return engine.finish(writer),
-            Some(count) => {
-                engine.feed(&input[..count], writer)?;
-                engine.replies.write_to(writer)?;
-            }
+            Some(count) => engine.feed(&input[..count], writer)?,
         }
     }
     Err(ScriptFault::Read)
