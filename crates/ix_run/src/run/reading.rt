@@ -14,7 +14,12 @@ fn value_of_digits(word: &[u8]) -> Option<u64>
         if *digit < b'0' || *digit > b'9' {
             return None;
         }
-        value = value.checked_mul(10)?.checked_add((*digit - b'0') as u64)?;
+        let digit = (*digit - b'0') as u64;
+        if value < 1_844_674_407_370_955_161 {
+            value = value * 10 + digit;
+        } else {
+            value = value.checked_mul(10)?.checked_add(digit)?;
+        }
     }
     Some(value)
 }

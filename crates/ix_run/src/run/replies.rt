@@ -11,7 +11,6 @@ use ix_maps::MetaQueue;
 use std::io::Write;
 
 /// Puts the line `some X`.
-#[tactic(auto, using(crate::proofs::Writes::wrote_then, crate::proofs::Writes::begins_more))]
 fn put_value<W: Write>(
     replies: &mut ReplyBuffer,
     writer: &mut W,
@@ -19,9 +18,11 @@ fn put_value<W: Write>(
 ) -> Result<(), ScriptFault>
     ensures { Wrote (W.contents writer.old) replies.old (ended (codes "some " ++ decimal value)) (W.contents writer.new) replies.new result }
 {
-    replies.put(writer, b"some ")?;
-    replies.put_number(writer, value)?;
-    replies.put(writer, b"\n")
+    let mut line = [b'\n'; 26];
+    let digits = itoa::write_digits(value, &mut line, 25);
+    let start = digits - 5;
+    line[start..digits].copy_from_slice(b"some ");
+    replies.put(writer, &line[start..])
 }
 
 /// Puts the line of a reply.

@@ -1,24 +1,17 @@
-use Rattle.std.proofs.Common.{[], ◌∷◌, ◌++◌, codes, decimal}
-use Rattle.std.proofs.lemmas.Result.{err_from_is_err_and}
-use Rattle.ix_run.proofs.Writes.{wrote_then, begins_more, puts_then, puts_begins}
+use Rattle.std.proofs.Common.{◌≤◌, length, decimal, arith, rules}
+use Rattle.std.proofs.lemmas.Fmt.{length-decimal-le}
+use Rattle.std.proofs.lemmas.Grind.{common_steps}
 use Rattle.ix_run.proofs.run.replies.put_value.Goals as goal
 
-pub returns-in_err-put : goal.returns-in_err-put
-returns-in_err-put g c =
-    let p = err_from_is_err_and c.from_residual.result c.from_residual.ensures.1 in
-    let number = decimal c.args.value in
-    rw (p.1, p.2) (c.in_err-put.ensures.0, begins_more _ _ _ (codes "some " ++ number) (10 ∷ []) (begins_more _ _ _ (codes "some ") number c.in_err-put.ensures.1))
+pub write_digits-digits-requires : goal.write_digits-digits-requires
+write_digits-digits-requires g c = search (rules, length-decimal-le 25)
 
-pub returns-in_err-put_number : goal.returns-in_err-put_number
-returns-in_err-put_number g c =
-    let p = err_from_is_err_and c.from_residual-in_err-put_number.result c.from_residual-in_err-put_number.ensures.1 in
-    let number = decimal c.args.value in
-    rw (p.1, p.2) (
-      c.in_err-put_number.ensures.0,
-      begins_more _ _ _ (codes "some " ++ number) (10 ∷ []) (puts_begins _ _ _ _ _ (codes "some ") number c.in_ok-put.ensures c.in_err-put_number.ensures.1),
-    )
+pub overflow_sub-start : goal.overflow_sub-start
+overflow_sub-start g c =
+    let short : length (decimal c.args.value) ≤ 20 = search (rules, length-decimal-le 20) in
+    omega (arith, short)
 
-pub returns : goal.returns
-returns g c =
-    let number = decimal c.args.value in
-    wrote_then _ _ _ _ _ _ (codes "some " ++ number) (10 ∷ []) _ (puts_then _ _ _ _ _ _ (codes "some ") number c.in_ok-put.ensures c.in_ok-put_number.ensures) c.put-2.ensures
+pub copy_from_slice-requires : goal.copy_from_slice-requires
+copy_from_slice-requires g c =
+    let short : length (decimal c.args.value) ≤ 20 = search (rules, length-decimal-le 20) in
+    grind (arith, common_steps, short)
