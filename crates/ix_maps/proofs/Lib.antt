@@ -1,1 +1,2 @@
 pub mod Rings
+mod WorkedQueues

@@ -62,7 +62,7 @@ number_is word some front digits small =
     let u : bytes_eq (decimal (value_after 0 word)) word ≡ true = (bytes_eq-Decides (decimal (value_after 0 word)) word).1 e in
     rw (t, u) refl
 
-and_parts : (a b : Bool) → (a && b) ≡ true → (a ≡ true) × (b ≡ true)
+pub and_parts : (a b : Bool) → (a && b) ≡ true → (a ≡ true) × (b ≡ true)
 and_parts true b e = (refl, e)
 and_parts false b e = absurd (cc)
 

@@ -1,5 +1,5 @@
 -- The replies to an input that comes in pieces.
-use Rattle.std.proofs.Common.{ℕ, ◌≡◌, ◌≤◌, ◌<◌, ◌≢◌, ◌+◌, ◌-◌, zero, suc, List, [], ◌∷◌, ◌++◌, Option, Some, None, All, length, take, drop, get_or, nat_le, nat_eq, Bool, true, false, refl, sym, ap, ◌∙◌, append_assoc, append-nil, arith, decimal, codes, cond, take-append-drop, slice_get, IfSome, IfNone}
+use Rattle.std.proofs.Common.{ℕ, ◌≡◌, ◌≤◌, ◌<◌, ◌+◌, ◌-◌, zero, suc, List, [], ◌∷◌, ◌++◌, Option, Some, None, length, take, drop, get_or, nat_le, nat_eq, Bool, true, false, refl, sym, ap, ◌∙◌, append_assoc, append-nil, arith, decimal, codes, cond, take-append-drop, slice_get, IfSome, IfNone}
 use Rattle.std.proofs.lemmas.Grind.{common_steps}
 use Rattle.std.proofs.lemmas.Bool.{eqb-true}
 use Rattle.std.proofs.lemmas.List.{drop_more}
@@ -13,7 +13,7 @@ abbrev pub Lacks : List ℕ → Type 0
 Lacks [] = Unit {0}
 Lacks (b ∷ bytes) = (nat_eq b line_feed ≡ false) × Lacks bytes
 
-not_true : (t : Bool) → (t ≡ true → ⊥) → t ≡ false
+pub not_true : (t : Bool) → (t ≡ true → ⊥) → t ≡ false
 not_true true h = absurd (h refl)
 not_true false h = refl
 

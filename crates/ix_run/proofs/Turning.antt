@@ -1,5 +1,5 @@
 -- From piece to piece: what was put, and the text that is left.
-use Rattle.std.proofs.Common.{ℕ, ◌≡◌, ◌≢◌, List, [], ◌++◌, Option, Result, Ok, Err, OnOk, OnErr, refl, sym, ap, ◌∙◌, append_assoc, append-nil, subst}
+use Rattle.std.proofs.Common.{ℕ, ◌≡◌, List, [], ◌++◌, Option, Result, Ok, Err, OnOk, OnErr, sym, ap, ◌∙◌, append_assoc, append-nil, subst}
 use Rattle.std.specs.Io.KnownBytes.{Appends, Consumes, IsAtEnd}
 use Rattle.ix_run.specs.Lines.{Readable}
 use Rattle.ix_run.specs.Outcome.{Answers, BeginsToAnswer}
@@ -7,7 +7,6 @@ use Rattle.ix_run.specs.Progress.{Turns, Stops, Went, replies_behind, last_reply
 use Rattle.ix_run.specs.Script.{State, replies_to}
 use Rattle.ix_run.specs.Writing.{Puts, Begins, Wrote}
 use Rattle.ix_run.specs.declared.run.fault.ScriptFault.{ScriptFault}
-use Rattle.ix_run.specs.declared.run.fault.ScriptFault.TheVariants as fault
 use Rattle.ix_run.proofs.Writes.{puts_then, puts_begins, puts_halts, puts_and_written, puts_and_begins}
 
 abbrev Known : Type 0

@@ -1,5 +1,5 @@
 -- Bytes that are put behind those that are owed, one after the other.
-use Rattle.std.proofs.Common.{ℕ, List, [], ◌≡◌, ◌++◌, Option, Result, Ok, Err, refl, sym, ap, ◌∙◌, append_assoc, append-nil}
+use Rattle.std.proofs.Common.{ℕ, List, [], ◌++◌, Option, Result, Ok, Err, refl, sym, ap, ◌∙◌, append_assoc, append-nil}
 use Rattle.std.specs.Io.KnownBytes.{Appends, Keeps}
 use Rattle.ix_run.specs.Writing.{Puts, Begins, Wrote}
 use Rattle.ix_run.specs.declared.run.fault.ScriptFault.{ScriptFault}

@@ -33,13 +33,10 @@ capacity_of Eight = 8
 
 -- the text of the header of a fixed queue
 abbrev pub header_text : FixedCapacity → List ℕ
-header_text capacity = codes "queue fixed " ++ digit_text capacity
-  where
-    digit_text : FixedCapacity → List ℕ
-    digit_text Zero = codes "0"
-    digit_text One = codes "1"
-    digit_text Three = codes "3"
-    digit_text Eight = codes "8"
+header_text Zero = codes "queue fixed 0"
+header_text One = codes "queue fixed 1"
+header_text Three = codes "queue fixed 3"
+header_text Eight = codes "queue fixed 8"
 
 -- the number of digits that stand behind those of the number n
 abbrev pub value_after : ℕ → List ℕ → ℕ

@@ -1,5 +1,5 @@
 -- The replies to a script: one reply line for each line, in order.
-use Rattle.std.specs.Prelude.{ℕ, List, [], ◌∷◌, ◌++◌, Bool, true, false, Option, None, Some, option_map, codes, decimal}
+use Rattle.std.specs.Prelude.{ℕ, List, [], ◌∷◌, ◌++◌, true, false, Option, None, Some, option_map, codes, decimal}
 use Rattle.ix_cells.specs.Bounded.{Bounded, empty_of}
 use Rattle.ix_run.specs.Lines.{Readable, readable, lines_of, ended}
 use Rattle.ix_run.specs.QueueRun.{reply_of, queue_after}

@@ -1,5 +1,4 @@
 use Rattle.std.proofs.Common.{ℕ, List, [], ◌++◌}
-use Rattle.std.proofs.lemmas.Result.{err_from_is_err_and}
 use Rattle.ix_run.specs.Progress.{replies_behind}
 use Rattle.ix_run.proofs.Turning.{went_written}
 use Rattle.ix_run.proofs.run.engine.Engine.feed.Goals as goal

@@ -1,4 +1,4 @@
-use Rattle.std.proofs.Common.{[], refl, ◌∙◌, append-nil}
+use Rattle.std.proofs.Common.{[], refl}
 use Rattle.std.proofs.lemmas.Result.{err_from_is_err_and}
 use Rattle.ix_run.specs.Progress.{last_reply}
 use Rattle.ix_run.proofs.Writes.{puts_and_written, puts_and_begins, puts_kept, puts_unflushed}

@@ -1,0 +1,43 @@
+-- Worked rows: the steps of a queue give what their users expect.
+use Rattle.std.proofs.Common.{ℕ, ◌≡◌, List, [], ◌∷◌, true, false, Some, None, refl}
+use Rattle.ix_cells.specs.Bounded.{Bounded}
+use Rattle.ix_maps.specs.QueueSteps.{has_room, pushed, overflowed, overflow_of, oldest_of, popped}
+
+-- a queue of so many numbers at most
+abbrev queue_of : List ℕ → ℕ → Bounded ℕ
+queue_of items capacity = record { items = items; capacity = capacity }
+
+-- capacity 1: push 123 is true, over 456 hands back 123, and pop gives 456
+one_has_room : has_room (queue_of [] 1) ≡ true
+one_has_room = refl
+
+one_pushed : pushed (queue_of [] 1) 123 ≡ queue_of (123 ∷ []) 1
+one_pushed = refl
+
+one_overflow : overflow_of (queue_of (123 ∷ []) 1) 456 ≡ Some 123
+one_overflow = refl
+
+one_overflowed : overflowed (queue_of (123 ∷ []) 1) 456 ≡ queue_of (456 ∷ []) 1
+one_overflowed = refl
+
+one_oldest : oldest_of (queue_of (456 ∷ []) 1) ≡ Some 456
+one_oldest = refl
+
+one_popped : popped (queue_of (456 ∷ []) 1) ≡ queue_of [] 1
+one_popped = refl
+
+-- capacity 0: push 1 is false, over 2 hands back 2, and pop gives nothing
+none_has_room : has_room (queue_of [] 0) ≡ false
+none_has_room = refl
+
+none_pushed : pushed (queue_of [] 0) 1 ≡ queue_of [] 0
+none_pushed = refl
+
+none_overflow : overflow_of (queue_of [] 0) 2 ≡ Some 2
+none_overflow = refl
+
+none_overflowed : overflowed (queue_of [] 0) 2 ≡ queue_of [] 0
+none_overflowed = refl
+
+none_oldest : oldest_of (queue_of [] 0) ≡ None
+none_oldest = refl
