@@ -131,15 +131,15 @@ impl<T, S: Table<T>> MetaQueue<T, S> {
         self.len == self.table.len()
     }
 
-    /// Adds `item` at the back and answers true, or drops it and answers false where the queue is full.
+    /// Adds `value` at the back and answers true, or drops it and answers false where the queue is full.
     #[inline]
-    pub fn push(&mut self, item: T) -> bool
+    pub fn push(&mut self, value: T) -> bool
     where
         T: Drop,
         // It answers whether there was room.
         ensures answer { result ≡ has_room self.old }
         // The item stands behind the others where there was room.
-        ensures queue { self.new ≡ pushed self.old item }
+        ensures queue { self.new ≡ pushed self.old value }
         // It is refused only where the queue is full.
         ensures full { OnFalse result (IsFull self.old) }
         // A refusal changes nothing.
@@ -147,32 +147,32 @@ impl<T, S: Table<T>> MetaQueue<T, S> {
     {
         let has_room = self.len < self.table.len();
         if has_room {
-            self.append(item);
+            self.append(value);
         }
         has_room
     }
 
-    /// Adds `item` at the back. Where the queue is full, the oldest item leaves and is handed back; at capacity 0 that
-    /// is `item` itself.
+    /// Adds `value` at the back. Where the queue is full, the oldest item leaves and is handed back; at capacity 0 that
+    /// is `value` itself.
     #[inline]
-    pub fn push_with_overflow(&mut self, item: T) -> Option<T>
+    pub fn push_with_overflow(&mut self, value: T) -> Option<T>
         // It answers the item that leaves, if one does.
-        ensures answer { result ≡ overflow_of self.old item }
+        ensures answer { result ≡ overflow_of self.old value }
         // The item stands behind the others, and the head left where that was too long.
-        ensures queue { self.new ≡ overflowed self.old item }
+        ensures queue { self.new ≡ overflowed self.old value }
         // An item leaves exactly if the queue was full.
         ensures full { IsSome result ↔ IsFull self.old }
     {
         let capacity = self.table.len();
         if self.len < capacity {
-            self.append(item);
+            self.append(value);
             return None;
         }
         if capacity == 0 {
-            return Some(item);
+            return Some(value);
         }
         let oldest = self.table.take(self.start);
-        self.table.put(self.start, item);
+        self.table.put(self.start, value);
         self.start = next_after(self.start, capacity);
         Some(oldest)
     }
@@ -190,33 +190,33 @@ impl<T, S: Table<T>> MetaQueue<T, S> {
         if self.len == 0 {
             return None;
         }
-        let oldest = self.table.take(self.start);
+        let item = self.table.take(self.start);
         self.start = next_after(self.start, self.table.len());
         self.len -= 1;
-        Some(oldest)
+        Some(item)
     }
 
-    /// The item `i`, counted from 0 at the oldest.
+    /// The item `index`, counted from 0 at the oldest.
     #[inline]
-    pub fn get(&self, i: usize) -> T
+    pub fn get(&self, index: usize) -> T
     where
         T: Copy,
         // There is such an item.
-        requires { i < length self.now.items }
-        // It is item i of the list.
-        ensures { slice_get self.now.items i ≡ Some result }
+        requires { index < length self.now.items }
+        // It is item `index` of the list.
+        ensures { slice_get self.now.items index ≡ Some result }
     {
-        *self.table.get(place_after(self.start, i, self.table.len()))
+        *self.table.get(place_after(self.start, index, self.table.len()))
     }
 
-    /// Adds `item` at the back.
+    /// Adds `value` at the back.
     #[inline]
-    fn append(&mut self, item: T)
+    fn append(&mut self, value: T)
         requires { length self.old.items < self.old.capacity }
-        ensures { self.new ≡ with_items self.old (appended self.old.items item) }
+        ensures { self.new ≡ with_items self.old (appended self.old.items value) }
     {
         let place = place_after(self.start, self.len, self.table.len());
-        self.table.put(place, item);
+        self.table.put(place, value);
         self.len += 1;
     }
 }

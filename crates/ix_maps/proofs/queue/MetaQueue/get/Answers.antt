@@ -4,8 +4,8 @@ use Rattle.ix_maps.proofs.queue.MetaQueue.get.Goals as goal
 
 pub get-requires : goal.get-requires
 get-requires g c =
-    ring_held _ _ _ _ c.args.i _ _ (record { sound = c.self.invariant; is = c.self.view_is }) c.requires c.len.ensures c.place_after.ensures
+    ring_held _ _ _ _ c.args.index _ _ (record { sound = c.self.invariant; is = c.self.view_is }) c.requires c.len.ensures c.place_after.ensures
 
 pub returns : goal.returns
 returns g c =
-    sym (ring_read _ _ _ _ c.args.i _ _ (record { sound = c.self.invariant; is = c.self.view_is }) c.requires c.len.ensures c.place_after.ensures) ∙ c.get.ensures
+    sym (ring_read _ _ _ _ c.args.index _ _ (record { sound = c.self.invariant; is = c.self.view_is }) c.requires c.len.ensures c.place_after.ensures) ∙ c.get.ensures

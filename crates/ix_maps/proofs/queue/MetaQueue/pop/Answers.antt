@@ -1,13 +1,13 @@
 use Rattle.ix_maps.proofs.Rings.{ring_first, ring_popped}
 use Rattle.ix_maps.proofs.queue.MetaQueue.pop.Goals as goal
 
-pub take-oldest-requires : goal.take-oldest-requires
-take-oldest-requires g c = ring_first _ _ _ _ (record { sound = c.self.invariant; is = c.self.view_is }) c.if-self-eq0.false
+pub take-item-requires : goal.take-item-requires
+take-item-requires g c = ring_first _ _ _ _ (record { sound = c.self.invariant; is = c.self.view_is }) c.if-self-eq0.false
 
 pub invariant_of-self : goal.invariant_of-self
 invariant_of-self g c =
-    (ring_popped _ _ _ _ _ _ _ (record { sound = c.self.invariant; is = c.self.view_is }) c.if-self-eq0.false c.take-oldest.ensures.places c.len.ensures c.next_after-self-inside.ensures).sound
+    (ring_popped _ _ _ _ _ _ _ (record { sound = c.self.invariant; is = c.self.view_is }) c.if-self-eq0.false c.take-item.ensures.places c.len.ensures c.next_after-self-inside.ensures).sound
 
 pub returns-clause-queue : goal.returns-clause-queue
 returns-clause-queue g c =
-    (ring_popped _ _ _ _ _ _ _ (record { sound = c.self.invariant; is = c.self.view_is }) c.if-self-eq0.false c.take-oldest.ensures.places c.len.ensures c.next_after-self-inside.ensures).is
+    (ring_popped _ _ _ _ _ _ _ (record { sound = c.self.invariant; is = c.self.view_is }) c.if-self-eq0.false c.take-item.ensures.places c.len.ensures c.next_after-self-inside.ensures).is
