@@ -1,0 +1,14 @@
+//! Tests that cross crates: queues against a plain slow one, worked examples, and whole scripts on faulty devices.
+#![tactic(auto)]
+
+#[cfg(test)]
+mod devices;
+#[cfg(test)]
+mod oracle;
+#[cfg(test)]
+mod queue_tests;
+#[cfg(test)]
+mod reading_tests;
+#[cfg(test)]
+mod script_tests;
+pub mod slow_queue;

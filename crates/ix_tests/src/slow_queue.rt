@@ -1,0 +1,122 @@
+//! A plain slow queue, which tests hold against the ring. It meets the ring's clauses by another way.
+ghost use Rattle.std.specs.Prelude.{◌≡◌, ◌≤◌, length};
+ghost use Rattle.ix_cells.specs.Bounded.{empty_of};
+ghost use Rattle.ix_maps.specs.QueueSteps.{has_room, pushed, overflowed, overflow_of, oldest_of, popped};
+ghost use Rattle.ix_run.specs.QueueRun.{optional_reply, reply_of, queue_after};
+
+use arrayvec::ArrayVec;
+use ix_run::run::{QueueCommand, Reply};
+use std::marker::Model;
+
+/// A queue whose items stand in order at the front of a vector: each item that leaves has all others move up.
+/// Its capacity is known when it runs, and is at most 8.
+#[derive(Drop)]
+pub struct SlowQueue<T> {
+    items: ArrayVec<T, 8>,
+    capacity: usize,
+}
+
+impl<T> Model for SlowQueue<T> {
+    ghost use Rattle.std.specs.Prelude.{◌≤◌, length};
+    ghost use Rattle.ix_cells.specs.Bounded.{Bounded, bounded_code};
+
+    ghost Value = { Bounded T };
+
+    ghost coded = { bounded_code T.code };
+
+    ghost view = { λ queue. record {
+      items = queue.items.items;
+      capacity = queue.capacity;
+    } };
+
+    ghost invariant = { λ queue. (length queue.items.items ≤ queue.capacity) × (queue.capacity ≤ 8) };
+}
+
+impl<T: Default + Drop> SlowQueue<T> {
+    /// An empty queue.
+    pub fn new(capacity: usize) -> SlowQueue<T>
+        requires { capacity ≤ 8 }
+        ensures { result ≡ empty_of capacity }
+    {
+        SlowQueue {
+            items: ArrayVec::new(),
+            capacity,
+        }
+    }
+
+    /// The number of items.
+    pub fn len(&self) -> usize
+        ensures { result ≡ length self.now.items }
+    {
+        self.items.len()
+    }
+
+    /// The items, the oldest first.
+    pub fn as_slice(&self) -> &[T]
+        ensures { result.now ≡ self.now.items }
+    {
+        self.items.as_slice()
+    }
+
+    /// Adds `item` at the back and answers true, or drops it and answers false where the queue is full.
+    pub fn push(&mut self, item: T) -> bool
+        ensures answer { result ≡ has_room self.old }
+        ensures queue { self.new ≡ pushed self.old item }
+    {
+        let has_room = self.items.len() < self.capacity;
+        if has_room {
+            self.items.push(item);
+        }
+        has_room
+    }
+
+    /// Adds `item` at the back. Where that is too long, the oldest item leaves and is handed back.
+    pub fn push_with_overflow(&mut self, item: T) -> Option<T>
+        ensures answer { result ≡ overflow_of self.old item }
+        ensures queue { self.new ≡ overflowed self.old item }
+    {
+        if self.items.len() < self.capacity {
+            self.items.push(item);
+            return None;
+        }
+        if self.items.is_empty() {
+            return Some(item);
+        }
+        let oldest = self.items.remove(0);
+        self.items.push(item);
+        Some(oldest)
+    }
+
+    /// Takes the oldest item, or answers None where there is none.
+    pub fn pop(&mut self) -> Option<T>
+        ensures answer { result ≡ oldest_of self.old }
+        ensures queue { self.new ≡ popped self.old }
+    {
+        self.items.pop_at(0)
+    }
+}
+
+/// An optional item as a reply.
+fn reply_of_option<T: Copy>(item: Option<T>) -> Reply<T>
+    ensures { result ≡ optional_reply item }
+{
+    match item {
+        Some(item) => Reply::Value(item),
+        None => Reply::None,
+    }
+}
+
+/// Does one command on the slow queue.
+pub fn run_slow_command<T: Default + Copy>(
+    queue: &mut SlowQueue<T>,
+    command: QueueCommand<T>,
+) -> Reply<T>
+    ensures reply { result ≡ reply_of queue.old command }
+    ensures queue { queue.new ≡ queue_after queue.old command }
+{
+    match command {
+        QueueCommand::Push(item) => Reply::Bool(queue.push(item)),
+        QueueCommand::Over(item) => reply_of_option(queue.push_with_overflow(item)),
+        QueueCommand::Pop => reply_of_option(queue.pop()),
+    }
+}
