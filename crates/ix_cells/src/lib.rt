@@ -6,4 +6,6 @@
 
 pub mod cells;
 
-pub use cells::{InlineTable, MAX_FIXED_CAPACITY, Table};
+pub use cells::{
+    HeapTable, InitError, InlineTable, MAX_FIXED_CAPACITY, RelocatableContainer, Table,
+};
