@@ -10,7 +10,10 @@ module _ {T : Type 0} where
   pub refill_same : (xs ys : List T) → length ys ≡ length xs → refill (length xs) xs ys ≡ ys
   refill_same xs ys same = grind (arith, common_steps)
 
+  -- the items, place by place, written anew
+  abbrev pub refilled : Bounded T → List T → Bounded T
+  refilled b xs = with_items b (refill (length b.items) b.items xs)
+
   -- the items are then those written, under the same capacity
-  pub rewrites_items : (b : Bounded T) (xs : List T) → length xs ≡ length b.items
-      → with_items b (refill (length b.items) b.items xs) ≡ with_items b xs
-  rewrites_items b xs same = ap (with_items b) (refill_same b.items xs same)
+  pub refilled_is : (b : Bounded T) (xs : List T) → length xs ≡ length b.items → refilled b xs ≡ with_items b xs
+  refilled_is b xs same = ap (with_items b) (refill_same b.items xs same)

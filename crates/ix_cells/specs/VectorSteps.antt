@@ -1,5 +1,5 @@
 -- The steps of a vector: what each call answers, and the bounded list that it leaves.
-use Rattle.std.specs.Prelude.{ℕ, ◌+◌, ◌-◌, ◌≤◌, List, [], ◌∷◌, ◌++◌, length, take, drop, replicate, slice_get, nat_lt, nat_le, if◌then◌else◌, Bool, Option, Result, Ok, Err}
+use Rattle.std.specs.Prelude.{ℕ, ◌+◌, ◌-◌, ◌<◌, ◌≤◌, List, [], ◌∷◌, ◌++◌, length, take, drop, replicate, slice_get, nat_lt, nat_le, if◌then◌else◌, Bool, Option, Result, Ok, Err}
 use Rattle.ix_cells.specs.Bounded.{Bounded, with_items}
 use Rattle.ix_cells.specs.declared.vector.modification_error.VectorModificationError.{VectorModificationError}
 use Rattle.ix_cells.specs.declared.vector.modification_error.VectorModificationError.TheVariants.{OutOfBounds, InsertWouldExceedCapacity}
@@ -16,6 +16,10 @@ module _ {T : Type 0} where
   -- there is room for so many more items
   abbrev pub IsRoomFor : ℕ → Bounded T → Type 0
   IsRoomFor more vector = length vector.items + more ≤ vector.capacity
+
+  -- there is none for so many
+  abbrev pub IsNoRoomFor : ℕ → Bounded T → Type 0
+  IsNoRoomFor more vector = vector.capacity < length vector.items + more
 
   -- push: x goes behind the others where there is room
   abbrev pub pushed : Bounded T → T → Bounded T

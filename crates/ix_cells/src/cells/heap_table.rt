@@ -1,5 +1,5 @@
 //! A table in memory of an allocator.
-ghost use Rattle.std.specs.Prelude.{◌≡◌, Some, None, IfOk, slice_set, replicate, refl};
+ghost use Rattle.std.specs.Prelude.{◌≡◌, Some, None, IsOk, IfOk, slice_set, replicate, refl};
 
 use crate::cells::Table;
 use crate::cells::places::{item, item_mut};
@@ -27,7 +27,9 @@ impl<T: Drop, A: Allocator> HeapTable<T, A> {
     /// the places would take more than `isize::MAX` bytes; nothing stays taken then.
     pub fn new(alloc: A, len: usize) -> Result<Self, AllocError>
         // There are len places, all empty.
-        ensures { IfOk result (λ table. table ≡ replicate len None) }
+        ensures table { IfOk result (λ table. table ≡ replicate len None) }
+        // No place needs no memory.
+        ensures memory { len ≡ 0 → IsOk result }
     {
         let mut row = Vec::with_capacity(alloc, len)?;
         for _i in 0..len {

@@ -1,11 +1,11 @@
 //! The vector whose memory is taken where it is made.
-ghost use Rattle.std.specs.Prelude.{◌≡◌, ◌≤◌, length, refl, IfOk};
-ghost use Rattle.std.specs.List.{refill};
+ghost use Rattle.std.specs.Prelude.{◌≡◌, ◌≤◌, length, IsOk, IfOk};
 ghost use Rattle.std.specs.Cmp.{on_per, on_equiv};
 ghost use Rattle.std.specs.Cmp.Lexicographic.{pointwise, lists_per, lists_equiv};
 ghost use Rattle.ix_cells.specs.Bounded.{empty_of, IsFull};
 ghost use Rattle.ix_cells.specs.Calls.{AnswersFrom};
 ghost use Rattle.ix_cells.specs.Cloning.{AreEqualClones};
+ghost use Rattle.ix_cells.specs.Rewriting.{refilled, refilled_is};
 
 use crate::vector::Vector;
 use std::alloc::{AllocError, Allocator, Global};
@@ -41,7 +41,9 @@ impl<T: Drop, A: Allocator> PolymorphicVec<T, A> {
     /// items would take more than `isize::MAX` bytes; nothing stays taken then.
     pub fn new(alloc: A, capacity: usize) -> Result<Self, AllocError>
         // It has no item, and this capacity.
-        ensures { IfOk result (λ vector. vector ≡ empty_of capacity) }
+        ensures vector { IfOk result (λ vector. vector ≡ empty_of capacity) }
+        // A capacity of 0 needs no memory.
+        ensures memory { capacity ≡ 0 → IsOk result }
     {
         Ok(PolymorphicVec {
             items: Vec::with_capacity(alloc, capacity)?,
@@ -95,7 +97,7 @@ impl<T: Clone, A: Allocator + Copy> PolymorphicVec<T, A> {
 impl<T: Drop, A: Allocator> Vector<T> for PolymorphicVec<T, A> {
     ghost bounded = { λ vector. vector };
 
-    ghost rewritten = { λ vector xs. record { items = refill (length vector.items) vector.items xs; capacity = vector.capacity } };
+    ghost rewritten = { refilled };
 
     #[inline]
     fn as_slice(&self) -> &[T] {
@@ -127,9 +129,7 @@ impl<T: Drop, A: Allocator> Vector<T> for PolymorphicVec<T, A> {
         self.items.pop()
     }
 
-    ghost use Rattle.ix_cells.specs.Rewriting.{rewrites_items};
-
-    ghost rewrites = { λ vector xs same. rewrites_items vector xs same };
+    ghost rewrites = { refilled_is };
 }
 
 /// The items are dropped, the last one first.

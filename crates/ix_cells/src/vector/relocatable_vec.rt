@@ -1,9 +1,9 @@
 //! The vector that is made in two steps.
 ghost use Rattle.std.specs.Prelude.{◌≡◌, length, IfOk};
-ghost use Rattle.std.specs.List.{refill};
 ghost use Rattle.std.specs.Cmp.{on_per, on_equiv};
 ghost use Rattle.std.specs.Cmp.Lexicographic.{pointwise, lists_per, lists_equiv};
 ghost use Rattle.ix_cells.specs.Bounded.{empty_of};
+ghost use Rattle.ix_cells.specs.Rewriting.{refilled, refilled_is};
 
 use crate::vector::{PolymorphicVec, UninitVec, Vector};
 use std::alloc::{AllocError, Allocator, Global};
@@ -61,7 +61,7 @@ impl<T: Drop, A: Allocator> RelocatableVec<T, A> {
 impl<T: Drop, A: Allocator> Vector<T> for RelocatableVec<T, A> {
     ghost bounded = { λ vector. vector };
 
-    ghost rewritten = { λ vector xs. record { items = refill (length vector.items) vector.items xs; capacity = vector.capacity } };
+    ghost rewritten = { refilled };
 
     #[inline]
     fn as_slice(&self) -> &[T] {
@@ -93,9 +93,7 @@ impl<T: Drop, A: Allocator> Vector<T> for RelocatableVec<T, A> {
         self.vector.pop()
     }
 
-    ghost use Rattle.ix_cells.specs.Rewriting.{rewrites_items};
-
-    ghost rewrites = { λ vector xs same. rewrites_items vector xs same };
+    ghost rewrites = { refilled_is };
 }
 
 /// Vectors are equal if their items are, whatever the capacities.

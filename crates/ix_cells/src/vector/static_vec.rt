@@ -3,6 +3,7 @@ ghost use Rattle.std.specs.Prelude.{ℕ, ◌≡◌, ◌<◌, ◌≤◌, [], leng
 ghost use Rattle.std.specs.List.{AllZip, refill};
 ghost use Rattle.std.specs.Cmp.Lexicographic.{pointwise, lists_per, lists_equiv};
 ghost use Rattle.ix_cells.specs.Cloning.{AreInfallible};
+ghost use Rattle.ix_cells.specs.Rewriting.{refilled_is};
 
 use crate::cells::MAX_FIXED_CAPACITY;
 use crate::vector::{Vector, VectorModificationError};
@@ -101,9 +102,7 @@ impl<T: Default + Drop, const CAPACITY: usize> Vector<T> for StaticVec<T, CAPACI
         self.items.pop()
     }
 
-    ghost use Rattle.ix_cells.specs.Rewriting.{rewrites_items};
-
-    ghost rewrites = { λ vector xs same. rewrites_items (record { items = vector; capacity = CAPACITY }) xs same };
+    ghost rewrites = { λ vector. refilled_is (record { items = vector; capacity = CAPACITY }) };
 }
 
 /// The items are dropped, the last one first.

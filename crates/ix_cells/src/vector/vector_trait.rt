@@ -1,11 +1,11 @@
 //! The trait of all vectors.
-ghost use Rattle.std.specs.Prelude.{◌≡◌, ℕ, ◌+◌, ◌<◌, ◌≤◌, ◌↔◌, List, [], ◌∷◌, ◌++◌, length, take, drop, Ok, Err, IsTrue, IsOk, IsNone, IfErr, OnOk, OnErr, slice_range};
+ghost use Rattle.std.specs.Prelude.{◌≡◌, ℕ, ◌+◌, ◌<◌, ◌≤◌, ◌↔◌, List, [], ◌∷◌, ◌++◌, length, take, drop, Ok, Err, IsTrue, IsOk, IsOkUnless, OnOk, OnErr, slice_range};
 ghost use Rattle.std.specs.List.{AppendsResults, remove_range};
 ghost use Rattle.std.specs.Borrow.{sem};
 ghost use Rattle.ix_cells.specs.Bounded.{Bounded, IsWithin, IsFull, with_items};
 ghost use Rattle.ix_cells.specs.Cloning.{AreEqualClones, AreInfallible};
 ghost use Rattle.ix_cells.specs.Lending.{lends_items};
-ghost use Rattle.ix_cells.specs.VectorSteps.{IsRoomFor, pushed, push_answer, inserted, insert_answer, removed, removed_item, popped, last_of, truncated, extended, resized, resize_answer};
+ghost use Rattle.ix_cells.specs.VectorSteps.{IsRoomFor, IsNoRoomFor, pushed, push_answer, inserted, insert_answer, removed, removed_item, popped, last_of, truncated, extended, resized, resize_answer};
 ghost use Rattle.ix_cells.specs.declared.vector.modification_error.VectorModificationError.TheVariants.{InsertWouldExceedCapacity, OutOfMemory};
 
 use crate::vector::VectorModificationError;
@@ -125,6 +125,8 @@ pub trait Vector<T: Drop> {
         ensures answer { result ≡ removed_item (bounded self.old) index }
         // That item left, and the others stay in their order.
         ensures vector { bounded self.new ≡ removed (bounded self.old) index }
+        // Where there is no such item, nothing changes.
+        ensures refused { length (bounded self.old).items ≤ index → self.new ≡ self.old }
     {
         if index < self.len() {
             put_behind_others(self.as_mut_slice(), index, index + 1);
@@ -190,15 +192,17 @@ pub trait Vector<T: Drop> {
         // Clones of the items equal them.
         requires clones { AreEqualClones T.is_clone }
         // Where they do not fit, that is the answer.
-        ensures full { (bounded self.old).capacity < length (bounded self.old).items + length other.now → result ≡ Err InsertWouldExceedCapacity }
+        ensures full { IsNoRoomFor (length other.now) (bounded self.old)
+            → result ≡ Err InsertWouldExceedCapacity }
         // Where they fit, want of memory is the only refusal.
-        ensures fits { IsRoomFor (length other.now) (bounded self.old) → IfErr result (λ error. error ≡ OutOfMemory) }
+        ensures fits { IsRoomFor (length other.now) (bounded self.old) → IsOkUnless result OutOfMemory }
         // The items of the slice stand behind the others.
         ensures done { OnOk result (bounded self.new ≡ extended (bounded self.old) other.now) }
         // A refusal leaves items and capacity as they were.
         ensures refused { OnErr result (bounded self.new ≡ bounded self.old) }
         // It is done where they fit and no clone of these items can fail.
-        ensures memory { IsRoomFor (length other.now) (bounded self.old) → AreInfallible T.is_infallible other.now → IsOk result }
+        ensures memory { IsRoomFor (length other.now) (bounded self.old)
+            → AreInfallible T.is_infallible other.now → IsOk result }
     {
         if other.len() > self.capacity() - self.len() {
             return Err(VectorModificationError::InsertWouldExceedCapacity);
@@ -222,7 +226,7 @@ pub trait Vector<T: Drop> {
         // A length past the capacity is refused.
         ensures full { (bounded self.old).capacity < n → result ≡ Err InsertWouldExceedCapacity }
         // Where the length fits, want of memory is the only refusal.
-        ensures fits { n ≤ (bounded self.old).capacity → IfErr result (λ error. error ≡ OutOfMemory) }
+        ensures fits { n ≤ (bounded self.old).capacity → IsOkUnless result OutOfMemory }
         // There are n items: the first ones, or all and then copies of the item.
         ensures done { OnOk result (bounded self.new ≡ resized (bounded self.old) n item) }
         // A refusal leaves items and capacity as they were.
@@ -269,7 +273,8 @@ pub trait Vector<T: Drop> {
         // There are n items.
         ensures len { OnOk result (length (bounded self.new).items ≡ n) }
         // They are the first ones, or all and then the answers of the closure, in the order of its calls.
-        ensures done { OnOk result (AppendsResults F.step (take n (bounded self.old).items) (bounded self.new).items f) }
+        ensures done { OnOk result (AppendsResults F.step (take n (bounded self.old).items)
+            (bounded self.new).items f) }
         // The capacity stays.
         ensures capacity { (bounded self.new).capacity ≡ (bounded self.old).capacity }
         // A refusal changes nothing.
@@ -290,7 +295,8 @@ pub trait Vector<T: Drop> {
     }
 
     /// Another list of as many items changes the items alone.
-    ghost rewrites: { (v : Self) (xs : List T) → length xs ≡ length (bounded v).items → bounded (rewritten v xs) ≡ with_items (bounded v) xs };
+    ghost rewrites: { (vector : Self) (xs : List T) → length xs ≡ length (bounded vector).items
+        → bounded (rewritten vector xs) ≡ with_items (bounded vector) xs };
 }
 
 /// Moves the last item to `index`, and each item from there on one place up.

@@ -1,5 +1,4 @@
-use Rattle.std.proofs.Common.{of_calls, arith, ap, ◌∙◌, [], ◌∷◌, ◌++◌, ◌≡◌, length, length-append}
-use Rattle.ix_cells.specs.Bounded.{Bounded}
+use Rattle.std.proofs.Common.{of_calls, arith, ap, [], ◌∷◌, ◌++◌, ◌≡◌, length, length-append}
 use Rattle.ix_cells.proofs.Calls.{AnswersFrom-push}
 use Rattle.ix_cells.proofs.vector.polymorphic_vec.PolymorphicVec.from_fn.Goals as goal
 
@@ -9,10 +8,11 @@ loop-n-preserved g c =
     let vector = c.loop-n.vector in
     let x = c.f.result in
     let put = c.push_unchecked.ensures in
-    let items : c.push_unchecked.new.self.items ≡ vector.items ++ x ∷ [] = ap (λ (b : Bounded g.row.T.Denot). b.items) put in
+    let items : c.push_unchecked.new.self.items ≡ vector.items ++ x ∷ [] = rw put in
+    let kept : c.push_unchecked.new.self.capacity ≡ vector.capacity = rw put in
     record {
       callable = search of_calls;
-      capacity = ap (λ (b : Bounded g.row.T.Denot). b.capacity) put ∙ at.capacity;
+      capacity = rw kept at.capacity;
       len = omega (arith, ap length items, length-append vector.items (x ∷ []), at.len);
       answers = rw items (AnswersFrom-push _ 0 c.loop-n.n _ vector.items _ x _ (omega (arith, at.len)) at.answers (search of_calls));
     }
