@@ -88,9 +88,9 @@ impl<T: Clone, A: Allocator + Copy> PolymorphicVec<T, A> {
         // It has the same items and the same capacity.
         ensures { IfOk result (λ vector. vector ≡ self.now) }
     {
-        let mut vector = PolymorphicVec::new(*self.items.allocator(), self.capacity())?;
-        vector.extend_from_slice_unchecked(self.as_slice())?;
-        Ok(vector)
+        let mut copy = PolymorphicVec::new(*self.items.allocator(), self.capacity())?;
+        copy.extend_from_slice_unchecked(self.as_slice())?;
+        Ok(copy)
     }
 }
 

@@ -84,7 +84,7 @@ impl<T: Default + Drop, const CAPACITY: usize> Vector<T> for StaticVec<T, CAPACI
 
     #[inline]
     fn capacity(&self) -> usize {
-        CAPACITY
+        StaticVec::<T, CAPACITY>::capacity()
     }
 
     #[inline]

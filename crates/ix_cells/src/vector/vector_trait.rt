@@ -107,15 +107,15 @@ pub trait Vector<T: Drop> {
         // A refusal changes nothing.
         ensures refused { OnErr result (self.new ≡ self.old) }
     {
-        if self.len() < self.capacity() {
-            if index <= self.len() {
-                self.push_unchecked(item);
-                put_last_at(self.as_mut_slice(), index);
-                return Ok(());
-            }
+        if self.is_full() {
+            return Err(VectorModificationError::InsertWouldExceedCapacity);
+        }
+        if index > self.len() {
             return Err(VectorModificationError::OutOfBounds);
         }
-        Err(VectorModificationError::InsertWouldExceedCapacity)
+        self.push_unchecked(item);
+        put_last_at(self.as_mut_slice(), index);
+        Ok(())
     }
 
     /// Takes the item at place `index`, and moves each later item one place down; or answers None where there is no
@@ -236,19 +236,19 @@ pub trait Vector<T: Drop> {
         // It is done where the length fits and no clone of the item can fail.
         ensures memory { n ≤ (bounded self.old).capacity → T.is_infallible item → IsOk result }
     {
-        let old_len = self.len();
+        let len = self.len();
         if n > self.capacity() {
             return Err(VectorModificationError::InsertWouldExceedCapacity);
         }
-        if n <= old_len {
+        if n <= len {
             self.truncate(n);
             return Ok(());
         }
-        for _i in old_len..n {
+        for _i in len..n {
             match item.clone() {
                 Ok(copy) => self.push_unchecked(copy),
                 Err(AllocError) => {
-                    self.truncate(old_len);
+                    self.truncate(len);
                     return Err(VectorModificationError::OutOfMemory);
                 }
             }

@@ -5,4 +5,4 @@ use Rattle.ix_cells.proofs.vector.vector_trait.Vector.resize.Given as goal
 
 abbrev pub invariant-loop-i : goal.invariant-loop-i
 invariant-loop-i g l =
-    g.Self.Vector.bounded l.self ≡ extended (g.Self.Vector.bounded l.initial.self) (replicate (l._i - l.old_len) l.item)
+    g.Self.Vector.bounded l.self ≡ extended (g.Self.Vector.bounded l.initial.self) (replicate (l._i - l.len) l.item)
