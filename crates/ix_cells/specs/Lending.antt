@@ -1,7 +1,7 @@
--- What a table is once a `&mut` to one of its items ends.
-use Rattle.std.specs.Prelude.{ℕ, Option, Some}
+-- What a table or a vector is once a `&mut` into it ends.
+use Rattle.std.specs.Prelude.{ℕ, List, Option, Some}
 use Rattle.std.specs.contracts.option.Option as option
-use Rattle.std.specs.Borrow.{Fml, RattleType, MutBor, Lends, unit}
+use Rattle.std.specs.Borrow.{Fml, RattleType, MutBor, Lends, Array, unit}
 use Rattle.arrayvec.specs.ArrayVec.{ArrayVec, with_item as with_element}
 use Rattle.arrayvec.specs.contracts.array_vec.ArrayVec as array_vec
 
@@ -17,3 +17,7 @@ lends_item T s r = Lends (option.the_row T) T s r Some
 abbrev pub lends_inline_place : (T CAP : RattleType) → MutBor (ArrayVec (Option T.Denot)) → ℕ → MutBor (Option T.Denot) → Fml
 lends_inline_place T CAP s i r =
     Lends (array_vec.the_row (option.the_row T) CAP unit) (option.the_row T) s r (with_element s.now i)
+
+-- the vector is as it was, with the last values behind r in the places of its items
+abbrev pub lends_items : (V T : RattleType) → (V.Denot → List T.Denot → V.Denot) → MutBor V.Denot → MutBor (List T.Denot) → Fml
+lends_items V T rewritten v r = Lends V (Array T 0) v r (rewritten v.now)

@@ -1,3 +1,9 @@
 pub mod Bounded
+pub mod Calls
+pub mod Cloning
+pub mod Conversions
+pub mod ErrorTexts
 pub mod Lending
 pub mod Places
+pub mod Rewriting
+pub mod VectorSteps

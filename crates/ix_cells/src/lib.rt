@@ -1,9 +1,17 @@
-//! Storage with a capacity that is set when it is made: rows of places, each empty or holding one item.
+//! Storage with a capacity that is set when it is made: tables, which are rows of places, each empty or holding one
+//! item, and vectors, which are lists.
 //!
-//! A container of the crates above keeps its items in a [`Table`] and nowhere else, so one container serves
-//! every kind of storage. Contracts see a table as a row of places, whatever memory it lies in.
+//! A queue or a map of the crates above keeps its items in a [`Table`] and nowhere else, so one container serves
+//! every kind of storage. Contracts see a table as a row of places, and a [`Vector`] as a bounded list, whatever memory
+//! they lie in.
 #![tactic(auto)]
 
 pub mod cells;
+pub mod vector;
 
-pub use cells::{InlineTable, MAX_FIXED_CAPACITY, Table};
+pub use cells::{
+    HeapTable, InitError, InlineTable, MAX_FIXED_CAPACITY, RelocatableContainer, Table,
+};
+pub use vector::{
+    PolymorphicVec, RelocatableVec, StaticVec, UninitVec, Vector, VectorModificationError,
+};

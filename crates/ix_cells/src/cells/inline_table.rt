@@ -1,9 +1,10 @@
 //! A table in the value itself.
-ghost use Rattle.std.specs.Prelude.{◌≡◌, ◌<◌, ◌≤◌, Some, None, IsSome, slice_index_or, slice_set, replicate, refl};
+ghost use Rattle.std.specs.Prelude.{◌≡◌, ◌<◌, ◌≤◌, Some, None, slice_index_or, slice_set, replicate, refl};
 ghost use Rattle.std.specs.Borrow.{sem};
 ghost use Rattle.arrayvec.specs.ArrayVec.{array_vec_len};
-ghost use Rattle.ix_cells.specs.Lending.{lends_item, lends_inline_place};
+ghost use Rattle.ix_cells.specs.Lending.{lends_inline_place};
 
+use crate::cells::places::{item, item_mut};
 use crate::cells::{MAX_FIXED_CAPACITY, Table};
 use arrayvec::ArrayVec;
 use std::marker::Model;
@@ -39,31 +40,6 @@ impl<T: Drop, const CAP: usize> InlineTable<T, CAP> {
             row.push(None);
         }
         InlineTable { row }
-    }
-}
-
-/// The item of a place that holds one.
-#[inline]
-fn item<T>(place: &Option<T>) -> &T
-    requires { IsSome place.now }
-    ensures { place.now ≡ Some result.now }
-{
-    match place {
-        Some(item) => item,
-        None => unreachable!(),
-    }
-}
-
-/// The item of a place that holds one, for writing.
-#[inline]
-fn item_mut<T>(place: &mut Option<T>) -> &mut T
-    requires { IsSome place.old }
-    ensures* writes_back { sem 𝓛 (lends_item T.row place.entry result) }
-    ensures value { place.old ≡ Some result.now }
-{
-    match place {
-        Some(item) => item,
-        None => unreachable!(),
     }
 }
 

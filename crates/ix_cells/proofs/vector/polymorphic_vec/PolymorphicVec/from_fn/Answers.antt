@@ -1,0 +1,18 @@
+use Rattle.std.proofs.Common.{of_calls, arith, ap, [], ◌∷◌, ◌++◌, ◌≡◌, length, length-append}
+use Rattle.ix_cells.proofs.Calls.{AnswersFrom-push}
+use Rattle.ix_cells.proofs.vector.polymorphic_vec.PolymorphicVec.from_fn.Goals as goal
+
+pub loop-n-preserved : goal.loop-n-preserved
+loop-n-preserved g c =
+    let at = c.loop-n.invariant in
+    let vector = c.loop-n.vector in
+    let x = c.f.result in
+    let put = c.push_unchecked.ensures in
+    let items : c.push_unchecked.new.self.items ≡ vector.items ++ x ∷ [] = rw put in
+    let kept : c.push_unchecked.new.self.capacity ≡ vector.capacity = rw put in
+    record {
+      callable = search of_calls;
+      capacity = rw kept at.capacity;
+      len = omega (arith, ap length items, length-append vector.items (x ∷ []), at.len);
+      answers = rw items (AnswersFrom-push _ 0 c.loop-n.n _ vector.items _ x _ (omega (arith, at.len)) at.answers (search of_calls));
+    }

@@ -1,0 +1,29 @@
+//! The item of one place of a row.
+ghost use Rattle.std.specs.Prelude.{◌≡◌, Some, IsSome};
+ghost use Rattle.std.specs.Borrow.{sem};
+ghost use Rattle.ix_cells.specs.Lending.{lends_item};
+
+/// The item of a place that holds one.
+#[inline]
+pub(crate) fn item<T>(place: &Option<T>) -> &T
+    requires { IsSome place.now }
+    ensures { place.now ≡ Some result.now }
+{
+    match place {
+        Some(item) => item,
+        None => unreachable!(),
+    }
+}
+
+/// The item of a place that holds one, for writing.
+#[inline]
+pub(crate) fn item_mut<T>(place: &mut Option<T>) -> &mut T
+    requires { IsSome place.old }
+    ensures* writes_back { sem 𝓛 (lends_item T.row place.entry result) }
+    ensures value { place.old ≡ Some result.now }
+{
+    match place {
+        Some(item) => item,
+        None => unreachable!(),
+    }
+}
