@@ -206,7 +206,9 @@ impl<T, S: Table<T>> MetaQueue<T, S> {
         // It is item `index` of the list.
         ensures { slice_get self.now.items index ≡ Some result }
     {
-        *self.table.get(place_after(self.start, index, self.table.len()))
+        *self
+            .table
+            .get(place_after(self.start, index, self.table.len()))
     }
 
     /// Adds `value` at the back.
