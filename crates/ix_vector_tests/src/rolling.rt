@@ -1,5 +1,5 @@
 //! Functions over any vector, proved from the contracts of its trait alone.
-ghost use Rattle.std.specs.Prelude.{◌≡◌, ◌∷◌, ◌++◌, [], Ok, Some, None, IfOk, OnOk, OnErr, if◌then◌else◌, slice_get, slice_set};
+ghost use Rattle.std.specs.Prelude.{◌≡◌, Some, None, IfOk, OnOk, OnErr, if◌then◌else◌, slice_get, slice_set};
 ghost use Rattle.ix_cells.specs.Bounded.{with_items};
 ghost use Rattle.ix_cells.specs.VectorSteps.{has_room, pushed, removed, removed_item};
 
