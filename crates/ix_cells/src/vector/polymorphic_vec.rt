@@ -68,6 +68,8 @@ impl<T: Drop, A: Allocator> PolymorphicVec<T, A> {
         ensures full { IfOk result (λ vector. IsFull vector) }
         // They are the answers of calls at 0, 1 and so on.
         ensures items { IfOk result (λ vector. (last : F) × AnswersFrom F.step 0 f vector.items last) }
+        // A capacity of 0 needs no memory.
+        ensures memory { capacity ≡ 0 → IsOk result }
     {
         let mut vector = PolymorphicVec::new(alloc, capacity)?;
         for n in 0..capacity {
