@@ -1,5 +1,5 @@
 //! Functions over any vector, proved from the contracts of its trait alone.
-ghost use Rattle.std.specs.Prelude.{◌≡◌, Some, None, IfOk, OnOk, OnErr, if◌then◌else◌, slice_get, slice_set};
+ghost use Rattle.std.specs.Prelude.{◌≡◌, ◌<◌, ◌↔◌, Some, None, length, IsOk, IfOk, IfErr, OnOk, OnErr, if◌then◌else◌, slice_get, slice_set};
 ghost use Rattle.ix_cells.specs.Bounded.{with_items};
 ghost use Rattle.ix_cells.specs.VectorSteps.{has_room, pushed, removed, removed_item};
 
@@ -25,6 +25,8 @@ pub fn push_over<T: Drop, V: Vector<T>>(vector: &mut V, item: T) -> Option<T>
 
 /// Puts `item` in the place of item `index`, which is the answer; or hands `item` back where there is no such item.
 pub fn replace_at<T: Drop, V: Vector<T>>(vector: &mut V, index: usize, item: T) -> Result<T, T>
+    // It is done exactly where there is such an item.
+    ensures found { IsOk result ↔ (index < length (V.bounded vector.old).items) }
     // It answers the item that stood there.
     ensures answer { IfOk result (λ held. slice_get (V.bounded vector.old).items index ≡ Some held) }
     // Every other item is as it was, and so is the capacity.
@@ -32,6 +34,8 @@ pub fn replace_at<T: Drop, V: Vector<T>>(vector: &mut V, index: usize, item: T) 
         ≡ with_items (V.bounded vector.old) (slice_set (V.bounded vector.old).items index item)) }
     // A refusal leaves items and capacity as they were.
     ensures refused { OnErr result (V.bounded vector.new ≡ V.bounded vector.old) }
+    // It hands the item back then.
+    ensures back { IfErr result (λ refused. refused ≡ item) }
 {
     if index < vector.len() {
         let items = vector.as_mut_slice();
