@@ -1,0 +1,3 @@
+pub mod Gaps
+pub mod Nul
+pub mod Texts

@@ -1,0 +1,5 @@
+pub mod ErrorTexts
+pub mod Escape
+pub mod Text
+pub mod TextSteps
+pub mod Undoing
