@@ -53,3 +53,7 @@ IsFirstPlace text needle None = (j : ℕ) → ¬ StandsAt text needle j
 abbrev pub IsLastPlace : List ℕ → List ℕ → Option ℕ → Type 0
 IsLastPlace text needle (Some i) = StandsAt text needle i × ((j : ℕ) → StandsAt text needle j → j ≤ i)
 IsLastPlace text needle None = (j : ℕ) → ¬ StandsAt text needle j
+
+-- the text is a front and then the ending
+abbrev pub EndsIn : List ℕ → List ℕ → Type 0
+EndsIn text ending = (front : List ℕ) × (text ≡ front ++ ending)

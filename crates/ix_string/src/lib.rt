@@ -6,4 +6,7 @@
 
 pub mod string;
 
-pub use string::{StaticString, String, StringModificationError, as_escaped_string, strnlen};
+pub use string::{
+    PolymorphicString, RelocatableString, StaticString, String, StringModificationError,
+    UninitString, as_escaped_string, strnlen,
+};

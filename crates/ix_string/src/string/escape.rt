@@ -60,10 +60,7 @@ impl fmt::Display for Escaped<'_> {
 /// O(`bytes.len()`). `AllocError` tells that there was no memory for the text.
 ///
 /// This is `as_escaped_string` of iceoryx2-bb-container.
-pub fn as_escaped_string(
-    alloc: Global,
-    bytes: &[u8],
-) -> Result<std::string::String, AllocError>
+pub fn as_escaped_string(alloc: Global, bytes: &[u8]) -> Result<std::string::String, AllocError>
     // It is the bytes' images, one after the other.
     ensures { IfOk result (λ text. string_bytes text ≡ escaped bytes.now) }
 {

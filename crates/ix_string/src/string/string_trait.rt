@@ -1,15 +1,17 @@
 //! The trait of all strings.
-ghost use Rattle.std.specs.Prelude.{ℕ, ◌≡◌, ◌+◌, ◌<◌, ◌≤◌, ◌↔◌, ◌==◌, List, [], ◌∷◌, ◌++◌, length, drop, IsTrue, IsSome, IfSome, IfNone, OnSome, OnErr};
+ghost use Rattle.std.specs.Prelude.{ℕ, ◌≡◌, ◌+◌, ◌-◌, ◌<◌, ◌≤◌, ◌↔◌, ◌==◌, List, [], ◌∷◌, ◌++◌, length, drop, IsTrue, IsSome, IfSome, IfNone, OnSome, OnErr};
 ghost use Rattle.std.specs.Bool.{OnTrue, OnFalse};
 ghost use Rattle.std.specs.Cmp.Lexicographic.{pointwise, slice_cmp};
 ghost use Rattle.std.specs.Ordering.{nat_cmp};
 ghost use Rattle.ix_cells.specs.Bounded.{Bounded, IsWithin, IsFull, with_items};
 ghost use Rattle.ix_cells.specs.VectorSteps.{IsRoomFor, removed, removed_item, popped, last_of, truncated};
-ghost use Rattle.ix_string.specs.Text.{IsText};
+ghost use Rattle.ix_string.specs.Text.{IsText, StandsAt, IsFirstPlace, IsLastPlace, EndsIn};
+ghost use Rattle.ix_string.specs.Retain.{Retains};
 ghost use Rattle.ix_string.specs.TextSteps.{with_inserted, inserted, insert_answer, IsRangeOf, range_removed};
 
 use crate::string::StringModificationError;
 use crate::string::gaps::is_text;
+use memchr::memmem;
 use std::cmp::Ordering;
 use std::str;
 
@@ -211,6 +213,71 @@ pub trait String {
         ensures { bounded self.new ≡ with_items (bounded self.old) [] }
     {
         self.truncate(0);
+    }
+
+    /// The least place where `needle` stands, or None where it stands nowhere. An empty one stands at 0.
+    fn find(&self, needle: &[u8]) -> Option<usize>
+        ensures { IsFirstPlace (bounded self.now).items needle.now result }
+    {
+        memmem::find(self.as_bytes(), needle)
+    }
+
+    /// The greatest place where `needle` stands, or None where it stands nowhere. An empty one stands at `len`.
+    fn rfind(&self, needle: &[u8]) -> Option<usize>
+        ensures { IsLastPlace (bounded self.now).items needle.now result }
+    {
+        memmem::rfind(self.as_bytes(), needle)
+    }
+
+    /// Takes `bytes` out and answers true where the string begins with them; or answers false. O(`len`).
+    fn strip_prefix(&mut self, bytes: &[u8]) -> bool
+        // It is done exactly where they stand in front.
+        ensures answer { IsTrue result ↔ StandsAt (bounded self.old).items bytes.now 0 }
+        // They left, and the others stay in their order.
+        ensures done { OnTrue result (bounded self.new ≡ range_removed (bounded self.old) 0 (length bytes.now)) }
+        // A refusal changes nothing.
+        ensures refused { OnFalse result (self.new ≡ self.old) }
+    {
+        if self.as_bytes().starts_with(bytes) {
+            return self.remove_range(0, bytes.len());
+        }
+        false
+    }
+
+    /// Takes `bytes` out and answers true where the string ends with them; or answers false. O(`bytes.len()`).
+    fn strip_suffix(&mut self, bytes: &[u8]) -> bool
+        // It is done exactly where they are the ending.
+        ensures answer { IsTrue result ↔ EndsIn (bounded self.old).items bytes.now }
+        // They left, and the others stay.
+        ensures done { OnTrue result (bounded self.new
+            ≡ truncated (bounded self.old) (length (bounded self.old).items - length bytes.now)) }
+        // A refusal changes nothing.
+        ensures refused { OnFalse result (self.new ≡ self.old) }
+    {
+        if self.as_bytes().ends_with(bytes) {
+            self.truncate(self.len() - bytes.len());
+            return true;
+        }
+        false
+    }
+
+    /// Asks `f` of each byte, from the last one to the first, and takes those out for which it answers true; the others
+    /// stay in their order. `len` calls, and O(`len`) for each byte that leaves.
+    fn retain<F: FnMut(u8) -> bool>(&mut self, mut f: F)
+        // The closure can be called again and again.
+        requires { F.IsAlwaysCallable f }
+        // It was called at the bytes from the last one to the first, and those answered false stay.
+        ensures string { Retains F.step f (bounded self.old).items (bounded self.new).items }
+        // The capacity stays.
+        ensures capacity { (bounded self.new).capacity ≡ (bounded self.old).capacity }
+    {
+        let mut idx = self.len();
+        while idx > 0 {
+            idx -= 1;
+            if f(self.as_bytes()[idx]) {
+                self.remove_range(idx, 1);
+            }
+        }
     }
 
     /// Copies the bytes and one zero to the front of `out`, and answers their number, which is `len + 1`; or answers

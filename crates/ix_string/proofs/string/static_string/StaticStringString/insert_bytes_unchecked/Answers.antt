@@ -17,4 +17,4 @@ invariant_of-self g c =
     let zeros = drop-IsPadded g.row.CAPACITY count cells n was in
     let longer : length (insert_slice text c.args.idx bytes) ≡ count + n = grind (arith, common_steps) in
     IsPadded-from_text g.row.CAPACITY (count + n) (insert_slice text c.args.idx bytes) c.open_gap.new.row (rw (c.open_gap.ensures, zeros)) longer (grind (arith, common_steps))
-      (IsText-insert_slice text c.args.idx bytes was.text c.requires.text)
+    (IsText-insert_slice text c.args.idx bytes was.text c.requires.text)

@@ -23,4 +23,4 @@ invariant_of-self g c =
     let more : replicate {A = ℕ} n 0 ++ replicate {A = ℕ} (g.row.CAPACITY - count) 0 ≡ replicate (g.row.CAPACITY - (count - n)) 0 = replicate-append-replicate n (g.row.CAPACITY - count) 0 ∙ ap (λ (k : ℕ). replicate {A = ℕ} k 0) sum in
     let shorter : length (remove_range text i (i + n)) ≡ count - n = grind (arith, common_steps) in
     IsPadded-from_text g.row.CAPACITY (count - n) (remove_range text i (i + n)) c.close_gap_with_zeros.new.row (rw (c.close_gap_with_zeros.ensures, zeros, more)) shorter (omega arith)
-      (IsText-remove_range text i (i + n) was.text)
+    (IsText-remove_range text i (i + n) was.text)
