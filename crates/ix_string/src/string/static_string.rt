@@ -150,7 +150,10 @@ impl<const CAPACITY: usize> StaticString<CAPACITY> {
     /// The bytes, the first one first. O(1).
     #[inline]
     pub fn as_bytes_const(&self) -> &[u8]
-        ensures { result.now ≡ self.now }
+        // They are the string's.
+        ensures value { result.now ≡ self.now }
+        // Each is from 1 to 127.
+        ensures text { IsText result.now }
     {
         &self.cells[..self.count]
     }
@@ -161,7 +164,7 @@ impl<const CAPACITY: usize> String for StaticString<CAPACITY> {
 
     #[inline]
     fn as_bytes(&self) -> &[u8] {
-        &self.cells[..self.count]
+        self.as_bytes_const()
     }
 
     #[inline]

@@ -316,7 +316,7 @@ pub trait String {
     fn eq_str(&self, other: &str) -> bool
         ensures { IsTrue result ↔ ((bounded self.now).items ≡ other.now) }
     {
-        self.as_bytes() == other.as_bytes()
+        self.eq_bytes(other.as_bytes())
     }
 
     /// The order of the bytes and those of `other`: by the first place where they differ, and else the shorter one is
