@@ -1,0 +1,5 @@
+pub mod Gaps
+pub mod Nul
+pub mod Places
+pub mod Retaining
+pub mod Texts

@@ -1,0 +1,89 @@
+-- Lemmas on the places where one text stands in another.
+use Rattle.std.proofs.Common.{ℕ, ◌≡◌, ◌+◌, ◌-◌, ◌≤◌, List, [], ◌++◌, length, take, drop, length-append, refl, sym, ap, ◌∙◌, arith}
+use native.Mathlib.Omega.{by_contra}
+use Rattle.std.specs.Prelude.{Option, Some, None, true, ◌==◌, ◌↔◌}
+use Rattle.std.specs.Cmp.Lexicographic.{same_text, nat_list_eq_equiv}
+use Rattle.std.proofs.lemmas.List.{take-append-drop, take_at, drop_at}
+use Rattle.std.proofs.lemmas.Grind.{common_steps}
+use Rattle.memchr.specs.Find.{OccursAt, FindsNeedle, FindsLastNeedle}
+use Rattle.memchr.proofs.lemmas.MatchLemmas.{OccursAt-split, OccursAt-from_part}
+use Rattle.ix_string.specs.Text.{StandsAt, IsFirstPlace, IsLastPlace, EndsIn}
+use Rattle.std.specs.List.{starts_with, ends_with}
+
+-- what is read at a place stands there
+pub StandsAt-OccursAt : (text needle : List ℕ) (i : ℕ) → OccursAt text needle i → StandsAt text needle i
+StandsAt-OccursAt text needle i occurs =
+    let fits = occurs.fits in
+    let split : drop i text ≡ needle ++ drop (i + length needle) text = OccursAt-split text needle i occurs in
+    record {
+      front = take i text;
+      rest = drop (i + length needle) text;
+      parts = sym (take-append-drop i text) ∙ ap (λ (r : List ℕ). take i text ++ r) split;
+      place = grind (arith, common_steps);
+    }
+
+-- and the other way round
+pub OccursAt-StandsAt : (text needle : List ℕ) (i : ℕ) → StandsAt text needle i → OccursAt text needle i
+OccursAt-StandsAt text needle i stands =
+    let counted = ap length stands.parts ∙ length-append stands.front (needle ++ stands.rest) in
+    let both = length-append needle stands.rest in
+    let behind : drop i text ≡ needle ++ stands.rest = rw stands.parts (drop_at stands.front (needle ++ stands.rest) i stands.place) in
+    let here : take (length needle) (drop i text) ≡ needle = rw behind (take_at needle stands.rest (length needle) refl) in
+    let place = stands.place in
+    OccursAt-from_part text needle i (omega arith) here
+
+-- a search from the front
+pub IsFirstPlace-FindsNeedle : (text needle : List ℕ) (found : Option ℕ) → FindsNeedle text needle 0 found → IsFirstPlace text needle found
+IsFirstPlace-FindsNeedle text needle (Some i) finds =
+    let least : (j : ℕ) → StandsAt text needle j → i ≤ j = λ j stands. by_contra i j (λ lt. finds.0.before j (omega arith) lt (OccursAt-StandsAt text needle j stands)) in
+    (StandsAt-OccursAt text needle i finds.1, least)
+IsFirstPlace-FindsNeedle text needle None finds = λ j stands.
+    let occurs = OccursAt-StandsAt text needle j stands in
+    let fits = occurs.fits in
+    finds j (omega arith) (omega arith) occurs
+
+-- a search from the end
+pub IsLastPlace-FindsLastNeedle : (text needle : List ℕ) (found : Option ℕ) → FindsLastNeedle text needle found → IsLastPlace text needle found
+IsLastPlace-FindsLastNeedle text needle (Some i) finds =
+    let greatest : (j : ℕ) → StandsAt text needle j → j ≤ i = λ j stands.
+    let occurs = OccursAt-StandsAt text needle j stands in
+    let fits = occurs.fits in
+    by_contra j i (λ lt. finds.0.after j (omega arith) (omega arith) occurs) in
+    (StandsAt-OccursAt text needle i finds.1, greatest)
+IsLastPlace-FindsLastNeedle text needle None finds = λ j stands.
+    let occurs = OccursAt-StandsAt text needle j stands in
+    let fits = occurs.fits in
+    finds j (omega arith) (omega arith) occurs
+
+-- the test for a front
+pub starts_with-StandsAt : (text needle : List ℕ) → starts_with ◌==◌ text needle ≡ true ↔ StandsAt text needle 0
+starts_with-StandsAt text needle = (
+  λ yes.
+      let same : needle ≡ take (length needle) text = same_text needle (take (length needle) text) (sym yes) in
+      record {
+        front = [];
+        rest = drop (length needle) text;
+        parts = sym (take-append-drop (length needle) text) ∙ ap (λ (r : List ℕ). r ++ drop (length needle) text) (sym same);
+        place = refl;
+      },
+  λ stands.
+      let none : stands.front ≡ [] = grind (arith, common_steps, stands.place) in
+      let parts : text ≡ needle ++ stands.rest = rw none at stands.parts in
+      let front : take (length needle) text ≡ needle = rw parts (take_at needle stands.rest (length needle) refl) in
+      rw front (nat_list_eq_equiv.refl needle),
+)
+
+-- the test for an ending
+pub ends_with-EndsIn : (text ending : List ℕ) → ends_with ◌==◌ text ending ≡ true ↔ EndsIn text ending
+ends_with-EndsIn text ending = (
+  λ yes.
+      let n = length text - length ending in
+      let same : ending ≡ drop n text = same_text ending (drop n text) (sym yes) in
+      (take n text, sym (take-append-drop n text) ∙ ap (λ (r : List ℕ). take n text ++ r) (sym same)),
+  λ ends.
+      let counted = ap length ends.1 ∙ length-append ends.0 ending in
+      let n = length text - length ending in
+      let place : length ends.0 ≡ n = omega arith in
+      let behind : drop n text ≡ ending = ap (drop n) ends.1 ∙ drop_at ends.0 ending n place in
+      rw behind (nat_list_eq_equiv.refl ending),
+)

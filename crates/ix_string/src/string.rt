@@ -1,0 +1,22 @@
+//! Strings: bytes from 1 to 127, with a capacity that is set when they are made.
+
+mod escape;
+mod gaps;
+mod modification_error;
+mod nul;
+mod polymorphic_string;
+mod relocatable_string;
+mod static_string;
+mod static_traits;
+mod string_trait;
+mod uninit_string;
+mod vector_text;
+
+pub use escape::as_escaped_string;
+pub use modification_error::StringModificationError;
+pub use nul::strnlen;
+pub use polymorphic_string::PolymorphicString;
+pub use relocatable_string::RelocatableString;
+pub use static_string::StaticString;
+pub use string_trait::String;
+pub use uninit_string::UninitString;
