@@ -1,0 +1,24 @@
+//! Tests of strings beside their contracts: worked examples at each kind and in each memory, every function once, each
+//! refusal by name, the printed texts, and how comparisons and hashes agree.
+#![tactic(auto)]
+
+#[cfg(test)]
+mod capacity_tests;
+#[cfg(test)]
+mod fixed_tests;
+#[cfg(test)]
+mod kind_tests;
+#[cfg(test)]
+mod memory_tests;
+#[cfg(test)]
+mod order_tests;
+#[cfg(test)]
+mod recorder;
+#[cfg(test)]
+mod refusals;
+#[cfg(test)]
+mod rows;
+#[cfg(test)]
+mod strings;
+#[cfg(test)]
+mod text_tests;

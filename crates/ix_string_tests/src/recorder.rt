@@ -1,0 +1,36 @@
+//! A hasher that tells what it was fed.
+use std::cell::Cell;
+use std::hash::{Hash, Hasher};
+
+/// It notes the bytes of each write and then 255, as digits to the base 256. Contracts do not see the note.
+#[derive(Drop)]
+struct Recorder<'a> {
+    digits: &'a Cell<u64>,
+}
+
+impl Hasher for Recorder<'_> {
+    ghost write = { λ recorder _. recorder };
+
+    ghost finish = { λ _. 0 };
+
+    fn finish(&self) -> u64 {
+        0
+    }
+
+    fn write(&mut self, bytes: &[u8]) {
+        let mut digits = self.digits.get();
+        for byte in bytes {
+            digits = digits.wrapping_mul(256).wrapping_add(*byte as u64);
+        }
+        self.digits.set(digits.wrapping_mul(256).wrapping_add(255));
+    }
+}
+
+/// What `value` feeds to a hasher, where that is at most eight digits.
+pub fn fed_by<T: Hash>(value: &T) -> u64 {
+    let digits = Cell::new(0u64);
+    let mut recorder = Recorder { digits: &digits };
+    value.hash(&mut recorder);
+    drop(recorder);
+    digits.get()
+}
