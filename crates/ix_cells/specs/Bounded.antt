@@ -1,5 +1,5 @@
 -- A bounded list: items in order, and a capacity that their number does not pass.
-use Rattle.std.specs.Prelude.{◌≡◌, ℕ, ◌≤◌, List, [], length, refl}
+use Rattle.std.specs.Prelude.{◌≡◌, ℕ, ◌≤◌, nat_lt, Bool, List, [], length, refl}
 use Rattle.std.specs.Coded.{Coded, code_by, coded×, coded_ℕ, coded_list}
 
 pub record Bounded (T : Type 0) : Type 0 where
@@ -19,6 +19,10 @@ module _ {T : Type 0} where
   -- there are as many items as the capacity
   abbrev pub IsFull : Bounded T → Type 0
   IsFull b = length b.items ≡ b.capacity
+
+  -- there are fewer items than the capacity
+  abbrev pub has_room : Bounded T → Bool
+  has_room b = nat_lt (length b.items) b.capacity
 
   -- no item yet
   abbrev pub empty_of : ℕ → Bounded T

@@ -4,10 +4,15 @@ use Rattle.std.specs.contracts.option.Option as option
 use Rattle.std.specs.Borrow.{Fml, RattleType, MutBor, Lends, Array, unit}
 use Rattle.arrayvec.specs.ArrayVec.{ArrayVec, with_item as with_element}
 use Rattle.arrayvec.specs.contracts.array_vec.ArrayVec as array_vec
+use Rattle.ix_cells.specs.contracts.cells.counted.Counted as counted
 
 -- the table is as it was, with the last value behind r at place i
 abbrev pub lends_place : (S T : RattleType) → (S.Denot → ℕ → T.Denot → S.Denot) → MutBor S.Denot → ℕ → MutBor T.Denot → Fml
 lends_place S T with_item s i r = Lends S T s r (with_item s.now i)
+
+-- the counted table is as it was, with the last value behind r at place i
+abbrev pub lends_counted_place : (S T : RattleType) → (S.Denot → ℕ → T.Denot → S.Denot) → MutBor S.Denot → ℕ → MutBor T.Denot → Fml
+lends_counted_place S T with_item s i r = Lends (counted.the_row S) T s r (with_item s.now i)
 
 -- the place holds the last value behind r
 abbrev pub lends_item : (T : RattleType) → MutBor (Option T.Denot) → MutBor T.Denot → Fml

@@ -1,6 +1,6 @@
 -- The steps of a vector: what each call answers, and the bounded list that it leaves.
-use Rattle.std.specs.Prelude.{ℕ, ◌+◌, ◌-◌, ◌<◌, ◌≤◌, List, [], ◌∷◌, ◌++◌, length, take, drop, replicate, slice_get, nat_lt, nat_le, if◌then◌else◌, Bool, Option, Result, Ok, Err}
-use Rattle.ix_cells.specs.Bounded.{Bounded, with_items}
+use Rattle.std.specs.Prelude.{ℕ, ◌+◌, ◌-◌, ◌<◌, ◌≤◌, List, [], ◌∷◌, ◌++◌, length, take, drop, replicate, slice_get, nat_le, if◌then◌else◌, Option, Result, Ok, Err}
+use Rattle.ix_cells.specs.Bounded.{Bounded, has_room, with_items}
 use Rattle.ix_cells.specs.declared.vector.modification_error.VectorModificationError.{VectorModificationError}
 use Rattle.ix_cells.specs.declared.vector.modification_error.VectorModificationError.TheVariants.{OutOfBounds, InsertWouldExceedCapacity}
 
@@ -9,10 +9,6 @@ abbrev pub Answer : Type 0
 Answer = Result (Unit {0}) VectorModificationError
 
 module _ {T : Type 0} where
-  -- fewer items than the capacity
-  abbrev pub has_room : Bounded T → Bool
-  has_room vector = nat_lt (length vector.items) vector.capacity
-
   -- there is room for so many more items
   abbrev pub IsRoomFor : ℕ → Bounded T → Type 0
   IsRoomFor more vector = length vector.items + more ≤ vector.capacity

@@ -1,12 +1,17 @@
-//! Tables: fixed rows of places, each empty or holding one item. And containers that are made in two steps.
+//! Tables: fixed rows of places, each empty or holding one item; tables whose calls are counted; and containers that
+//! are made in two steps.
 
+mod counted;
 mod heap_table;
 mod inline_table;
 mod places;
 mod relocatable_container;
 mod table;
+mod touches;
 
+pub use counted::Counted;
 pub use heap_table::HeapTable;
 pub use inline_table::InlineTable;
 pub use relocatable_container::{InitError, RelocatableContainer};
 pub use table::{MAX_FIXED_CAPACITY, Table};
+pub use touches::Touches;

@@ -10,7 +10,8 @@ pub mod cells;
 pub mod vector;
 
 pub use cells::{
-    HeapTable, InitError, InlineTable, MAX_FIXED_CAPACITY, RelocatableContainer, Table,
+    Counted, HeapTable, InitError, InlineTable, MAX_FIXED_CAPACITY, RelocatableContainer, Table,
+    Touches,
 };
 pub use vector::{
     PolymorphicVec, RelocatableVec, StaticVec, UninitVec, Vector, VectorModificationError,

@@ -1,2 +1,6 @@
 pub mod Rings
 mod WorkedQueues
+pub mod FreeKeys
+pub mod Chains
+pub mod SlotMaps
+pub mod SlotSteps

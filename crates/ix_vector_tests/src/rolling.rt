@@ -1,7 +1,7 @@
 //! Functions over any vector, proved from the contracts of its trait alone.
 ghost use Rattle.std.specs.Prelude.{◌≡◌, ◌<◌, ◌↔◌, Some, None, length, IsOk, IfOk, IfErr, OnOk, OnErr, if◌then◌else◌, slice_get, slice_set};
-ghost use Rattle.ix_cells.specs.Bounded.{with_items};
-ghost use Rattle.ix_cells.specs.VectorSteps.{has_room, pushed, removed, removed_item};
+ghost use Rattle.ix_cells.specs.Bounded.{has_room, with_items};
+ghost use Rattle.ix_cells.specs.VectorSteps.{pushed, removed, removed_item};
 
 use ix_cells::Vector;
 use std::mem;

@@ -1,0 +1,239 @@
+-- What a step on the two tables does to the slot state that they stand for.
+use Rattle.std.proofs.Common.{◌≡◌, ℕ, zero, suc, ◌+◌, ◌<◌, ◌≤◌, inl, inr, ◌⊎◌, List, [], ◌∷◌, ◌++◌, length, true, false, Option, Some, None, IsSome, refl, sym, ap, ap₂, ◌∙◌, subst, arith}
+use Rattle.std.proofs.lemmas.Bool.{cases_eq}
+use Rattle.std.proofs.lemmas.List.{length-append}
+use Rattle.ix_cells.specs.Places.{place_at, IsEmptyAt, IsHeldAt, IsVacant}
+use Rattle.ix_maps.specs.declared.slotmap.link.Link.{Link}
+use Rattle.ix_maps.specs.SlotState.{SlotState, times, value_at, IsHeld, IsWellFormed}
+use Rattle.ix_maps.specs.SlotSteps.{without}
+use Rattle.ix_maps.specs.FreeList.{no_key, held_link, free_link, first_or, last_or, reached, IsChain, IsLinkTable, IsKeyOrNone, IsLinkWithin, slots_of, IsToldByLink, IsToldBy, Represents}
+use Rattle.ix_maps.proofs.FreeKeys.{hit, hit_same, times-append, split, not_last, not_first}
+use Rattle.ix_maps.proofs.Chains.{within_row, chain_parts, chain_at, chain_reached}
+
+-- a place past the row holds nothing
+pub past_row : {X : Type 0} (row : List (Option X)) (i : ℕ) → length row ≤ i → place_at row i ≡ None
+past_row [] i past = refl
+past_row (v ∷ row) zero past = absurd (omega arith)
+past_row (v ∷ row) (suc i) past = past_row row i (omega arith)
+
+-- a row with nothing at each place is vacant
+pub vacant_row : {X : Type 0} (row : List (Option X)) → ((i : ℕ) → i < length row → place_at row i ≡ None) → IsVacant row
+vacant_row [] none = refl
+vacant_row (v ∷ row) none = ap₂ ◌∷◌ (none 0 (omega arith)) (vacant_row row (λ i below. none (suc i) (omega arith)))
+
+-- what a held place holds
+pub held_is : {X : Type 0} (place : Option X) → IsSome place → (x : X) × (place ≡ Some x)
+held_is None held = absurd (cc)
+held_is (Some x) held = (x, refl)
+
+module _ {T : Type 0} where
+  -- a place holds nothing or something
+  pub nothing_or_held : (place : Option T) → (place ≡ None) ⊎ IsSome place
+  nothing_or_held None = inl refl
+  nothing_or_held (Some x) = inr refl
+
+  -- two tables, a first key and a number of values stand for a slot state
+  pub record Shows (s : SlotState T) (values : List (Option T)) (links : List (Option Link)) (first len : ℕ) : Type 0 where
+    pub sound : Represents (slots_of values links first) links first len
+    pub is : slots_of values links first ≡ s
+
+  module _ (s : SlotState T) (links : List (Option Link)) (first len : ℕ) (r : Represents s links first len) where
+    -- no key stands twice among the free ones
+    pub once : (key : ℕ) → times key s.free ≤ 1
+    once key = elim (cases_eq (times key s.free) 0) [
+      | inl none ↦ omega arith
+      | inr some ↦ let one = r.formed.empty_is_free key (r.formed.free_is_empty key (omega arith)) in omega arith
+    ]
+
+    -- a free key is one of the map's
+    pub free_within : (key : ℕ) → 0 < times key s.free → key < length links
+    free_within key some = let below = (r.formed.free_is_empty key some).0 in let lengths = r.lengths in omega arith
+
+    -- the number for no key is none of the free ones
+    pub no_key_apart : times no_key s.free ≡ 0
+    no_key_apart = elim (cases_eq (times no_key s.free) 0) [
+      | inl none ↦ none
+      | inr some ↦ let below = free_within no_key (omega arith) in let lengths = r.lengths in let fits = r.below in absurd (omega arith)
+    ]
+
+    -- a held key is not free
+    pub held_apart : (key : ℕ) → IsHeld s key → times key s.free ≡ 0
+    held_apart key held = elim (cases_eq (times key s.free) 0) [
+      | inl none ↦ none
+      | inr some ↦ let empty = (r.formed.free_is_empty key (omega arith)).1 in absurd (let no = subst IsSome empty held in cc)
+    ]
+
+    -- a key of the map that is not free is held
+    pub rest_is_held : (key : ℕ) → key < length s.values → times key s.free ≡ 0 → IsHeld s key
+    rest_is_held key below none = elim (nothing_or_held (value_at s key)) [
+      | inl empty ↦ let one = r.formed.empty_is_free key (below, empty) in absurd (omega arith)
+      | inr held ↦ held
+    ]
+
+    -- every place of the links holds one
+    pub link_table : IsLinkTable links
+    link_table = record {
+      within = let lengths = r.lengths in let fits = r.below in omega arith;
+      held = λ key below. elim (cases_eq (times key s.free) 0) [
+        | inl none ↦ subst IsSome (sym (r.others key below none)) refl
+        | inr some ↦ let at = chain_at links no_key s.free no_key key (omega arith) r.chain in subst IsSome (sym at.2) refl
+      ];
+    }
+
+    -- a free key, or none, is the first
+    pub first_within : IsKeyOrNone first links
+    first_within = elim (cases_eq first no_key) [
+      | inl none ↦ inl none
+      | inr some ↦ inr (elim (cases_eq (times first s.free) 0) [
+        | inl none ↦ absurd (not_first first no_key s.free none some r.head)
+        | inr stands ↦ free_within first (omega arith)
+      ])
+    ]
+
+    -- the first or last of some free keys, or none, is a key of the table or none
+    near_first : (keys : List ℕ) → ((key : ℕ) → 0 < times key keys → 0 < times key s.free) → IsKeyOrNone (first_or keys no_key) links
+    near_first keys among = elim (cases_eq (first_or keys no_key) no_key) [
+      | inl none ↦ inl none
+      | inr some ↦ inr (elim (cases_eq (times (first_or keys no_key) keys) 0) [
+        | inl none ↦ absurd (not_first _ no_key keys none some refl)
+        | inr stands ↦ free_within _ (among _ (omega arith))
+      ])
+    ]
+
+    near_last : (keys : List ℕ) → ((key : ℕ) → 0 < times key keys → 0 < times key s.free) → IsKeyOrNone (last_or no_key keys) links
+    near_last keys among = elim (cases_eq (last_or no_key keys) no_key) [
+      | inl none ↦ inl none
+      | inr some ↦ inr (elim (cases_eq (times (last_or no_key keys) keys) 0) [
+        | inl none ↦ absurd (not_last _ no_key keys none some refl)
+        | inr stands ↦ free_within _ (among _ (omega arith))
+      ])
+    ]
+
+    -- what is known of a free key: the keys before and behind it, and its link
+    pub record Placed (key : ℕ) : Type 0 where
+      pub front : List ℕ
+      pub back : List ℕ
+      pub rest : without key s.free ≡ front ++ back
+      pub counts : (other : ℕ) → times other s.free ≡ times other front + (hit other key + times other back)
+      pub lengths : length s.free ≡ length front + (1 + length back)
+      pub not_in_front : times key front ≡ 0
+      pub not_in_back : times key back ≡ 0
+      pub at_key : place_at links key ≡ Some (free_link (last_or no_key front) (first_or back no_key))
+      pub to_key : IsChain links no_key front key
+      pub from_key : IsChain links key back no_key
+      pub head : first ≡ first_or (front ++ key ∷ back) no_key
+
+    pub placed : (key : ℕ) → 0 < times key s.free → Placed key
+    placed key some =
+        let at = split key s.free some in
+        let parts = chain_parts links no_key at.front key at.back no_key (subst (λ keys. IsChain links no_key keys no_key) at.is r.chain) in
+        let counts : (other : ℕ) → times other s.free ≡ times other at.front + (hit other key + times other at.back) = λ other. ap (times other) at.is ∙ times-append other at.front (key ∷ at.back) in
+        record {
+          front = at.front;
+          back = at.back;
+          rest = at.rest;
+          counts = counts;
+          lengths = ap length at.is ∙ length-append at.front (key ∷ at.back) ∙ (omega arith);
+          not_in_front = at.not_before;
+          not_in_back = let here = counts key in let one = hit_same key key refl in let most = once key in omega arith;
+          at_key = parts.at_key;
+          to_key = parts.to_key;
+          from_key = parts.from_key;
+          head = r.head ∙ ap (λ keys. first_or keys no_key) at.is;
+        }
+
+    -- the keys beside a free one are the table's, or none
+    pub link_within : (key : ℕ) → 0 < times key s.free → IsLinkWithin (place_at links key) links
+    link_within key some =
+        let at = placed key some in
+        subst (λ link. IsLinkWithin link links) (sym at.at_key) (
+          near_last at.front (λ other stands. let counts = at.counts other in omega arith),
+          near_first at.back (λ other stands. let counts = at.counts other in omega arith),
+        )
+
+    -- the links tell which places hold a value
+    pub told : IsToldBy s.values links
+    told = record {
+      lengths = r.lengths;
+      each = λ key below. elim (cases_eq (times key s.free) 0) [
+        | inl none ↦ subst (IsToldByLink (value_at s key)) (sym (r.others key below none)) (
+          λ is_free. absurd (let no : false ≡ true = is_free in cc),
+          λ held. rest_is_held key (let lengths = r.lengths in omega arith) none,
+        )
+        | inr some ↦
+            let at = chain_at links no_key s.free no_key key (omega arith) r.chain in
+            subst (IsToldByLink (value_at s key)) (sym at.2) (
+              λ is_free. (r.formed.free_is_empty key (omega arith)).1,
+              λ held. absurd (let no : true ≡ false = held in cc),
+            )
+      ];
+    }
+
+    -- a contract sees just this slot state of the two tables
+    seen : slots_of s.values links first ≡ s
+    seen =
+        let fits = r.counted in let lengths = r.lengths in let low = r.below in
+        ap (λ keys. let t : SlotState T = record { values = s.values; free = keys } in t)
+        (ap (reached (length links) links) r.head ∙ chain_reached links (length links) no_key s.free no_key (omega arith) (past_row links no_key (omega arith)) r.chain)
+
+    pub shows : (values : List (Option T)) → values ≡ s.values → Shows s values links first len
+    shows values is =
+        let all = ap (λ vs. slots_of vs links first) is ∙ seen in
+        record { sound = subst (λ t. Represents t links first len) (sym all) r; is = all }
+
+  -- what is known of the slot state that two tables stand for
+  pub of : (s : SlotState T) (values : List (Option T)) (links : List (Option Link)) (first len : ℕ) → Shows s values links first len → Represents s links first len × (values ≡ s.values)
+  of s values links first len shown = (subst (λ t. Represents t links first len) shown.is shown.sound, ap (λ (t : SlotState T). t.values) shown.is)
+
+  -- the link of a key tells whether it is free
+  pub link_held : (s : SlotState T) (values : List (Option T)) (links : List (Option Link)) (first len key : ℕ) → Shows s values links first len → key < length s.values → IsHeldAt links key
+  link_held s values links first len key shown below =
+      let known = (of s values links first len shown).0 in
+      let lengths = known.lengths in (link_table s links first len known).held key (omega arith)
+
+  pub free_by_link : (s : SlotState T) (values : List (Option T)) (links : List (Option Link)) (first len key : ℕ) (link : Link) → Shows s values links first len → place_at links key ≡ Some link → link.is_free ≡ true → (0 < times key s.free) × (value_at s key ≡ None)
+  free_by_link s values links first len key link shown at is_free =
+      let r = (of s values links first len shown).0 in
+      elim (cases_eq (times key s.free) 0) [
+        | inl none ↦
+            let same : Some link ≡ Some held_link = sym at ∙ r.others key (within_row links key link at) none in
+            let is : link ≡ held_link = cc in
+            let no : true ≡ false = sym is_free ∙ ap (λ (l : Link). l.is_free) is in absurd (cc)
+        | inr some ↦ (omega arith, (r.formed.free_is_empty key (omega arith)).1)
+      ]
+
+  pub held_by_link : (s : SlotState T) (values : List (Option T)) (links : List (Option Link)) (first len key : ℕ) (link : Link) → Shows s values links first len → key < length s.values → place_at links key ≡ Some link → link.is_free ≡ false → IsHeld s key
+  held_by_link s values links first len key link shown below at held =
+      let r = (of s values links first len shown).0 in
+      elim (cases_eq (times key s.free) 0) [
+        | inl none ↦ rest_is_held s links first len r key below none
+        | inr some ↦
+            let free = chain_at links no_key s.free no_key key (omega arith) r.chain in
+            let same : Some link ≡ Some (free_link free.0 free.1) = sym at ∙ free.2 in
+            let is : link ≡ free_link free.0 free.1 = cc in
+            let no : true ≡ false = sym (ap (λ (l : Link). l.is_free) is) ∙ held in absurd (cc)
+      ]
+
+  -- what a call may use of the state that a contract sees
+  module _ (s : SlotState T) (values : List (Option T)) (links : List (Option Link)) (first len : ℕ) where
+    pub formed_of : Shows s values links first len → IsWellFormed s
+    formed_of shown = (of s values links first len shown).0.formed
+
+    pub links_of : Shows s values links first len → IsLinkTable links
+    links_of shown = link_table s links first len (of s values links first len shown).0
+
+    pub first_of_links : Shows s values links first len → IsKeyOrNone first links
+    first_of_links shown = first_within s links first len (of s values links first len shown).0
+
+    module _ (key : ℕ) (shown : Shows s values links first len) where
+      known : Represents s links first len × (values ≡ s.values)
+      known = of s values links first len shown
+
+      pub key_of : 0 < times key s.free → key < length links
+      key_of some = free_within s links first len known.0 key some
+
+      pub beside_of : 0 < times key s.free → IsLinkWithin (place_at links key) links
+      beside_of some = link_within s links first len known.0 key some
+
+      pub empty_of : 0 < times key s.free → IsEmptyAt values key
+      empty_of some = subst (λ vs. IsEmptyAt vs key) (sym known.1) (known.0.formed.free_is_empty key some)

@@ -1,0 +1,256 @@
+-- A slot map's steps keep what its tables stand for.
+use Rattle.std.proofs.Common.{◌≡◌, ℕ, zero, suc, ◌+◌, ◌-◌, ◌<◌, ◌≤◌, ◌≢◌, inl, inr, List, [], ◌∷◌, ◌++◌, length, set, false, Option, Some, None, refl, sym, ap, ◌∙◌, subst, arith}
+use Rattle.std.specs.Prelude.{replicate, nat_eq, if◌then◌else◌, is_some, count_by}
+use Rattle.std.specs.List.{range_with_len}
+use Rattle.std.proofs.lemmas.Bool.{cases_eq, cases_lt}
+use Rattle.std.proofs.lemmas.Bool.Decides.{nat_tests}
+use Rattle.std.proofs.lemmas.List.{get_or-set_same, get_or-set_other, get_or-replicate, length-append, length-replicate, length-set}
+use Rattle.std.proofs.lemmas.List.Sums.{sum_by-set}
+use Rattle.std.proofs.lemmas.List.Folds.{sum_by-replicate}
+use Rattle.std.proofs.lemmas.List.FromFn.{length-range_with_len}
+use Rattle.ix_cells.specs.Places.{place_at}
+use Rattle.ix_maps.specs.declared.slotmap.link.Link.{Link}
+use Rattle.ix_maps.specs.SlotState.{SlotState, times, value_at, IsHeld, empty_slots}
+use Rattle.ix_maps.specs.SlotSteps.{filled, emptied}
+use Rattle.ix_maps.specs.FreeList.{no_key, held_link, free_link, first_or, last_or, IsChain, with_next, with_previous, unlinked, linked_first, first_without, IsRisingList, Represents}
+use Rattle.ix_maps.proofs.FreeKeys.{hit_same, hit_other, times-append, without_none, not_last, not_first, times_past, times_within}
+use Rattle.ix_maps.proofs.Chains.{within_row, chain_joined, chain_kept, chain_led_on, chain_led_from}
+use Rattle.ix_maps.proofs.SlotMaps.{held_is, Shows, shows, of, placed, once, no_key_apart, held_apart}
+
+-- the first key once one has left a list
+head_without : (front back : List ℕ) (key first : ℕ) → times no_key front ≡ 0 → first ≡ first_or (front ++ key ∷ back) no_key → first_without first (free_link (last_or no_key front) (first_or back no_key)) ≡ first_or (front ++ back) no_key
+head_without [] back key first none is = refl
+head_without (other ∷ front) back key first none is =
+    let last_apart = not_last no_key other front (omega arith) (λ e. (let hits = hit_same no_key other e in omega arith)) in
+    let no : nat_eq (last_or other front) no_key ≡ false = grind (arith, nat_tests) in
+    ap (λ b. if b then first_or back no_key else first) no ∙ is
+
+module _ {T : Type 0} where
+  -- 1 for a value, 0 for none
+  abbrev held_one : Option T → ℕ
+  held_one place = if is_some place then 1 else 0
+
+  -- one more value where a place gets its first
+  held_more : (values : List (Option T)) (key : ℕ) (value : T) → key < length values → place_at values key ≡ None → count_by is_some (set values key (Some value)) ≡ count_by is_some values + 1
+  held_more values key value below empty =
+      let all = sum_by-set held_one values key (Some value) None below in
+      let was : held_one (place_at values key) ≡ 0 = ap held_one empty in omega arith
+
+  -- as many where a place gets another
+  held_same : (values : List (Option T)) (key : ℕ) (old value : T) → key < length values → place_at values key ≡ Some old → count_by is_some (set values key (Some value)) ≡ count_by is_some values
+  held_same values key old value below at =
+      let all = sum_by-set held_one values key (Some value) None below in
+      let was : held_one (place_at values key) ≡ 1 = ap held_one at in omega arith
+
+  -- one less where a place loses its own
+  held_less : (values : List (Option T)) (key : ℕ) (old : T) → key < length values → place_at values key ≡ Some old → count_by is_some (set values key None) + 1 ≡ count_by is_some values
+  held_less values key old below at =
+      let all = sum_by-set held_one values key None None below in
+      let was : held_one (place_at values key) ≡ 1 = ap held_one at in omega arith
+
+  module _ (s : SlotState T) (links : List (Option Link)) (first len : ℕ) (r : Represents s links first len) where
+    -- a free key left the list, and has a value
+    represents_filled : (key : ℕ) (value : T) (link : Link) → 0 < times key s.free → place_at links key ≡ Some link → Represents (filled s key value) (unlinked links key link) (first_without first link) (len + 1)
+    represents_filled key value link some at_link =
+        let at = placed s links first len r key some in
+        let empty = r.formed.free_is_empty key some in
+        let lengths = r.lengths in let low = r.below in
+        let before = last_or no_key at.front in
+        let behind = first_or at.back no_key in
+        let same : Some link ≡ Some (free_link before behind) = sym at_link ∙ at.at_key in
+        let is : link ≡ free_link before behind = cc in
+        let one = once s links first len r in
+        let none = no_key_apart s links first len r in
+        let none_counts = at.counts no_key in
+        let held = set links key (Some held_link) in
+        let led = with_next held before behind in
+        let all = with_previous led behind before in
+        let front_once : (other : ℕ) → times other at.front ≤ 1 = λ other. (let most = one other in let counts = at.counts other in omega arith) in
+        let back_once : (other : ℕ) → times other at.back ≤ 1 = λ other. (let most = one other in let counts = at.counts other in omega arith) in
+        let front_held = chain_kept links key (Some held_link) no_key at.front key (λ other stands e. (let none_here = at.not_in_front in let moved = ap (λ k. times k at.front) e in omega arith)) at.to_key in
+        let back_held = chain_kept links key (Some held_link) key at.back no_key (λ other stands e. (let none_here = at.not_in_back in let moved = ap (λ k. times k at.back) e in omega arith)) at.from_key in
+        let not_before : (other : ℕ) → times other at.front ≡ 0 → other ≢ no_key → other ≢ before = λ other clear apart. not_last other no_key at.front clear apart in
+        let not_behind : (other : ℕ) → times other at.back ≡ 0 → other ≢ no_key → other ≢ behind = λ other clear apart. not_first other no_key at.back clear apart in
+        let front_led = chain_led_on held no_key at.front key behind front_once front_held in
+        let known : (other : ℕ) → 0 < times other s.free → other ≢ no_key = λ other stands e. (let moved = ap (λ k. times k s.free) e in omega arith) in
+        let back_led = chain_kept held before _ key at.back no_key (λ other stands. not_before other (let most = one other in let counts = at.counts other in omega arith) (known other (let counts = at.counts other in omega arith))) back_held in
+        let back_all = chain_led_from led key at.back no_key before back_once back_led in
+        let front_all = chain_kept led behind _ no_key at.front behind (λ other stands. not_behind other (let most = one other in let counts = at.counts other in omega arith) (known other (let counts = at.counts other in omega arith))) front_led in
+        let links_len : length all ≡ length links = length-set led behind _ ∙ length-set held before _ ∙ length-set links key _ in
+        let values_len = length-set s.values key (Some value) in
+        let made : Represents (filled s key value) all (first_without first (free_link before behind)) (len + 1) = record {
+          lengths = links_len ∙ lengths ∙ sym values_len;
+          below = omega arith;
+          chain = subst (λ keys. IsChain all no_key keys no_key) (sym at.rest) (chain_joined all no_key at.front at.back no_key front_all back_all);
+          head = head_without at.front at.back key first (omega arith) at.head ∙ ap (λ keys. first_or keys no_key) (sym at.rest);
+          others = λ other within clear.
+              let parts = ap (times other) at.rest ∙ times-append other at.front at.back in
+              let in_range : other ≢ no_key = λ e. omega arith in
+              get_or-set_other led behind other _ None (not_behind other (omega arith) in_range)
+              ∙ get_or-set_other held before other _ None (not_before other (omega arith) in_range)
+              ∙ elim (cases_eq other key) [
+                | inl here ↦ ap (place_at held) here ∙ get_or-set_same links key (Some held_link) None (omega arith)
+                | inr there ↦ let miss = hit_other other key there in let counts = at.counts other in
+                    get_or-set_other links key other (Some held_link) None there ∙ r.others other (omega arith) (omega arith)
+              ];
+          formed = record {
+            free_is_empty = λ other stands.
+                let parts = ap (times other) at.rest ∙ times-append other at.front at.back in
+                let counts = at.counts other in
+                let was = r.formed.free_is_empty other (omega arith) in
+                let apart : other ≢ key = λ e. (let front_none = at.not_in_front in let back_none = at.not_in_back in let as_front = ap (λ k. times k at.front) e in let as_back = ap (λ k. times k at.back) e in omega arith) in
+                (let below = was.0 in omega arith, get_or-set_other s.values key other (Some value) None apart ∙ was.1);
+            empty_is_free = λ other is_empty.
+                let parts = ap (times other) at.rest ∙ times-append other at.front at.back in
+                let counts = at.counts other in
+                let apart : other ≢ key = λ e. (let no : Some value ≡ None = sym (ap (place_at (set s.values key (Some value))) e ∙ get_or-set_same s.values key (Some value) None empty.0) ∙ is_empty.1 in absurd (cc)) in
+                let miss = hit_other other key apart in
+                let was = r.formed.empty_is_free other (let below = is_empty.0 in omega arith, sym (get_or-set_other s.values key other (Some value) None apart) ∙ is_empty.1) in omega arith;
+          };
+          held = let was = r.held in let more = held_more s.values key value empty.0 empty.1 in omega arith;
+          counted = let was = r.counted in let keys = at.lengths in let left = ap length at.rest ∙ length-append at.front at.back in omega arith;
+        } in
+        subst (λ (l : Link). Represents (filled s key value) (unlinked links key l) (first_without first l) (len + 1)) (sym is) made
+
+    -- a held key has another value
+    represents_replaced : (key : ℕ) (value : T) → IsHeld s key → Represents (filled s key value) links first len
+    represents_replaced key value held =
+        let was = held_is (value_at s key) held in
+        let below = within_row s.values key was.0 was.1 in
+        let none = held_apart s links first len r key held in
+        let values_len = length-set s.values key (Some value) in
+        let low = r.below in
+        subst (λ keys. let t : SlotState T = record { values = set s.values key (Some value); free = keys } in Represents t links first len) (sym (without_none key s.free none)) (record {
+          lengths = r.lengths ∙ sym values_len;
+          below = omega arith;
+          chain = r.chain;
+          head = r.head;
+          others = r.others;
+          formed = record {
+            free_is_empty = λ other stands.
+                let old = r.formed.free_is_empty other stands in
+                let apart : other ≢ key = λ e. (let moved = ap (λ k. times k s.free) e in omega arith) in
+                (let within = old.0 in omega arith, get_or-set_other s.values key other (Some value) None apart ∙ old.1);
+            empty_is_free = λ other is_empty.
+                let apart : other ≢ key = λ e. (let no : Some value ≡ None = sym (ap (place_at (set s.values key (Some value))) e ∙ get_or-set_same s.values key (Some value) None below) ∙ is_empty.1 in absurd (cc)) in
+                r.formed.empty_is_free other (let within = is_empty.0 in omega arith, sym (get_or-set_other s.values key other (Some value) None apart) ∙ is_empty.1);
+          };
+          held = let old = r.held in let all = held_same s.values key was.0 value below was.1 in omega arith;
+          counted = let old = r.counted in omega arith;
+        })
+
+    -- a held key lost its value, and is the first that is free
+    represents_emptied : (key : ℕ) → IsHeld s key → Represents (emptied s key) (linked_first links key first) key (len - 1)
+    represents_emptied key held =
+        let was = held_is (value_at s key) held in
+        let below = within_row s.values key was.0 was.1 in
+        let none = held_apart s links first len r key held in
+        let lengths = r.lengths in let low = r.below in
+        let put = set links key (Some (free_link no_key first)) in
+        let all = with_previous put first key in
+        let less = held_less s.values key was.0 below was.1 in
+        let old_held = r.held in
+        let kept = chain_kept links key (Some (free_link no_key first)) no_key s.free no_key (λ other stands e. (let moved = ap (λ k. times k s.free) e in omega arith)) r.chain in
+        let led = chain_led_from put no_key s.free no_key key (once s links first len r) kept in
+        let as_first : with_previous put (first_or s.free no_key) key ≡ all = ap (λ k. with_previous put k key) (sym r.head) in
+        let key_in_range : key ≢ no_key = λ e. omega arith in
+        let not_head : (other : ℕ) → times other s.free ≡ 0 → other ≢ no_key → other ≢ first = λ other clear apart e. not_first other no_key s.free clear apart (e ∙ r.head) in
+        let own = get_or-set_other put first key _ None (not_head key none key_in_range) ∙ get_or-set_same links key (Some (free_link no_key first)) None (omega arith) in
+        let links_len : length all ≡ length links = length-set put first _ ∙ length-set links key _ in
+        let values_len = length-set s.values key None in
+        record {
+          lengths = links_len ∙ lengths ∙ sym values_len;
+          below = omega arith;
+          chain = (own ∙ ap (λ k. Some (free_link no_key k)) r.head, subst (λ ls. IsChain ls key s.free no_key) as_first led);
+          head = refl;
+          others = λ other within clear.
+              let apart : other ≢ key = λ e. (let hits = hit_same other key e in omega arith) in
+              let miss = hit_other other key apart in
+              get_or-set_other put first other _ None (not_head other (omega arith) (λ e. omega arith))
+              ∙ get_or-set_other links key other (Some (free_link no_key first)) None apart
+              ∙ r.others other (omega arith) (omega arith);
+          formed = record {
+            free_is_empty = λ other stands. elim (cases_eq other key) [
+              | inl here ↦ (let is = here in omega arith, ap (place_at (set s.values key None)) here ∙ get_or-set_same s.values key None None below)
+              | inr there ↦ let miss = hit_other other key there in
+                  let old = r.formed.free_is_empty other (omega arith) in
+                  (let within = old.0 in omega arith, get_or-set_other s.values key other None None there ∙ old.1)
+            ];
+            empty_is_free = λ other is_empty. elim (cases_eq other key) [
+              | inl here ↦ let hits = hit_same other key here in let moved = ap (λ k. times k s.free) here in omega arith
+              | inr there ↦ let miss = hit_other other key there in
+                  let old = r.formed.empty_is_free other (let within = is_empty.0 in omega arith, sym (get_or-set_other s.values key other None None there) ∙ is_empty.1) in omega arith
+            ];
+          };
+          held = omega arith;
+          counted = let old = r.counted in omega arith;
+        }
+
+  -- the same, as a call sees it
+  pub filled_shows : (s : SlotState T) (values values' : List (Option T)) (links links' : List (Option Link)) (first first' len key : ℕ) (value : T) (link : Link) → Shows s values links first len → 0 < times key s.free → place_at links key ≡ Some link → links' ≡ unlinked links key link → first' ≡ first_without first link → values' ≡ set values key (Some value) → Shows (filled s key value) values' links' first' (len + 1)
+  filled_shows s values values' links links' first first' len key value link shown some at links_are first_is values_are =
+      let known = of s values links first len shown in
+      shows (filled s key value) links' first' (len + 1)
+      (subst (λ f. Represents (filled s key value) links' f (len + 1)) (sym first_is)
+      (subst (λ ls. Represents (filled s key value) ls (first_without first link) (len + 1)) (sym links_are)
+      (represents_filled s links first len known.0 key value link some at)))
+      values' (values_are ∙ ap (λ vs. set vs key (Some value)) known.1)
+
+  pub replaced : (s : SlotState T) (values values' : List (Option T)) (links : List (Option Link)) (first len key : ℕ) (value : T) → Shows s values links first len → IsHeld s key → values' ≡ set values key (Some value) → Shows (filled s key value) values' links first len
+  replaced s values values' links first len key value shown held values_are =
+      let known = of s values links first len shown in
+      shows (filled s key value) links first len (represents_replaced s links first len known.0 key value held)
+      values' (values_are ∙ ap (λ vs. set vs key (Some value)) known.1)
+
+  pub emptied_shows : (s : SlotState T) (values values' : List (Option T)) (links links' : List (Option Link)) (first first' len len' key : ℕ) → Shows s values links first len → IsHeld s key → links' ≡ linked_first links key first → first' ≡ key → len' ≡ len - 1 → values' ≡ set values key None → Shows (emptied s key) values' links' first' len'
+  emptied_shows s values values' links links' first first' len len' key shown held links_are first_is len_is values_are =
+      let known = of s values links first len shown in
+      shows (emptied s key) links' first' len'
+      (subst (λ n. Represents (emptied s key) links' first' n) (sym len_is)
+      (subst (λ f. Represents (emptied s key) links' f (len - 1)) (sym first_is)
+      (subst (λ ls. Represents (emptied s key) ls key (len - 1)) (sym links_are)
+      (represents_emptied s links first len known.0 key held))))
+      values' (values_are ∙ ap (λ vs. set vs key None) known.1)
+
+-- the key behind one of 0, 1 and so on
+next_rising : (capacity key count : ℕ) → key + suc count ≡ capacity → (if nat_eq (key + 1) capacity then no_key else key + 1) ≡ first_or (range_with_len (key + 1) count) no_key
+next_rising capacity key zero all = grind (arith, nat_tests)
+next_rising capacity key (suc count) all = grind (arith, nat_tests)
+
+-- links in rising order are a chain
+rising_chain : (links : List (Option Link)) (capacity : ℕ) → IsRisingList capacity links → (key count : ℕ) → key + count ≡ capacity → IsChain links (if nat_eq key 0 then no_key else key - 1) (range_with_len key count) no_key
+rising_chain links capacity rising key zero all = tt
+rising_chain links capacity rising key (suc count) all =
+    let behind = next_rising capacity key count all in
+    let before : (if nat_eq (key + 1) 0 then no_key else key + 1 - 1) ≡ key = grind (arith, nat_tests) in (
+      rising.1 key (omega arith) ∙ ap (λ next. Some (free_link (if nat_eq key 0 then no_key else key - 1) next)) behind,
+      subst (λ b. IsChain links b (range_with_len (key + 1) count) no_key) before (rising_chain links capacity rising (key + 1) count (omega arith)),
+    )
+
+module _ {T : Type 0} where
+  -- two fresh tables stand for an empty map
+  represents_fresh : (links : List (Option Link)) (first capacity : ℕ) → IsRisingList capacity links → first ≡ first_or (range_with_len 0 capacity) no_key → capacity ≤ no_key → Represents (empty_slots {T = T} capacity) links first 0
+  represents_fresh links first capacity rising first_is fits =
+      let values_len = length-replicate capacity (let none : Option T = None in none) in
+      let keys_len = length-range_with_len 0 capacity in
+      let links_len = rising.0 in
+      record {
+        lengths = links_len ∙ sym values_len;
+        below = omega arith;
+        chain = rising_chain links capacity rising 0 capacity (omega arith);
+        head = first_is;
+        others = λ key within none. (let one = times_within 0 capacity key (omega arith) (omega arith) in absurd (omega arith));
+        formed = record {
+          free_is_empty = λ key stands. elim (cases_lt key capacity) [
+            | inl below ↦ (omega arith, get_or-replicate capacity key None None below)
+            | inr past ↦ let none = times_past 0 capacity key (omega arith) in absurd (omega arith)
+          ];
+          empty_is_free = λ key is_empty. times_within 0 capacity key (omega arith) (let below = is_empty.0 in omega arith);
+        };
+        held = sym (sum_by-replicate held_one capacity None ∙ (omega arith));
+        counted = omega arith;
+      }
+
+  pub fresh : (values : List (Option T)) (links : List (Option Link)) (first capacity : ℕ) → values ≡ replicate capacity None → IsRisingList capacity links → first ≡ first_or (range_with_len 0 capacity) no_key → capacity ≤ no_key → Shows (empty_slots capacity) values links first 0
+  fresh values links first capacity values_are rising first_is fits =
+      shows (empty_slots capacity) links first 0 (represents_fresh links first capacity rising first_is fits) values values_are

@@ -1,0 +1,23 @@
+use Rattle.std.proofs.Common.{length, None, sym, ap, ◌∙◌, arith}
+use Rattle.std.specs.Prelude.{replicate}
+use Rattle.ix_maps.specs.SlotState.{empty_slots}
+use Rattle.ix_maps.proofs.SlotSteps.{fresh}
+use Rattle.ix_maps.proofs.slotmap.meta_slot_map.MetaSlotMap.from_tables.Goals as goal
+
+pub invariant_of-result : goal.invariant_of-result
+invariant_of-result g c =
+    let same = ap g.S.Table.places c.new-values.ensures in
+    let len = c.len.ensures ∙ ap length same in
+    let bound = c.len.type_inv in
+    (fresh _ _ _ _ (same ∙ c.requires.values ∙ ap (λ n. replicate n None) (sym len)) c.link_all-first.ensures.links c.link_all-first.ensures.first (omega arith)).sound
+
+pub returns-clause-map : goal.returns-clause-map
+returns-clause-map g c =
+    let same = ap g.S.Table.places c.new-values.ensures in
+    let len = c.len.ensures ∙ ap length same in
+    let bound = c.len.type_inv in
+    (fresh _ _ _ _ (same ∙ c.requires.values ∙ ap (λ n. replicate n None) (sym len)) c.link_all-first.ensures.links c.link_all-first.ensures.first (omega arith)).is
+    ∙ ap empty_slots len
+
+pub returns-clause-formed : goal.returns-clause-formed
+returns-clause-formed g c = (invariant_of-result g c).formed

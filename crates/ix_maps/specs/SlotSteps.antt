@@ -1,0 +1,38 @@
+-- The steps of a slot map: the slot state that each call leaves. What a call answers is a key or value of the old one.
+use Rattle.std.specs.Prelude.{ℕ, List, [], ◌∷◌, length, nat_eq, nat_lt, if◌then◌else◌, Option, Some, None, is_some, slice_set}
+use Rattle.ix_maps.specs.SlotState.{SlotState, value_at}
+
+-- the keys without the first one that is this key
+abbrev pub without : ℕ → List ℕ → List ℕ
+without key [] = []
+without key (other ∷ keys) = if nat_eq key other then keys else other ∷ without key keys
+
+module _ {T : Type 0} where
+  -- another value at a key, and the free keys as they are
+  abbrev pub with_value : SlotState T → ℕ → T → SlotState T
+  with_value s key value = record { values = slice_set s.values key (Some value); free = s.free }
+
+  -- the key has the value, and is not free
+  abbrev pub filled : SlotState T → ℕ → T → SlotState T
+  filled s key value = record { values = slice_set s.values key (Some value); free = without key s.free }
+
+  -- the key has no value, and is the first that is free
+  abbrev pub emptied : SlotState T → ℕ → SlotState T
+  emptied s key = record { values = slice_set s.values key None; free = key ∷ s.free }
+
+  -- the first of the free keys gets the value
+  abbrev pub head_filled : List (Option T) → List ℕ → T → SlotState T
+  head_filled values [] value = record { values = values; free = [] }
+  head_filled values (key ∷ keys) value = record { values = slice_set values key (Some value); free = keys }
+
+  -- insert: the head of the free list gets the value, if there is one
+  abbrev pub inserted : SlotState T → T → SlotState T
+  inserted s value = head_filled s.values s.free value
+
+  -- insert_at: a key below the capacity gets the value, and leaves the free list if it stands there
+  abbrev pub inserted_at : SlotState T → ℕ → T → SlotState T
+  inserted_at s key value = if nat_lt key (length s.values) then filled s key value else s
+
+  -- remove: a held key loses its value, and goes to the front of the free list
+  abbrev pub removed : SlotState T → ℕ → SlotState T
+  removed s key = if is_some (value_at s key) then emptied s key else s

@@ -1,0 +1,40 @@
+//! Slot maps in the value itself.
+ghost use Rattle.std.specs.Prelude.{◌≡◌, ◌≤◌};
+ghost use Rattle.ix_maps.specs.SlotState.{IsWellFormed, empty_slots};
+
+use crate::slotmap::{Link, MetaSlotMap};
+use ix_cells::{InlineTable, MAX_FIXED_CAPACITY};
+
+/// A slot map with `CAPACITY` keys, in the value itself.
+///
+/// ```text
+/// let mut map = FixedSizeSlotMap::<char, 3>::new();
+/// map.insert('a');                          // Some(0)
+/// map.insert('b');                          // Some(1)
+/// map.remove(SlotMapKey::new(0));           // Some('a')
+/// map.next_free_key();                      // Some(0)
+/// map.insert_at(SlotMapKey::new(2), 'c');   // true
+/// ```
+///
+/// This is `FixedSizeSlotMap` of iceoryx2-bb-container.
+pub type FixedSizeSlotMap<T, const CAPACITY: usize> = MetaSlotMap<
+    T,
+    InlineTable<T, CAPACITY>,
+    InlineTable<Link, CAPACITY>,
+>;
+
+impl<T: Drop, const CAPACITY: usize> FixedSizeSlotMap<T, CAPACITY> {
+    /// An empty map.
+    ///
+    /// O(`CAPACITY`). `CAPACITY` is at most [`MAX_FIXED_CAPACITY`].
+    pub fn new() -> Self
+        // The capacity is one that fixed kinds have.
+        requires { CAPACITY ≤ MAX_FIXED_CAPACITY }
+        // No key has a value, and the free keys are 0, 1 and so on.
+        ensures map { result ≡ empty_slots CAPACITY }
+        // The free keys are exactly those with no value.
+        ensures formed { IsWellFormed result }
+    {
+        MetaSlotMap::from_tables(InlineTable::new(), InlineTable::new())
+    }
+}

@@ -1,0 +1,147 @@
+//! Steps on a table of links, which is a doubly linked list of free keys.
+ghost use Rattle.std.specs.Prelude.{◌≡◌, ◌+◌, ◌<◌, ◌≤◌, length, Some, None, replicate, slice_set};
+ghost use Rattle.std.specs.List.{range_with_len};
+ghost use Rattle.ix_cells.specs.Places.{place_at, IsHeldAt, IsVacant};
+ghost use Rattle.ix_maps.specs.FreeList.{no_key, first_or, IsLinkTable, IsKeyOrNone, IsLinkWithin, IsRisingList, IsToldBy, with_next, with_previous, unlinked, linked_first, first_without};
+
+use crate::slotmap::Link;
+use crate::slotmap::link::NO_KEY;
+use ix_cells::{Counted, Table, Touches};
+
+/// Writes `key`'s link.
+#[inline]
+fn set_link<L: Table<Link>>(links: &mut Counted<L>, key: usize, link: Link, touches: &mut Touches)
+    requires { IsHeldAt (L.places links.old) key }
+    ensures links { L.places links.new ≡ slice_set (L.places links.old) key (Some link) }
+    ensures touches { touches.new.count ≡ touches.old.count + 2 }
+{
+    *links.get_mut(key, touches) = link;
+}
+
+/// Writes which key stands behind `key`, where that is a key.
+#[inline]
+fn set_next<L: Table<Link>>(links: &mut Counted<L>, key: usize, to: usize, touches: &mut Touches)
+    requires links { IsLinkTable (L.places links.old) }
+    requires key { IsKeyOrNone key (L.places links.old) }
+    ensures links { L.places links.new ≡ with_next (L.places links.old) key to }
+    ensures touches { touches.new.count ≤ touches.old.count + 2 }
+    ensures counts_on { touches.old.count ≤ touches.new.count }
+{
+    if key != NO_KEY {
+        links.get_mut(key, touches).next = to;
+    }
+}
+
+/// Writes which key stands before `key`, where that is a key.
+#[inline]
+fn set_previous<L: Table<Link>>(
+    links: &mut Counted<L>,
+    key: usize,
+    to: usize,
+    touches: &mut Touches,
+)
+    requires links { IsLinkTable (L.places links.old) }
+    requires key { IsKeyOrNone key (L.places links.old) }
+    ensures links { L.places links.new ≡ with_previous (L.places links.old) key to }
+    ensures touches { touches.new.count ≤ touches.old.count + 2 }
+    ensures counts_on { touches.old.count ≤ touches.new.count }
+{
+    if key != NO_KEY {
+        links.get_mut(key, touches).previous = to;
+    }
+}
+
+/// Takes a free key out of the list, and answers the link that it had.
+#[inline]
+pub(crate) fn unlink<L: Table<Link>>(
+    links: &mut Counted<L>,
+    key: usize,
+    touches: &mut Touches,
+) -> Link
+    requires links { IsLinkTable (L.places links.old) }
+    requires key { key < length (L.places links.old) }
+    // The keys beside it are the table's.
+    requires beside { IsLinkWithin (place_at (L.places links.old) key) (L.places links.old) }
+    ensures link { place_at (L.places links.old) key ≡ Some result }
+    ensures links { L.places links.new ≡ unlinked (L.places links.old) key result }
+    ensures touches { touches.new.count ≤ touches.old.count + 7 }
+    ensures counts_on { touches.old.count ≤ touches.new.count }
+{
+    let link = *links.get(key, touches);
+    set_link(links, key, Link::HELD, touches);
+    set_next(links, link.previous, link.next, touches);
+    set_previous(links, link.next, link.previous, touches);
+    link
+}
+
+/// Puts a key in front of `first`, the first of the list.
+#[inline]
+pub(crate) fn link_first<L: Table<Link>>(
+    links: &mut Counted<L>,
+    key: usize,
+    first: usize,
+    touches: &mut Touches,
+)
+    requires links { IsLinkTable (L.places links.old) }
+    requires key { key < length (L.places links.old) }
+    requires first { IsKeyOrNone first (L.places links.old) }
+    ensures links { L.places links.new ≡ linked_first (L.places links.old) key first }
+    ensures touches { touches.new.count ≤ touches.old.count + 4 }
+    ensures counts_on { touches.old.count ≤ touches.new.count }
+{
+    let link = Link {
+        is_free: true,
+        previous: NO_KEY,
+        next: first,
+    };
+    set_link(links, key, link, touches);
+    set_previous(links, first, key, touches);
+}
+
+/// The first of the list once a key with this link has left it.
+#[inline]
+pub(crate) fn first_left(first: usize, link: Link) -> usize
+    ensures { result ≡ first_without first link }
+{
+    if link.previous == NO_KEY {
+        link.next
+    } else {
+        first
+    }
+}
+
+/// Links all `len` keys in rising order, and answers the first of them.
+pub(crate) fn link_all<L: Table<Link>>(links: &mut Counted<L>, len: usize) -> usize
+    requires { L.places links.old ≡ replicate len None }
+    ensures links { IsRisingList len (L.places links.new) }
+    ensures first { result ≡ first_or (range_with_len 0 len) no_key }
+{
+    let mut touches = Touches::new();
+    for key in 0..len {
+        let link = Link {
+            is_free: true,
+            previous: if key == 0 { NO_KEY } else { key - 1 },
+            next: if key + 1 == len { NO_KEY } else { key + 1 },
+        };
+        links.put(key, link, &mut touches);
+    }
+    if len == 0 { NO_KEY } else { 0 }
+}
+
+/// Takes every value and every link out of their tables, and drops the values in the order of their keys.
+pub(crate) fn take_all<T: Drop, S: Table<T>, L: Table<Link>>(
+    values: &mut Counted<S>,
+    links: &mut Counted<L>,
+)
+    requires { IsToldBy (S.places values.old) (L.places links.old) }
+    ensures values { IsVacant (S.places values.new) }
+    ensures links { IsVacant (L.places links.new) }
+{
+    let mut touches = Touches::new();
+    for key in 0..links.len() {
+        let link = links.take(key, &mut touches);
+        if !link.is_free {
+            drop(values.take(key, &mut touches));
+        }
+    }
+}
