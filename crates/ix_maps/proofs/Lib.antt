@@ -4,3 +4,4 @@ pub mod FreeKeys
 pub mod Chains
 pub mod SlotMaps
 pub mod SlotSteps
+pub mod Entries

@@ -1,5 +1,7 @@
 //! The slot map over any two tables, and the calls that read it.
-ghost use Rattle.std.specs.Prelude.{◌≡◌, ◌+◌, ◌<◌, ◌↔◌, List, [], length, replicate, Option, None, IsSome, IsTrue, IsNone, option_copied, true, false};
+ghost use Rattle.std.specs.Prelude.{◌≡◌, ℕ, nat_eq, ◌+◌, ◌<◌, ◌↔◌, List, [], length, replicate, Option, None, IsSome, IsTrue, IsNone, option_copied, true, false};
+ghost use Rattle.std.specs.List.Sorted.{IsStrictlyIncreasing};
+ghost use Rattle.std.specs.Map.{keys_of, lookup};
 ghost use Rattle.std.specs.Borrow.{sem, Lends, LendsIf};
 ghost use Rattle.std.specs.Option.{option_copied_mut};
 ghost use Rattle.ix_cells.specs.Places.{IsEmptyAt, IsVacant};
@@ -167,8 +169,12 @@ impl<T, S: Table<T>, L: Table<Link>> MetaSlotMap<T, S, L> {
     /// The held keys in rising order, with their values. O(1), and O(capacity) for the whole walk.
     #[inline]
     pub fn iter(&self) -> Iter<'_, T, S, L>
-        // What is to come is every held key, with its value.
-        ensures { result ≡ entries self.now }
+        // What is to come is the held keys in rising order, with their values.
+        ensures entries { result ≡ entries self.now }
+        // Each key is above the one before it.
+        ensures rising { IsStrictlyIncreasing (keys_of result) }
+        // Under each key stands the value that it has, and nothing under a key with none.
+        ensures exactly { (key : ℕ) → lookup (nat_eq key) result ≡ value_at self.now key }
     {
         Iter { map: self, key: 0 }
     }

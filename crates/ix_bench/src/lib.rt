@@ -1,0 +1,137 @@
+//! Kernels that measure the containers: each makes one, runs an operation `rounds` times and answers a checksum, so
+//! that a bench program can link them beside other libraries and compare both times and answers.
+#![tactic(auto)]
+
+mod generator;
+mod queues;
+mod slot_maps;
+mod strings;
+mod vectors;
+
+use std::alloc::Global;
+
+/// Push and pop on a fixed queue of 64 that holds 20.
+#[unsafe(no_mangle)]
+pub extern "C" fn ix_bench_queue_fixed(rounds: u64, _param: u64) -> u64 {
+    queues::fixed(rounds)
+}
+
+/// Push and pop on an allocated queue of `param` that holds 20.
+#[unsafe(no_mangle)]
+pub extern "C" fn ix_bench_queue_heap(alloc: Global, rounds: u64, param: u64) -> u64 {
+    queues::allocated(alloc, rounds, param as usize)
+}
+
+/// Push with overflow on a full fixed queue of 64.
+#[unsafe(no_mangle)]
+pub extern "C" fn ix_bench_overflow_fixed(rounds: u64, _param: u64) -> u64 {
+    queues::fixed_overflow(rounds)
+}
+
+/// Push with overflow on a full allocated queue of `param`.
+#[unsafe(no_mangle)]
+pub extern "C" fn ix_bench_overflow_heap(alloc: Global, rounds: u64, param: u64) -> u64 {
+    queues::allocated_overflow(alloc, rounds, param as usize)
+}
+
+/// Push and pop of items of 256 bytes on a fixed queue of 16 that holds 5.
+#[unsafe(no_mangle)]
+pub extern "C" fn ix_bench_queue_big(rounds: u64, _param: u64) -> u64 {
+    queues::large_items(rounds)
+}
+
+/// A fixed queue of 64 is made, gets an item and gives it back.
+#[unsafe(no_mangle)]
+pub extern "C" fn ix_bench_queue_new(rounds: u64, _param: u64) -> u64 {
+    queues::made(rounds)
+}
+
+/// Remove, insert and get on a fixed slot map of 512 that is half full.
+#[unsafe(no_mangle)]
+pub extern "C" fn ix_bench_slot_churn_fixed(rounds: u64, _param: u64) -> u64 {
+    slot_maps::fixed_churn(rounds)
+}
+
+/// Remove, insert and get on an allocated slot map of `param` that is half full.
+#[unsafe(no_mangle)]
+pub extern "C" fn ix_bench_slot_churn_heap(alloc: Global, rounds: u64, param: u64) -> u64 {
+    slot_maps::allocated_churn(alloc, rounds, param as usize)
+}
+
+/// `insert_at` of a free key or `remove` of a held one, on an allocated slot map of `param`.
+#[unsafe(no_mangle)]
+pub extern "C" fn ix_bench_slot_at(alloc: Global, rounds: u64, param: u64) -> u64 {
+    slot_maps::at_any_key(alloc, rounds, param as usize)
+}
+
+/// A walk over an allocated slot map of `param`, of which every second key is held.
+#[unsafe(no_mangle)]
+pub extern "C" fn ix_bench_slot_iter(alloc: Global, rounds: u64, param: u64) -> u64 {
+    slot_maps::walk(alloc, rounds, param as usize)
+}
+
+/// Two pushes and a pop on a fixed vector of 64.
+#[unsafe(no_mangle)]
+pub extern "C" fn ix_bench_vec_push_pop(rounds: u64, _param: u64) -> u64 {
+    vectors::push_and_pop(rounds)
+}
+
+/// Insert and remove at any place of a fixed vector that holds 32.
+#[unsafe(no_mangle)]
+pub extern "C" fn ix_bench_vec_ins_rem(rounds: u64, _param: u64) -> u64 {
+    vectors::insert_and_remove(rounds)
+}
+
+/// Three slices of 16 go into a fixed vector of 64, which is then cleared.
+#[unsafe(no_mangle)]
+pub extern "C" fn ix_bench_vec_extend(rounds: u64, _param: u64) -> u64 {
+    vectors::extend_and_clear(rounds)
+}
+
+/// A fixed vector of 64 is made and gets an item.
+#[unsafe(no_mangle)]
+pub extern "C" fn ix_bench_vec_new(rounds: u64, _param: u64) -> u64 {
+    vectors::made(rounds)
+}
+
+/// A push on a full vector.
+#[unsafe(no_mangle)]
+pub extern "C" fn ix_bench_vec_refuse(rounds: u64, _param: u64) -> u64 {
+    vectors::refused(rounds)
+}
+
+/// Eight bytes go behind a fixed string of 123, which is cleared at 120.
+#[unsafe(no_mangle)]
+pub extern "C" fn ix_bench_str_push(rounds: u64, _param: u64) -> u64 {
+    strings::push_words(rounds)
+}
+
+/// Four bytes are searched in 100.
+#[unsafe(no_mangle)]
+pub extern "C" fn ix_bench_str_find(rounds: u64, _param: u64) -> u64 {
+    strings::find_a_word(rounds)
+}
+
+/// Two strings of 100 bytes, the last of which may differ, are compared for equality.
+#[unsafe(no_mangle)]
+pub extern "C" fn ix_bench_str_eq(rounds: u64, _param: u64) -> u64 {
+    strings::equality(rounds)
+}
+
+/// Two strings of 100 bytes, the last of which may differ, are compared for order.
+#[unsafe(no_mangle)]
+pub extern "C" fn ix_bench_str_cmp(rounds: u64, _param: u64) -> u64 {
+    strings::order(rounds)
+}
+
+/// A string of 100 bytes feeds a hasher.
+#[unsafe(no_mangle)]
+pub extern "C" fn ix_bench_str_hash(rounds: u64, _param: u64) -> u64 {
+    strings::hash(rounds)
+}
+
+/// Four bytes go into a string of 100 bytes at any of the first 64 places, and out again.
+#[unsafe(no_mangle)]
+pub extern "C" fn ix_bench_str_ins_rem(rounds: u64, _param: u64) -> u64 {
+    strings::insert_and_remove(rounds)
+}
