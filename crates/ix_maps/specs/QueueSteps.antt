@@ -1,5 +1,5 @@
 -- The steps of a queue: what each call answers, and the bounded list that it leaves. The head is the oldest item.
-use Rattle.std.specs.Prelude.{ℕ, List, [], ◌∷◌, ◌++◌, length, drop, slice_get, nat_lt, if◌then◌else◌, Bool, Option, None}
+use Rattle.std.specs.Prelude.{ℕ, List, [], ◌∷◌, ◌++◌, length, drop, slice_get, slice_set, nat_lt, if◌then◌else◌, Bool, Option, None}
 use Rattle.ix_cells.specs.Bounded.{Bounded, with_items}
 
 module _ {T : Type 0} where
@@ -36,3 +36,7 @@ module _ {T : Type 0} where
   -- pop: the head leaves
   abbrev pub popped : Bounded T → Bounded T
   popped queue = with_items queue (drop 1 queue.items)
+
+  -- another head, where there is one
+  abbrev pub with_oldest : Bounded T → T → Bounded T
+  with_oldest queue x = with_items queue (slice_set queue.items 0 x)

@@ -6,4 +6,4 @@
 
 pub mod queue;
 
-pub use queue::{FixedSizeQueue, MetaQueue};
+pub use queue::{FixedSizeQueue, MetaQueue, Queue, RelocatableQueue, UninitQueue};
