@@ -1,0 +1,18 @@
+//! Tests of queues beside their contracts: worked examples, every function once, refused memory, when items are dropped,
+//! and the turns of the ring.
+#![tactic(auto)]
+
+#[cfg(test)]
+mod queue_drop_tests;
+#[cfg(test)]
+mod queue_equality_tests;
+#[cfg(test)]
+mod queue_function_tests;
+#[cfg(test)]
+mod queue_items;
+#[cfg(test)]
+mod queue_memory_tests;
+#[cfg(test)]
+mod queue_ring_tests;
+#[cfg(test)]
+mod queue_row_tests;

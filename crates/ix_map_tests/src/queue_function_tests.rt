@@ -1,0 +1,92 @@
+//! Every function of queues once, with ample memory.
+use crate::queue_items::relocatable_of;
+use bumpalo::Bump;
+use ix_cells::{InitError, RelocatableContainer, Table};
+use ix_maps::{FixedSizeQueue, MetaQueue, Queue, RelocatableQueue, UninitQueue};
+use linked_list_allocator::LocalHeap;
+use std::alloc::{Allocator, Global};
+use std::process::Abort;
+use std::test::Fail;
+
+/// `queue` is empty, and has room for two items.
+fn check_pushes<S: Table<u64>>(rt: &impl Abort, mut queue: MetaQueue<u64, S>, kind: &str) {
+    assert_eq!(rt; (queue.capacity(), queue.len()), (2, 0), "{kind}");
+    assert!(rt; queue.is_empty() && !queue.is_full(), "{kind}");
+    assert!(rt; queue.push(1) && queue.push(2), "{kind}");
+    assert!(rt; !queue.is_empty() && queue.is_full(), "{kind}");
+    assert!(rt; !queue.push(3), "{kind}");
+    assert_eq!(rt; queue.push_with_overflow(3), Some(1), "{kind}");
+    assert_eq!(rt; queue.pop(), Some(2), "{kind}");
+    assert_eq!(rt; queue.push_with_overflow(4), None, "{kind}");
+    assert_eq!(rt; (queue.pop(), queue.pop()), (Some(3), Some(4)), "{kind}");
+    assert_eq!(rt; queue.pop(), None, "{kind}");
+}
+
+/// `queue` is empty, and has room for two items.
+fn check_reads<S: Table<u64>>(rt: &impl Abort, mut queue: MetaQueue<u64, S>, kind: &str) {
+    assert!(rt; queue.peek().is_none(), "{kind}");
+    assert!(rt; queue.peek_mut().is_none(), "{kind}");
+    assert!(rt; queue.push(5) && queue.push(6), "{kind}");
+    assert_eq!(rt; queue.peek().copied(), Some(5), "{kind}");
+    assert_eq!(rt; queue.len(), 2, "{kind}");
+    assert_eq!(rt; (queue.get(0), queue.get(1)), (5, 6), "{kind}");
+    assert_eq!(rt;
+        (queue.get_unchecked(0), queue.get_unchecked(1)),
+        (5, 6),
+        "{kind}"
+    );
+}
+
+/// `queue` is empty, and has room for two items.
+fn check_changes<S: Table<u64>>(rt: &impl Abort, mut queue: MetaQueue<u64, S>, kind: &str) {
+    assert!(rt; queue.push(5) && queue.push(6), "{kind}");
+    if let Some(oldest) = queue.peek_mut() {
+        *oldest = 7;
+    }
+    assert_eq!(rt; queue.pop(), Some(7), "{kind}");
+    queue.clear();
+    assert_eq!(rt; (queue.capacity(), queue.len()), (2, 0), "{kind}");
+    assert_eq!(rt; queue.pop(), None, "{kind}");
+    assert!(rt; queue.push(8) && queue.push(9), "{kind}");
+    assert_eq!(rt; (queue.pop(), queue.pop()), (Some(8), Some(9)), "{kind}");
+}
+
+fn check_in<A: Allocator + Copy>(rt: &impl Abort, alloc: A, memory: &str) -> Result<(), Fail> {
+    check_pushes(rt, Queue::new(alloc, 2)?, memory);
+    check_pushes(rt, relocatable_of(alloc, 2)?, memory);
+    check_reads(rt, Queue::new(alloc, 2)?, memory);
+    check_reads(rt, relocatable_of(alloc, 2)?, memory);
+    check_changes(rt, Queue::new(alloc, 2)?, memory);
+    check_changes(rt, relocatable_of(alloc, 2)?, memory);
+    Ok(())
+}
+
+#[test]
+fn fixed_calls(rt: HostRuntime) {
+    check_pushes(&rt, FixedSizeQueue::<u64, 2>::new(), "fixed");
+    check_reads(&rt, FixedSizeQueue::<u64, 2>::new(), "fixed");
+    check_changes(&rt, FixedSizeQueue::<u64, 2>::new(), "fixed");
+}
+
+#[test]
+fn calls_in_memory(rt: HostRuntime) -> Result<(), Fail> {
+    check_in(&rt, rt.alloc(), "global")?;
+    let bump = Bump::new(rt.alloc());
+    check_in(&rt, &bump, "bump")?;
+    let heap = LocalHeap::new(rt.alloc(), 256)?;
+    check_in(&rt, &heap, "heap")?;
+    assert_eq!(rt; heap.used(), 0);
+    Ok(())
+}
+
+#[test]
+fn two_steps(rt: HostRuntime) {
+    let uninit = RelocatableQueue::<u64>::new_uninit(5);
+    let ready = InitError::new(uninit).into_uninit().init(rt.alloc()).ok();
+    assert_eq!(rt; ready.expect(&rt, "there is memory").capacity(), 5);
+    let uninit = <UninitQueue<u8> as RelocatableContainer<Global>>::new_uninit(6);
+    let ready = uninit.init(rt.alloc()).ok();
+    assert_eq!(rt; ready.expect(&rt, "there is memory").capacity(), 6);
+    let ready = UninitQueue::<u8>::new_uninit(7).init(rt.alloc()).ok();
+    assert_eq!(rt; ready.expect(&rt, "there is memory").capacity(), 7);
+}
