@@ -15,12 +15,11 @@ fn fill_turned<'a, S: Table<Noted<'a>>>(
     drops: &'a Cell<u64>,
 ) {
     for name in 1..4 {
-        assert!(rt; queue.push(Noted::new(name, drops)));
+        queue.push(Noted::new(name, drops));
     }
-    assert_eq!(rt; drops.get(), 0, "three are held");
     drop(queue.pop());
-    assert!(rt; queue.push(Noted::new(4, drops)));
-    assert_eq!(rt; drops.get(), 1, "one was taken");
+    queue.push(Noted::new(4, drops));
+    assert_eq!(rt; drops.get(), 1, "one was taken, and three are held");
 }
 
 /// `queue` is empty, and has room for three items.
@@ -32,13 +31,18 @@ fn check_refusals<'a, S: Table<Noted<'a>>>(
 ) {
     drops.set(0);
     fill_turned(rt, &mut queue, drops);
-    assert!(rt; !queue.push(Noted::new(5, drops)), "{kind}");
-    assert_eq!(rt; drops.get(), 15, "the refused one is dropped, {kind}");
+    queue.push(Noted::new(5, drops));
+    let refused = drops.get();
     let oldest = queue.push_with_overflow(Noted::new(6, drops));
-    assert_eq!(rt; drops.get(), 15, "the oldest one is handed back, {kind}");
+    let handed_back = drops.get();
     drop(oldest);
-    assert_eq!(rt; drops.get(), 152, "the caller dropped it, {kind}");
+    let by_the_caller = drops.get();
     drop(queue);
+    assert_eq!(rt;
+        (refused, handed_back, by_the_caller),
+        (15, 15, 152),
+        "{kind}"
+    );
     assert_eq!(rt; drops.get(), 152_346, "the end, {kind}");
 }
 
@@ -52,12 +56,12 @@ fn check_clears<'a, S: Table<Noted<'a>>>(
     drops.set(0);
     fill_turned(rt, &mut queue, drops);
     queue.clear();
-    assert_eq!(rt; drops.get(), 1234, "cleared, {kind}");
+    let cleared = drops.get();
     queue.clear();
-    assert_eq!(rt; drops.get(), 1234, "there was nothing, {kind}");
-    assert!(rt; queue.push(Noted::new(5, drops)), "{kind}");
-    assert_eq!(rt; drops.get(), 1234, "one is held, {kind}");
+    queue.push(Noted::new(5, drops));
+    let cleared_again = drops.get();
     drop(queue);
+    assert_eq!(rt; (cleared, cleared_again), (1234, 1234), "{kind}");
     assert_eq!(rt; drops.get(), 12_345, "the end, {kind}");
 }
 
@@ -73,9 +77,9 @@ fn check_writes<'a, S: Table<Noted<'a>>>(
     if let Some(oldest) = queue.peek_mut() {
         *oldest = Noted::new(7, drops);
     }
-    assert_eq!(rt; drops.get(), 12, "written over, {kind}");
+    let written_over = drops.get();
     drop(queue);
-    assert_eq!(rt; drops.get(), 12_734, "the end, {kind}");
+    assert_eq!(rt; (written_over, drops.get()), (12, 12_734), "{kind}");
 }
 
 #[test]
@@ -114,14 +118,14 @@ fn check_no_room<'a, S: Table<Noted<'a>>>(
     kind: &str,
 ) {
     drops.set(0);
-    assert!(rt; !queue.push(Noted::new(1, drops)), "{kind}");
-    assert_eq!(rt; drops.get(), 1, "the refused one is dropped, {kind}");
+    queue.push(Noted::new(1, drops));
+    let refused = drops.get();
     let same = queue.push_with_overflow(Noted::new(2, drops));
-    assert_eq!(rt; drops.get(), 1, "it is handed back, {kind}");
+    let handed_back = drops.get();
     drop(same);
     queue.clear();
     drop(queue);
-    assert_eq!(rt; drops.get(), 12, "the queue held nothing, {kind}");
+    assert_eq!(rt; (refused, handed_back, drops.get()), (1, 1, 12), "{kind}");
 }
 
 #[test]

@@ -12,14 +12,29 @@ fn check_equal<S: Table<u64>>(
     mut other: MetaQueue<u64, S>,
     places: usize,
 ) {
-    assert!(rt; one == other, "both empty, {places}");
-    assert!(rt; one.push(1) && one != other, "one empty, {places}");
-    assert!(rt; other.push(1) && one == other, "of one, {places}");
-    assert!(rt; one.push(2) && one != other, "a shorter one, {places}");
-    assert!(rt; other.push(2) && one.push(3) && other.push(3), "{places}");
-    assert!(rt; one == other && other == one, "both full, {places}");
-    assert_eq!(rt; one.pop(), Some(1), "{places}");
-    assert!(rt; one != other, "the head left, {places}");
+    let both_empty = one == other;
+    one.push(1);
+    let one_empty = one == other;
+    other.push(1);
+    let of_one = one == other;
+    one.push(2);
+    let one_shorter = one == other;
+    other.push(2);
+    one.push(3);
+    other.push(3);
+    let both_full = one == other;
+    let _ = one.pop();
+    let head_left = one == other;
+    assert_eq!(rt;
+        (both_empty, of_one, both_full),
+        (true, true, true),
+        "equal, {places}"
+    );
+    assert_eq!(rt;
+        (one_empty, one_shorter, head_left),
+        (false, false, false),
+        "different, {places}"
+    );
 }
 
 /// As above.
@@ -29,18 +44,23 @@ fn check_different<S: Table<u64>>(
     mut other: MetaQueue<u64, S>,
     places: usize,
 ) {
-    assert!(rt; one.push(1) && one.push(2), "{places}");
-    assert!(rt; other.push(1) && other.push(3), "{places}");
-    assert!(rt; one != other, "another last item, {places}");
+    one.push(1);
+    one.push(2);
+    other.push(1);
+    other.push(3);
+    let last_item = one != other;
     other.clear();
-    assert!(rt; other.push(3) && other.push(2), "{places}");
-    assert!(rt; one != other, "another first item, {places}");
+    other.push(3);
+    other.push(2);
+    let first_item = one != other;
     other.clear();
-    assert!(rt; other.push(2) && other.push(1), "{places}");
-    assert!(rt; one != other, "another order, {places}");
-    assert!(rt;
-        one == one && other == other,
-        "each equals itself, {places}"
+    other.push(2);
+    other.push(1);
+    let order = one != other;
+    assert_eq!(rt;
+        (last_item, first_item, order),
+        (true, true, true),
+        "{places}"
     );
 }
 

@@ -11,44 +11,59 @@ use std::test::Fail;
 /// `queue` is empty, and has room for two items.
 fn check_pushes<S: Table<u64>>(rt: &impl Abort, mut queue: MetaQueue<u64, S>, kind: &str) {
     assert_eq!(rt; (queue.capacity(), queue.len()), (2, 0), "{kind}");
-    assert!(rt; queue.is_empty() && !queue.is_full(), "{kind}");
-    assert!(rt; queue.push(1) && queue.push(2), "{kind}");
-    assert!(rt; !queue.is_empty() && queue.is_full(), "{kind}");
-    assert!(rt; !queue.push(3), "{kind}");
-    assert_eq!(rt; queue.push_with_overflow(3), Some(1), "{kind}");
-    assert_eq!(rt; queue.pop(), Some(2), "{kind}");
-    assert_eq!(rt; queue.push_with_overflow(4), None, "{kind}");
-    assert_eq!(rt; (queue.pop(), queue.pop()), (Some(3), Some(4)), "{kind}");
-    assert_eq!(rt; queue.pop(), None, "{kind}");
-}
-
-/// `queue` is empty, and has room for two items.
-fn check_reads<S: Table<u64>>(rt: &impl Abort, mut queue: MetaQueue<u64, S>, kind: &str) {
-    assert!(rt; queue.peek().is_none(), "{kind}");
-    assert!(rt; queue.peek_mut().is_none(), "{kind}");
-    assert!(rt; queue.push(5) && queue.push(6), "{kind}");
-    assert_eq!(rt; queue.peek().copied(), Some(5), "{kind}");
-    assert_eq!(rt; queue.len(), 2, "{kind}");
-    assert_eq!(rt; (queue.get(0), queue.get(1)), (5, 6), "{kind}");
+    let empty_or_full = [queue.is_empty(), queue.is_full()];
+    let pushed = [queue.push(1), queue.push(2), queue.push(3)];
+    assert_eq!(rt; pushed, [true, true, false], "{kind}");
+    let full_or_empty = [queue.is_full(), queue.is_empty()];
     assert_eq!(rt;
-        (queue.get_unchecked(0), queue.get_unchecked(1)),
-        (5, 6),
+        (empty_or_full, full_or_empty),
+        ([true, false], [true, false]),
+        "{kind}"
+    );
+    let left = [
+        queue.push_with_overflow(3),
+        queue.pop(),
+        queue.push_with_overflow(4),
+        queue.pop(),
+        queue.pop(),
+        queue.pop(),
+    ];
+    assert_eq!(rt;
+        left,
+        [Some(1), Some(2), None, Some(3), Some(4), None],
         "{kind}"
     );
 }
 
 /// `queue` is empty, and has room for two items.
+fn check_reads<S: Table<u64>>(rt: &impl Abort, mut queue: MetaQueue<u64, S>, kind: &str) {
+    assert!(rt;
+        queue.peek().is_none() && queue.peek_mut().is_none(),
+        "{kind}"
+    );
+    queue.push(5);
+    queue.push(6);
+    assert_eq!(rt; queue.peek().copied(), Some(5), "{kind}");
+    assert_eq!(rt; queue.len(), 2, "{kind}");
+    let read = [queue.get(0), queue.get(1)];
+    let again = [queue.get_unchecked(0), queue.get_unchecked(1)];
+    assert_eq!(rt; (read, again), ([5, 6], [5, 6]), "{kind}");
+}
+
+/// `queue` is empty, and has room for two items.
 fn check_changes<S: Table<u64>>(rt: &impl Abort, mut queue: MetaQueue<u64, S>, kind: &str) {
-    assert!(rt; queue.push(5) && queue.push(6), "{kind}");
+    queue.push(5);
+    queue.push(6);
     if let Some(oldest) = queue.peek_mut() {
         *oldest = 7;
     }
     assert_eq!(rt; queue.pop(), Some(7), "{kind}");
     queue.clear();
     assert_eq!(rt; (queue.capacity(), queue.len()), (2, 0), "{kind}");
-    assert_eq!(rt; queue.pop(), None, "{kind}");
-    assert!(rt; queue.push(8) && queue.push(9), "{kind}");
-    assert_eq!(rt; (queue.pop(), queue.pop()), (Some(8), Some(9)), "{kind}");
+    queue.push(8);
+    queue.push(9);
+    let left = [queue.pop(), queue.pop(), queue.pop()];
+    assert_eq!(rt; left, [Some(8), Some(9), None], "{kind}");
 }
 
 fn check_in<A: Allocator + Copy>(rt: &impl Abort, alloc: A, memory: &str) -> Result<(), Fail> {

@@ -7,24 +7,28 @@ use std::test::Fail;
 
 /// `queue` is empty, and has room for three items.
 fn check_turn<S: Table<u64>>(rt: &impl Abort, mut queue: MetaQueue<u64, S>, places: usize) {
-    assert!(rt; queue.push(1) && queue.push(2) && queue.push(3), "{places}");
-    assert_eq!(rt; queue.push_with_overflow(4), Some(1), "{places}");
+    let left = [
+        queue.push_with_overflow(1),
+        queue.push_with_overflow(2),
+        queue.push_with_overflow(3),
+        queue.push_with_overflow(4),
+    ];
+    assert_eq!(rt; left, [None, None, None, Some(1)], "{places}");
     assert_eq!(rt; queue.len(), 3, "{places}");
-    assert_eq!(rt;
-        (queue.get(0), queue.get(1), queue.get(2)),
-        (2, 3, 4),
-        "{places}"
-    );
+    let read = [queue.get(0), queue.get(1), queue.get(2)];
+    assert_eq!(rt; read, [2, 3, 4], "{places}");
     assert_eq!(rt; queue.pop(), Some(2), "{places}");
-    assert_eq!(rt; queue.peek().copied(), Some(3), "{places}");
-    assert!(rt; queue.push(5) && !queue.push(6), "{places}");
-    assert_eq!(rt; (queue.pop(), queue.pop()), (Some(3), Some(4)), "{places}");
-    assert_eq!(rt; (queue.pop(), queue.pop()), (Some(5), None), "{places}");
+    let pushed = [queue.push(5), queue.push(6)];
+    assert_eq!(rt; pushed, [true, false], "{places}");
+    let left = [queue.pop(), queue.pop(), queue.pop(), queue.pop()];
+    assert_eq!(rt; left, [Some(3), Some(4), Some(5), None], "{places}");
 }
 
 /// `queue` is empty, and has room for three items.
 fn check_written<S: Table<u64>>(rt: &impl Abort, mut queue: MetaQueue<u64, S>, places: usize) {
-    assert!(rt; queue.push(1) && queue.push(2) && queue.push(3), "{places}");
+    for n in 1..4 {
+        queue.push(n);
+    }
     for _ in 0..3 {
         if let Some(oldest) = queue.peek_mut() {
             *oldest = oldest.wrapping_mul(10);
@@ -33,10 +37,8 @@ fn check_written<S: Table<u64>>(rt: &impl Abort, mut queue: MetaQueue<u64, S>, p
             queue.push(oldest);
         }
     }
-    assert_eq!(rt; queue.pop(), Some(10), "{places}");
-    assert_eq!(rt; queue.pop(), Some(20), "{places}");
-    assert_eq!(rt; queue.pop(), Some(30), "{places}");
-    assert!(rt; queue.peek_mut().is_none(), "{places}");
+    let left = [queue.pop(), queue.pop(), queue.pop(), queue.pop()];
+    assert_eq!(rt; left, [Some(10), Some(20), Some(30), None], "{places}");
 }
 
 #[test]
@@ -71,19 +73,18 @@ fn writes_of_the_oldest(rt: HostRuntime) -> Result<(), Fail> {
 
 /// `queue` is empty, and has room for three items.
 fn check_size_zero<S: Table<()>>(rt: &impl Abort, mut queue: MetaQueue<(), S>, kind: &str) {
-    assert!(rt;
-        queue.push(()) && queue.push(()) && queue.push(()),
-        "{kind}"
-    );
-    assert!(rt; queue.is_full() && !queue.push(()), "{kind}");
+    let pushed = [
+        queue.push(()),
+        queue.push(()),
+        queue.push(()),
+        queue.push(()),
+    ];
+    assert_eq!(rt; pushed, [true, true, true, false], "{kind}");
     assert_eq!(rt; queue.push_with_overflow(()), Some(()), "{kind}");
     assert_eq!(rt; queue.len(), 3, "{kind}");
-    assert_eq!(rt; queue.get(2), (), "{kind}");
-    assert_eq!(rt; queue.pop(), Some(()), "{kind}");
-    assert!(rt;
-        queue.peek().is_some() && queue.peek_mut().is_some(),
-        "{kind}"
-    );
+    let read = queue.get(2);
+    assert_eq!(rt; (read, queue.pop()), ((), Some(())), "{kind}");
+    assert!(rt; queue.peek_mut().is_some(), "{kind}");
     queue.clear();
     assert_eq!(rt; queue.pop(), None, "{kind}");
 }

@@ -9,15 +9,13 @@ use std::process::Abort;
 use std::test::Fail;
 
 fn check_one<S: Table<u64>>(rt: &impl Abort, mut queue: MetaQueue<u64, S>, kind: &str) {
-    assert!(rt; queue.push(123), "{kind}");
-    assert_eq!(rt; queue.push_with_overflow(456), Some(123), "{kind}");
-    assert_eq!(rt; queue.pop(), Some(456), "{kind}");
+    let answers = (queue.push(123), queue.push_with_overflow(456), queue.pop());
+    assert_eq!(rt; answers, (true, Some(123), Some(456)), "{kind}");
 }
 
 fn check_none<S: Table<u64>>(rt: &impl Abort, mut queue: MetaQueue<u64, S>, kind: &str) {
-    assert!(rt; !queue.push(1), "{kind}");
-    assert_eq!(rt; queue.push_with_overflow(2), Some(2), "{kind}");
-    assert_eq!(rt; queue.pop(), None, "{kind}");
+    let answers = (queue.push(1), queue.push_with_overflow(2), queue.pop());
+    assert_eq!(rt; answers, (false, Some(2), None), "{kind}");
 }
 
 fn check_in<A: Allocator + Copy>(rt: &impl Abort, alloc: A, memory: &str) -> Result<(), Fail> {
