@@ -1,5 +1,5 @@
 //! Tests of queues beside their contracts: worked examples, every function once, refused memory, when items are dropped,
-//! and the turns of the ring.
+//! and the turns of the ring. And a function over any queue, as a user would write it.
 #![tactic(auto)]
 
 #[cfg(test)]
@@ -12,6 +12,7 @@ mod queue_function_tests;
 mod queue_items;
 #[cfg(test)]
 mod queue_memory_tests;
+pub mod queue_replacing;
 #[cfg(test)]
 mod queue_ring_tests;
 #[cfg(test)]

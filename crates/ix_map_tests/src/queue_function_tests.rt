@@ -1,5 +1,6 @@
 //! Every function of queues once, with ample memory.
 use crate::queue_items::relocatable_of;
+use crate::queue_replacing::replace_oldest;
 use bumpalo::Bump;
 use ix_cells::{InitError, RelocatableContainer, Table};
 use ix_maps::{FixedSizeQueue, MetaQueue, Queue, RelocatableQueue, UninitQueue};
@@ -9,30 +10,39 @@ use std::process::Abort;
 use std::test::Fail;
 
 /// `queue` is empty, and has room for two items.
+fn check_sizes<S: Table<u64>>(rt: &impl Abort, mut queue: MetaQueue<u64, S>, kind: &str) {
+    let before = (
+        queue.capacity(),
+        queue.len(),
+        queue.is_empty(),
+        queue.is_full(),
+    );
+    assert_eq!(rt; before, (2, 0, true, false), "{kind}");
+    queue.push(1);
+    let between = (queue.len(), queue.is_empty(), queue.is_full());
+    assert_eq!(rt; between, (1, false, false), "{kind}");
+    queue.push(2);
+    let after = (
+        queue.capacity(),
+        queue.len(),
+        queue.is_empty(),
+        queue.is_full(),
+    );
+    assert_eq!(rt; after, (2, 2, false, true), "{kind}");
+}
+
+/// `queue` is empty, and has room for two items.
 fn check_pushes<S: Table<u64>>(rt: &impl Abort, mut queue: MetaQueue<u64, S>, kind: &str) {
-    assert_eq!(rt; (queue.capacity(), queue.len()), (2, 0), "{kind}");
-    let empty_or_full = [queue.is_empty(), queue.is_full()];
     let pushed = [queue.push(1), queue.push(2), queue.push(3)];
     assert_eq!(rt; pushed, [true, true, false], "{kind}");
-    let full_or_empty = [queue.is_full(), queue.is_empty()];
-    assert_eq!(rt;
-        (empty_or_full, full_or_empty),
-        ([true, false], [true, false]),
-        "{kind}"
-    );
     let left = [
         queue.push_with_overflow(3),
         queue.pop(),
         queue.push_with_overflow(4),
-        queue.pop(),
-        queue.pop(),
-        queue.pop(),
     ];
-    assert_eq!(rt;
-        left,
-        [Some(1), Some(2), None, Some(3), Some(4), None],
-        "{kind}"
-    );
+    assert_eq!(rt; left, [Some(1), Some(2), None], "{kind}");
+    let rest = [queue.pop(), queue.pop(), queue.pop()];
+    assert_eq!(rt; rest, [Some(3), Some(4), None], "{kind}");
 }
 
 /// `queue` is empty, and has room for two items.
@@ -67,6 +77,8 @@ fn check_changes<S: Table<u64>>(rt: &impl Abort, mut queue: MetaQueue<u64, S>, k
 }
 
 fn check_in<A: Allocator + Copy>(rt: &impl Abort, alloc: A, memory: &str) -> Result<(), Fail> {
+    check_sizes(rt, Queue::new(alloc, 2)?, memory);
+    check_sizes(rt, relocatable_of(alloc, 2)?, memory);
     check_pushes(rt, Queue::new(alloc, 2)?, memory);
     check_pushes(rt, relocatable_of(alloc, 2)?, memory);
     check_reads(rt, Queue::new(alloc, 2)?, memory);
@@ -78,6 +90,7 @@ fn check_in<A: Allocator + Copy>(rt: &impl Abort, alloc: A, memory: &str) -> Res
 
 #[test]
 fn fixed_calls(rt: HostRuntime) {
+    check_sizes(&rt, FixedSizeQueue::<u64, 2>::new(), "fixed");
     check_pushes(&rt, FixedSizeQueue::<u64, 2>::new(), "fixed");
     check_reads(&rt, FixedSizeQueue::<u64, 2>::new(), "fixed");
     check_changes(&rt, FixedSizeQueue::<u64, 2>::new(), "fixed");
@@ -104,4 +117,22 @@ fn two_steps(rt: HostRuntime) {
     assert_eq!(rt; ready.expect(&rt, "there is memory").capacity(), 6);
     let ready = UninitQueue::<u8>::new_uninit(7).init(rt.alloc()).ok();
     assert_eq!(rt; ready.expect(&rt, "there is memory").capacity(), 7);
+}
+
+/// `queue` is empty, and has room for two items.
+fn check_replaced<S: Table<u64>>(rt: &impl Abort, mut queue: MetaQueue<u64, S>, kind: &str) {
+    assert_eq!(rt; replace_oldest(&mut queue, 1), None, "{kind}");
+    queue.push(2);
+    queue.push(3);
+    assert_eq!(rt; replace_oldest(&mut queue, 4), Some(2), "{kind}");
+    let left = [queue.pop(), queue.pop(), queue.pop()];
+    assert_eq!(rt; left, [Some(4), Some(3), None], "{kind}");
+}
+
+#[test]
+fn replaces_the_oldest(rt: HostRuntime) -> Result<(), Fail> {
+    check_replaced(&rt, FixedSizeQueue::<u64, 2>::new(), "fixed");
+    check_replaced(&rt, Queue::new(rt.alloc(), 2)?, "allocated");
+    check_replaced(&rt, relocatable_of(rt.alloc(), 2)?, "relocatable");
+    Ok(())
 }

@@ -6,22 +6,26 @@ use std::process::Abort;
 use std::test::Fail;
 
 /// `queue` is empty, and has room for three items.
-fn check_turn<S: Table<u64>>(rt: &impl Abort, mut queue: MetaQueue<u64, S>, places: usize) {
-    let left = [
-        queue.push_with_overflow(1),
-        queue.push_with_overflow(2),
-        queue.push_with_overflow(3),
-        queue.push_with_overflow(4),
-    ];
-    assert_eq!(rt; left, [None, None, None, Some(1)], "{places}");
+fn check_overflow<S: Table<u64>>(rt: &impl Abort, mut queue: MetaQueue<u64, S>, places: usize) {
+    for n in 1..4 {
+        queue.push(n);
+    }
+    assert_eq!(rt; queue.push_with_overflow(4), Some(1), "{places}");
     assert_eq!(rt; queue.len(), 3, "{places}");
     let read = [queue.get(0), queue.get(1), queue.get(2)];
     assert_eq!(rt; read, [2, 3, 4], "{places}");
-    assert_eq!(rt; queue.pop(), Some(2), "{places}");
-    let pushed = [queue.push(5), queue.push(6)];
-    assert_eq!(rt; pushed, [true, false], "{places}");
+}
+
+/// `queue` is empty, and has room for three items.
+fn check_turn<S: Table<u64>>(rt: &impl Abort, mut queue: MetaQueue<u64, S>, places: usize) {
+    for n in 1..4 {
+        queue.push(n);
+    }
+    assert_eq!(rt; queue.pop(), Some(1), "{places}");
+    let pushed = (queue.push(4), queue.push(5));
+    assert_eq!(rt; pushed, (true, false), "{places}");
     let left = [queue.pop(), queue.pop(), queue.pop(), queue.pop()];
-    assert_eq!(rt; left, [Some(3), Some(4), Some(5), None], "{places}");
+    assert_eq!(rt; left, [Some(2), Some(3), Some(4), None], "{places}");
 }
 
 /// `queue` is empty, and has room for three items.
@@ -42,14 +46,23 @@ fn check_written<S: Table<u64>>(rt: &impl Abort, mut queue: MetaQueue<u64, S>, p
 }
 
 #[test]
+fn overflows(rt: HostRuntime) -> Result<(), Fail> {
+    let alloc = rt.alloc();
+    for places in 0..4usize {
+        let queue = turned_by(FixedSizeQueue::<u64, 3>::new(), places);
+        check_overflow(&rt, queue, places);
+        check_overflow(&rt, turned_by(Queue::new(alloc, 3)?, places), places);
+        check_overflow(&rt, turned_by(relocatable_of(alloc, 3)?, places), places);
+    }
+    Ok(())
+}
+
+#[test]
 fn turns(rt: HostRuntime) -> Result<(), Fail> {
     let alloc = rt.alloc();
     for places in 0..4usize {
-        check_turn(
-            &rt,
-            turned_by(FixedSizeQueue::<u64, 3>::new(), places),
-            places,
-        );
+        let queue = turned_by(FixedSizeQueue::<u64, 3>::new(), places);
+        check_turn(&rt, queue, places);
         check_turn(&rt, turned_by(Queue::new(alloc, 3)?, places), places);
         check_turn(&rt, turned_by(relocatable_of(alloc, 3)?, places), places);
     }
@@ -60,11 +73,8 @@ fn turns(rt: HostRuntime) -> Result<(), Fail> {
 fn writes_of_the_oldest(rt: HostRuntime) -> Result<(), Fail> {
     let alloc = rt.alloc();
     for places in 0..4usize {
-        check_written(
-            &rt,
-            turned_by(FixedSizeQueue::<u64, 3>::new(), places),
-            places,
-        );
+        let queue = turned_by(FixedSizeQueue::<u64, 3>::new(), places);
+        check_written(&rt, queue, places);
         check_written(&rt, turned_by(Queue::new(alloc, 3)?, places), places);
         check_written(&rt, turned_by(relocatable_of(alloc, 3)?, places), places);
     }
@@ -73,14 +83,11 @@ fn writes_of_the_oldest(rt: HostRuntime) -> Result<(), Fail> {
 
 /// `queue` is empty, and has room for three items.
 fn check_size_zero<S: Table<()>>(rt: &impl Abort, mut queue: MetaQueue<(), S>, kind: &str) {
-    let pushed = [
-        queue.push(()),
-        queue.push(()),
-        queue.push(()),
-        queue.push(()),
-    ];
-    assert_eq!(rt; pushed, [true, true, true, false], "{kind}");
-    assert_eq!(rt; queue.push_with_overflow(()), Some(()), "{kind}");
+    for _ in 0..3 {
+        queue.push(());
+    }
+    let answers = (queue.push(()), queue.push_with_overflow(()));
+    assert_eq!(rt; answers, (false, Some(())), "{kind}");
     assert_eq!(rt; queue.len(), 3, "{kind}");
     let read = queue.get(2);
     assert_eq!(rt; (read, queue.pop()), ((), Some(())), "{kind}");
