@@ -1,3 +1,4 @@
+pub mod Pairs
 pub mod Rings
 mod WorkedQueues
 pub mod FreeKeys

@@ -7,7 +7,7 @@ use Rattle.std.proofs.lemmas.List.{append-nil, append_assoc, length-append, leng
 use Rattle.std.proofs.Math.Seq.{take-set-lt}
 use Rattle.ix_cells.specs.Bounded.{Bounded, empty_of, with_items}
 use Rattle.ix_cells.specs.Places.{place_at, IsEmptyAt, IsHeldAt, IsVacant}
-use Rattle.ix_maps.specs.QueueSteps.{appended, is_too_long, overflowed, popped}
+use Rattle.ix_maps.specs.QueueSteps.{appended, is_too_long, overflowed, popped, with_oldest}
 use Rattle.ix_maps.specs.Ring.{place_behind, next_place, turned, held_items, IsRingOf, IsRing}
 
 -- a place before the row's end
@@ -219,6 +219,12 @@ module _ {T : Type 0} where
       let below = facts.ring.below (omega arith) in
       ring_held list row start len 0 (length row) start shows (omega arith) refl (grind (arith, nat_tests))
 
+  -- a ring with an item counts one
+  pub ring_some : (list : Bounded T) (row : List (Option T)) (start len : ℕ) → Shows list row start len → 0 < length list.items → len ≢ 0
+  ring_some list row start len shows some =
+      let counted = (opened list row start len shows).counted in
+      omega arith
+
   -- the place behind the last item is empty
   pub ring_free : (list : Bounded T) (row : List (Option T)) (start len capacity place : ℕ) → Shows list row start len → length list.items < list.capacity → capacity ≡ length row → place ≡ place_behind start len capacity → IsEmptyAt row place
   ring_free list row start len capacity place shows room rows at =
@@ -305,3 +311,36 @@ module _ {T : Type 0} where
         rows = length-set row start (Some y) ∙ same;
         counted = omega arith;
       }))
+
+  -- the first item is written anew
+  filled_first : (items : List T) (capacity : ℕ) (x : T) → 0 < length items → set (filled items capacity) 0 (Some x) ≡ filled (set items 0 x) capacity
+  filled_first [] capacity x some = absurd (omega arith)
+  filled_first (y ∷ items) capacity x some = refl
+
+  -- so is the first place of a ring
+  pub ring_written : (list : Bounded T) (row row' : List (Option T)) (start len : ℕ) (x : T) → Shows list row start len → 0 < length list.items → row' ≡ set row start (Some x) → Shows (with_oldest list x) row' start len
+  ring_written list row row' start len x shows some written =
+      let facts = opened list row start len shows in
+      let ring = facts.ring in
+      let within = ring.within in
+      let fits = ring.fits in
+      let below = ring.below (omega arith) in
+      let kept = length-set row start (Some x) in
+      let same = length-set list.items 0 x in
+      let counted = facts.counted in
+      let first : place_behind start 0 (length row) ≡ start = grind (arith, nat_tests) in
+      let steps =
+      ap (λ p. turned (set row p (Some x)) start) (sym first)
+      ∙ turned_set row start 0 (Some x) within (omega arith)
+      ∙ ap (λ r. set r 0 (Some x)) ring.in_turn
+      ∙ filled_first list.items (length row) x some in
+      closed (with_oldest list x) _ row' start start len written refl (record {
+        ring = record {
+          within = omega arith;
+          below = λ _. omega arith;
+          fits = omega arith;
+          in_turn = steps ∙ ap (filled (set list.items 0 x)) (sym kept);
+        };
+        rows = kept ∙ facts.rows;
+        counted = omega arith;
+      })

@@ -1,7 +1,7 @@
 -- Worked rows: the steps of a queue give what their users expect.
 use Rattle.std.proofs.Common.{ℕ, ◌≡◌, List, [], ◌∷◌, true, false, Some, None, refl}
-use Rattle.ix_cells.specs.Bounded.{Bounded}
-use Rattle.ix_maps.specs.QueueSteps.{has_room, pushed, overflowed, overflow_of, oldest_of, popped}
+use Rattle.ix_cells.specs.Bounded.{Bounded, has_room}
+use Rattle.ix_maps.specs.QueueSteps.{pushed, overflowed, overflow_of, oldest_of, popped}
 
 -- a queue of so many numbers at most
 abbrev queue_of : List ℕ → ℕ → Bounded ℕ

@@ -1,12 +1,8 @@
 -- The steps of a queue: what each call answers, and the bounded list that it leaves. The head is the oldest item.
-use Rattle.std.specs.Prelude.{ℕ, List, [], ◌∷◌, ◌++◌, length, drop, slice_get, nat_lt, if◌then◌else◌, Bool, Option, None}
-use Rattle.ix_cells.specs.Bounded.{Bounded, with_items}
+use Rattle.std.specs.Prelude.{ℕ, List, [], ◌∷◌, ◌++◌, length, drop, slice_get, slice_set, nat_lt, if◌then◌else◌, Bool, Option, None}
+use Rattle.ix_cells.specs.Bounded.{Bounded, has_room, with_items}
 
 module _ {T : Type 0} where
-  -- fewer items than the capacity
-  abbrev pub has_room : Bounded T → Bool
-  has_room queue = nat_lt (length queue.items) queue.capacity
-
   -- the items with x behind them
   abbrev pub appended : List T → T → List T
   appended items x = items ++ x ∷ []
@@ -36,3 +32,7 @@ module _ {T : Type 0} where
   -- pop: the head leaves
   abbrev pub popped : Bounded T → Bounded T
   popped queue = with_items queue (drop 1 queue.items)
+
+  -- another head, where there is one
+  abbrev pub with_oldest : Bounded T → T → Bounded T
+  with_oldest queue x = with_items queue (slice_set queue.items 0 x)

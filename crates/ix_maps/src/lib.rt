@@ -7,7 +7,7 @@
 pub mod queue;
 pub mod slotmap;
 
-pub use queue::{FixedSizeQueue, MetaQueue};
+pub use queue::{FixedSizeQueue, MetaQueue, Queue, RelocatableQueue, UninitQueue};
 pub use slotmap::{
     FixedSizeSlotMap, Iter, Link, MetaSlotMap, RelocatableSlotMap, SlotMap, SlotMapKey,
     UninitSlotMap,

@@ -1,7 +1,7 @@
 -- The run of a queue: what each of a list of commands answers in turn, and the queue that they leave.
 use Rattle.std.specs.Prelude.{List, [], ◌∷◌, Option, None, Some}
-use Rattle.ix_cells.specs.Bounded.{Bounded}
-use Rattle.ix_maps.specs.QueueSteps.{has_room, pushed, overflowed, overflow_of, oldest_of, popped}
+use Rattle.ix_cells.specs.Bounded.{Bounded, has_room}
+use Rattle.ix_maps.specs.QueueSteps.{pushed, overflowed, overflow_of, oldest_of, popped}
 use Rattle.ix_run.specs.declared.run.command.QueueCommand.{QueueCommand}
 use Rattle.ix_run.specs.declared.run.command.QueueCommand.TheVariants.{Push, Over, Pop}
 use Rattle.ix_run.specs.declared.run.command.Reply.{Reply}

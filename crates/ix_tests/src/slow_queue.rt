@@ -1,7 +1,7 @@
 //! A plain slow queue, which tests hold against the ring. It meets the ring's clauses by another way.
 ghost use Rattle.std.specs.Prelude.{◌≡◌, ◌≤◌, length};
-ghost use Rattle.ix_cells.specs.Bounded.{empty_of};
-ghost use Rattle.ix_maps.specs.QueueSteps.{has_room, pushed, overflowed, overflow_of, oldest_of, popped};
+ghost use Rattle.ix_cells.specs.Bounded.{has_room, empty_of};
+ghost use Rattle.ix_maps.specs.QueueSteps.{pushed, overflowed, overflow_of, oldest_of, popped};
 ghost use Rattle.ix_run.specs.QueueRun.{optional_reply, reply_of, queue_after};
 
 use arrayvec::ArrayVec;

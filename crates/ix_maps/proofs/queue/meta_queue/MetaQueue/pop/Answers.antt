@@ -1,5 +1,5 @@
 use Rattle.ix_maps.proofs.Rings.{ring_first, ring_popped}
-use Rattle.ix_maps.proofs.queue.MetaQueue.pop.Goals as goal
+use Rattle.ix_maps.proofs.queue.meta_queue.MetaQueue.pop.Goals as goal
 
 pub take-item-requires : goal.take-item-requires
 take-item-requires g c = ring_first _ _ _ _ (record { sound = c.self.invariant; is = c.self.view_is }) c.if-self-eq0.false

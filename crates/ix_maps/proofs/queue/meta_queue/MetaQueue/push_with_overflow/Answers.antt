@@ -1,6 +1,6 @@
 use Rattle.std.proofs.Common.{arith}
 use Rattle.ix_maps.proofs.Rings.{ring_first, ring_overflowed}
-use Rattle.ix_maps.proofs.queue.MetaQueue.push_with_overflow.Goals as goal
+use Rattle.ix_maps.proofs.queue.meta_queue.MetaQueue.push_with_overflow.Goals as goal
 
 pub take-oldest-requires : goal.take-oldest-requires
 take-oldest-requires g c =

@@ -1,5 +1,5 @@
 use Rattle.ix_maps.proofs.Rings.{ring_free, ring_appended}
-use Rattle.ix_maps.proofs.queue.MetaQueue.append.Goals as goal
+use Rattle.ix_maps.proofs.queue.meta_queue.MetaQueue.append.Goals as goal
 
 pub put-requires : goal.put-requires
 put-requires g c =

@@ -1,6 +1,6 @@
 use Rattle.std.proofs.Common.{sym, ◌∙◌}
 use Rattle.ix_maps.proofs.Rings.{ring_held, ring_read}
-use Rattle.ix_maps.proofs.queue.MetaQueue.get.Goals as goal
+use Rattle.ix_maps.proofs.queue.meta_queue.MetaQueue.item_at.Goals as goal
 
 pub get-requires : goal.get-requires
 get-requires g c =
