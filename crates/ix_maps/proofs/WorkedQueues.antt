@@ -1,7 +1,7 @@
 -- Worked rows: the steps of a queue give what their users expect.
 use Rattle.std.proofs.Common.{ℕ, ◌≡◌, List, [], ◌∷◌, true, false, Some, None, refl}
 use Rattle.ix_cells.specs.Bounded.{Bounded, has_room}
-use Rattle.ix_maps.specs.QueueSteps.{pushed, overflowed, overflow_of, oldest_of, popped}
+use Rattle.ix_maps.specs.QueueSteps.{pushed, overflowed, overflow_of, oldest_of, popped, with_oldest}
 
 -- a queue of so many numbers at most
 abbrev queue_of : List ℕ → ℕ → Bounded ℕ
@@ -26,7 +26,11 @@ one_oldest = refl
 one_popped : popped (queue_of (456 ∷ []) 1) ≡ queue_of [] 1
 one_popped = refl
 
--- capacity 0: push 1 is false, over 2 hands back 2, and pop gives nothing
+-- capacity 2: 9 is written over the oldest item
+two_written : with_oldest (queue_of (1 ∷ 2 ∷ []) 2) 9 ≡ queue_of (9 ∷ 2 ∷ []) 2
+two_written = refl
+
+-- capacity 0: push 1 is false, over 2 hands back 2, and pop gives nothing; a write changes nothing
 none_has_room : has_room (queue_of [] 0) ≡ false
 none_has_room = refl
 
@@ -41,3 +45,6 @@ none_overflowed = refl
 
 none_oldest : oldest_of (queue_of [] 0) ≡ None
 none_oldest = refl
+
+none_written : with_oldest (queue_of [] 0) 9 ≡ queue_of [] 0
+none_written = refl
