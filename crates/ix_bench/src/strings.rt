@@ -1,4 +1,6 @@
 //! Kernels on strings.
+ghost use Rattle.ix_bench.specs.Fnv.{fnv_fed};
+
 use crate::generator::step;
 use ix_string::{StaticString, String};
 use std::cmp::Ordering;
@@ -102,9 +104,9 @@ struct Fnv {
 }
 
 impl Hasher for Fnv {
-    ghost write = { λ fnv _. fnv };
+    ghost write = { λ fnv bytes. record { state = fnv_fed fnv.state bytes } };
 
-    ghost finish = { λ _. 0 };
+    ghost finish = { λ fnv. fnv.state };
 
     #[inline]
     fn finish(&self) -> u64 {
@@ -130,7 +132,7 @@ pub fn hash(rounds: u64) -> u64 {
             state: 0xcbf2_9ce4_8422_2325,
         };
         text.hash(&mut hasher);
-        sum = sum.wrapping_add(hasher.state);
+        sum = sum.wrapping_add(hasher.finish());
     }
     sum
 }

@@ -1,0 +1,44 @@
+//! The kernels of the library `ix_bench`, each with its peer.
+use crate::{plain, Operation};
+
+/// Declares the library's kernels, and lists them beside their peers.
+macro_rules! operations {
+    ($($name:ident = $linked:ident, $param:expr, $peer:literal, $theirs:path;)*) => {
+        extern "C" {
+            $(fn $linked(rounds: u64, param: u64) -> u64;)*
+        }
+
+        pub const OPERATIONS: &[Operation] = &[$(Operation {
+            name: stringify!($name),
+            param: $param,
+            // SAFETY: the library proves that its kernels are safe for all numbers.
+            ours: |rounds, param| unsafe { $linked(rounds, param) },
+            peer: $peer,
+            theirs: $theirs,
+        }),*];
+    };
+}
+
+operations! {
+    queue_fixed = ix_bench_queue_fixed, 64, "VecDeque", plain::queue;
+    queue_heap = ix_bench_queue_heap, 64, "VecDeque", plain::queue;
+    overflow_fixed = ix_bench_overflow_fixed, 64, "VecDeque", plain::overflow;
+    overflow_heap = ix_bench_overflow_heap, 64, "VecDeque", plain::overflow;
+    queue_big = ix_bench_queue_big, 16, "VecDeque", plain::queue_big;
+    queue_new = ix_bench_queue_new, 64, "VecDeque", plain::queue_new;
+    slot_churn_fixed = ix_bench_slot_churn_fixed, 512, "HashMap", plain::slot_churn;
+    slot_churn_heap = ix_bench_slot_churn_heap, 512, "HashMap", plain::slot_churn;
+    slot_at = ix_bench_slot_at, 512, "HashMap", plain::slot_at;
+    slot_iter = ix_bench_slot_iter, 512, "HashMap", plain::slot_iter;
+    vec_push_pop = ix_bench_vec_push_pop, 64, "Vec", plain::vec_push_pop;
+    vec_ins_rem = ix_bench_vec_ins_rem, 64, "Vec", plain::vec_ins_rem;
+    vec_extend = ix_bench_vec_extend, 64, "Vec", plain::vec_extend;
+    vec_new = ix_bench_vec_new, 64, "Vec", plain::vec_new;
+    vec_refuse = ix_bench_vec_refuse, 64, "Vec", plain::vec_refuse;
+    str_push = ix_bench_str_push, 123, "String", plain::str_push;
+    str_find = ix_bench_str_find, 123, "&str", plain::str_find;
+    str_eq = ix_bench_str_eq, 123, "String", plain::str_eq;
+    str_cmp = ix_bench_str_cmp, 123, "String", plain::str_cmp;
+    str_hash = ix_bench_str_hash, 123, "String", plain::str_hash;
+    str_ins_rem = ix_bench_str_ins_rem, 123, "String", plain::str_ins_rem;
+}

@@ -1,0 +1,81 @@
+//! Times Tolkzin's containers beside Rust's own on the same operations, and prints one table.
+//!
+//! Each operation runs on both sides in turn, several times; the table has the medians. Both sides answer a checksum,
+//! which must be the same. `bench PICTURE.svg` also writes a picture of the ratios.
+mod linked;
+mod picture;
+mod plain;
+
+use std::hint::black_box;
+use std::time::Instant;
+
+/// A kernel makes its container, runs its operation so many rounds, and answers a checksum.
+pub type Kernel = fn(rounds: u64, param: u64) -> u64;
+
+pub struct Operation {
+    pub name: &'static str,
+    pub param: u64,
+    pub ours: Kernel,
+    pub peer: &'static str,
+    pub theirs: Kernel,
+}
+
+pub struct Timed {
+    pub name: &'static str,
+    pub ours: f64,
+    pub peer: &'static str,
+    pub theirs: f64,
+}
+
+const REPETITIONS: usize = 15;
+const MILLISECONDS_A_RUN: f64 = 8.0;
+const ROUNDS_TO_COMPARE: u64 = 1000;
+
+fn main() {
+    println!("{:<18} {:>10} {:>10} {:>7}  {}", "operation", "Tolkzin ns", "Rust ns", "ratio", "Rust's side");
+    let mut rows = Vec::new();
+    for operation in linked::OPERATIONS {
+        let row = timed(operation);
+        println!("{:<18} {:>10.2} {:>10.2} {:>7.2}  {}", row.name, row.ours, row.theirs, row.ours / row.theirs, row.peer);
+        rows.push(row);
+    }
+    if let Some(path) = std::env::args().nth(1) {
+        std::fs::write(&path, picture::of(&rows)).expect("the picture can be written");
+    }
+}
+
+/// The medians of both sides, run in turn.
+fn timed(operation: &Operation) -> Timed {
+    let (ours, theirs) = ((operation.ours)(ROUNDS_TO_COMPARE, operation.param), (operation.theirs)(ROUNDS_TO_COMPARE, operation.param));
+    assert_eq!(ours, theirs, "{}: the checksums differ", operation.name);
+    let rounds = [operation.ours, operation.theirs].map(|kernel| rounds_for_a_run(kernel, operation.param));
+    let mut times = [Vec::new(), Vec::new()];
+    for _ in 0..REPETITIONS {
+        times[0].push(nanoseconds(operation.ours, rounds[0], operation.param));
+        times[1].push(nanoseconds(operation.theirs, rounds[1], operation.param));
+    }
+    let [ours, theirs] = times.map(median);
+    Timed { name: operation.name, ours, peer: operation.peer, theirs }
+}
+
+fn rounds_for_a_run(kernel: Kernel, param: u64) -> u64 {
+    let mut rounds = 1000;
+    loop {
+        let milliseconds = nanoseconds(kernel, rounds, param) * rounds as f64 / 1e6;
+        if milliseconds > MILLISECONDS_A_RUN / 4.0 || rounds > 1 << 32 {
+            return ((rounds as f64 * MILLISECONDS_A_RUN / milliseconds) as u64).max(1000);
+        }
+        rounds *= 4;
+    }
+}
+
+fn nanoseconds(kernel: Kernel, rounds: u64, param: u64) -> f64 {
+    let start = Instant::now();
+    black_box(kernel(black_box(rounds), black_box(param)));
+    start.elapsed().as_secs_f64() * 1e9 / rounds as f64
+}
+
+fn median(mut times: Vec<f64>) -> f64 {
+    times.sort_by(f64::total_cmp);
+    times[times.len() / 2]
+}

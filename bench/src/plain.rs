@@ -1,0 +1,302 @@
+//! The same operations on Rust's own collections, which are kept within the capacity where ours are.
+use std::cmp::Ordering;
+use std::collections::{HashMap, VecDeque};
+use std::hash::Hasher;
+use std::hint::black_box;
+
+/// The number behind `x` of a multiplicative generator. Its high bits serve.
+fn step(x: u64) -> u64 {
+    x.wrapping_mul(6_364_136_223_846_793_005).wrapping_add(1_442_695_040_888_963_407)
+}
+
+fn push_within<T>(queue: &mut VecDeque<T>, capacity: usize, item: T) -> bool {
+    let has_room = queue.len() < capacity;
+    if has_room {
+        queue.push_back(item);
+    }
+    has_room
+}
+
+pub fn queue(rounds: u64, capacity: u64) -> u64 {
+    let capacity = capacity as usize;
+    let mut queue: VecDeque<u64> = VecDeque::with_capacity(capacity);
+    for i in 0..20 {
+        push_within(&mut queue, capacity, i);
+    }
+    let mut sum = 0u64;
+    for i in 0..rounds {
+        push_within(&mut queue, capacity, i);
+        sum = sum.wrapping_add(queue.pop_front().unwrap_or(1));
+    }
+    sum
+}
+
+pub fn overflow(rounds: u64, capacity: u64) -> u64 {
+    let mut queue: VecDeque<u64> = (0..capacity).collect();
+    let mut sum = 0u64;
+    for i in 0..rounds {
+        let oldest = queue.pop_front();
+        queue.push_back(i);
+        sum = sum.wrapping_add(oldest.unwrap_or(1));
+    }
+    sum
+}
+
+pub fn queue_big(rounds: u64, capacity: u64) -> u64 {
+    let capacity = capacity as usize;
+    let mut queue: VecDeque<[u64; 32]> = VecDeque::with_capacity(capacity);
+    for i in 0..5 {
+        push_within(&mut queue, capacity, [i; 32]);
+    }
+    let mut sum = 0u64;
+    for i in 0..rounds {
+        push_within(&mut queue, capacity, [i; 32]);
+        sum = sum.wrapping_add(queue.pop_front().map_or(1, |item| item[(i & 31) as usize]));
+    }
+    sum
+}
+
+pub fn queue_new(rounds: u64, capacity: u64) -> u64 {
+    let mut sum = 0u64;
+    for i in 0..rounds {
+        let mut queue = VecDeque::with_capacity(capacity as usize);
+        queue.push_back(i);
+        sum = sum.wrapping_add(black_box(&mut queue).pop_front().unwrap_or(1));
+    }
+    sum
+}
+
+/// A map that gives out keys, and gives one that was removed last again first.
+struct Keyed {
+    values: HashMap<usize, u64>,
+    free: Vec<usize>,
+}
+
+impl Keyed {
+    fn new(capacity: usize) -> Keyed {
+        Keyed { values: HashMap::with_capacity(capacity), free: (0..capacity).rev().collect() }
+    }
+
+    fn insert(&mut self, value: u64) -> Option<usize> {
+        let key = self.free.pop()?;
+        self.values.insert(key, value);
+        Some(key)
+    }
+
+    fn remove(&mut self, key: usize) -> Option<u64> {
+        let value = self.values.remove(&key)?;
+        self.free.push(key);
+        Some(value)
+    }
+}
+
+pub fn slot_churn(rounds: u64, capacity: u64) -> u64 {
+    let mut map = Keyed::new(capacity as usize);
+    let mut keys: Vec<usize> = (0..capacity / 2).map(|i| map.insert(i).unwrap_or(0)).collect();
+    let (mut x, mut sum) = (1u64, 0u64);
+    for i in 0..rounds {
+        x = step(x);
+        let place = (x >> 33) as usize % keys.len();
+        sum = sum.wrapping_add(map.remove(keys[place]).unwrap_or(1));
+        keys[place] = map.insert(i).unwrap_or(0);
+        x = step(x);
+        let place = (x >> 33) as usize % keys.len();
+        sum = sum.wrapping_add(map.values.get(&keys[place]).copied().unwrap_or(1));
+    }
+    sum
+}
+
+pub fn slot_at(rounds: u64, capacity: u64) -> u64 {
+    let mut values: HashMap<usize, u64> = HashMap::with_capacity(capacity as usize);
+    let (mut x, mut sum) = (1u64, 0u64);
+    for i in 0..rounds {
+        x = step(x);
+        let key = (x >> 33) as usize % capacity as usize;
+        if values.contains_key(&key) {
+            sum = sum.wrapping_add(values.remove(&key).unwrap_or(1));
+        } else {
+            values.insert(key, i);
+        }
+    }
+    sum
+}
+
+pub fn slot_iter(rounds: u64, capacity: u64) -> u64 {
+    let mut values: HashMap<u64, u64> = (0..capacity).step_by(2).map(|i| (i, i)).collect();
+    let mut sum = 0u64;
+    for _ in 0..rounds {
+        sum = sum.wrapping_add(values.values().fold(0, |all: u64, value| all.wrapping_add(*value)));
+        values.insert(0, sum & 1023);
+    }
+    sum
+}
+
+fn vec_push(vec: &mut Vec<u64>, capacity: usize, item: u64) -> bool {
+    let has_room = vec.len() < capacity;
+    if has_room {
+        vec.push(item);
+    }
+    has_room
+}
+
+pub fn vec_push_pop(rounds: u64, capacity: u64) -> u64 {
+    let capacity = capacity as usize;
+    let mut vec = Vec::with_capacity(capacity);
+    let mut sum = 0u64;
+    for i in 0..rounds {
+        vec_push(&mut vec, capacity, i);
+        vec_push(&mut vec, capacity, i ^ sum);
+        sum = sum.wrapping_add(vec.pop().unwrap_or(1));
+        if vec.len() >= 60 {
+            vec.clear();
+        }
+    }
+    sum
+}
+
+pub fn vec_ins_rem(rounds: u64, capacity: u64) -> u64 {
+    let mut vec: Vec<u64> = Vec::with_capacity(capacity as usize);
+    vec.extend((0..32).rev());
+    let (mut x, mut sum) = (1u64, 0u64);
+    for i in 0..rounds {
+        x = step(x);
+        vec.insert((x >> 59) as usize, i);
+        sum = sum.wrapping_add(vec.remove((x >> 54 & 31) as usize));
+    }
+    sum
+}
+
+pub fn vec_extend(rounds: u64, capacity: u64) -> u64 {
+    let mut vec: Vec<u64> = Vec::with_capacity(capacity as usize);
+    let mut from = [7u64; 16];
+    let mut sum = 0u64;
+    for i in 0..rounds {
+        from[(i & 15) as usize] = i;
+        vec.extend_from_slice(&from);
+        vec.extend_from_slice(&from);
+        vec.extend_from_slice(&from);
+        sum = sum.wrapping_add(vec[(i & 31) as usize]);
+        vec.clear();
+    }
+    sum
+}
+
+pub fn vec_new(rounds: u64, capacity: u64) -> u64 {
+    let mut sum = 0u64;
+    for i in 0..rounds {
+        let mut vec = Vec::with_capacity(capacity as usize);
+        vec.push(i);
+        sum = sum.wrapping_add(black_box(&vec)[0]);
+    }
+    sum
+}
+
+pub fn vec_refuse(rounds: u64, capacity: u64) -> u64 {
+    let mut vec = vec![1; capacity as usize];
+    let mut sum = 0u64;
+    for i in 0..rounds {
+        sum = sum.wrapping_add(!vec_push(black_box(&mut vec), capacity as usize, i) as u64);
+    }
+    sum
+}
+
+/// `abc` again and again, 100 bytes, with `xyz!` at 90, and `last` at the end.
+fn sample(capacity: u64, last: char) -> String {
+    let mut text = String::with_capacity(capacity as usize);
+    text.extend("abc".chars().cycle().take(99));
+    text.replace_range(90..94, "xyz!");
+    text.push(last);
+    text
+}
+
+fn set_last(text: &mut String, i: u64) {
+    text.pop();
+    text.push((97 + (i & 1) as u8) as char);
+}
+
+pub fn str_push(rounds: u64, capacity: u64) -> u64 {
+    let mut text = String::with_capacity(capacity as usize);
+    let mut word = *b"abcdefgh";
+    let mut sum = 0u64;
+    for i in 0..rounds {
+        word[(i & 7) as usize] = 97 + (i & 15) as u8;
+        if text.len() + word.len() <= capacity as usize {
+            text.push_str(std::str::from_utf8(&word).unwrap_or(""));
+        }
+        sum = sum.wrapping_add(text.len() as u64);
+        if text.len() == 120 {
+            text.clear();
+        }
+    }
+    sum
+}
+
+pub fn str_find(rounds: u64, capacity: u64) -> u64 {
+    let text = sample(capacity, 'a');
+    let words = ["xyz!", "xyz\""];
+    (0..rounds).fold(0, |sum: u64, i| sum.wrapping_add(text.find(words[(i & 1) as usize]).unwrap_or(200) as u64))
+}
+
+pub fn str_eq(rounds: u64, capacity: u64) -> u64 {
+    let (text, mut other) = (sample(capacity, 'a'), sample(capacity, 'a'));
+    let mut sum = 0u64;
+    for i in 0..rounds {
+        set_last(&mut other, i);
+        sum = sum.wrapping_add((text == other) as u64);
+    }
+    sum
+}
+
+pub fn str_cmp(rounds: u64, capacity: u64) -> u64 {
+    let (text, mut other) = (sample(capacity, 'a'), sample(capacity, 'a'));
+    let mut sum = 0u64;
+    for i in 0..rounds {
+        set_last(&mut other, i);
+        sum = sum.wrapping_add(match text.cmp(&other) {
+            Ordering::Less => 0,
+            Ordering::Equal => 1,
+            Ordering::Greater => 2,
+        });
+    }
+    sum
+}
+
+/// The hash function FNV-1a, of 64 bits.
+struct Fnv(u64);
+
+impl Hasher for Fnv {
+    fn finish(&self) -> u64 {
+        self.0
+    }
+
+    fn write(&mut self, bytes: &[u8]) {
+        for byte in bytes {
+            self.0 = (self.0 ^ *byte as u64).wrapping_mul(0x100_0000_01b3);
+        }
+    }
+}
+
+pub fn str_hash(rounds: u64, capacity: u64) -> u64 {
+    let mut text = sample(capacity, 'a');
+    let mut sum = 0u64;
+    for i in 0..rounds {
+        set_last(&mut text, i);
+        let mut hasher = Fnv(0xcbf2_9ce4_8422_2325);
+        hasher.write(text.as_bytes());
+        sum = sum.wrapping_add(hasher.finish());
+    }
+    sum
+}
+
+pub fn str_ins_rem(rounds: u64, capacity: u64) -> u64 {
+    let mut text = sample(capacity, 'a');
+    let (mut x, mut sum) = (1u64, 0u64);
+    for i in 0..rounds {
+        x = step(x);
+        let place = (x >> 58 & 63) as usize;
+        text.insert_str(place, "wxyz");
+        text.replace_range(place..place + 4, "");
+        sum = sum.wrapping_add(text.as_bytes()[(i & 63) as usize] as u64);
+    }
+    sum
+}
