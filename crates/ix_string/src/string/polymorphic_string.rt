@@ -10,7 +10,7 @@ ghost use Rattle.ix_string.specs.Escape.{escaped};
 
 use crate::string::String;
 use crate::string::escape::Escaped;
-use crate::string::vector_text::{insert_into, remove_from};
+use crate::string::vector_text::{insert_into, remove_from, retain_in};
 use ix_cells::{PolymorphicVec, Vector};
 use std::alloc::{AllocError, Allocator, Global};
 use std::cmp::Ordering;
@@ -104,6 +104,10 @@ impl<A: Allocator> String for PolymorphicString<A> {
         }
         remove_from(&mut self.bytes, idx, n);
         true
+    }
+
+    fn retain<F: FnMut(u8) -> bool>(&mut self, f: F) {
+        retain_in(&mut self.bytes, f);
     }
 }
 
