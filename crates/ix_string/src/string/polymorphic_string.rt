@@ -67,7 +67,9 @@ impl<A: Allocator + Copy> PolymorphicString<A> {
     /// O(`len`). `AllocError` tells that there was no memory; nothing stays taken then.
     pub fn try_clone(&self) -> Result<Self, AllocError>
         // It has the same bytes and the same capacity.
-        ensures { IfOk result (λ string. string ≡ self.now) }
+        ensures string { IfOk result (λ string. string ≡ self.now) }
+        // A capacity of 0 needs no memory.
+        ensures memory { self.now.capacity ≡ 0 → IsOk result }
     {
         Ok(PolymorphicString {
             bytes: self.bytes.try_clone()?,
