@@ -1,4 +1,5 @@
 pub mod Gaps
+pub mod Insertions
 pub mod Nul
 pub mod Places
 pub mod Retaining

@@ -1,10 +1,10 @@
 -- Lemmas on items that a closure is asked of, from the last one to the first.
-use Rattle.std.proofs.Common.{ℕ, ◌≡◌, ◌+◌, ◌≤◌, length, take, drop, get_or, append_assoc, arith, List, [], ◌∷◌, ◌++◌, Bool, true, false, refl, subst, sym, ap}
+use Rattle.std.proofs.Common.{ℕ, ◌≡◌, ◌+◌, ◌<◌, ◌≤◌, ◌∙◌, length, take, drop, set, get_or, arith, List, [], ◌∷◌, ◌++◌, Bool, true, false, refl, subst, sym, ap}
 use Rattle.std.specs.Prelude.{reverse, if◌then◌else◌}
-use Rattle.std.specs.List.{remove_range}
-use Rattle.std.proofs.lemmas.Grind.{common_steps}
-use Rattle.std.proofs.lemmas.List.{reverse-append, take-append-le, take-take, drop_at, take_more, drop_more}
-use Rattle.ix_string.specs.Retain.{AnswersAt, items_where_false, retained}
+use Rattle.std.specs.List.{All}
+use Rattle.std.proofs.lemmas.List.{reverse-append, take-take, get_or-take, drop-set, drop_more}
+use Rattle.std.proofs.lemmas.List.Elements.{All-nil, All-cons, All-drop}
+use Rattle.ix_string.specs.Retain.{AnswersAt, items_where_false, retained, Retains}
 
 module _ {F X : Type 0} (step : F → X → Bool → F → Type 0) where
   -- one more call
@@ -33,25 +33,29 @@ module _ {F X : Type 0} (step : F → X → Bool → F → Type 0) where
       (answers ++ b ∷ [], asked_again, rw turned (items_where_false-more b x xs kept (reverse answers) is))
 
 module _ {X : Type 0} where
-  -- the last item of a front leaves
-  pub remove_range-last : (xs kept : List X) (i n : ℕ) → n ≡ i + 1 → n ≤ length xs → remove_range (take n xs ++ kept) i (i + 1) ≡ take i xs ++ kept
-  remove_range-last xs kept i n next le =
-      let counted : length (take n xs) ≡ i + 1 = grind (arith, common_steps) in
-      let front : take i (take n xs ++ kept) ≡ take i (take n xs) = take-append-le i (take n xs) kept (omega arith) in
-      let short : take i (take n xs) ≡ take i xs = take-take i n xs (omega arith) in
-      let behind : drop (i + 1) (take n xs ++ kept) ≡ kept = drop_at (take n xs) kept (i + 1) counted in
-      rw (front, short, behind)
-
-  -- it stays
-  pub append-last : (xs kept : List X) (i n : ℕ) (d : X) → n ≡ i + 1 → n ≤ length xs → take n xs ++ kept ≡ take i xs ++ get_or xs i d ∷ kept
-  append-last xs kept i n d next le =
-      let front : take n xs ≡ take i xs ++ get_or xs i d ∷ [] = rw next (take_more xs i d (omega arith)) in
-      rw (front, append_assoc)
-
-  -- it is read
-  pub get_or-last : (xs kept : List X) (i n : ℕ) (d : X) → n ≡ i + 1 → n ≤ length xs → get_or (take n xs ++ kept) i d ≡ get_or xs i d
-  get_or-last xs kept i n d next le = grind (arith, common_steps)
-
-  -- and the items from it on
+  -- the items from the last one that was asked about on
   pub drop-last : (xs : List X) (i n : ℕ) (d : X) → n ≡ i + 1 → n ≤ length xs → drop i xs ≡ get_or xs i d ∷ drop n xs
   drop-last xs i n d next le = rw next (drop_more xs i d (omega arith))
+
+  -- rows with the same front have the same item there
+  pub get_or-front : (row old : List X) (i n : ℕ) (d : X) → i < n → take n row ≡ take n old → get_or row i d ≡ get_or old i d
+  get_or-front row old i n d lt same = sym (get_or-take n row i d lt) ∙ ap (λ (r : List X). get_or r i d) same ∙ get_or-take n old i d lt
+
+  -- and the same shorter front
+  pub take-front : (row old : List X) (i n : ℕ) → i ≤ n → take n row ≡ take n old → take i row ≡ take i old
+  take-front row old i n le same = sym (take-take i n row le) ∙ ap (take i) same ∙ take-take i n old le
+
+  -- an item is put before the last ones
+  pub drop-put : (row : List X) (s t : ℕ) (x : X) → t ≡ s + 1 → t ≤ length row → drop s (set row s x) ≡ x ∷ drop t row
+  drop-put row s t x next le = rw next (drop-set row s x (omega arith))
+
+  -- what holds of all items holds of those that stay
+  All-items_where_false : (P : X → Type 0) (answers : List Bool) (xs : List X) → All P xs → All P (items_where_false answers xs)
+  All-items_where_false P [] xs all = All-nil P
+  All-items_where_false P (b ∷ bs) [] all = All-nil P
+  All-items_where_false P (true ∷ bs) (x ∷ xs) all = All-items_where_false P bs xs (All-drop P 1 (x ∷ xs) all)
+  All-items_where_false P (false ∷ bs) (x ∷ xs) all =
+      All-cons P x (items_where_false bs xs) (all 0 x (omega arith)) (All-items_where_false P bs xs (All-drop P 1 (x ∷ xs) all))
+
+  pub All-Retains : {F : Type 0} (P : X → Type 0) (step : F → X → Bool → F → Type 0) (f : F) (xs kept : List X) → Retains step f xs kept → All P xs → All P kept
+  All-Retains P step f xs kept (answers, last, asked, is) all = rw is (All-items_where_false P (reverse answers) xs all)

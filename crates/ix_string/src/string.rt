@@ -6,6 +6,7 @@ mod modification_error;
 mod nul;
 mod polymorphic_string;
 mod relocatable_string;
+mod retaining;
 mod static_string;
 mod static_traits;
 mod string_trait;

@@ -88,7 +88,9 @@ impl<T: Clone, A: Allocator + Copy> PolymorphicVec<T, A> {
         // Clones of the items equal them.
         requires { AreEqualClones T.is_clone }
         // It has the same items and the same capacity.
-        ensures { IfOk result (λ vector. vector ≡ self.now) }
+        ensures vector { IfOk result (λ vector. vector ≡ self.now) }
+        // A capacity of 0 needs no memory.
+        ensures memory { self.now.capacity ≡ 0 → IsOk result }
     {
         let mut copy = PolymorphicVec::new(*self.items.allocator(), self.capacity())?;
         copy.extend_from_slice_unchecked(self.as_slice())?;

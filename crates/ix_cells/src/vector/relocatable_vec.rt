@@ -1,5 +1,5 @@
 //! The vector that is made in two steps.
-ghost use Rattle.std.specs.Prelude.{◌≡◌, length, IfOk};
+ghost use Rattle.std.specs.Prelude.{◌≡◌, length, IsOk, IfOk};
 ghost use Rattle.std.specs.Cmp.{on_per, on_equiv};
 ghost use Rattle.std.specs.Cmp.Lexicographic.{pointwise, lists_per, lists_equiv};
 ghost use Rattle.ix_cells.specs.Bounded.{empty_of};
@@ -50,7 +50,9 @@ impl<T, A: Allocator> RelocatableVec<T, A> {
 impl<T: Drop, A: Allocator> RelocatableVec<T, A> {
     /// An empty vector with memory for `capacity` items.
     pub(crate) fn with_memory(alloc: A, capacity: usize) -> Result<Self, AllocError>
-        ensures { IfOk result (λ vector. vector ≡ empty_of capacity) }
+        ensures vector { IfOk result (λ vector. vector ≡ empty_of capacity) }
+        // A capacity of 0 needs no memory.
+        ensures memory { capacity ≡ 0 → IsOk result }
     {
         Ok(RelocatableVec {
             vector: PolymorphicVec::new(alloc, capacity)?,

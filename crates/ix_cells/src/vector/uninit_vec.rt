@@ -1,5 +1,5 @@
 //! The vector that has no memory yet.
-ghost use Rattle.std.specs.Prelude.{◌≡◌};
+ghost use Rattle.std.specs.Prelude.{◌≡◌, IsOk, IfOk, IfErr};
 ghost use Rattle.ix_cells.specs.Bounded.{empty_of};
 
 use crate::cells::{InitError, RelocatableContainer};
@@ -54,7 +54,14 @@ impl<T: Drop, A: Allocator> RelocatableContainer<A> for UninitVec<T> {
     }
 
     /// O(1), and one request of memory at most.
-    fn init(self, alloc: A) -> Result<RelocatableVec<T, A>, InitError<Self>> {
+    fn init(self, alloc: A) -> Result<RelocatableVec<T, A>, InitError<Self>>
+        // The vector is empty, and has this capacity.
+        ensures ready { IfOk result (λ vector. vector ≡ empty_of self) }
+        // The value comes back as it was.
+        ensures refused { IfErr result (λ error. error ≡ self) }
+        // A capacity of 0 needs no memory.
+        ensures memory { self ≡ 0 → IsOk result }
+    {
         match RelocatableVec::with_memory(alloc, self.capacity) {
             Ok(vector) => Ok(vector),
             Err(_) => Err(InitError::new(self)),

@@ -10,7 +10,7 @@ ghost use Rattle.ix_string.specs.Escape.{escaped};
 
 use crate::string::String;
 use crate::string::escape::Escaped;
-use crate::string::vector_text::{insert_into, remove_from};
+use crate::string::vector_text::{insert_into, remove_from, retain_in};
 use ix_cells::{PolymorphicVec, Vector};
 use std::alloc::{AllocError, Allocator, Global};
 use std::cmp::Ordering;
@@ -67,7 +67,9 @@ impl<A: Allocator + Copy> PolymorphicString<A> {
     /// O(`len`). `AllocError` tells that there was no memory; nothing stays taken then.
     pub fn try_clone(&self) -> Result<Self, AllocError>
         // It has the same bytes and the same capacity.
-        ensures { IfOk result (λ string. string ≡ self.now) }
+        ensures string { IfOk result (λ string. string ≡ self.now) }
+        // A capacity of 0 needs no memory.
+        ensures memory { self.now.capacity ≡ 0 → IsOk result }
     {
         Ok(PolymorphicString {
             bytes: self.bytes.try_clone()?,
@@ -104,6 +106,10 @@ impl<A: Allocator> String for PolymorphicString<A> {
         }
         remove_from(&mut self.bytes, idx, n);
         true
+    }
+
+    fn retain<F: FnMut(u8) -> bool>(&mut self, f: F) {
+        retain_in(&mut self.bytes, f);
     }
 }
 

@@ -8,7 +8,7 @@ ghost use Rattle.std.proofs.Common.{rules};
 ghost use Rattle.ix_string.specs.Escape.{escaped};
 
 use crate::string::escape::Escaped;
-use crate::string::vector_text::{insert_into, remove_from};
+use crate::string::vector_text::{insert_into, remove_from, retain_in};
 use crate::string::{String, UninitString};
 use ix_cells::{RelocatableVec, Vector};
 use std::alloc::{Allocator, Global};
@@ -97,6 +97,10 @@ impl<A: Allocator> String for RelocatableString<A> {
         }
         remove_from(&mut self.bytes, idx, n);
         true
+    }
+
+    fn retain<F: FnMut(u8) -> bool>(&mut self, f: F) {
+        retain_in(&mut self.bytes, f);
     }
 }
 

@@ -5,6 +5,7 @@ ghost use Rattle.ix_string.specs.TextSteps.{StringFromBytes};
 ghost use Rattle.ix_string.specs.declared.string.modification_error.StringModificationError.TheVariants.{InvalidCharacter};
 
 use crate::string::gaps::{close_gap_with_zeros, is_text, open_gap};
+use crate::string::retaining::move_kept_back;
 use crate::string::{String, StringModificationError, strnlen};
 use std::marker::Model;
 
@@ -169,7 +170,7 @@ impl<const CAPACITY: usize> String for StaticString<CAPACITY> {
 
     #[inline]
     fn capacity(&self) -> usize {
-        CAPACITY
+        Self::capacity()
     }
 
     #[inline]
@@ -190,5 +191,12 @@ impl<const CAPACITY: usize> String for StaticString<CAPACITY> {
         close_gap_with_zeros(&mut self.cells, idx, n, len);
         self.count = len - n;
         true
+    }
+
+    fn retain<F: FnMut(u8) -> bool>(&mut self, f: F) {
+        let len = self.count;
+        let start = move_kept_back(&mut self.cells[..len], f);
+        close_gap_with_zeros(&mut self.cells, 0, start, len);
+        self.count = len - start;
     }
 }

@@ -262,23 +262,14 @@ pub trait String {
     }
 
     /// Asks `f` of each byte, from the last one to the first, and takes those out for which it answers true; the others
-    /// stay in their order. `len` calls, and O(`len`) for each byte that leaves.
-    fn retain<F: FnMut(u8) -> bool>(&mut self, mut f: F)
+    /// stay in their order. `len` calls, and O(`len`).
+    fn retain<F: FnMut(u8) -> bool>(&mut self, f: F)
         // The closure can be called again and again.
         requires { F.IsAlwaysCallable f }
         // It was called at the bytes from the last one to the first, and those answered false stay.
         ensures string { Retains F.step f (bounded self.old).items (bounded self.new).items }
         // The capacity stays.
-        ensures capacity { (bounded self.new).capacity ≡ (bounded self.old).capacity }
-    {
-        let mut idx = self.len();
-        while idx > 0 {
-            idx -= 1;
-            if f(self.as_bytes()[idx]) {
-                self.remove_range(idx, 1);
-            }
-        }
-    }
+        ensures capacity { (bounded self.new).capacity ≡ (bounded self.old).capacity };
 
     /// Copies the bytes and one zero to the front of `out`, and answers their number, which is `len + 1`; or answers
     /// None where `out` is shorter. The rest of `out` stays. O(`len`).

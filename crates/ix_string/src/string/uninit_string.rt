@@ -1,5 +1,5 @@
 //! The string that has no memory yet.
-ghost use Rattle.std.specs.Prelude.{◌≡◌};
+ghost use Rattle.std.specs.Prelude.{◌≡◌, IsOk, IfOk, IfErr};
 ghost use Rattle.ix_cells.specs.Bounded.{empty_of};
 
 use crate::string::RelocatableString;
@@ -52,7 +52,14 @@ impl<A: Allocator> RelocatableContainer<A> for UninitString {
     }
 
     /// O(1), and one request of memory at most.
-    fn init(self, alloc: A) -> Result<RelocatableString<A>, InitError<Self>> {
+    fn init(self, alloc: A) -> Result<RelocatableString<A>, InitError<Self>>
+        // The string has no byte, and this capacity.
+        ensures ready { IfOk result (λ string. string ≡ empty_of self) }
+        // The value comes back as it was.
+        ensures refused { IfErr result (λ error. error ≡ self) }
+        // A capacity of 0 needs no memory.
+        ensures memory { self ≡ 0 → IsOk result }
+    {
         let UninitString { bytes } = self;
         match bytes.init(alloc) {
             Ok(vector) => Ok(RelocatableString::in_vector(vector)),

@@ -1,12 +1,14 @@
 //! The changes of a text that lies in a vector of bytes.
-ghost use Rattle.std.specs.Prelude.{◌≡◌, ◌+◌, ◌≤◌, length};
-ghost use Rattle.ix_cells.specs.VectorSteps.{IsRoomFor};
+ghost use Rattle.std.specs.Prelude.{◌≡◌, ◌+◌, ◌≤◌, ◌-◌, length, slice_range};
+ghost use Rattle.ix_cells.specs.VectorSteps.{IsRoomFor, extended};
+ghost use Rattle.ix_string.specs.Retain.{Retains};
 ghost use Rattle.ix_string.specs.TextSteps.{with_inserted, range_removed};
 
 use crate::string::gaps::{close_gap, open_gap};
+use crate::string::retaining::move_kept_back;
 use ix_cells::Vector;
 
-/// Puts `bytes` at place `idx`, and moves each byte from there on up.
+/// Puts `bytes` at place `idx`, and moves each byte from there on up. Each byte is written once.
 pub(crate) fn insert_into<V: Vector<u8>>(vector: &mut V, idx: usize, bytes: &[u8])
     requires place { idx ≤ length (V.bounded vector.old).items }
     requires room { IsRoomFor (length bytes.now) (V.bounded vector.old) }
@@ -14,11 +16,33 @@ pub(crate) fn insert_into<V: Vector<u8>>(vector: &mut V, idx: usize, bytes: &[u8
     ensures { V.bounded vector.new ≡ with_inserted (V.bounded vector.old) idx bytes.now }
 {
     let len = vector.len();
-    let Ok(()) = vector.extend_from_slice_unchecked(bytes) else {
+    // A vector grows by pushes alone: what comes to stand past its old end goes there first.
+    let below_end = bytes.len().min(len - idx);
+    let Ok(()) = vector.extend_from_slice_unchecked(&bytes[below_end..]) else {
         unreachable!()
     };
-    if idx < len {
-        open_gap(vector.as_mut_slice(), idx, len, bytes);
+    if below_end > 0 {
+        push_again(vector, len - below_end, len);
+        open_gap(
+            vector.as_mut_slice(),
+            idx,
+            len - below_end,
+            &bytes[..below_end],
+        );
+    }
+}
+
+/// Pushes the bytes from place `start` up to `end` once more.
+fn push_again<V: Vector<u8>>(vector: &mut V, start: usize, end: usize)
+    requires order { start ≤ end }
+    requires bounds { end ≤ length (V.bounded vector.old).items }
+    requires room { IsRoomFor (end - start) (V.bounded vector.old) }
+    // They stand behind all others too.
+    ensures { V.bounded vector.new ≡ extended (V.bounded vector.old) (slice_range (V.bounded vector.old).items start end) }
+{
+    for idx in start..end {
+        let byte = vector.as_slice()[idx];
+        vector.push_unchecked(byte);
     }
 }
 
@@ -31,4 +55,16 @@ pub(crate) fn remove_from<V: Vector<u8>>(vector: &mut V, idx: usize, n: usize)
     let len = vector.len();
     close_gap(vector.as_mut_slice(), idx, n, len);
     vector.truncate(len - n);
+}
+
+/// Asks `f` of each byte, from the last one to the first, and takes those out for which it answers true.
+pub(crate) fn retain_in<V: Vector<u8>, F: FnMut(u8) -> bool>(vector: &mut V, f: F)
+    requires { F.IsAlwaysCallable f }
+    // Those answered false stay.
+    ensures text { Retains F.step f (V.bounded vector.old).items (V.bounded vector.new).items }
+    // The capacity stays.
+    ensures capacity { (V.bounded vector.new).capacity ≡ (V.bounded vector.old).capacity }
+{
+    let start = move_kept_back(vector.as_mut_slice(), f);
+    remove_from(vector, 0, start);
 }
