@@ -1,5 +1,5 @@
 //! The queue that has no memory yet.
-ghost use Rattle.std.specs.Prelude.{◌≡◌};
+ghost use Rattle.std.specs.Prelude.{◌≡◌, IsOk, IfOk, IfErr};
 ghost use Rattle.ix_cells.specs.Bounded.{empty_of};
 
 use crate::queue::{Queue, RelocatableQueue};
@@ -61,7 +61,14 @@ impl<T: Drop, A: Allocator> RelocatableContainer<A> for UninitQueue<T> {
     }
 
     /// O(`capacity`), and one request of memory at most.
-    fn init(self, alloc: A) -> Result<RelocatableQueue<T, A>, InitError<Self>> {
+    fn init(self, alloc: A) -> Result<RelocatableQueue<T, A>, InitError<Self>>
+        // The queue is empty, and has this capacity.
+        ensures ready { IfOk result (λ queue. queue ≡ empty_of self) }
+        // The value comes back as it was.
+        ensures refused { IfErr result (λ error. error ≡ self) }
+        // A capacity of 0 needs no memory.
+        ensures memory { self ≡ 0 → IsOk result }
+    {
         match Queue::new(alloc, self.capacity) {
             Ok(queue) => Ok(queue),
             Err(_) => Err(InitError::new(self)),

@@ -36,10 +36,10 @@ impl<'a, T, S: Table<T>, L: Table<Link>> Iterator for Iter<'a, T, S, L> {
     #[inline]
     fn next(&mut self) -> Option<(SlotMapKey, &'a T)> {
         while self.key < self.map.capacity() {
-            let key = SlotMapKey::new(self.key);
+            let key = self.key;
             self.key += 1;
-            if let Some(value) = self.map.get(key) {
-                return Some((key, value));
+            if let Some(value) = self.map.value(key) {
+                return Some((SlotMapKey::new(key), value));
             }
         }
         None

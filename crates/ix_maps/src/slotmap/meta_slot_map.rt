@@ -144,8 +144,9 @@ impl<T, S: Table<T>, L: Table<Link>> MetaSlotMap<T, S, L> {
     pub fn get(&self, key: SlotMapKey) -> Option<&T>
         ensures { option_copied result ≡ value_at self.now key }
     {
-        if self.contains(key) {
-            Some(self.values.get(key.value(), &mut Touches::new()))
+        let key = key.value();
+        if key < self.capacity() {
+            self.value(key)
         } else {
             None
         }
@@ -177,6 +178,20 @@ impl<T, S: Table<T>, L: Table<Link>> MetaSlotMap<T, S, L> {
         ensures exactly { (key : ℕ) → lookup (nat_eq key) result ≡ value_at self.now key }
     {
         Iter { map: self, key: 0 }
+    }
+
+    /// The value under a key of the map, if it has one.
+    #[inline]
+    pub(crate) fn value(&self, key: usize) -> Option<&T>
+        requires { IsKey self.now key }
+        ensures { option_copied result ≡ value_at self.now key }
+    {
+        let mut touches = Touches::new();
+        if self.is_free(key, &mut touches) {
+            None
+        } else {
+            Some(self.values.get(key, &mut touches))
+        }
     }
 
     /// The value under a held key, for writing.

@@ -1,5 +1,5 @@
 //! The slot map that has no memory yet.
-ghost use Rattle.std.specs.Prelude.{◌≡◌};
+ghost use Rattle.std.specs.Prelude.{◌≡◌, IsOk, IfOk, IfErr};
 ghost use Rattle.ix_maps.specs.SlotState.{empty_slots};
 
 use crate::slotmap::{RelocatableSlotMap, SlotMap};
@@ -54,7 +54,14 @@ impl<T: Drop, A: Allocator + Copy> RelocatableContainer<A> for UninitSlotMap<T> 
     }
 
     /// O(capacity), and two requests of memory at most.
-    fn init(self, alloc: A) -> Result<RelocatableSlotMap<T, A>, InitError<Self>> {
+    fn init(self, alloc: A) -> Result<RelocatableSlotMap<T, A>, InitError<Self>>
+        // No key has a value, and the free keys are 0, 1 and so on.
+        ensures ready { IfOk result (λ map. map ≡ empty_slots self) }
+        // The value comes back as it was.
+        ensures refused { IfErr result (λ error. error ≡ self) }
+        // A capacity of 0 needs no memory.
+        ensures memory { self ≡ 0 → IsOk result }
+    {
         match SlotMap::new(alloc, self.capacity) {
             Ok(map) => Ok(map),
             Err(_) => Err(InitError::new(self)),
