@@ -1,4 +1,4 @@
-//! Tests that cross crates: queues against a plain slow one, worked examples, and whole scripts on faulty devices.
+//! Tests that cross crates: queues against a plain slow one, tables, and whole scripts on faulty devices.
 #![tactic(auto)]
 
 #[cfg(test)]
@@ -6,9 +6,9 @@ mod devices;
 #[cfg(test)]
 mod oracle;
 #[cfg(test)]
-mod queue_tests;
-#[cfg(test)]
 mod reading_tests;
 #[cfg(test)]
 mod script_tests;
 pub mod slow_queue;
+#[cfg(test)]
+mod table_tests;

@@ -1,5 +1,5 @@
 //! Worked examples: queues of one item and of none, of every kind and with every allocator.
-use crate::queue_items::relocatable_of;
+use crate::items::relocatable_of;
 use bumpalo::Bump;
 use ix_cells::Table;
 use ix_maps::{FixedSizeQueue, MetaQueue, Queue};

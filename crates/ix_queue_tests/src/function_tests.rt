@@ -1,6 +1,6 @@
 //! Every function of queues once, with ample memory.
-use crate::queue_items::relocatable_of;
-use crate::queue_replacing::replace_oldest;
+use crate::items::relocatable_of;
+use crate::replacing::replace_oldest;
 use bumpalo::Bump;
 use ix_cells::{InitError, RelocatableContainer, Table};
 use ix_maps::{FixedSizeQueue, MetaQueue, Queue, RelocatableQueue, UninitQueue};

@@ -3,17 +3,17 @@
 #![tactic(auto)]
 
 #[cfg(test)]
-mod queue_drop_tests;
+mod drop_tests;
 #[cfg(test)]
-mod queue_equality_tests;
+mod equality_tests;
 #[cfg(test)]
-mod queue_function_tests;
+mod function_tests;
 #[cfg(test)]
-mod queue_items;
+mod items;
 #[cfg(test)]
-mod queue_memory_tests;
-pub mod queue_replacing;
+mod memory_tests;
+pub mod replacing;
 #[cfg(test)]
-mod queue_ring_tests;
+mod ring_tests;
 #[cfg(test)]
-mod queue_row_tests;
+mod row_tests;

@@ -1,5 +1,5 @@
 //! When items are dropped: each one once, and the oldest one first.
-use crate::queue_items::{Noted, relocatable_of};
+use crate::items::{Noted, relocatable_of};
 use ix_cells::Table;
 use ix_maps::{FixedSizeQueue, MetaQueue, Queue};
 use std::alloc::Global;

@@ -1,5 +1,5 @@
 //! Turns of the ring: items go round past the last place, from every first place.
-use crate::queue_items::{relocatable_of, turned_by};
+use crate::items::{relocatable_of, turned_by};
 use ix_cells::Table;
 use ix_maps::{FixedSizeQueue, MetaQueue, Queue};
 use std::process::Abort;

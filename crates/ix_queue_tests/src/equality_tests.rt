@@ -1,5 +1,5 @@
 //! Equality of queues: of their items in order, wherever these stand in the ring.
-use crate::queue_items::{relocatable_of, turned_by};
+use crate::items::{relocatable_of, turned_by};
 use ix_cells::Table;
 use ix_maps::{FixedSizeQueue, MetaQueue, Queue};
 use std::process::Abort;
