@@ -1,118 +1,63 @@
 //! When items are dropped: each one once, and the last one first.
-use crate::items::{Noted, Notes, names_of, relocatable_of};
+use crate::items::{Noted, Notes};
+use crate::noted_calls::NotedCall::{
+    Clear, Insert, Pop, Push, Remove, Resize, ResizeWith, Truncate,
+};
+use crate::noted_calls::{NotedRow, check_noted_kinds};
+use ix_cells::VectorModificationError::{InsertWouldExceedCapacity, OutOfBounds};
 use ix_cells::{PolymorphicVec, StaticVec, Vector};
 use std::alloc::Global;
 use std::process::Abort;
 use std::test::Fail;
 
-/// `vector` is empty, and has room for four items.
-fn check_refusals<'a, V: Vector<Noted<'a>> + Drop>(
-    rt: &impl Abort,
-    mut vector: V,
-    notes: &'a Notes,
-    kind: &str,
-) {
-    for name in 1..5 {
-        assert!(rt;
-            vector.push(Noted::new(name, notes)).is_ok(),
-            "{kind}, {name}"
-        );
-    }
-    assert_eq!(rt; notes.take_drops(), 0, "four are held, {kind}");
-    assert!(rt; vector.push(Noted::new(5, notes)).is_err(), "{kind}");
-    assert_eq!(rt; notes.take_drops(), 5, "refused by push, {kind}");
-    assert!(rt; vector.insert(0, Noted::new(6, notes)).is_err(), "{kind}");
-    assert_eq!(rt; notes.take_drops(), 6, "refused by insert, {kind}");
-    assert!(rt; vector.resize(5, Noted::new(7, notes)).is_err(), "{kind}");
-    assert_eq!(rt; notes.take_drops(), 7, "refused by resize, {kind}");
-    drop(vector);
-    assert_eq!(rt; notes.take_drops(), 4321, "the end, {kind}");
-}
+/// Items that a full vector refuses.
+const REFUSALS: [NotedRow; 7] = [
+    (Push(1), Ok(None), 0, 1),
+    (Push(2), Ok(None), 0, 12),
+    (Push(3), Ok(None), 0, 123),
+    (Push(4), Ok(None), 0, 1234),
+    (Push(5), Err(InsertWouldExceedCapacity), 5, 1234),
+    (Insert(0, 6), Err(InsertWouldExceedCapacity), 6, 1234),
+    (Resize(5, 7, 0), Err(InsertWouldExceedCapacity), 7, 1234),
+];
 
-/// `vector` is empty, and has room for four items.
-fn check_leaving<'a, V: Vector<Noted<'a>> + Drop>(
-    rt: &impl Abort,
-    mut vector: V,
-    notes: &'a Notes,
-    kind: &str,
-) {
-    for name in 1..5 {
-        assert!(rt;
-            vector.push(Noted::new(name, notes)).is_ok(),
-            "{kind}, {name}"
-        );
-    }
-    let removed = vector.remove(1);
-    assert_eq!(rt; notes.take_drops(), 0, "handed out, {kind}");
-    drop(removed);
-    assert_eq!(rt; notes.take_drops(), 2, "dropped by the caller, {kind}");
-    assert!(rt; vector.insert(4, Noted::new(8, notes)).is_err(), "{kind}");
-    assert_eq!(rt; notes.take_drops(), 8, "out of bounds, {kind}");
-    assert!(rt; vector.insert(1, Noted::new(9, notes)).is_ok(), "{kind}");
-    drop(vector.pop());
-    assert_eq!(rt; notes.take_drops(), 4, "popped, {kind}");
-    assert_eq!(rt; names_of(vector.as_slice()), 193, "{kind}");
-    drop(vector);
-    assert_eq!(rt; notes.take_drops(), 391, "the end, {kind}");
-}
+/// Items that leave one by one: they are handed out, and the caller drops them.
+const LEAVING: [NotedRow; 8] = [
+    (Push(1), Ok(None), 0, 1),
+    (Push(2), Ok(None), 0, 12),
+    (Push(3), Ok(None), 0, 123),
+    (Push(4), Ok(None), 0, 1234),
+    (Remove(1), Ok(Some(2)), 2, 134),
+    (Insert(4, 8), Err(OutOfBounds), 8, 134),
+    (Insert(1, 9), Ok(None), 0, 1934),
+    (Pop, Ok(Some(4)), 4, 193),
+];
 
-/// `vector` is empty, and has room for four items.
-fn check_cuts<'a, V: Vector<Noted<'a>> + Drop>(
-    rt: &impl Abort,
-    mut vector: V,
-    notes: &'a Notes,
-    kind: &str,
-) {
-    for name in 1..5 {
-        assert!(rt;
-            vector.push(Noted::new(name, notes)).is_ok(),
-            "{kind}, {name}"
-        );
-    }
-    vector.truncate(2);
-    assert_eq!(rt; notes.take_drops(), 43, "truncated, {kind}");
-    assert!(rt; vector.push(Noted::new(5, notes)).is_ok(), "{kind}");
-    vector.clear();
-    assert_eq!(rt; notes.take_drops(), 521, "cleared, {kind}");
-    assert!(rt;
-        vector.resize_with(4, || Noted::new(6, notes)).is_ok(),
-        "{kind}"
-    );
-    assert!(rt;
-        vector.resize_with(1, || Noted::new(7, notes)).is_ok(),
-        "{kind}"
-    );
-    assert_eq!(rt; notes.take_drops(), 666, "resized, {kind}");
-    assert!(rt; vector.push(Noted::new(8, notes)).is_ok(), "{kind}");
-    assert!(rt; vector.push(Noted::new(9, notes)).is_ok(), "{kind}");
-    assert_eq!(rt; notes.take_drops(), 0, "three are held, {kind}");
-    drop(vector);
-    assert_eq!(rt; notes.take_drops(), 986, "the end, {kind}");
-}
+/// Items that leave together.
+const CUTS: [NotedRow; 11] = [
+    (Push(1), Ok(None), 0, 1),
+    (Push(2), Ok(None), 0, 12),
+    (Push(3), Ok(None), 0, 123),
+    (Push(4), Ok(None), 0, 1234),
+    (Truncate(2), Ok(None), 43, 12),
+    (Push(5), Ok(None), 0, 125),
+    (Clear, Ok(None), 521, 0),
+    (ResizeWith(4, 6), Ok(None), 0, 6666),
+    (ResizeWith(1, 7), Ok(None), 666, 6),
+    (Push(8), Ok(None), 0, 68),
+    (Push(9), Ok(None), 0, 689),
+];
 
-fn check_kinds<'a>(rt: &impl Abort, alloc: Global, notes: &'a Notes) -> Result<(), Fail> {
-    check_refusals(rt, StaticVec::<Noted<'a>, 4>::new(), notes, "static");
-    let relocatable = relocatable_of::<Noted<'a>, Global>(alloc, 4)?;
-    check_refusals(rt, relocatable, notes, "relocatable");
-    let polymorphic = PolymorphicVec::<Noted<'a>, Global>::new(alloc, 4)?;
-    check_refusals(rt, polymorphic, notes, "polymorphic");
-    check_leaving(rt, StaticVec::<Noted<'a>, 4>::new(), notes, "static");
-    let relocatable = relocatable_of::<Noted<'a>, Global>(alloc, 4)?;
-    check_leaving(rt, relocatable, notes, "relocatable");
-    let polymorphic = PolymorphicVec::<Noted<'a>, Global>::new(alloc, 4)?;
-    check_leaving(rt, polymorphic, notes, "polymorphic");
-    check_cuts(rt, StaticVec::<Noted<'a>, 4>::new(), notes, "static");
-    let relocatable = relocatable_of::<Noted<'a>, Global>(alloc, 4)?;
-    check_cuts(rt, relocatable, notes, "relocatable");
-    let polymorphic = PolymorphicVec::<Noted<'a>, Global>::new(alloc, 4)?;
-    check_cuts(rt, polymorphic, notes, "polymorphic");
-    Ok(())
+fn check_drops<'a>(rt: &impl Abort, alloc: Global, notes: &'a Notes) -> Result<(), Fail> {
+    check_noted_kinds(rt, alloc, notes, &[], REFUSALS.as_slice(), 4321)?;
+    check_noted_kinds(rt, alloc, notes, &[], LEAVING.as_slice(), 391)?;
+    check_noted_kinds(rt, alloc, notes, &[], CUTS.as_slice(), 986)
 }
 
 #[test]
 fn drops_once_and_last_first(rt: HostRuntime) -> Result<(), Fail> {
     let notes = Notes::new(0);
-    check_kinds(&rt, rt.alloc(), &notes)
+    check_drops(&rt, rt.alloc(), &notes)
 }
 
 #[test]

@@ -1,5 +1,10 @@
 //! Every function of vectors and tables once, with ample memory.
-use crate::items::{relocatable_of, with_one_and_two};
+use crate::calls::Call::{
+    Clear, Extend, ExtendUnchecked, Fill, Insert, Pop, Push, PushUnchecked, Remove, Resize,
+    ResizeWith, Truncate,
+};
+use crate::calls::{Row, check_kinds};
+use crate::items::relocatable_of;
 use ix_cells::VectorModificationError::{InsertWouldExceedCapacity, OutOfBounds};
 use ix_cells::{
     HeapTable, InitError, InlineTable, MAX_FIXED_CAPACITY, PolymorphicVec, RelocatableContainer,
@@ -9,104 +14,67 @@ use std::alloc::Global;
 use std::process::Abort;
 use std::test::Fail;
 
-/// `vector` is empty, and has room for three items.
-fn check_pushes<V: Vector<u64> + Drop>(rt: &impl Abort, mut vector: V, kind: &str) {
-    assert_eq!(rt; (vector.capacity(), vector.len()), (3, 0), "{kind}");
-    assert!(rt; vector.is_empty() && !vector.is_full(), "{kind}");
-    assert_eq!(rt; vector.pop(), None, "{kind}");
-    assert_eq!(rt; vector.insert(1, 5), Err(OutOfBounds), "{kind}");
-    assert!(rt; vector.len() < vector.capacity(), "{kind}");
-    vector.push_unchecked(2);
-    assert_eq!(rt; vector.push(3), Ok(()), "{kind}");
-    assert!(rt; !vector.is_empty() && !vector.is_full(), "{kind}");
-    assert_eq!(rt; vector.insert(0, 1), Ok(()), "{kind}");
-    assert!(rt; !vector.is_empty() && vector.is_full(), "{kind}");
-    assert_eq!(rt; vector.push(4), Err(InsertWouldExceedCapacity), "{kind}");
-    assert_eq!(rt; vector.as_slice(), [1, 2, 3].as_slice(), "{kind}");
-}
+/// Calls of a vector with room for three items.
+const PUSHES: [Row<u64>; 6] = [
+    (Pop, Ok(None), &[]),
+    (Insert(1, 5), Err(OutOfBounds), &[]),
+    (PushUnchecked(2), Ok(None), &[2]),
+    (Push(3), Ok(None), &[2, 3]),
+    (Insert(0, 1), Ok(None), &[1, 2, 3]),
+    (Push(4), Err(InsertWouldExceedCapacity), &[1, 2, 3]),
+];
 
-/// `vector` has room for three items, and holds 1 and 2.
-fn check_removals<V: Vector<u64> + Drop>(rt: &impl Abort, mut vector: V, kind: &str) {
-    assert_eq!(rt; vector.remove(2), None, "{kind}");
-    assert_eq!(rt; vector.insert(2, 4), Ok(()), "{kind}");
-    assert_eq!(rt; vector.remove(1), Some(2), "{kind}");
-    assert_eq!(rt; vector.as_slice(), [1, 4].as_slice(), "{kind}");
-    assert_eq!(rt; vector.remove(1), Some(4), "{kind}");
-    vector.as_mut_slice().fill(8);
-    assert_eq!(rt; vector.pop(), Some(8), "{kind}");
-    assert_eq!(rt; (vector.capacity(), vector.len()), (3, 0), "{kind}");
-}
-
-/// `vector` has room for three items, and holds 1 and 2.
-fn check_lengths<V: Vector<u64> + Drop>(rt: &impl Abort, mut vector: V, kind: &str) {
-    vector.truncate(9);
-    vector.truncate(2);
-    assert_eq!(rt; vector.as_slice(), [1, 2].as_slice(), "{kind}");
-    vector.truncate(1);
-    assert_eq!(rt; vector.as_slice(), [1].as_slice(), "{kind}");
-    let full = Err(InsertWouldExceedCapacity);
-    assert_eq!(rt; vector.extend_from_slice(&[4, 5, 6]), full, "{kind}");
-    assert_eq!(rt; vector.extend_from_slice(&[4, 5]), Ok(()), "{kind}");
-    assert_eq!(rt; vector.as_slice(), [1, 4, 5].as_slice(), "{kind}");
-    vector.clear();
-    assert!(rt; vector.is_empty(), "{kind}");
-    assert!(rt; vector.capacity() >= 1, "{kind}");
-    assert!(rt; vector.extend_from_slice_unchecked(&[9]).is_ok(), "{kind}");
-    assert_eq!(rt; vector.as_slice(), [9].as_slice(), "{kind}");
-    assert_eq!(rt; vector.capacity(), 3, "{kind}");
-}
-
-/// `vector` has room for three items, and holds 1 and 2.
-fn check_resizes<V: Vector<u64> + Drop>(rt: &impl Abort, mut vector: V, kind: &str) {
-    let full = Err(InsertWouldExceedCapacity);
-    assert_eq!(rt; vector.resize(4, 6), full, "{kind}");
-    assert_eq!(rt; vector.resize(2, 6), Ok(()), "{kind}");
-    assert_eq!(rt; vector.as_slice(), [1, 2].as_slice(), "{kind}");
-    assert_eq!(rt; vector.resize(1, 6), Ok(()), "{kind}");
-    assert_eq!(rt; vector.resize(3, 6), Ok(()), "{kind}");
-    assert_eq!(rt; vector.as_slice(), [1, 6, 6].as_slice(), "{kind}");
-    assert_eq!(rt; vector.resize_with(2, || 7), Ok(()), "{kind}");
-    assert_eq!(rt; vector.resize_with(3, || 7), Ok(()), "{kind}");
-    assert_eq!(rt; vector.as_slice(), [1, 6, 7].as_slice(), "{kind}");
-}
+/// Calls of a vector with room for three items.
+const REMOVALS: [Row<u64>; 8] = [
+    (Push(1), Ok(None), &[1]),
+    (Push(2), Ok(None), &[1, 2]),
+    (Remove(2), Ok(None), &[1, 2]),
+    (Insert(2, 4), Ok(None), &[1, 2, 4]),
+    (Remove(1), Ok(Some(2)), &[1, 4]),
+    (Remove(1), Ok(Some(4)), &[1]),
+    (Fill(8), Ok(None), &[8]),
+    (Pop, Ok(Some(8)), &[]),
+];
 
 #[test]
 fn calls_for_single_items(rt: HostRuntime) -> Result<(), Fail> {
-    let alloc = rt.alloc();
-    check_pushes(&rt, StaticVec::<u64, 3>::new(), "static");
-    check_pushes(&rt, relocatable_of(alloc, 3)?, "relocatable");
-    check_pushes(&rt, PolymorphicVec::new(alloc, 3)?, "polymorphic");
-    check_removals(&rt, with_one_and_two(StaticVec::<u64, 3>::new()), "static");
-    check_removals(
-        &rt,
-        with_one_and_two(relocatable_of(alloc, 3)?),
-        "relocatable",
-    );
-    let vector = with_one_and_two(PolymorphicVec::new(alloc, 3)?);
-    check_removals(&rt, vector, "polymorphic");
-    Ok(())
+    let fixed = StaticVec::<u64, 3>::new();
+    check_kinds(&rt, rt.alloc(), fixed, 3, PUSHES.as_slice())?;
+    let fixed = StaticVec::<u64, 3>::new();
+    check_kinds(&rt, rt.alloc(), fixed, 3, REMOVALS.as_slice())
 }
+
+/// Calls of a vector with room for three items.
+const LENGTHS: [Row<u64>; 9] = [
+    (Push(1), Ok(None), &[1]),
+    (Push(2), Ok(None), &[1, 2]),
+    (Truncate(9), Ok(None), &[1, 2]),
+    (Truncate(2), Ok(None), &[1, 2]),
+    (Truncate(1), Ok(None), &[1]),
+    (Extend(&[4, 5, 6]), Err(InsertWouldExceedCapacity), &[1]),
+    (Extend(&[4, 5]), Ok(None), &[1, 4, 5]),
+    (Clear, Ok(None), &[]),
+    (ExtendUnchecked(&[9]), Ok(None), &[9]),
+];
+
+/// Calls of a vector with room for three items.
+const RESIZES: [Row<u64>; 8] = [
+    (Push(1), Ok(None), &[1]),
+    (Push(2), Ok(None), &[1, 2]),
+    (Resize(4, 6), Err(InsertWouldExceedCapacity), &[1, 2]),
+    (Resize(2, 6), Ok(None), &[1, 2]),
+    (Resize(1, 6), Ok(None), &[1]),
+    (Resize(3, 6), Ok(None), &[1, 6, 6]),
+    (ResizeWith(2, 7), Ok(None), &[1, 6]),
+    (ResizeWith(3, 7), Ok(None), &[1, 6, 7]),
+];
 
 #[test]
 fn calls_for_lengths(rt: HostRuntime) -> Result<(), Fail> {
-    let alloc = rt.alloc();
-    check_lengths(&rt, with_one_and_two(StaticVec::<u64, 3>::new()), "static");
-    check_lengths(
-        &rt,
-        with_one_and_two(relocatable_of(alloc, 3)?),
-        "relocatable",
-    );
-    let vector = with_one_and_two(PolymorphicVec::new(alloc, 3)?);
-    check_lengths(&rt, vector, "polymorphic");
-    check_resizes(&rt, with_one_and_two(StaticVec::<u64, 3>::new()), "static");
-    check_resizes(
-        &rt,
-        with_one_and_two(relocatable_of(alloc, 3)?),
-        "relocatable",
-    );
-    let vector = with_one_and_two(PolymorphicVec::new(alloc, 3)?);
-    check_resizes(&rt, vector, "polymorphic");
-    Ok(())
+    let fixed = StaticVec::<u64, 3>::new();
+    check_kinds(&rt, rt.alloc(), fixed, 3, LENGTHS.as_slice())?;
+    let fixed = StaticVec::<u64, 3>::new();
+    check_kinds(&rt, rt.alloc(), fixed, 3, RESIZES.as_slice())
 }
 
 #[test]
@@ -121,26 +89,29 @@ fn two_steps(rt: HostRuntime) {
     assert_eq!(rt; ready.expect(&rt, "there is memory").capacity(), 6);
 }
 
+/// Fills two empty vectors, compares them, and then compares them after the second one lost its last item.
+fn check_equality<V: Vector<u64> + PartialEq + Drop>(
+    rt: &impl Abort,
+    mut one: V,
+    mut other: V,
+    items: [u64; 2],
+) {
+    assert!(rt; one.extend_from_slice(&[1, 2]).is_ok());
+    assert!(rt; other.extend_from_slice(items.as_slice()).is_ok());
+    assert!(rt; (one == other) == (items == [1, 2]), "{items:?}");
+    other.truncate(1);
+    assert!(rt; one != other, "a shorter one, {items:?}");
+}
+
 #[test]
 fn equality_is_of_items(rt: HostRuntime) -> Result<(), Fail> {
     let alloc = rt.alloc();
-    let pairs = [(1, 2, true), (1, 3, false), (3, 2, false)];
-    for (first, second, equal) in pairs {
-        let one = StaticVec::<u64, 2>::try_from([1, 2].as_slice())?;
-        let other = StaticVec::<u64, 2>::try_from([first, second].as_slice())?;
-        assert_eq!(rt; one == other, equal, "static, {first}, {second}");
-        let mut one = PolymorphicVec::new(alloc, 2)?;
-        let mut other = PolymorphicVec::new(alloc, 5)?;
-        assert!(rt; one.extend_from_slice(&[1, 2]).is_ok());
-        assert!(rt; other.extend_from_slice(&[first, second]).is_ok());
-        assert_eq!(rt; one == other, equal, "polymorphic, {first}, {second}");
-        let mut one = relocatable_of(alloc, 2)?;
-        let mut other = relocatable_of(alloc, 5)?;
-        assert!(rt; one.extend_from_slice(&[1, 2]).is_ok());
-        assert!(rt; other.extend_from_slice(&[first, second]).is_ok());
-        assert_eq!(rt; one == other, equal, "relocatable, {first}, {second}");
-        other.truncate(1);
-        assert!(rt; one != other, "a shorter one, {first}, {second}");
+    for items in [[1, 2], [1, 3], [3, 2]] {
+        check_equality(&rt, StaticVec::<u64, 2>::new(), StaticVec::new(), items);
+        let wider = PolymorphicVec::new(alloc, 5)?;
+        check_equality(&rt, PolymorphicVec::new(alloc, 2)?, wider, items);
+        let wider = relocatable_of(alloc, 5)?;
+        check_equality(&rt, relocatable_of(alloc, 2)?, wider, items);
     }
     Ok(())
 }

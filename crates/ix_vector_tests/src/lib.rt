@@ -3,6 +3,8 @@
 #![tactic(auto)]
 
 #[cfg(test)]
+mod calls;
+#[cfg(test)]
 mod drop_tests;
 #[cfg(test)]
 mod function_tests;
@@ -10,6 +12,8 @@ mod function_tests;
 mod items;
 #[cfg(test)]
 mod making_tests;
+#[cfg(test)]
+mod noted_calls;
 #[cfg(test)]
 mod refusal_tests;
 pub mod rolling;

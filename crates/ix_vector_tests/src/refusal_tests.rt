@@ -1,5 +1,7 @@
 //! Clones that are refused in turn: the items are as before, and the clones already made are dropped.
 use crate::items::{Heavy, Noted, Notes, heavy_names_of, names_of, relocatable_of};
+use crate::noted_calls::NotedCall::{Extend, ExtendUnchecked, Push, Resize};
+use crate::noted_calls::{NotedRow, check_noted_kinds};
 use ix_cells::VectorModificationError::OutOfMemory;
 use ix_cells::{PolymorphicVec, StaticVec, Vector};
 use linked_list_allocator::LocalHeap;
@@ -7,96 +9,39 @@ use std::alloc::{AllocError, Global};
 use std::process::Abort;
 use std::test::Fail;
 
-/// `vector` is empty, and has room for four items.
-fn check_extend<'a, V: Vector<Noted<'a>> + Drop>(
-    rt: &impl Abort,
-    mut vector: V,
-    notes: &'a Notes,
-    kind: &str,
-) {
-    assert!(rt; vector.push(Noted::new(5, notes)).is_ok(), "{kind}");
+/// A vector that holds 5 is extended by 1, 2 and 3, whose clones are refused in turn.
+const EXTENSIONS: [NotedRow; 8] = [
+    (Push(5), Ok(None), 0, 5),
+    (Extend(0), Err(OutOfMemory), 0, 5),
+    (ExtendUnchecked(0), Err(OutOfMemory), 0, 5),
+    (Extend(1), Err(OutOfMemory), 1, 5),
+    (ExtendUnchecked(1), Err(OutOfMemory), 1, 5),
+    (Extend(2), Err(OutOfMemory), 21, 5),
+    (ExtendUnchecked(2), Err(OutOfMemory), 21, 5),
+    (Extend(3), Ok(None), 0, 5123),
+];
+
+/// It grows by clones of 7, which are refused in turn; the item that was handed in is dropped. A cut makes no clone.
+const RESIZES: [NotedRow; 6] = [
+    (Push(5), Ok(None), 0, 5),
+    (Resize(4, 7, 0), Err(OutOfMemory), 7, 5),
+    (Resize(4, 7, 1), Err(OutOfMemory), 77, 5),
+    (Resize(4, 7, 2), Err(OutOfMemory), 777, 5),
+    (Resize(4, 7, 3), Ok(None), 7, 5777),
+    (Resize(2, 7, 0), Ok(None), 777, 57),
+];
+
+fn check_growth<'a>(rt: &impl Abort, alloc: Global, notes: &'a Notes) -> Result<(), Fail> {
     let items = [
         Noted::new(1, notes),
         Noted::new(2, notes),
         Noted::new(3, notes),
     ];
-    for (clones, drops) in [(0, 0), (1, 1), (2, 21)] {
-        notes.allow_clones(clones);
-        let answer = vector.extend_from_slice(items.as_slice());
-        assert_eq!(rt; answer, Err(OutOfMemory), "{kind}, {clones}");
-        assert_eq!(rt; notes.take_drops(), drops, "{kind}, {clones}");
-        assert_eq!(rt; names_of(vector.as_slice()), 5, "{kind}, {clones}");
-        assert!(rt; vector.capacity() - vector.len() >= 3, "{kind}, {clones}");
-        notes.allow_clones(clones);
-        let answer = vector.extend_from_slice_unchecked(items.as_slice());
-        assert_eq!(rt; answer, Err(AllocError), "{kind}, {clones}, unchecked");
-        assert_eq!(rt; notes.take_drops(), drops, "{kind}, {clones}, unchecked");
-        assert_eq!(rt;
-            names_of(vector.as_slice()),
-            5,
-            "{kind}, {clones}, unchecked"
-        );
-    }
-    notes.allow_clones(3);
-    assert_eq!(rt;
-        vector.extend_from_slice(items.as_slice()),
-        Ok(()),
-        "{kind}"
-    );
-    assert_eq!(rt; names_of(vector.as_slice()), 5123, "{kind}");
-    assert_eq!(rt; notes.take_drops(), 0, "{kind}");
-    drop(vector);
-    assert_eq!(rt; notes.take_drops(), 3215, "the end, {kind}");
+    let rows = EXTENSIONS.as_slice();
+    check_noted_kinds(rt, alloc, notes, items.as_slice(), rows, 3215)?;
     drop(items);
-    assert_eq!(rt; notes.take_drops(), 123, "the slice kept its own, {kind}");
-}
-
-/// `vector` is empty, and has room for four items.
-fn check_resize<'a, V: Vector<Noted<'a>> + Drop>(
-    rt: &impl Abort,
-    mut vector: V,
-    notes: &'a Notes,
-    kind: &str,
-) {
-    assert!(rt; vector.push(Noted::new(5, notes)).is_ok(), "{kind}");
-    for (clones, drops) in [(0, 7), (1, 77), (2, 777)] {
-        notes.allow_clones(clones);
-        let answer = vector.resize(4, Noted::new(7, notes));
-        assert_eq!(rt; answer, Err(OutOfMemory), "{kind}, {clones}");
-        assert_eq!(rt; notes.take_drops(), drops, "{kind}, {clones}");
-        assert_eq!(rt; names_of(vector.as_slice()), 5, "{kind}, {clones}");
-    }
-    notes.allow_clones(3);
-    assert_eq!(rt; vector.resize(4, Noted::new(7, notes)), Ok(()), "{kind}");
-    assert_eq!(rt;
-        notes.take_drops(),
-        7,
-        "the item that was handed in, {kind}"
-    );
-    assert_eq!(rt; names_of(vector.as_slice()), 5777, "{kind}");
-    assert_eq!(rt;
-        vector.resize(2, Noted::new(7, notes)),
-        Ok(()),
-        "no clone is made, {kind}"
-    );
-    assert_eq!(rt; notes.take_drops(), 777, "{kind}");
-    assert_eq!(rt; names_of(vector.as_slice()), 57, "{kind}");
-    drop(vector);
-    assert_eq!(rt; notes.take_drops(), 75, "the end, {kind}");
-}
-
-fn check_growth<'a>(rt: &impl Abort, alloc: Global, notes: &'a Notes) -> Result<(), Fail> {
-    check_extend(rt, StaticVec::<Noted<'a>, 4>::new(), notes, "static");
-    let relocatable = relocatable_of::<Noted<'a>, Global>(alloc, 4)?;
-    check_extend(rt, relocatable, notes, "relocatable");
-    let polymorphic = PolymorphicVec::<Noted<'a>, Global>::new(alloc, 4)?;
-    check_extend(rt, polymorphic, notes, "polymorphic");
-    check_resize(rt, StaticVec::<Noted<'a>, 4>::new(), notes, "static");
-    let relocatable = relocatable_of::<Noted<'a>, Global>(alloc, 4)?;
-    check_resize(rt, relocatable, notes, "relocatable");
-    let polymorphic = PolymorphicVec::<Noted<'a>, Global>::new(alloc, 4)?;
-    check_resize(rt, polymorphic, notes, "polymorphic");
-    Ok(())
+    assert_eq!(rt; notes.take_drops(), 123, "the slice kept its own");
+    check_noted_kinds(rt, alloc, notes, &[], RESIZES.as_slice(), 75)
 }
 
 #[test]

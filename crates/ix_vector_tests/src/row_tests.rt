@@ -1,4 +1,6 @@
 //! Worked examples: what calls in a row answer, and what they leave.
+use crate::calls::Call::{Extend, ExtendUnchecked, Insert, Push, Remove, Resize};
+use crate::calls::{Row, check_kinds};
 use crate::items::{relocatable_of, with_one_and_two};
 use ix_cells::VectorModificationError::{InsertWouldExceedCapacity, OutOfBounds};
 use ix_cells::{
@@ -10,38 +12,29 @@ use std::cell::Cell;
 use std::process::Abort;
 use std::test::Fail;
 
-/// `vector` has room for three items, and holds 1 and 2.
-fn check_inserts<V: Vector<u64> + Drop>(rt: &impl Abort, mut vector: V, kind: &str) {
-    assert_eq!(rt; vector.insert(1, 9), Ok(()), "{kind}");
-    assert_eq!(rt; vector.as_slice(), [1, 9, 2].as_slice(), "{kind}");
-    assert_eq!(rt;
-        vector.insert(8, 5),
-        Err(InsertWouldExceedCapacity),
-        "{kind}"
-    );
-    assert_eq!(rt; vector.as_slice(), [1, 9, 2].as_slice(), "{kind}");
-}
+/// Calls of a vector with room for two items.
+const INSERTS_OF_BYTES: [Row<u8>; 5] = [
+    (Push(1), Ok(None), &[1]),
+    (Push(2), Ok(None), &[1, 2]),
+    (Insert(9, 7), Err(InsertWouldExceedCapacity), &[1, 2]),
+    (Remove(0), Ok(Some(1)), &[2]),
+    (Insert(9, 7), Err(OutOfBounds), &[2]),
+];
+
+/// Calls of a vector with room for three items.
+const INSERTS: [Row<u64>; 4] = [
+    (Push(1), Ok(None), &[1]),
+    (Push(2), Ok(None), &[1, 2]),
+    (Insert(1, 9), Ok(None), &[1, 9, 2]),
+    (Insert(8, 5), Err(InsertWouldExceedCapacity), &[1, 9, 2]),
+];
 
 #[test]
 fn inserts(rt: HostRuntime) -> Result<(), Fail> {
-    let mut vector = StaticVec::<u8, 2>::try_from([1, 2].as_slice())?;
-    assert_eq!(rt; vector.insert(9, 7), Err(InsertWouldExceedCapacity));
-    assert_eq!(rt; vector.remove(0), Some(1));
-    assert_eq!(rt; vector.insert(9, 7), Err(OutOfBounds));
-    assert_eq!(rt; vector.as_slice(), [2].as_slice());
-    let alloc = rt.alloc();
-    check_inserts(&rt, with_one_and_two(StaticVec::<u64, 3>::new()), "static");
-    check_inserts(
-        &rt,
-        with_one_and_two(relocatable_of(alloc, 3)?),
-        "relocatable",
-    );
-    check_inserts(
-        &rt,
-        with_one_and_two(PolymorphicVec::new(alloc, 3)?),
-        "polymorphic",
-    );
-    Ok(())
+    let fixed = StaticVec::<u8, 2>::new();
+    check_kinds(&rt, rt.alloc(), fixed, 2, INSERTS_OF_BYTES.as_slice())?;
+    let fixed = StaticVec::<u64, 3>::new();
+    check_kinds(&rt, rt.alloc(), fixed, 3, INSERTS.as_slice())
 }
 
 /// What a vector of capacity 4 that holds 1 and 2 answers to a length whose items a closure makes, how often that is
@@ -64,94 +57,86 @@ fn check_resize_with<V: Vector<u64> + Drop>(
     assert_eq!(rt; vector.as_slice(), items, "left to {n}");
 }
 
-#[test]
-fn resizes_with_a_closure(rt: HostRuntime) -> Result<(), Fail> {
-    let cases = [
-        (4, Ok(()), (2, [1, 2, 7, 8].as_slice())),
-        (5, Err(InsertWouldExceedCapacity), (0, [1, 2].as_slice())),
-        (1, Ok(()), (0, [1].as_slice())),
-    ];
-    for (n, answer, left) in cases {
-        let vector = with_one_and_two(StaticVec::<u64, 4>::new());
-        check_resize_with(&rt, vector, n, answer, left);
-        let vector = with_one_and_two(relocatable_of(rt.alloc(), 4)?);
-        check_resize_with(&rt, vector, n, answer, left);
-        let vector = with_one_and_two(PolymorphicVec::new(rt.alloc(), 4)?);
-        check_resize_with(&rt, vector, n, answer, left);
-    }
+fn check_resizes_with(
+    rt: &impl Abort,
+    alloc: Global,
+    n: usize,
+    answer: Result<(), VectorModificationError>,
+    left: (u64, &[u64]),
+) -> Result<(), Fail> {
+    let vector = with_one_and_two(StaticVec::<u64, 4>::new());
+    check_resize_with(rt, vector, n, answer, left);
+    let vector = with_one_and_two(relocatable_of(alloc, 4)?);
+    check_resize_with(rt, vector, n, answer, left);
+    let vector = with_one_and_two(PolymorphicVec::new(alloc, 4)?);
+    check_resize_with(rt, vector, n, answer, left);
     Ok(())
 }
 
-/// `vector` has room for four items, and holds 1 and 2.
-fn check_extends<V: Vector<u64> + Drop>(rt: &impl Abort, mut vector: V, kind: &str) {
-    assert_eq!(rt; vector.extend_from_slice(&[3]), Ok(()), "{kind}");
-    assert_eq!(rt; vector.resize(4, 9), Ok(()), "{kind}");
-    assert_eq!(rt;
-        vector.extend_from_slice(&[5]),
-        Err(InsertWouldExceedCapacity),
-        "{kind}"
-    );
-    assert_eq!(rt; vector.as_slice(), [1, 2, 3, 9].as_slice(), "{kind}");
+#[test]
+fn resizes_with_a_closure(rt: HostRuntime) -> Result<(), Fail> {
+    let full = Err(InsertWouldExceedCapacity);
+    check_resizes_with(&rt, rt.alloc(), 4, Ok(()), (2, &[1, 2, 7, 8]))?;
+    check_resizes_with(&rt, rt.alloc(), 5, full, (0, &[1, 2]))?;
+    check_resizes_with(&rt, rt.alloc(), 1, Ok(()), (0, &[1]))
 }
 
-/// `vector` has room for four items, and holds 1 and 2.
-fn check_extends_unchecked<V: Vector<u64> + Drop>(rt: &impl Abort, mut vector: V, kind: &str) {
-    assert!(rt; vector.len() < vector.capacity(), "{kind}");
-    assert!(rt; vector.extend_from_slice_unchecked(&[3]).is_ok(), "{kind}");
-    assert_eq!(rt; vector.as_slice(), [1, 2, 3].as_slice(), "{kind}");
-}
+/// Calls of a vector with room for four items.
+const EXTENDS: [Row<u64>; 5] = [
+    (Push(1), Ok(None), &[1]),
+    (Push(2), Ok(None), &[1, 2]),
+    (Extend(&[3]), Ok(None), &[1, 2, 3]),
+    (Resize(4, 9), Ok(None), &[1, 2, 3, 9]),
+    (Extend(&[5]), Err(InsertWouldExceedCapacity), &[1, 2, 3, 9]),
+];
+
+/// Calls of a vector with room for four items.
+const EXTENDS_UNCHECKED: [Row<u64>; 3] = [
+    (Push(1), Ok(None), &[1]),
+    (Push(2), Ok(None), &[1, 2]),
+    (ExtendUnchecked(&[3]), Ok(None), &[1, 2, 3]),
+];
 
 #[test]
 fn extends(rt: HostRuntime) -> Result<(), Fail> {
-    let alloc = rt.alloc();
-    check_extends(&rt, with_one_and_two(StaticVec::<u64, 4>::new()), "static");
-    check_extends(
-        &rt,
-        with_one_and_two(relocatable_of(alloc, 4)?),
-        "relocatable",
+    let fixed = StaticVec::<u64, 4>::new();
+    check_kinds(&rt, rt.alloc(), fixed, 4, EXTENDS.as_slice())?;
+    let fixed = StaticVec::<u64, 4>::new();
+    check_kinds(&rt, rt.alloc(), fixed, 4, EXTENDS_UNCHECKED.as_slice())
+}
+
+fn check_static_copies(rt: &impl Abort) -> Result<(), Fail> {
+    let vector = StaticVec::<u64, 4>::try_from([1, 2].as_slice())?;
+    let mut copy = vector.clone()?;
+    assert!(rt; copy.as_slice() == [1, 2].as_slice());
+    assert!(rt; copy.len() < copy.capacity());
+    assert!(rt; copy.extend_from_slice_unchecked(&[3]).is_ok());
+    assert!(rt; copy.as_slice() == [1, 2, 3].as_slice());
+    assert!(rt;
+        vector.as_slice() == [1, 2].as_slice(),
+        "after the clone's change"
     );
-    check_extends(
-        &rt,
-        with_one_and_two(PolymorphicVec::new(alloc, 4)?),
-        "polymorphic",
-    );
-    let vector = with_one_and_two(StaticVec::<u64, 4>::new());
-    check_extends_unchecked(&rt, vector, "static");
-    check_extends_unchecked(
-        &rt,
-        with_one_and_two(relocatable_of(alloc, 4)?),
-        "relocatable",
-    );
-    let vector = with_one_and_two(PolymorphicVec::new(alloc, 4)?);
-    check_extends_unchecked(&rt, vector, "polymorphic");
+    let refused = StaticVec::<u64, 1>::try_from([1, 2].as_slice());
+    assert!(rt; refused.err() == Some(InsertWouldExceedCapacity));
+    Ok(())
+}
+
+fn check_polymorphic_copies(rt: &impl Abort, alloc: Global) -> Result<(), Fail> {
+    let vector = with_one_and_two(PolymorphicVec::new(alloc, 2)?);
+    let copy = vector.try_clone()?;
+    assert!(rt; copy.as_slice() == [1, 2].as_slice());
+    assert_eq!(rt; copy.capacity(), 2);
+    assert!(rt; copy == vector);
+    let squares = PolymorphicVec::from_fn(alloc, 3, |n: usize| n.wrapping_mul(n))?;
+    assert!(rt; squares.as_slice() == [0, 1, 4].as_slice());
+    assert!(rt; squares.is_full());
     Ok(())
 }
 
 #[test]
 fn copies_and_squares(rt: HostRuntime) -> Result<(), Fail> {
-    let vector = StaticVec::<u64, 4>::try_from([1, 2].as_slice())?;
-    assert_eq!(rt; vector.as_slice(), [1, 2].as_slice());
-    let copy = vector.clone()?;
-    assert_eq!(rt; copy.as_slice(), [1, 2].as_slice());
-    check_extends_unchecked(&rt, copy, "the clone");
-    assert_eq!(rt;
-        vector.as_slice(),
-        [1, 2].as_slice(),
-        "after the clone's change"
-    );
-    assert_eq!(rt;
-        StaticVec::<u64, 1>::try_from([1, 2].as_slice()).err(),
-        Some(InsertWouldExceedCapacity)
-    );
-    let vector = with_one_and_two(PolymorphicVec::new(rt.alloc(), 2)?);
-    let copy = vector.try_clone()?;
-    assert_eq!(rt; copy.as_slice(), [1, 2].as_slice());
-    assert_eq!(rt; copy.capacity(), 2);
-    assert!(rt; copy == vector);
-    let squares = PolymorphicVec::from_fn(rt.alloc(), 3, |n: usize| n.wrapping_mul(n))?;
-    assert_eq!(rt; squares.as_slice(), [0, 1, 4].as_slice());
-    assert!(rt; squares.is_full());
-    Ok(())
+    check_static_copies(&rt)?;
+    check_polymorphic_copies(&rt, rt.alloc())
 }
 
 #[test]

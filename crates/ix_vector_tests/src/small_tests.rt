@@ -1,116 +1,96 @@
 //! Vectors with no room, items of size zero, and more items than any memory holds.
-use crate::items::relocatable_of;
+use crate::calls::Call::{
+    Clear, Extend, ExtendUnchecked, Fill, Insert, Pop, Push, Remove, Resize, ResizeWith, Truncate,
+};
+use crate::calls::{Row, check_kinds, check_rows};
 use ix_cells::VectorModificationError::InsertWouldExceedCapacity;
 use ix_cells::{
     HeapTable, PolymorphicVec, RelocatableContainer, StaticVec, Table, UninitVec, Vector,
 };
 use std::alloc::{AllocError, Global};
-use std::process::Abort;
 use std::test::Fail;
 
-/// `vector` has no room for any item.
-fn check_no_room<V: Vector<u64> + Drop>(rt: &impl Abort, mut vector: V, kind: &str) {
-    let full = Err(InsertWouldExceedCapacity);
-    assert_eq!(rt; (vector.capacity(), vector.len()), (0, 0), "{kind}");
-    assert!(rt; vector.is_empty() && vector.is_full(), "{kind}");
-    assert_eq!(rt; vector.push(1), full, "{kind}");
-    assert_eq!(rt; vector.insert(0, 1), full, "{kind}");
-    assert_eq!(rt; vector.insert(9, 1), full, "{kind}");
-    assert_eq!(rt; vector.pop(), None, "{kind}");
-    assert_eq!(rt; vector.remove(0), None, "{kind}");
-}
-
-/// `vector` has no room for any item.
-fn check_no_length<V: Vector<u64> + Drop>(rt: &impl Abort, mut vector: V, kind: &str) {
-    let full = Err(InsertWouldExceedCapacity);
-    vector.truncate(0);
-    vector.truncate(5);
-    vector.clear();
-    assert_eq!(rt; vector.extend_from_slice(&[]), Ok(()), "{kind}");
-    assert!(rt; vector.extend_from_slice_unchecked(&[]).is_ok(), "{kind}");
-    assert_eq!(rt; vector.extend_from_slice(&[1]), full, "{kind}");
-    assert_eq!(rt; vector.resize(0, 1), Ok(()), "{kind}");
-    assert_eq!(rt; vector.resize(1, 1), full, "{kind}");
-    assert_eq!(rt; vector.resize_with(0, || 1), Ok(()), "{kind}");
-    assert_eq!(rt; vector.resize_with(1, || 1), full, "{kind}");
-    assert_eq!(rt; vector.as_mut_slice().len(), 0, "{kind}");
-    assert!(rt; vector.is_empty() && vector.is_full(), "{kind}");
-}
+/// Calls of a vector that has no room for any item.
+const WITHOUT_ROOM: [Row<u64>; 16] = [
+    (Push(1), Err(InsertWouldExceedCapacity), &[]),
+    (Insert(0, 1), Err(InsertWouldExceedCapacity), &[]),
+    (Insert(9, 1), Err(InsertWouldExceedCapacity), &[]),
+    (Pop, Ok(None), &[]),
+    (Remove(0), Ok(None), &[]),
+    (Truncate(0), Ok(None), &[]),
+    (Truncate(5), Ok(None), &[]),
+    (Clear, Ok(None), &[]),
+    (Extend(&[]), Ok(None), &[]),
+    (ExtendUnchecked(&[]), Ok(None), &[]),
+    (Extend(&[1]), Err(InsertWouldExceedCapacity), &[]),
+    (Resize(0, 1), Ok(None), &[]),
+    (Resize(1, 1), Err(InsertWouldExceedCapacity), &[]),
+    (ResizeWith(0, 1), Ok(None), &[]),
+    (ResizeWith(1, 1), Err(InsertWouldExceedCapacity), &[]),
+    (Fill(1), Ok(None), &[]),
+];
 
 #[test]
 fn no_room(rt: HostRuntime) -> Result<(), Fail> {
-    let alloc = rt.alloc();
-    check_no_room(&rt, StaticVec::<u64, 0>::new(), "static");
-    check_no_room(&rt, relocatable_of(alloc, 0)?, "relocatable");
-    check_no_room(&rt, PolymorphicVec::new(alloc, 0)?, "polymorphic");
-    check_no_length(&rt, StaticVec::<u64, 0>::new(), "static");
-    check_no_length(&rt, relocatable_of(alloc, 0)?, "relocatable");
-    check_no_length(&rt, PolymorphicVec::new(alloc, 0)?, "polymorphic");
+    let rows = WITHOUT_ROOM.as_slice();
+    let fixed = StaticVec::<u64, 0>::new();
+    check_kinds(&rt, rt.alloc(), fixed, 0, rows)?;
     let none: [u64; 0] = [];
     let made = StaticVec::<u64, 0>::try_from(none.as_slice())?;
-    check_no_room(&rt, made.clone()?, "a static clone");
-    let made = PolymorphicVec::from_fn(alloc, 0, |_| 1)?;
-    check_no_room(&rt, made.try_clone()?, "a polymorphic clone");
+    check_rows(&rt, &mut made.clone()?, 0, rows, "a static clone");
+    let made = PolymorphicVec::from_fn(rt.alloc(), 0, |_| 1)?;
+    check_rows(&rt, &mut made.try_clone()?, 0, rows, "a polymorphic clone");
     Ok(())
 }
 
-/// `vector` is empty, and has room for three items.
-fn check_size_zero<V: Vector<()> + Drop>(rt: &impl Abort, mut vector: V, kind: &str) {
-    assert_eq!(rt; vector.capacity(), 3, "{kind}");
-    assert_eq!(rt; vector.push(()), Ok(()), "{kind}");
-    assert_eq!(rt; vector.insert(0, ()), Ok(()), "{kind}");
-    assert_eq!(rt; vector.extend_from_slice(&[()]), Ok(()), "{kind}");
-    assert!(rt; vector.is_full(), "{kind}");
-    assert_eq!(rt; vector.push(()), Err(InsertWouldExceedCapacity), "{kind}");
-    assert_eq!(rt; vector.len(), 3, "{kind}");
-    assert_eq!(rt; vector.remove(1), Some(()), "{kind}");
-    assert_eq!(rt; vector.resize(3, ()), Ok(()), "{kind}");
-    assert_eq!(rt;
-        vector.resize_with(4, || ()),
+/// Calls of a vector with room for three items.
+const OF_SIZE_ZERO: [Row<()>; 13] = [
+    (Push(()), Ok(None), &[()]),
+    (Insert(0, ()), Ok(None), &[(), ()]),
+    (Extend(&[()]), Ok(None), &[(), (), ()]),
+    (Push(()), Err(InsertWouldExceedCapacity), &[(), (), ()]),
+    (Remove(1), Ok(Some(())), &[(), ()]),
+    (Resize(3, ()), Ok(None), &[(), (), ()]),
+    (
+        ResizeWith(4, ()),
         Err(InsertWouldExceedCapacity),
-        "{kind}"
-    );
-    for _ in 0..3 {
-        assert_eq!(rt; vector.pop(), Some(()), "{kind}");
-    }
-    assert_eq!(rt; vector.pop(), None, "{kind}");
-    assert_eq!(rt; vector.capacity(), 3, "{kind}");
-}
+        &[(), (), ()],
+    ),
+    (Pop, Ok(Some(())), &[(), ()]),
+    (Pop, Ok(Some(())), &[()]),
+    (Pop, Ok(Some(())), &[]),
+    (Pop, Ok(None), &[]),
+    (ResizeWith(1, ()), Ok(None), &[()]),
+    (Clear, Ok(None), &[]),
+];
 
 #[test]
 fn items_of_size_zero(rt: HostRuntime) -> Result<(), Fail> {
-    let alloc = rt.alloc();
-    check_size_zero(&rt, StaticVec::<(), 3>::new(), "static");
-    check_size_zero(&rt, relocatable_of(alloc, 3)?, "relocatable");
-    check_size_zero(&rt, PolymorphicVec::new(alloc, 3)?, "polymorphic");
-    let units = PolymorphicVec::from_fn(alloc, 3, |_| ())?;
+    let fixed = StaticVec::<(), 3>::new();
+    check_kinds(&rt, rt.alloc(), fixed, 3, OF_SIZE_ZERO.as_slice())?;
+    let units = PolymorphicVec::from_fn(rt.alloc(), 3, |_| ())?;
     assert_eq!(rt; units.try_clone()?.len(), 3);
     Ok(())
 }
 
-/// No memory holds `len` numbers.
-fn check_past_all_memory(rt: &impl Abort, alloc: Global, len: usize) {
-    assert_eq!(rt;
-        PolymorphicVec::<u64, Global>::new(alloc, len).err(),
-        Some(AllocError),
-        "{len}"
-    );
-    assert!(rt;
-        UninitVec::<u64>::new_uninit(len).init(alloc).is_err(),
-        "{len}"
-    );
+fn is_table_refused(alloc: Global, len: usize) -> bool {
     match HeapTable::<u64, Global>::new(alloc, len) {
         Ok(table) => {
             table.end();
-            assert!(rt; false, "a table of {len}");
+            false
         }
-        Err(AllocError) => {}
+        Err(AllocError) => true,
     }
 }
 
 #[test]
 fn past_all_memory(rt: HostRuntime) {
+    let alloc = rt.alloc();
     for len in [usize::MAX, usize::MAX / 8, usize::MAX / 16 + 1] {
-        check_past_all_memory(&rt, rt.alloc(), len);
+        let vector = PolymorphicVec::<u64, Global>::new(alloc, len);
+        assert!(rt; vector.is_err(), "{len}");
+        let ready = UninitVec::<u64>::new_uninit(len).init(alloc);
+        assert!(rt; ready.is_err(), "{len}");
+        assert!(rt; is_table_refused(alloc, len), "{len}");
     }
 }
