@@ -16,5 +16,8 @@ mod memory_tests;
 mod row_tests;
 #[cfg(test)]
 mod rows;
+pub mod slow_map;
 #[cfg(test)]
 mod small_tests;
+#[cfg(test)]
+mod walk_tests;
