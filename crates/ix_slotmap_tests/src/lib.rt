@@ -3,6 +3,8 @@
 #![tactic(auto)]
 
 #[cfg(test)]
+mod calls;
+#[cfg(test)]
 mod counting_tests;
 #[cfg(test)]
 mod drop_tests;
@@ -17,7 +19,5 @@ mod row_tests;
 #[cfg(test)]
 mod rows;
 pub mod slow_map;
-#[cfg(test)]
-mod small_tests;
 #[cfg(test)]
 mod walk_tests;

@@ -1,122 +1,130 @@
-//! Worked examples over any slot map: what calls in a row answer.
-use ix_cells::Table;
-use ix_maps::{Link, MetaSlotMap, SlotMapKey};
-use std::process::Abort;
+//! Worked examples: calls on an empty map, and what they answer.
+use crate::calls::Answer::{self, Bool, Key, Number, Value};
+use crate::calls::Call::{
+    self, Capacity, Contains, Get, Insert, InsertAt, IsEmpty, IsFull, Len, NextFreeKey, Remove,
+    Write,
+};
 
-/// The answer that names key `n`.
-fn at(n: usize) -> Option<SlotMapKey> {
-    Some(SlotMapKey::new(n))
-}
+/// A call and its answer.
+pub type Line<T> = (Call<T>, Answer<T>);
 
-/// `map` is empty, and has three keys.
-pub fn check_removed_comes_first<S: Table<char>, L: Table<Link>>(
-    rt: &impl Abort,
-    mut map: MetaSlotMap<char, S, L>,
-    place: &str,
-) {
-    let keys = (map.insert('a'), map.insert('b'));
-    assert_eq!(rt; keys, (at(0), at(1)), "{place}");
-    let removed = map.remove(SlotMapKey::new(0));
-    assert_eq!(rt; (removed, map.next_free_key()), (Some('a'), at(0)), "{place}");
-    assert_eq!(rt; map.insert('c'), at(0), "{place}");
-    assert!(rt; map.insert_at(SlotMapKey::new(2), 'd'), "{place}");
-    assert_eq!(rt; map.insert('e'), None, "{place}");
-}
+/// On a map with three keys.
+pub const REMOVED_COMES_FIRST: [Line<char>; 7] = [
+    (Insert('a'), Key(Some(0))),
+    (Insert('b'), Key(Some(1))),
+    (Remove(0), Value(Some('a'))),
+    (NextFreeKey, Key(Some(0))),
+    (Insert('c'), Key(Some(0))),
+    (InsertAt(2, 'd'), Bool(true)),
+    (Insert('e'), Key(None)),
+];
 
-/// `map` is empty, and has three keys.
-pub fn check_first_key_taken<S: Table<char>, L: Table<Link>>(
-    rt: &impl Abort,
-    mut map: MetaSlotMap<char, S, L>,
-    place: &str,
-) {
-    assert!(rt; map.insert_at(SlotMapKey::new(0), 'a'), "{place}");
-    assert_eq!(rt; map.next_free_key(), at(1), "{place}");
-    assert_eq!(rt; map.insert('b'), at(1), "{place}");
-    assert_eq!(rt; map.get(SlotMapKey::new(0)), Some(&'a'), "{place}");
-}
+/// On a map with three keys.
+pub const FIRST_KEY_TAKEN: [Line<char>; 4] = [
+    (InsertAt(0, 'a'), Bool(true)),
+    (NextFreeKey, Key(Some(1))),
+    (Insert('b'), Key(Some(1))),
+    (Get(0), Value(Some('a'))),
+];
 
-/// `map` is empty, and has four keys.
-pub fn check_middle_key_taken<S: Table<char>, L: Table<Link>>(
-    rt: &impl Abort,
-    mut map: MetaSlotMap<char, S, L>,
-    place: &str,
-) {
-    assert!(rt; map.insert_at(SlotMapKey::new(2), 'x'), "{place}");
-    let keys = (map.insert('a'), map.insert('b'), map.insert('c'));
-    assert_eq!(rt; keys, (at(0), at(1), at(3)), "{place}");
-    assert_eq!(rt; map.insert('d'), None, "{place}");
-}
+/// On a map with four keys.
+pub const MIDDLE_KEY_TAKEN: [Line<char>; 5] = [
+    (InsertAt(2, 'x'), Bool(true)),
+    (Insert('a'), Key(Some(0))),
+    (Insert('b'), Key(Some(1))),
+    (Insert('c'), Key(Some(3))),
+    (Insert('d'), Key(None)),
+];
 
-/// `map` is empty, and has three keys.
-pub fn check_value_replaced<S: Table<char>, L: Table<Link>>(
-    rt: &impl Abort,
-    mut map: MetaSlotMap<char, S, L>,
-    place: &str,
-) {
-    assert_eq!(rt; map.insert('a'), at(0), "{place}");
-    assert!(rt; map.insert_at(SlotMapKey::new(0), 'b'), "{place}");
-    assert_eq!(rt; map.remove(SlotMapKey::new(0)), Some('b'), "{place}");
-    let keys = (map.insert('c'), map.insert('d'), map.insert('e'));
-    assert_eq!(rt; keys, (at(0), at(1), at(2)), "{place}");
-    assert_eq!(rt; map.insert('f'), None, "{place}");
-}
+/// On a map with three keys.
+pub const VALUE_REPLACED: [Line<char>; 7] = [
+    (Insert('a'), Key(Some(0))),
+    (InsertAt(0, 'b'), Bool(true)),
+    (Remove(0), Value(Some('b'))),
+    (Insert('c'), Key(Some(0))),
+    (Insert('d'), Key(Some(1))),
+    (Insert('e'), Key(Some(2))),
+    (Insert('f'), Key(None)),
+];
 
-/// `map` is empty, and has three keys.
-pub fn check_keys_behind_the_first<S: Table<char>, L: Table<Link>>(
-    rt: &impl Abort,
-    mut map: MetaSlotMap<char, S, L>,
-    place: &str,
-) {
-    let keys = (map.insert('a'), map.insert('b'));
-    assert_eq!(rt; keys, (at(0), at(1)), "{place}");
-    assert_eq!(rt; map.remove(SlotMapKey::new(0)), Some('a'), "{place}");
-    assert!(rt; map.insert_at(SlotMapKey::new(1), 'c'), "{place}");
-    assert!(rt; map.insert_at(SlotMapKey::new(2), 'd'), "{place}");
-    let keys = (map.insert('e'), map.insert('f'));
-    assert_eq!(rt; keys, (at(0), None), "{place}");
-}
+/// On a map with three keys.
+pub const KEYS_BEHIND_THE_FIRST: [Line<char>; 7] = [
+    (Insert('a'), Key(Some(0))),
+    (Insert('b'), Key(Some(1))),
+    (Remove(0), Value(Some('a'))),
+    (InsertAt(1, 'c'), Bool(true)),
+    (InsertAt(2, 'd'), Bool(true)),
+    (Insert('e'), Key(Some(0))),
+    (Insert('f'), Key(None)),
+];
 
-/// `map` has no key.
-pub fn check_no_key<S: Table<char>, L: Table<Link>>(
-    rt: &impl Abort,
-    mut map: MetaSlotMap<char, S, L>,
-    place: &str,
-) {
-    assert_eq!(rt; (map.next_free_key(), map.insert('x')), (None, None), "{place}");
-    assert_eq!(rt; map.get(SlotMapKey::new(0)), None, "{place}");
-    assert!(rt; !map.insert_at(SlotMapKey::new(0), 'x'), "{place}");
-    assert!(rt; map.is_full() && map.is_empty(), "{place}");
-}
+/// On a map with no key.
+pub const NO_KEY: [Line<char>; 10] = [
+    (NextFreeKey, Key(None)),
+    (Insert('x'), Key(None)),
+    (Get(0), Value(None)),
+    (InsertAt(0, 'x'), Bool(false)),
+    (Remove(0), Value(None)),
+    (Write(0, 'x'), Value(None)),
+    (IsFull, Bool(true)),
+    (IsEmpty, Bool(true)),
+    (Capacity, Number(0)),
+    (Len, Number(0)),
+];
 
-/// `map` has no key `n`.
-pub fn check_past_the_end<S: Table<char>, L: Table<Link>>(
-    rt: &impl Abort,
-    map: &mut MetaSlotMap<char, S, L>,
-    n: usize,
-    place: &str,
-) {
-    let key = SlotMapKey::new(n);
-    assert!(rt; !map.contains(key), "{n}, {place}");
-    assert_eq!(rt; map.get(key), None, "{n}, {place}");
-    assert!(rt; map.get_mut(key).is_none(), "{n}, {place}");
-    assert_eq!(rt; map.remove(key), None, "{n}, {place}");
-    assert!(rt; !map.insert_at(key, 'x'), "{n}, {place}");
-}
+/// The greatest number.
+const GREATEST: usize = 18_446_744_073_709_551_615;
 
-/// `map` is empty, and has two keys.
-pub fn check_foreign_keys<S: Table<char>, L: Table<Link>>(
-    rt: &impl Abort,
-    mut map: MetaSlotMap<char, S, L>,
-    place: &str,
-) {
-    for n in [2, 18_446_744_073_709_551_615] {
-        check_past_the_end(rt, &mut map, n, place);
-    }
-    assert!(rt; map.is_empty(), "{place}");
-    let keys = (map.insert('a'), map.insert('b'));
-    assert_eq!(rt; keys, (at(0), at(1)), "{place}");
-    for n in [2, 18_446_744_073_709_551_615] {
-        check_past_the_end(rt, &mut map, n, place);
-    }
-    assert!(rt; map.is_full(), "{place}");
-}
+/// On a map with two keys.
+pub const KEYS_PAST_THE_END: [Line<char>; 13] = [
+    (Contains(2), Bool(false)),
+    (Get(2), Value(None)),
+    (Write(2, 'x'), Value(None)),
+    (Remove(2), Value(None)),
+    (InsertAt(2, 'x'), Bool(false)),
+    (Contains(GREATEST), Bool(false)),
+    (Get(GREATEST), Value(None)),
+    (Write(GREATEST, 'x'), Value(None)),
+    (Remove(GREATEST), Value(None)),
+    (InsertAt(GREATEST, 'x'), Bool(false)),
+    (Insert('a'), Key(Some(0))),
+    (Insert('b'), Key(Some(1))),
+    (IsFull, Bool(true)),
+];
+
+/// On a map with two keys: every call that an example can have.
+pub const EVERY_CALL: [Line<char>; 20] = [
+    (Capacity, Number(2)),
+    (Len, Number(0)),
+    (IsEmpty, Bool(true)),
+    (IsFull, Bool(false)),
+    (InsertAt(1, 'a'), Bool(true)),
+    (Len, Number(1)),
+    (IsEmpty, Bool(false)),
+    (NextFreeKey, Key(Some(0))),
+    (Contains(0), Bool(false)),
+    (Contains(1), Bool(true)),
+    (Get(0), Value(None)),
+    (Get(1), Value(Some('a'))),
+    (Insert('b'), Key(Some(0))),
+    (IsFull, Bool(true)),
+    (NextFreeKey, Key(None)),
+    (Write(1, 'c'), Value(Some('a'))),
+    (Get(0), Value(Some('b'))),
+    (Remove(1), Value(Some('c'))),
+    (Remove(1), Value(None)),
+    (Len, Number(1)),
+];
+
+/// On a map with three keys, whose values have size zero.
+pub const SIZE_ZERO: [Line<()>; 9] = [
+    (Insert(()), Key(Some(0))),
+    (InsertAt(2, ()), Bool(true)),
+    (InsertAt(2, ()), Bool(true)),
+    (Len, Number(2)),
+    (Insert(()), Key(Some(1))),
+    (Insert(()), Key(None)),
+    (Remove(2), Value(Some(()))),
+    (Remove(2), Value(None)),
+    (NextFreeKey, Key(Some(2))),
+];
