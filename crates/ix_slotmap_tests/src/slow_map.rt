@@ -1,5 +1,6 @@
 //! A plain slow map, which tests hold against slot maps. Its contracts are the definition of the steps.
-ghost use Rattle.std.specs.Prelude.{◌≡◌, IfOk, OnOk, OnErr, IsTrue, ◌↔◌, slice_set};
+ghost use Rattle.std.specs.Prelude.{◌≡◌, IfOk, OnOk, OnErr, IsTrue, ◌↔◌, nat_eq, slice_set};
+ghost use Rattle.std.specs.List.{position, range_with_len};
 ghost use Rattle.ix_maps.specs.SlotState.{first_of, value_at, IsKey, empty_slots, held_count};
 ghost use Rattle.ix_maps.specs.SlotSteps.{without, inserted, inserted_at, removed};
 
@@ -8,17 +9,19 @@ use std::marker::Model;
 
 /// The value or nothing at each key, and the free keys in their order, all of which move up when one leaves.
 #[derive(Drop)]
-pub struct SlowMap<T> {
-    values: Vec<Option<T>>,
+pub struct SlowMap {
+    values: Vec<Option<u64>>,
     free: Vec<usize>,
 }
 
-impl<T> Model for SlowMap<T> {
+impl Model for SlowMap {
+    ghost use Rattle.std.specs.Prelude.{ℕ};
+    ghost use Rattle.std.specs.Coded.{coded_ℕ};
     ghost use Rattle.ix_maps.specs.SlotState.{SlotState, slot_state_code};
 
-    ghost Value = { SlotState T };
+    ghost Value = { SlotState ℕ };
 
-    ghost coded = { slot_state_code T.code };
+    ghost coded = { slot_state_code coded_ℕ };
 
     ghost view = { λ map. record {
       values = map.values.items;
@@ -26,17 +29,35 @@ impl<T> Model for SlowMap<T> {
     } };
 }
 
+/// The first place at which `key` stands among some keys.
+fn place_of(keys: &[usize], key: usize) -> Option<usize>
+    ensures { result ≡ position (λ other. nat_eq key other) keys.now }
+{
+    keys.iter().position(|other| key == *other)
+}
+
 /// Takes `key` out of some keys, where it stands first.
 fn take_out(keys: &mut Vec<usize>, key: usize)
     ensures { keys.new.items ≡ without key keys.old.items }
 {
-    if let Some(i) = keys.iter().position(|other| key == *other) {
-        keys.remove(i);
+    if let Some(place) = place_of(keys, key) {
+        keys.remove(place);
     }
 }
 
+/// The keys from 0 on, `capacity` of them.
+fn rising_keys(alloc: Global, capacity: usize) -> Result<Vec<usize>, AllocError>
+    ensures { IfOk result (λ keys. keys.items ≡ range_with_len 0 capacity) }
+{
+    let mut keys = Vec::with_capacity(alloc, capacity)?;
+    for key in 0..capacity {
+        keys.push_reserved(key);
+    }
+    Ok(keys)
+}
+
 /// Writes one of some places, if it is there.
-fn write<T: Drop>(places: &mut [Option<T>], i: usize, place: Option<T>)
+fn write(places: &mut [Option<u64>], i: usize, place: Option<u64>)
     ensures { places.new ≡ slice_set places.old i place }
 {
     if i < places.len() {
@@ -44,17 +65,14 @@ fn write<T: Drop>(places: &mut [Option<T>], i: usize, place: Option<T>)
     }
 }
 
-impl<T: Copy> SlowMap<T> {
+impl SlowMap {
     /// An empty map.
-    pub fn new(alloc: Global, capacity: usize) -> Result<SlowMap<T>, AllocError>
+    pub fn new(alloc: Global, capacity: usize) -> Result<SlowMap, AllocError>
         // No key has a value, and the free keys are 0, 1 and so on.
         ensures { IfOk result (λ map. map ≡ empty_slots capacity) }
     {
         let values = vec![in alloc; None; capacity]?;
-        let mut free = Vec::with_capacity(alloc, capacity)?;
-        for key in 0..capacity {
-            free.push_reserved(key);
-        }
+        let free = rising_keys(alloc, capacity)?;
         Ok(SlowMap { values, free })
     }
 
@@ -73,14 +91,14 @@ impl<T: Copy> SlowMap<T> {
     }
 
     /// The value under `key`.
-    pub fn get(&self, key: usize) -> Option<T>
+    pub fn get(&self, key: usize) -> Option<u64>
         ensures { result ≡ value_at self.now key }
     {
         self.values.get(key).copied().flatten()
     }
 
     /// Puts `value` under the first free key, and answers that key; or answers None where there is none.
-    pub fn insert(&mut self, value: T) -> Option<usize>
+    pub fn insert(&mut self, value: u64) -> Option<usize>
         // It answers the first free key.
         ensures key { result ≡ first_of self.old.free }
         // That key has the value, and left the free list.
@@ -95,7 +113,7 @@ impl<T: Copy> SlowMap<T> {
     }
 
     /// Puts `value` under `key`, or answers false where `key` is out of range.
-    pub fn insert_at(&mut self, key: usize, value: T) -> bool
+    pub fn insert_at(&mut self, key: usize, value: u64) -> bool
         // It answers whether the key is one of the map's.
         ensures answer { IsTrue result ↔ IsKey self.old key }
         // The key has the value, and is not free.
@@ -110,7 +128,7 @@ impl<T: Copy> SlowMap<T> {
     }
 
     /// Takes the value under `key`, which is then the first free key. `AllocError` tells that there was no memory.
-    pub fn remove(&mut self, key: usize) -> Result<Option<T>, AllocError>
+    pub fn remove(&mut self, key: usize) -> Result<Option<u64>, AllocError>
         // It answers the value that the key had, if any.
         ensures value { IfOk result (λ value. value ≡ value_at self.old key) }
         // The key has none, and stands in front of the free keys, if it had one.

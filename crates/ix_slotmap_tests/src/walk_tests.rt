@@ -35,7 +35,7 @@ fn key_of(number: usize, capacity: usize) -> usize {
 fn assert_call<S: Table<u64>, L: Table<Link>>(
     rt: &impl Abort,
     map: &mut MetaSlotMap<u64, S, L>,
-    slow: &mut SlowMap<u64>,
+    slow: &mut SlowMap,
     kind: usize,
     (key, value): (usize, u64),
 ) -> Result<(), Fail> {
@@ -61,7 +61,7 @@ fn assert_call<S: Table<u64>, L: Table<Link>>(
 fn assert_reads<S: Table<u64>, L: Table<Link>>(
     rt: &impl Abort,
     map: &MetaSlotMap<u64, S, L>,
-    slow: &SlowMap<u64>,
+    slow: &SlowMap,
     key: usize,
 ) {
     let first = slow.first_free().map(SlotMapKey::new);
@@ -76,7 +76,7 @@ fn assert_reads<S: Table<u64>, L: Table<Link>>(
 fn assert_content<S: Table<u64>, L: Table<Link>>(
     rt: &impl Abort,
     map: &MetaSlotMap<u64, S, L>,
-    slow: &SlowMap<u64>,
+    slow: &SlowMap,
 ) {
     assert_eq!(rt; map.len(), slow.len());
     let mut count = 0usize;
