@@ -68,10 +68,14 @@ type CountingTable<'a, T> = Counting<HeapTable<T, Global>, &'a Cell<u64>>;
 /// A map over tables that tell their calls.
 type CountingMap<'a> = MetaSlotMap<u64, CountingTable<'a, u64>, CountingTable<'a, Link>>;
 
-/// A map with 1,000 keys, of which those below 500 are held. No call is counted yet.
-fn half_full(alloc: Global, calls: &Cell<u64>) -> Result<CountingMap<'_>, AllocError> {
-    let values = HeapTable::new(alloc, 1000)?;
-    let links = match HeapTable::new(alloc, 1000) {
+/// An empty map whose tables tell `calls`.
+fn counting_map(
+    alloc: Global,
+    capacity: usize,
+    calls: &Cell<u64>,
+) -> Result<CountingMap<'_>, AllocError> {
+    let values = HeapTable::new(alloc, capacity)?;
+    let links = match HeapTable::new(alloc, capacity) {
         Ok(links) => links,
         Err(error) => {
             Table::<u64>::end(values);
@@ -86,7 +90,12 @@ fn half_full(alloc: Global, calls: &Cell<u64>) -> Result<CountingMap<'_>, AllocE
         table: links,
         calls,
     };
-    let mut map = MetaSlotMap::from_tables(values, links);
+    Ok(MetaSlotMap::from_tables(values, links))
+}
+
+/// A map with 1,000 keys, of which those below 500 are held. No call is counted yet.
+fn half_full(alloc: Global, calls: &Cell<u64>) -> Result<CountingMap<'_>, AllocError> {
+    let mut map = counting_map(alloc, 1000, calls)?;
     for n in 0..500 {
         let _ = map.insert(n);
     }
