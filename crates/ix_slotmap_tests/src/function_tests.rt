@@ -1,7 +1,7 @@
 //! Every function once.
 use crate::calls::check_calls;
 use crate::rows::EVERY_CALL;
-use ix_cells::{Counted, HeapTable, InitError, InlineTable, RelocatableContainer, Touches};
+use ix_cells::{Counted, HeapTable, InitError, InlineTable, RelocatableContainer, Table, Touches};
 use ix_maps::{FixedSizeSlotMap, Link, MetaSlotMap, RelocatableSlotMap, SlotMapKey, UninitSlotMap};
 use std::alloc::Global;
 use std::test::Fail;
@@ -51,26 +51,34 @@ fn counted_calls(rt: HostRuntime) {
     assert!(rt; !map.insert_at_counted(SlotMapKey::new(2), 9, &mut touches));
 }
 
-#[test]
-fn walks(rt: HostRuntime) {
-    let mut map = FixedSizeSlotMap::<u64, 4>::new();
-    assert!(rt; map.iter().next().is_none());
-    assert!(rt; map.insert_at(SlotMapKey::new(3), 30));
-    assert!(rt; map.insert_at(SlotMapKey::new(1), 10));
-    let mut walk = map.iter();
-    assert_eq!(rt; walk.next(), Some((SlotMapKey::new(1), &10)));
-    assert_eq!(rt; walk.next(), Some((SlotMapKey::new(3), &30)));
-    assert!(rt; walk.next().is_none());
+/// Each key and its value below 10, as two digits.
+fn digits_of<S: Table<u64>, L: Table<Link>>(map: &MetaSlotMap<u64, S, L>) -> u64 {
     let mut digits = 0u64;
     for (key, value) in map.iter() {
-        digits = digits
-            .wrapping_mul(1000)
-            .wrapping_add(*value)
-            .wrapping_add(key.value() as u64);
+        let pair = (key.value() as u64).wrapping_mul(10).wrapping_add(*value);
+        digits = digits.wrapping_mul(100).wrapping_add(pair);
     }
-    assert_eq!(rt; digits, 11_033);
+    digits
+}
+
+#[test]
+fn walks_rise(rt: HostRuntime) {
+    let mut map = FixedSizeSlotMap::<u64, 4>::new();
+    assert_eq!(rt; digits_of(&map), 0, "no value");
+    let _ = map.insert_at(SlotMapKey::new(3), 7);
+    let _ = map.insert_at(SlotMapKey::new(1), 5);
+    assert_eq!(rt; digits_of(&map), 1537);
     let none = FixedSizeSlotMap::<u64, 0>::new();
-    assert!(rt; none.iter().next().is_none());
+    assert_eq!(rt; digits_of(&none), 0, "no key");
+}
+
+#[test]
+fn walks_end(rt: HostRuntime) {
+    let mut map = FixedSizeSlotMap::<u64, 2>::new();
+    let _ = map.insert_at(SlotMapKey::new(1), 5);
+    let mut walk = map.iter();
+    assert_eq!(rt; walk.next(), Some((SlotMapKey::new(1), &5)));
+    assert!(rt; walk.next().is_none());
 }
 
 #[test]

@@ -2,7 +2,7 @@
 use ix_cells::{HeapTable, RelocatableContainer, Table};
 use ix_maps::{RelocatableSlotMap, SlotMap, UninitSlotMap};
 use linked_list_allocator::LocalHeap;
-use std::alloc::{AllocError, Global};
+use std::alloc::{AllocError, Allocator, Global};
 use std::process::Abort;
 use std::test::Fail;
 
@@ -17,49 +17,47 @@ fn has_first(heap: &LocalHeap) -> bool {
     }
 }
 
+/// The capacity and the number of values of a map, which ends.
+fn sizes_of<A: Allocator + Copy>(map: SlotMap<u64, A>) -> (usize, usize) {
+    (map.capacity(), map.len())
+}
+
 /// The heap has memory for a map with two keys if `found`.
 fn check_new(rt: &impl Abort, heap: &LocalHeap, found: bool) {
     let used = heap.used();
-    match SlotMap::<u64, &LocalHeap>::new(heap, 2) {
-        Ok(map) => {
-            assert_eq!(rt; (found, map.capacity(), map.len()), (true, 2, 0));
-            assert!(rt; heap.used() > used);
-        }
-        Err(AllocError) => assert!(rt; !found),
-    }
-    assert_eq!(rt; heap.used(), used);
+    let made = match SlotMap::<u64, &LocalHeap>::new(heap, 2) {
+        Ok(map) => Ok(sizes_of(map)),
+        Err(error) => Err(error),
+    };
+    let wanted = if found { Ok((2, 0)) } else { Err(AllocError) };
+    assert_eq!(rt; (made, heap.used()), (wanted, used));
 }
 
 /// The heap has memory for a map with two keys if `found`. `ample` finds memory.
 fn check_init(rt: &impl Abort, heap: &LocalHeap, found: bool, ample: Global) {
     let used = heap.used();
-    match UninitSlotMap::<u64>::new_uninit(2).init(heap) {
-        Ok(map) => assert_eq!(rt; (found, map.capacity(), map.len()), (true, 2, 0)),
+    let (first, again) = match UninitSlotMap::<u64>::new_uninit(2).init(heap) {
+        Ok(map) => (Some(sizes_of(map)), None),
         Err(error) => {
-            assert!(rt; !found);
-            assert_eq!(rt; heap.used(), used);
             let ready: Option<RelocatableSlotMap<u64>> = error.into_uninit().init(ample).ok();
-            let map = ready.expect(rt, "there is memory now");
-            assert_eq!(rt; (map.capacity(), map.len()), (2, 0));
+            (None, ready.map(sizes_of))
         }
-    }
-    assert_eq!(rt; heap.used(), used);
+    };
+    let sizes = Some((2, 0));
+    let wanted = if found { (sizes, None) } else { (None, sizes) };
+    assert_eq!(rt; ((first, again), heap.used()), (wanted, used));
 }
 
 #[test]
 fn makings_refused(rt: HostRuntime) -> Result<(), Fail> {
-    let cases = [(2, false, false), (3, true, false), (8, true, true)];
-    for (blocks, first, both) in cases {
+    for (blocks, first, both) in [(2, false, false), (3, true, false), (8, true, true)] {
         let heap = LocalHeap::new(rt.alloc(), 16 * blocks)?;
         let _held = Box::new(&heap, 0u64)?;
-        let used = heap.used();
         assert_eq!(rt; has_first(&heap), first, "of {blocks}");
         check_new(&rt, &heap, both);
         check_init(&rt, &heap, both, rt.alloc());
-        let empty = SlotMap::<u64, &LocalHeap>::new(&heap, 0);
-        assert!(rt; empty.is_ok(), "no memory is needed");
-        drop(empty);
-        assert_eq!(rt; heap.used(), used, "of {blocks}");
+        let empty = SlotMap::<u64, &LocalHeap>::new(&heap, 0)?;
+        assert!(rt; empty.is_full(), "no memory is needed");
     }
     Ok(())
 }

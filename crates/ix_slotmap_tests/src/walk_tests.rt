@@ -113,18 +113,13 @@ fn walk<S: Table<u64>, L: Table<Link>>(
 }
 
 #[test]
-fn in_the_value_itself(rt: HostRuntime) -> Result<(), Fail> {
+fn each_kind(rt: HostRuntime) -> Result<(), Fail> {
     let alloc = rt.alloc();
     walk(&rt, alloc, FixedSizeSlotMap::<u64, 0>::new())?;
     walk(&rt, alloc, FixedSizeSlotMap::<u64, 1>::new())?;
     walk(&rt, alloc, FixedSizeSlotMap::<u64, 2>::new())?;
     walk(&rt, alloc, FixedSizeSlotMap::<u64, 7>::new())?;
-    walk(&rt, alloc, FixedSizeSlotMap::<u64, 40>::new())
-}
-
-#[test]
-fn in_memory(rt: HostRuntime) -> Result<(), Fail> {
-    let alloc = rt.alloc();
+    walk(&rt, alloc, FixedSizeSlotMap::<u64, 40>::new())?;
     for capacity in 0..41 {
         walk(&rt, alloc, SlotMap::new(alloc, capacity)?)?;
         walk(&rt, alloc, relocatable_of(alloc, capacity)?)?;
