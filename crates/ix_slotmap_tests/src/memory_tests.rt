@@ -1,0 +1,78 @@
+//! Maps whose memory is refused, at the first request and at the second: nothing stays taken.
+use ix_cells::{HeapTable, RelocatableContainer, Table};
+use ix_maps::{RelocatableSlotMap, SlotMap, UninitSlotMap};
+use linked_list_allocator::LocalHeap;
+use std::alloc::{AllocError, Allocator, Global};
+use std::process::Abort;
+use std::test::Fail;
+
+/// Whether the heap has memory for the values of two keys.
+fn has_first(heap: &LocalHeap) -> bool {
+    match HeapTable::<u64, &LocalHeap>::new(heap, 2) {
+        Ok(table) => {
+            table.end();
+            true
+        }
+        Err(AllocError) => false,
+    }
+}
+
+/// The capacity and the number of values of a map, which ends.
+fn sizes_of<A: Allocator + Copy>(map: SlotMap<u64, A>) -> (usize, usize) {
+    (map.capacity(), map.len())
+}
+
+/// The heap has memory for a map with two keys if `found`.
+fn check_new(rt: &impl Abort, heap: &LocalHeap, found: bool) {
+    let used = heap.used();
+    let made = match SlotMap::<u64, &LocalHeap>::new(heap, 2) {
+        Ok(map) => Ok(sizes_of(map)),
+        Err(error) => Err(error),
+    };
+    let wanted = if found { Ok((2, 0)) } else { Err(AllocError) };
+    assert_eq!(rt; (made, heap.used()), (wanted, used));
+}
+
+/// The heap has memory for a map with two keys if `found`. `ample` finds memory.
+fn check_init(rt: &impl Abort, heap: &LocalHeap, found: bool, ample: Global) {
+    let used = heap.used();
+    let (first, again) = match UninitSlotMap::<u64>::new_uninit(2).init(heap) {
+        Ok(map) => (Some(sizes_of(map)), None),
+        Err(error) => {
+            let ready: Option<RelocatableSlotMap<u64>> = error.into_uninit().init(ample).ok();
+            (None, ready.map(sizes_of))
+        }
+    };
+    let sizes = Some((2, 0));
+    let wanted = if found { (sizes, None) } else { (None, sizes) };
+    assert_eq!(rt; ((first, again), heap.used()), (wanted, used));
+}
+
+#[test]
+fn makings_refused(rt: HostRuntime) -> Result<(), Fail> {
+    for (blocks, first, both) in [(2, false, false), (3, true, false), (8, true, true)] {
+        let heap = LocalHeap::new(rt.alloc(), 16 * blocks)?;
+        let _held = Box::new(&heap, 0u64)?;
+        assert_eq!(rt; has_first(&heap), first, "of {blocks}");
+        check_new(&rt, &heap, both);
+        check_init(&rt, &heap, both, rt.alloc());
+        let empty = SlotMap::<u64, &LocalHeap>::new(&heap, 0)?;
+        assert!(rt; empty.is_full(), "no memory is needed");
+    }
+    Ok(())
+}
+
+#[test]
+fn past_all_memory(rt: HostRuntime) {
+    for capacity in [usize::MAX, usize::MAX / 16] {
+        let made = SlotMap::<u64, Global>::new(rt.alloc(), capacity);
+        assert_eq!(rt; made.err(), Some(AllocError), "{capacity}");
+        match UninitSlotMap::<u64>::new_uninit(capacity).init(rt.alloc()) {
+            Ok(_map) => assert!(rt; false, "a map of {capacity}"),
+            Err(error) => {
+                let again = error.into_uninit().init(rt.alloc());
+                assert!(rt; again.is_err(), "{capacity} came back");
+            }
+        }
+    }
+}

@@ -1,0 +1,130 @@
+//! Worked examples: calls on an empty map, and what they answer.
+use crate::calls::Answer::{self, Bool, Key, Number, Value};
+use crate::calls::Call::{
+    self, Capacity, Contains, Get, Insert, InsertAt, IsEmpty, IsFull, Len, NextFreeKey, Remove,
+    Write,
+};
+
+/// A call and its answer.
+pub type Line<T> = (Call<T>, Answer<T>);
+
+/// On a map with three keys.
+pub const REMOVED_COMES_FIRST: [Line<char>; 7] = [
+    (Insert('a'), Key(Some(0))),
+    (Insert('b'), Key(Some(1))),
+    (Remove(0), Value(Some('a'))),
+    (NextFreeKey, Key(Some(0))),
+    (Insert('c'), Key(Some(0))),
+    (InsertAt(2, 'd'), Bool(true)),
+    (Insert('e'), Key(None)),
+];
+
+/// On a map with three keys.
+pub const FIRST_KEY_TAKEN: [Line<char>; 4] = [
+    (InsertAt(0, 'a'), Bool(true)),
+    (NextFreeKey, Key(Some(1))),
+    (Insert('b'), Key(Some(1))),
+    (Get(0), Value(Some('a'))),
+];
+
+/// On a map with four keys.
+pub const MIDDLE_KEY_TAKEN: [Line<char>; 5] = [
+    (InsertAt(2, 'x'), Bool(true)),
+    (Insert('a'), Key(Some(0))),
+    (Insert('b'), Key(Some(1))),
+    (Insert('c'), Key(Some(3))),
+    (Insert('d'), Key(None)),
+];
+
+/// On a map with three keys.
+pub const VALUE_REPLACED: [Line<char>; 7] = [
+    (Insert('a'), Key(Some(0))),
+    (InsertAt(0, 'b'), Bool(true)),
+    (Remove(0), Value(Some('b'))),
+    (Insert('c'), Key(Some(0))),
+    (Insert('d'), Key(Some(1))),
+    (Insert('e'), Key(Some(2))),
+    (Insert('f'), Key(None)),
+];
+
+/// On a map with three keys.
+pub const KEYS_BEHIND_THE_FIRST: [Line<char>; 7] = [
+    (Insert('a'), Key(Some(0))),
+    (Insert('b'), Key(Some(1))),
+    (Remove(0), Value(Some('a'))),
+    (InsertAt(1, 'c'), Bool(true)),
+    (InsertAt(2, 'd'), Bool(true)),
+    (Insert('e'), Key(Some(0))),
+    (Insert('f'), Key(None)),
+];
+
+/// On a map with no key.
+pub const NO_KEY: [Line<char>; 10] = [
+    (NextFreeKey, Key(None)),
+    (Insert('x'), Key(None)),
+    (Get(0), Value(None)),
+    (InsertAt(0, 'x'), Bool(false)),
+    (Remove(0), Value(None)),
+    (Write(0, 'x'), Value(None)),
+    (IsFull, Bool(true)),
+    (IsEmpty, Bool(true)),
+    (Capacity, Number(0)),
+    (Len, Number(0)),
+];
+
+/// The greatest number.
+const GREATEST: usize = 18_446_744_073_709_551_615;
+
+/// On a map with two keys.
+pub const KEYS_PAST_THE_END: [Line<char>; 13] = [
+    (Contains(2), Bool(false)),
+    (Get(2), Value(None)),
+    (Write(2, 'x'), Value(None)),
+    (Remove(2), Value(None)),
+    (InsertAt(2, 'x'), Bool(false)),
+    (Contains(GREATEST), Bool(false)),
+    (Get(GREATEST), Value(None)),
+    (Write(GREATEST, 'x'), Value(None)),
+    (Remove(GREATEST), Value(None)),
+    (InsertAt(GREATEST, 'x'), Bool(false)),
+    (Insert('a'), Key(Some(0))),
+    (Insert('b'), Key(Some(1))),
+    (IsFull, Bool(true)),
+];
+
+/// On a map with two keys: every call that an example can have.
+pub const EVERY_CALL: [Line<char>; 20] = [
+    (Capacity, Number(2)),
+    (Len, Number(0)),
+    (IsEmpty, Bool(true)),
+    (IsFull, Bool(false)),
+    (InsertAt(1, 'a'), Bool(true)),
+    (Len, Number(1)),
+    (IsEmpty, Bool(false)),
+    (NextFreeKey, Key(Some(0))),
+    (Contains(0), Bool(false)),
+    (Contains(1), Bool(true)),
+    (Get(0), Value(None)),
+    (Get(1), Value(Some('a'))),
+    (Insert('b'), Key(Some(0))),
+    (IsFull, Bool(true)),
+    (NextFreeKey, Key(None)),
+    (Write(1, 'c'), Value(Some('a'))),
+    (Get(0), Value(Some('b'))),
+    (Remove(1), Value(Some('c'))),
+    (Remove(1), Value(None)),
+    (Len, Number(1)),
+];
+
+/// On a map with three keys, whose values have size zero.
+pub const SIZE_ZERO: [Line<()>; 9] = [
+    (Insert(()), Key(Some(0))),
+    (InsertAt(2, ()), Bool(true)),
+    (InsertAt(2, ()), Bool(true)),
+    (Len, Number(2)),
+    (Insert(()), Key(Some(1))),
+    (Insert(()), Key(None)),
+    (Remove(2), Value(Some(()))),
+    (Remove(2), Value(None)),
+    (NextFreeKey, Key(Some(2))),
+];
