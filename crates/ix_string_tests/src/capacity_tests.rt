@@ -50,6 +50,8 @@ fn check_full<S: String + Drop>(rt: &impl Abort, mut string: S, capacity: usize)
         assert_eq!(rt; string.insert(0, byte), full, "{byte} in {capacity}");
     }
     assert_eq!(rt; string.push_bytes(&[]), Ok(()), "of {capacity}");
+    string.retain(|_: u8| false);
+    assert!(rt; string.is_full(), "of {capacity}");
     let mut out = [9u8; 200];
     assert_eq!(rt; string.copy_with_nul(&mut out), capacity.checked_add(1));
     for n in 0..capacity {

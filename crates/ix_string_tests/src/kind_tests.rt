@@ -71,6 +71,8 @@ fn each_kind_in_each_memory(rt: HostRuntime) -> Result<(), Fail> {
     let mut long = StaticString::<123>::new();
     check_insertions(&rt, &mut long, "a long one");
     check_removals(&rt, &mut long, "a long one");
+    check_retaining(&rt, &mut long, "a long one");
+    check_retaining_again(&rt, &mut long, "a long one");
     check_kinds_in(&rt, rt.alloc(), "the machine's memory")?;
     let bump = Bump::new(rt.alloc());
     check_kinds_in(&rt, &bump, "an arena")?;
