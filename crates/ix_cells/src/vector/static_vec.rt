@@ -1,5 +1,5 @@
 //! The vector in the value itself.
-ghost use Rattle.std.specs.Prelude.{ℕ, ◌≡◌, ◌<◌, ◌≤◌, [], length, refl, MatchResult};
+ghost use Rattle.std.specs.Prelude.{ℕ, ◌≡◌, ◌<◌, ◌≤◌, [], length, take, refl, MatchResult};
 ghost use Rattle.std.specs.List.{AllZip, refill};
 ghost use Rattle.std.specs.Cmp.Lexicographic.{pointwise, lists_per, lists_equiv};
 ghost use Rattle.ix_cells.specs.Cloning.{AreInfallible};
@@ -102,7 +102,24 @@ impl<T: Default + Drop, const CAPACITY: usize> Vector<T> for StaticVec<T, CAPACI
         self.items.pop()
     }
 
+    /// O(`len - n`).
+    fn truncate(&mut self, n: usize) {
+        put_defaults(self.items.as_mut_slice(), n);
+        self.items.truncate(n);
+    }
+
     ghost rewrites = { λ vector. refilled_is (record { items = vector; capacity = CAPACITY }) };
+}
+
+/// Puts defaults in the places from `start` on, the last one first, and drops what was there.
+#[inline]
+fn put_defaults<T: Default + Drop>(row: &mut [T], start: usize)
+    // The places before are as they were.
+    ensures { take start row.new ≡ take start row.old }
+{
+    for i in (start..row.len()).rev() {
+        row[i] = T::default();
+    }
 }
 
 /// The items are dropped, the last one first.
