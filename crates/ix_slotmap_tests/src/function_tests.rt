@@ -4,6 +4,7 @@ use crate::rows::EVERY_CALL;
 use ix_cells::{Counted, HeapTable, InitError, InlineTable, RelocatableContainer, Table, Touches};
 use ix_maps::{FixedSizeSlotMap, Link, MetaSlotMap, RelocatableSlotMap, SlotMapKey, UninitSlotMap};
 use std::alloc::Global;
+use std::mem::size_of;
 use std::test::Fail;
 
 #[test]
@@ -83,6 +84,7 @@ fn walks_end(rt: HostRuntime) {
 
 #[test]
 fn counted_tables(rt: HostRuntime) {
+    assert_eq!(rt; size_of::<Touches>(), 0);
     let mut touches = Touches::new();
     let mut table = Counted::new(InlineTable::<u64, 3>::new());
     assert_eq!(rt; table.len(), 3);
