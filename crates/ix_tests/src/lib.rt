@@ -1,4 +1,4 @@
-//! Tests that cross crates: queues against a plain slow one, tables, and whole scripts on faulty devices.
+//! Tests that cross crates: queues against a plain slow one, and whole scripts on faulty devices.
 #![tactic(auto)]
 
 #[cfg(test)]
@@ -10,5 +10,3 @@ mod reading_tests;
 #[cfg(test)]
 mod script_tests;
 pub mod slow_queue;
-#[cfg(test)]
-mod table_tests;
