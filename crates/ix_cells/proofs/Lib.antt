@@ -1,3 +1,5 @@
 pub mod Calls
+pub mod Fronts
 pub mod Lists
+pub mod Loans
 pub mod Touching

@@ -1,9 +1,7 @@
 -- What a table or a vector is once a `&mut` into it ends.
 use Rattle.std.specs.Prelude.{ℕ, List, Option, Some}
 use Rattle.std.specs.contracts.option.Option as option
-use Rattle.std.specs.Borrow.{Fml, RattleType, MutBor, Lends, Array, unit}
-use Rattle.arrayvec.specs.ArrayVec.{ArrayVec, with_item as with_element}
-use Rattle.arrayvec.specs.contracts.array_vec.ArrayVec as array_vec
+use Rattle.std.specs.Borrow.{Fml, RattleType, MutBor, Lends, Array}
 use Rattle.ix_cells.specs.contracts.cells.counted.Counted as counted
 
 -- the table is as it was, with the last value behind r at place i
@@ -17,11 +15,6 @@ lends_counted_place S T with_item s i r = Lends (counted.the_row S) T s r (with_
 -- the place holds the last value behind r
 abbrev pub lends_item : (T : RattleType) → MutBor (Option T.Denot) → MutBor T.Denot → Fml
 lends_item T s r = Lends (option.the_row T) T s r Some
-
--- the row is as it was, with the last value behind r as its place i
-abbrev pub lends_inline_place : (T CAP : RattleType) → MutBor (ArrayVec (Option T.Denot)) → ℕ → MutBor (Option T.Denot) → Fml
-lends_inline_place T CAP s i r =
-    Lends (array_vec.the_row (option.the_row T) CAP unit) (option.the_row T) s r (with_element s.now i)
 
 -- the vector is as it was, with the last values behind r in the places of its items
 abbrev pub lends_items : (V T : RattleType) → (V.Denot → List T.Denot → V.Denot) → MutBor V.Denot → MutBor (List T.Denot) → Fml

@@ -6,4 +6,5 @@ pub mod ErrorTexts
 pub mod Lending
 pub mod Places
 pub mod Rewriting
+pub mod Rows
 pub mod VectorSteps

@@ -6,6 +6,7 @@ mod heap_table;
 mod inline_table;
 mod places;
 mod relocatable_container;
+pub(crate) mod row;
 mod table;
 mod touches;
 

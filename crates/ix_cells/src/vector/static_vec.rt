@@ -1,13 +1,13 @@
 //! The vector in the value itself.
-ghost use Rattle.std.specs.Prelude.{ℕ, ◌≡◌, ◌<◌, ◌≤◌, [], length, take, refl, MatchResult};
-ghost use Rattle.std.specs.List.{AllZip, refill};
+ghost use Rattle.std.specs.Prelude.{ℕ, ◌≡◌, ◌+◌, ◌<◌, ◌≤◌, [], length, take, refl, IsOk, OnOk, OnErr};
+ghost use Rattle.std.specs.List.{AllZip, AppendsClones, refill};
 ghost use Rattle.std.specs.Cmp.Lexicographic.{pointwise, lists_per, lists_equiv};
 ghost use Rattle.ix_cells.specs.Cloning.{AreInfallible};
 ghost use Rattle.ix_cells.specs.Rewriting.{refilled_is};
 
 use crate::cells::MAX_FIXED_CAPACITY;
+use crate::cells::row::Row;
 use crate::vector::{Vector, VectorModificationError};
-use arrayvec::ArrayVec;
 use std::alloc::AllocError;
 use std::marker::Model;
 
@@ -27,20 +27,22 @@ use std::marker::Model;
 ///
 /// This is `StaticVec` of iceoryx2-bb-container.
 pub struct StaticVec<T: Default, const CAPACITY: usize> {
-    items: ArrayVec<T, CAPACITY>,
+    row: Row<T, CAPACITY>,
+    len: usize,
 }
 
 impl<T: Default, const CAPACITY: usize> Model for StaticVec<T, CAPACITY> {
-    ghost use Rattle.std.specs.Prelude.{List, length, ◌≤◌};
+    ghost use Rattle.std.specs.Prelude.{List, take};
     ghost use Rattle.std.specs.Coded.{coded_list};
+    ghost use Rattle.ix_cells.specs.Rows.{IsFront};
 
     ghost Value = { List T };
 
     ghost coded = { coded_list T.code };
 
-    ghost view = { λ vector. vector.items.items };
+    ghost view = { λ vector. take vector.len vector.row.places };
 
-    ghost invariant = { λ vector. length vector.items.items ≤ CAPACITY };
+    ghost invariant = { λ vector. IsFront CAPACITY vector.row.places vector.len };
 }
 
 impl<T: Default, const CAPACITY: usize> StaticVec<T, CAPACITY> {
@@ -53,9 +55,26 @@ impl<T: Default, const CAPACITY: usize> StaticVec<T, CAPACITY> {
         // It has no item.
         ensures { result ≡ [] }
     {
+        StaticVec::empty()
+    }
+
+    fn empty() -> Self
+        ensures { result ≡ [] }
+    {
         StaticVec {
-            items: ArrayVec::new(),
+            row: Row {
+                places: Default::default(),
+            },
+            len: 0,
         }
+    }
+
+    #[inline]
+    fn items(&self) -> &[T]
+        ensures value { result.now ≡ self.now }
+        ensures within { length result.now ≤ CAPACITY }
+    {
+        &self.row.places[..self.len]
     }
 
     /// The number of items for which there is room, held ones among them. O(1).
@@ -67,6 +86,29 @@ impl<T: Default, const CAPACITY: usize> StaticVec<T, CAPACITY> {
     }
 }
 
+impl<T: Default + Clone, const CAPACITY: usize> StaticVec<T, CAPACITY> {
+    /// Puts clones of the items behind the own ones, in their order; or drops the clones already made, where a clone
+    /// found no memory.
+    #[inline]
+    fn put_clones_behind(&mut self, items: &[T]) -> Result<(), AllocError>
+        // There is room for all of them.
+        requires { length self.old + length items.now ≤ CAPACITY }
+        // Clones of the items stand behind the others.
+        ensures done { OnOk result (AppendsClones T.is_clone self.old self.new items.now) }
+        // A refusal leaves the items as they were.
+        ensures refused { OnErr result (self.new ≡ self.old) }
+        // It is done where no clone of these items can fail.
+        ensures memory { AreInfallible T.is_infallible items.now → IsOk result }
+    {
+        let len = self.len;
+        let end = len + items.len();
+        let places = &mut self.row.places[..];
+        put_clones(&mut places[len..end], items)?;
+        self.len = end;
+        Ok(())
+    }
+}
+
 impl<T: Default + Drop, const CAPACITY: usize> Vector<T> for StaticVec<T, CAPACITY> {
     ghost bounded = { λ vector. record { items = vector; capacity = CAPACITY } };
 
@@ -74,12 +116,12 @@ impl<T: Default + Drop, const CAPACITY: usize> Vector<T> for StaticVec<T, CAPACI
 
     #[inline]
     fn as_slice(&self) -> &[T] {
-        self.items.as_slice()
+        self.items()
     }
 
     #[inline]
     fn as_mut_slice(&mut self) -> &mut [T] {
-        self.items.as_mut_slice()
+        self.row.front_mut(self.len)
     }
 
     #[inline]
@@ -89,44 +131,87 @@ impl<T: Default + Drop, const CAPACITY: usize> Vector<T> for StaticVec<T, CAPACI
 
     #[inline]
     fn len(&self) -> usize {
-        self.items.len()
+        self.len
     }
 
     #[inline]
     fn push_unchecked(&mut self, item: T) {
-        self.items.push(item);
+        let len = self.len;
+        self.row.put(len, item);
+        self.len = len + 1;
     }
 
     #[inline]
     fn pop(&mut self) -> Option<T> {
-        self.items.pop()
+        if self.len == 0 {
+            return None;
+        }
+        let last = self.len - 1;
+        let item = self.row.replace(last, T::default());
+        self.len = last;
+        Some(item)
     }
 
     /// O(`len - n`).
     fn truncate(&mut self, n: usize) {
-        put_defaults(self.items.as_mut_slice(), n);
-        self.items.truncate(n);
+        if n < self.len {
+            let places = &mut self.row.places[..];
+            put_defaults(&mut places[n..self.len]);
+            self.len = n;
+        }
+    }
+
+    /// The clones go straight to their places. O(`other.len()`) clones.
+    fn extend_from_slice_unchecked(&mut self, other: &[T]) -> Result<(), AllocError>
+    where
+        T: Clone,
+    {
+        self.put_clones_behind(other)
     }
 
     ghost rewrites = { λ vector. refilled_is (record { items = vector; capacity = CAPACITY }) };
 }
 
-/// Puts defaults in the places from `start` on, the last one first, and drops what was there.
+/// Puts defaults in all places, the last one first, and drops what was there.
 #[inline]
-fn put_defaults<T: Default + Drop>(row: &mut [T], start: usize)
-    // The places before are as they were.
-    ensures { take start row.new ≡ take start row.old }
+fn put_defaults<T: Default + Drop>(places: &mut [T])
+    ensures { length places.new ≡ length places.old }
 {
-    for i in (start..row.len()).rev() {
-        row[i] = T::default();
+    for i in (0..places.len()).rev() {
+        places[i] = T::default();
     }
+}
+
+/// Puts clones of the items in the places, in their order; or leaves defaults in the places, and drops the clones
+/// already made, where a clone found no memory.
+#[inline]
+fn put_clones<T: Default + Clone + Drop>(places: &mut [T], items: &[T]) -> Result<(), AllocError>
+    // There are as many places as items.
+    requires { length places.old ≡ length items.now }
+    // The number of places stays.
+    ensures len { length places.new ≡ length places.old }
+    // The places hold the clones.
+    ensures done { OnOk result (AllZip T.is_clone items.now places.new) }
+    // It is done where no clone of these items can fail.
+    ensures memory { AreInfallible T.is_infallible items.now → IsOk result }
+{
+    for i in 0..items.len() {
+        match items[i].clone() {
+            Ok(copy) => places[i] = copy,
+            Err(error) => {
+                put_defaults(&mut places[..i]);
+                return Err(error);
+            }
+        }
+    }
+    Ok(())
 }
 
 /// The items are dropped, the last one first.
 impl<T: Default + Drop, const CAPACITY: usize> Drop for StaticVec<T, CAPACITY> {
     fn drop(mut self) {
         self.clear();
-        let StaticVec { items: _ } = self;
+        let StaticVec { row: _, len: _ } = self;
     }
 }
 
@@ -150,13 +235,10 @@ impl<T: Default + Clone, const CAPACITY: usize> TryFrom<&[T]> for StaticVec<T, C
             return Err(VectorModificationError::InsertWouldExceedCapacity);
         }
         let mut vector = StaticVec::new();
-        for item in items {
-            match item.clone() {
-                Ok(copy) => vector.push_unchecked(copy),
-                Err(AllocError) => return Err(VectorModificationError::OutOfMemory),
-            }
+        match vector.put_clones_behind(items) {
+            Ok(()) => Ok(vector),
+            Err(AllocError) => Err(VectorModificationError::OutOfMemory),
         }
-        Ok(vector)
     }
 }
 
@@ -167,9 +249,9 @@ impl<T: Default + Clone, const CAPACITY: usize> Clone for StaticVec<T, CAPACITY>
 
     /// A vector with clones of the items, or the error of a clone that found no memory. O(`CAPACITY`).
     fn clone(&self) -> Result<Self, AllocError> {
-        Ok(StaticVec {
-            items: self.items.clone()?,
-        })
+        let mut vector = StaticVec::empty();
+        vector.put_clones_behind(self.items())?;
+        Ok(vector)
     }
 }
 
@@ -179,7 +261,7 @@ impl<T: Default + PartialEq, const CAPACITY: usize> PartialEq for StaticVec<T, C
     ghost laws = { lists_per T.laws };
 
     fn eq(&self, other: &Self) -> bool {
-        self.items == other.items
+        self.items() == other.items()
     }
 }
 

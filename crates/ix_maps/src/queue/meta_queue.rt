@@ -177,9 +177,10 @@ impl<T, S: Table<T>> MetaQueue<T, S> {
         if capacity == 0 {
             return Some(value);
         }
-        let oldest = self.table.take(self.start);
-        self.table.put(self.start, value);
-        self.start = next_after(self.start, capacity);
+        let start = self.start;
+        let oldest = self.table.take(start);
+        self.table.put(start, value);
+        self.start = next_after(start, capacity);
         Some(oldest)
     }
 
@@ -195,12 +196,14 @@ impl<T, S: Table<T>> MetaQueue<T, S> {
         // There was no item exactly if it answers None.
         ensures empty { IsNone result ↔ (self.old.items ≡ []) }
     {
-        if self.len == 0 {
+        let start = self.start;
+        let len = self.len;
+        if len == 0 {
             return None;
         }
-        let item = self.table.take(self.start);
-        self.start = next_after(self.start, self.table.len());
-        self.len -= 1;
+        let item = self.table.take(start);
+        self.start = next_after(start, self.table.len());
+        self.len = len - 1;
         Some(item)
     }
 
@@ -316,9 +319,10 @@ impl<T, S: Table<T>> MetaQueue<T, S> {
         requires { length self.old.items < self.old.capacity }
         ensures { self.new ≡ with_items self.old (appended self.old.items value) }
     {
-        let place = place_after(self.start, self.len, self.table.len());
+        let len = self.len;
+        let place = place_after(self.start, len, self.table.len());
         self.table.put(place, value);
-        self.len += 1;
+        self.len = len + 1;
     }
 }
 

@@ -1,6 +1,6 @@
-use Rattle.std.proofs.Common.{◌≡◌, take}
+use Rattle.std.proofs.Common.{◌≡◌, length}
 use Rattle.ix_cells.proofs.vector.static_vec.put_defaults.Given as goal
 
--- the places before the start are as they were
+-- the number of places stays
 abbrev pub invariant-loop-i : goal.invariant-loop-i
-invariant-loop-i g l = take l.start l.row ≡ take l.start l.fn.row
+invariant-loop-i g l = length l.places ≡ length l.fn.places

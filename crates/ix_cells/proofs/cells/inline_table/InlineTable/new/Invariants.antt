@@ -1,9 +1,0 @@
-use Rattle.std.proofs.Common.{◌≡◌, length, None}
-use Rattle.std.specs.Prelude.{replicate}
-use Rattle.ix_cells.proofs.cells.inline_table.InlineTable.new.Given as goal
-
-abbrev pub invariant-loop-i : goal.invariant-loop-i
-invariant-loop-i g l = record {
-  row : l.row.items ≡ replicate l._i None;
-  len : length l.row.items ≡ l._i;
-}
