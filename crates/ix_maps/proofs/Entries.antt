@@ -1,9 +1,10 @@
 -- The entries of a slot map: each held key once, in rising order.
 use Rattle.std.proofs.Common.{◌≡◌, ℕ, zero, suc, ◌+◌, ◌<◌, ◌≤◌, List, [], ◌∷◌, length, get_or, true, false, Option, Some, None, refl, sym, ap, ◌∙◌, subst, arith}
-use Rattle.std.specs.Prelude.{nat_eq, if◌then◌else◌}
+use Rattle.std.specs.Prelude.{nat_eq, if◌then◌else◌, is_some, count_by}
 use Rattle.std.specs.List.Sorted.{IsStrictlyIncreasing}
 use Rattle.std.specs.Map.{keys_of, lookup}
 use Rattle.std.proofs.lemmas.Bool.Decides.{nat_tests}
+use Rattle.std.proofs.lemmas.List.Sums.{sum_by-cons}
 use Rattle.ix_cells.specs.Places.{place_at}
 use Rattle.ix_maps.specs.SlotState.{SlotState, value_at, entries_from, entries}
 
@@ -63,3 +64,11 @@ module _ {T : Type 0} where
 
   pub entries_found : (s : SlotState T) (key : ℕ) → lookup (nat_eq key) (entries s) ≡ value_at s key
   entries_found s key = let from : key ≡ 0 + key = omega arith in ap (λ k. lookup (nat_eq k) (entries s)) from ∙ found 0 key s.values
+
+  -- there are as many as places that hold a value
+  pub entries_counted : (start : ℕ) (places : List (Option T)) → count_by is_some places ≡ length (entries_from start places)
+  entries_counted start [] = refl
+  entries_counted start (None ∷ places) = entries_counted (start + 1) places
+  entries_counted start (Some value ∷ places) =
+      let one : count_by is_some (Some value ∷ places) ≡ 1 + count_by is_some places = sum_by-cons (λ (place : Option T). if is_some place then 1 else 0) (Some value) places in
+      let later = entries_counted (start + 1) places in omega arith

@@ -1,5 +1,5 @@
 -- A slot map's steps keep what its tables stand for.
-use Rattle.std.proofs.Common.{◌≡◌, ℕ, zero, suc, ◌+◌, ◌-◌, ◌<◌, ◌≤◌, ◌≢◌, inl, inr, List, [], ◌∷◌, ◌++◌, length, set, false, Option, Some, None, refl, sym, ap, ◌∙◌, subst, arith}
+use Rattle.std.proofs.Common.{◌≡◌, ℕ, zero, suc, ◌+◌, ◌-◌, ◌<◌, ◌≤◌, ◌≢◌, inl, inr, List, [], ◌∷◌, ◌++◌, length, set, true, false, Option, Some, None, refl, sym, ap, ◌∙◌, subst, arith}
 use Rattle.std.specs.Prelude.{replicate, nat_eq, if◌then◌else◌, is_some, count_by}
 use Rattle.std.specs.List.{range_with_len}
 use Rattle.std.proofs.lemmas.Bool.{cases_eq, cases_lt}
@@ -11,7 +11,7 @@ use Rattle.std.proofs.lemmas.List.FromFn.{length-range_with_len}
 use Rattle.ix_cells.specs.Places.{place_at}
 use Rattle.ix_maps.specs.declared.slotmap.link.Link.{Link}
 use Rattle.ix_maps.specs.SlotState.{SlotState, times, value_at, IsHeld, empty_slots}
-use Rattle.ix_maps.specs.SlotSteps.{filled, emptied}
+use Rattle.ix_maps.specs.SlotSteps.{without, filled, emptied, head_filled, inserted}
 use Rattle.ix_maps.specs.FreeList.{no_key, held_link, free_link, first_or, last_or, IsChain, with_next, with_previous, unlinked, linked_first, first_without, IsRisingList, Represents}
 use Rattle.ix_maps.proofs.FreeKeys.{hit_same, hit_other, times-append, without_none, not_last, not_first, times_past, times_within}
 use Rattle.ix_maps.proofs.Chains.{within_row, chain_joined, chain_kept, chain_led_on, chain_led_from}
@@ -195,6 +195,37 @@ module _ {T : Type 0} where
       (subst (λ ls. Represents (filled s key value) ls (first_without first link) (len + 1)) (sym links_are)
       (represents_filled s links first len known.0 key value link some at)))
       values' (values_are ∙ ap (λ vs. set vs key (Some value)) known.1)
+
+  -- where a key is free the first one is that key, and has the link of the first
+  pub record Head (s : SlotState T) (links : List (Option Link)) (first : ℕ) (value : T) : Type 0 where
+    pub stands : 0 < times first s.free
+    pub link : (next : ℕ) × (place_at links first ≡ Some (free_link no_key next))
+    pub step : filled s first value ≡ inserted s value
+
+  head_of : (s : SlotState T) (links : List (Option Link)) (first len : ℕ) (value : T) (keys : List ℕ) → keys ≡ s.free → IsChain links no_key keys no_key → first ≡ first_or keys no_key → keys ≢ [] → Head s links first value
+  head_of s links first len value [] is chain head some = absurd (some refl)
+  head_of s links first len value (key ∷ keys) is chain head some = record {
+    stands = subst (λ k. 0 < times first k) is (let hits = hit_same first key head in omega arith);
+    link = (first_or keys no_key, ap (place_at links) head ∙ chain.0);
+    step =
+        let yes : nat_eq first key ≡ true = grind (arith, nat_tests) in
+        subst (λ k. (let t : SlotState T = record { values = set s.values first (Some value); free = without first k } in t) ≡ head_filled s.values k value) is
+        (ap (λ b. (let t : SlotState T = record { values = set s.values first (Some value); free = if b then keys else (key ∷ without first keys) } in t)) yes
+        ∙ ap (λ k. (let t : SlotState T = record { values = set s.values k (Some value); free = keys } in t)) head);
+  }
+
+  -- the first free key left the list, and has a value
+  pub first_filled : (s : SlotState T) (values values' : List (Option T)) (links links' : List (Option Link)) (first len : ℕ) (value : T) (link as_first : Link) → Shows s values links first len → s.free ≢ [] → place_at links first ≡ Some link → as_first ≡ free_link no_key link.next → links' ≡ unlinked links first as_first → values' ≡ set values first (Some value) → Shows (inserted s value) values' links' link.next (len + 1)
+  first_filled s values values' links links' first len value link as_first shown some at as_first_is links_are values_are =
+      let known = (of s values links first len shown).0 in
+      let front = head_of s links first len value s.free refl known.chain known.head some in
+      let same : Some link ≡ Some (free_link no_key front.link.0) = sym at ∙ front.link.1 in
+      let is : link ≡ free_link no_key front.link.0 = cc in
+      let own : free_link no_key link.next ≡ link = ap (λ (l : Link). free_link no_key l.next) is ∙ sym is in
+      let next : link.next ≡ first_without first link = ap (λ (l : Link). first_without first l) own in
+      subst (λ t. Shows t values' links' link.next (len + 1)) front.step
+      (filled_shows s values values' links links' first link.next len first value link shown front.stands at
+      (links_are ∙ ap (unlinked links first) (as_first_is ∙ own)) next values_are)
 
   pub replaced : (s : SlotState T) (values values' : List (Option T)) (links : List (Option Link)) (first len key : ℕ) (value : T) → Shows s values links first len → IsHeld s key → values' ≡ set values key (Some value) → Shows (filled s key value) values' links first len
   replaced s values values' links first len key value shown held values_are =

@@ -95,7 +95,7 @@ impl<T, S: Table<T>, L: Table<Link>> MetaSlotMap<T, S, L> {
             return None;
         }
         let key = self.first;
-        self.fill(key, value, touches);
+        self.fill_first(value, touches);
         Some(SlotMapKey::new(key))
     }
 
@@ -168,8 +168,27 @@ impl<T, S: Table<T>, L: Table<Link>> MetaSlotMap<T, S, L> {
         ensures touches { touches.new.count ≤ touches.old.count + 8 }
         ensures counts_on { touches.old.count ≤ touches.new.count }
     {
-        let link = unlink(&mut self.links, key, touches);
+        let link = *self.links.get(key, touches);
+        unlink(&mut self.links, key, link, touches);
         self.first = first_left(self.first, link);
+        self.values.put(key, value, touches);
+        self.len += 1;
+    }
+
+    /// Puts a value under the first free key, which leaves the list. No key stands before it, so there is less to do than
+    /// in the middle.
+    #[inline]
+    fn fill_first(&mut self, value: T, touches: &mut Touches)
+        requires { self.old.free ≢ [] }
+        ensures map { self.new ≡ inserted self.old value }
+        ensures formed { IsWellFormed self.new }
+        ensures touches { touches.new.count ≤ touches.old.count + 8 }
+        ensures counts_on { touches.old.count ≤ touches.new.count }
+    {
+        let key = self.first;
+        let next = self.links.get(key, touches).next;
+        unlink(&mut self.links, key, Link::first_before(next), touches);
+        self.first = next;
         self.values.put(key, value, touches);
         self.len += 1;
     }
@@ -197,8 +216,9 @@ impl<T, S: Table<T>, L: Table<Link>> MetaSlotMap<T, S, L> {
         ensures touches { touches.new.count ≤ touches.old.count + 5 }
         ensures counts_on { touches.old.count ≤ touches.new.count }
     {
-        let value = self.values.take(key, touches);
+        // First the link, which was looked at just now.
         link_first(&mut self.links, key, self.first, touches);
+        let value = self.values.take(key, touches);
         self.first = key;
         self.len -= 1;
         value

@@ -15,7 +15,11 @@ fn set_link<L: Table<Link>>(links: &mut Counted<L>, key: usize, link: Link, touc
     ensures links { L.places links.new ≡ slice_set (L.places links.old) key (Some link) }
     ensures touches { touches.new.count ≡ touches.old.count + 2 }
 {
-    *links.get_mut(key, touches) = link;
+    // Field by field, so that the bytes between the fields are not written.
+    let place = links.get_mut(key, touches);
+    place.is_free = link.is_free;
+    place.previous = link.previous;
+    place.next = link.next;
 }
 
 /// Writes which key stands behind `key`, where that is a key.
@@ -51,27 +55,25 @@ fn set_previous<L: Table<Link>>(
     }
 }
 
-/// Takes a free key out of the list, and answers the link that it had.
+/// Takes a free key, which has this link, out of the list.
 #[inline]
 pub(crate) fn unlink<L: Table<Link>>(
     links: &mut Counted<L>,
     key: usize,
+    link: Link,
     touches: &mut Touches,
-) -> Link
+)
     requires links { IsLinkTable (L.places links.old) }
     requires key { key < length (L.places links.old) }
     // The keys beside it are the table's.
-    requires beside { IsLinkWithin (place_at (L.places links.old) key) (L.places links.old) }
-    ensures link { place_at (L.places links.old) key ≡ Some result }
-    ensures links { L.places links.new ≡ unlinked (L.places links.old) key result }
-    ensures touches { touches.new.count ≤ touches.old.count + 7 }
+    requires beside { IsLinkWithin (Some link) (L.places links.old) }
+    ensures links { L.places links.new ≡ unlinked (L.places links.old) key link }
+    ensures touches { touches.new.count ≤ touches.old.count + 6 }
     ensures counts_on { touches.old.count ≤ touches.new.count }
 {
-    let link = *links.get(key, touches);
     set_link(links, key, Link::HELD, touches);
     set_next(links, link.previous, link.next, touches);
     set_previous(links, link.next, link.previous, touches);
-    link
 }
 
 /// Puts a key in front of `first`, the first of the list.
@@ -89,12 +91,7 @@ pub(crate) fn link_first<L: Table<Link>>(
     ensures touches { touches.new.count ≤ touches.old.count + 4 }
     ensures counts_on { touches.old.count ≤ touches.new.count }
 {
-    let link = Link {
-        is_free: true,
-        previous: NO_KEY,
-        next: first,
-    };
-    set_link(links, key, link, touches);
+    set_link(links, key, Link::first_before(first), touches);
     set_previous(links, first, key, touches);
 }
 

@@ -14,15 +14,19 @@ pub struct Iter<'a, T, S: Table<T>, L: Table<Link>> {
     pub(crate) map: &'a MetaSlotMap<T, S, L>,
     /// The keys below this one were passed.
     pub(crate) key: usize,
+    /// So many keys are still to come.
+    pub(crate) left: usize,
 }
 
 impl<'a, T, S: Table<T>, L: Table<Link>> Model for Iter<'a, T, S, L> {
-    ghost use Rattle.std.specs.Prelude.{ℕ, List, drop};
+    ghost use Rattle.std.specs.Prelude.{◌≡◌, ℕ, List, length, drop};
     ghost use Rattle.ix_maps.specs.SlotState.{entries_from};
 
     ghost Value = { List (ℕ × T) };
 
     ghost view = { λ iter. entries_from iter.key (drop iter.key iter.map.now.values) };
+
+    ghost invariant = { λ iter. iter.left ≡ length (entries_from iter.key (drop iter.key iter.map.now.values)) };
 }
 
 impl<'a, T, S: Table<T>, L: Table<Link>> Iterator for Iter<'a, T, S, L> {
@@ -35,13 +39,12 @@ impl<'a, T, S: Table<T>, L: Table<Link>> Iterator for Iter<'a, T, S, L> {
     /// The next held key with its value. O(the number of free keys before it).
     #[inline]
     fn next(&mut self) -> Option<(SlotMapKey, &'a T)> {
-        while self.key < self.map.capacity() {
-            let key = self.key;
-            self.key += 1;
-            if let Some(value) = self.map.value(key) {
-                return Some((SlotMapKey::new(key), value));
-            }
+        if self.left == 0 {
+            return None;
         }
-        None
+        let key = self.map.held_from(self.key);
+        self.key = key + 1;
+        self.left -= 1;
+        Some((SlotMapKey::new(key), self.map.held_value(key)))
     }
 }

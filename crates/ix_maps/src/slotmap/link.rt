@@ -1,4 +1,6 @@
 //! Links of the free list.
+ghost use Rattle.std.specs.Prelude.{◌≡◌};
+ghost use Rattle.ix_maps.specs.FreeList.{no_key, free_link};
 
 /// The place of a key in its map's list of free keys.
 ///
@@ -23,4 +25,16 @@ impl Link {
         previous: NO_KEY,
         next: NO_KEY,
     };
+
+    /// The link of the first free key, in front of `next`.
+    #[inline]
+    pub(crate) fn first_before(next: usize) -> Link
+        ensures { result ≡ free_link no_key next }
+    {
+        Link {
+            is_free: true,
+            previous: NO_KEY,
+            next,
+        }
+    }
 }

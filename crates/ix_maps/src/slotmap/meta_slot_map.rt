@@ -1,12 +1,13 @@
 //! The slot map over any two tables, and the calls that read it.
-ghost use Rattle.std.specs.Prelude.{◌≡◌, ℕ, nat_eq, ◌+◌, ◌<◌, ◌↔◌, List, [], length, replicate, Option, None, IsSome, IsTrue, IsNone, option_copied, true, false};
+ghost use Rattle.std.specs.Prelude.{◌≡◌, ℕ, nat_eq, ◌+◌, ◌<◌, ◌↔◌, List, [], length, drop, replicate, Option, Some, None, IsSome, IsTrue, IsNone, option_copied, true, false};
 ghost use Rattle.std.specs.List.Sorted.{IsStrictlyIncreasing};
 ghost use Rattle.std.specs.Map.{keys_of, lookup};
 ghost use Rattle.std.specs.Borrow.{sem, Lends, LendsIf};
 ghost use Rattle.std.specs.Option.{option_copied_mut};
 ghost use Rattle.ix_cells.specs.Places.{IsEmptyAt, IsVacant};
-ghost use Rattle.ix_maps.specs.SlotState.{SlotState, times, first_of, value_at, IsHeld, IsKey, IsWellFormed, empty_slots, held_count, entries};
+ghost use Rattle.ix_maps.specs.SlotState.{SlotState, times, first_of, value_at, IsHeld, IsKey, IsWellFormed, empty_slots, held_count, entries, entries_from};
 ghost use Rattle.ix_maps.specs.SlotSteps.{with_value};
+ghost use Rattle.ix_maps.specs.FreeList.{no_key};
 
 use crate::slotmap::free_list::{link_all, take_all};
 use crate::slotmap::link::NO_KEY;
@@ -167,7 +168,8 @@ impl<T, S: Table<T>, L: Table<Link>> MetaSlotMap<T, S, L> {
         }
     }
 
-    /// The held keys in rising order, with their values. O(1), and O(capacity) for the whole walk.
+    /// The held keys in rising order, with their values. O(1), and O(capacity) for the whole walk, which ends at the last
+    /// held key.
     #[inline]
     pub fn iter(&self) -> Iter<'_, T, S, L>
         // What is to come is the held keys in rising order, with their values.
@@ -177,7 +179,11 @@ impl<T, S: Table<T>, L: Table<Link>> MetaSlotMap<T, S, L> {
         // Under each key stands the value that it has, and nothing under a key with none.
         ensures exactly { (key : ℕ) → lookup (nat_eq key) result ≡ value_at self.now key }
     {
-        Iter { map: self, key: 0 }
+        Iter {
+            map: self,
+            key: 0,
+            left: self.len,
+        }
     }
 
     /// The value under a key of the map, if it has one.
@@ -192,6 +198,36 @@ impl<T, S: Table<T>, L: Table<Link>> MetaSlotMap<T, S, L> {
         } else {
             Some(self.values.get(key, &mut touches))
         }
+    }
+
+    /// The value under a held key.
+    #[inline]
+    pub(crate) fn held_value(&self, key: usize) -> &T
+        requires { IsHeld self.now key }
+        ensures { value_at self.now key ≡ Some result.now }
+    {
+        self.values.get(key, &mut Touches::new())
+    }
+
+    /// The least held key from `start` on, of which there is one.
+    #[inline]
+    pub(crate) fn held_from(&self, start: usize) -> usize
+        requires { 0 < length (entries_from start (drop start self.now.values)) }
+        // It is held.
+        ensures held { IsHeld self.now result }
+        // It is not the greatest number.
+        ensures within { result < no_key }
+        // No key before it is.
+        ensures entries { entries_from result (drop result self.now.values) ≡ entries_from start (drop start self.now.values) }
+    {
+        // Each key is below this number, so that the next one fits.
+        let _capacity = self.capacity();
+        let mut touches = Touches::new();
+        let mut key = start;
+        while self.is_free(key, &mut touches) {
+            key += 1;
+        }
+        key
     }
 
     /// The value under a held key, for writing.

@@ -9,7 +9,8 @@ pub(crate) fn is_text(bytes: &[u8]) -> bool
 {
     let mut all = true;
     for byte in bytes {
-        all = all && *byte > 0 && *byte < 128;
+        // No byte ends the loop, so that many are tested in one step.
+        all = all & (*byte > 0) & (*byte < 128);
     }
     all
 }
