@@ -1,18 +1,45 @@
 -- Lemmas on the place of the first zero.
-use Rattle.std.proofs.Common.{ℕ, ◌≡◌, ◌+◌, ◌<◌, ◌≤◌, List, length, arith}
-use Rattle.std.specs.Prelude.{slice_index, ◌≢◌, ◌==◌, not}
-use Rattle.std.proofs.lemmas.List.Sums.{fails_before_first, passes_at_first, prefix_len-le-length}
+use Rattle.std.proofs.Common.{ℕ, ◌≡◌, ◌<◌, ◌≤◌, inl, inr, List, length, take, arith}
+use Rattle.std.specs.Prelude.{Option, Some, None, unwrap_or, min, ◌==◌, not}
+use Rattle.std.proofs.lemmas.Bool.{cases_lt}
+use Rattle.std.proofs.lemmas.List.Sums.{passes_at_first, fails_before_first, prefix_len-le-length}
 use Rattle.std.proofs.lemmas.Grind.{common_steps}
+use Rattle.memchr.specs.Find.{IsFirstByte, Nowhere, NoneBefore, Passes, is_byte}
 use Rattle.ix_string.specs.Text.{nul_place}
 
--- a zero at a place that the first one is not before
-pub nul_place-at : (bytes : List ℕ) (i : ℕ) → i ≤ nul_place bytes → slice_index bytes i ≡ 0 → nul_place bytes ≤ i
-nul_place-at bytes i le is = grind (arith, common_steps, fails_before_first (λ b. b == 0) bytes i 0)
-
--- no zero there
-pub nul_place-above : (bytes : List ℕ) (i : ℕ) → i ≤ nul_place bytes → i < length bytes → slice_index bytes i ≢ 0 → i + 1 ≤ nul_place bytes
-nul_place-above bytes i le within isnt = grind (arith, common_steps, passes_at_first (λ b. b == 0) bytes 0)
-
 -- it is no place past the end
-pub nul_place-within : (bytes : List ℕ) → nul_place bytes ≤ length bytes
+nul_place-within : (bytes : List ℕ) → nul_place bytes ≤ length bytes
 nul_place-within bytes = prefix_len-le-length (λ b. not (b == 0)) bytes
+
+-- the first zero stands at its place in each front that reaches there
+passes_at : (bytes : List ℕ) (end : ℕ) → nul_place bytes < end → nul_place bytes < length bytes → Passes (is_byte 0) (take end bytes) (nul_place bytes)
+passes_at bytes end below within = grind (arith, common_steps, passes_at_first (λ b. b == 0) bytes 0)
+
+-- no zero stands before it
+nowhere_before : (bytes : List ℕ) (end i : ℕ) → i ≤ end → end ≤ length bytes → Nowhere (Passes (is_byte 0) (take end bytes)) 0 i → i ≤ nul_place bytes
+nowhere_before bytes end i low within none = elim (cases_lt (nul_place bytes) i) [
+  | inl below ↦ absurd (none (nul_place bytes) (omega arith) below (passes_at bytes end (omega arith) (omega arith)))
+  | inr past ↦ omega arith
+]
+
+-- a zero that is found first in a front
+nul_place-found : (bytes : List ℕ) (n end place : ℕ) → end ≡ min n (length bytes) → NoneBefore (Passes (is_byte 0) (take end bytes)) 0 (length (take end bytes)) place × Passes (is_byte 0) (take end bytes) place → place ≡ min n (nul_place bytes)
+nul_place-found bytes n end place is found =
+    let high = found.0.high in
+    let front : length (take end bytes) ≡ end = grind (arith, common_steps) in
+    let below = nowhere_before bytes end place (omega arith) (omega arith) found.0.before in
+    let most : nul_place bytes ≤ place = grind (arith, common_steps, found.1, fails_before_first (λ b. b == 0) bytes place 0) in
+    omega arith
+
+-- no zero is found in a front
+nul_place-missed : (bytes : List ℕ) (n end : ℕ) → end ≡ min n (length bytes) → Nowhere (Passes (is_byte 0) (take end bytes)) 0 (length (take end bytes)) → end ≡ min n (nul_place bytes)
+nul_place-missed bytes n end is none =
+    let front : length (take end bytes) ≡ end = grind (arith, common_steps) in
+    let within = nul_place-within bytes in
+    let below = nowhere_before bytes end end (omega arith) (omega arith) (λ k low high. none k low (omega arith)) in
+    omega arith
+
+-- what a search in a front answers
+pub nul_place-searched : (bytes : List ℕ) (n end : ℕ) (place : Option ℕ) → end ≡ min n (length bytes) → IsFirstByte (is_byte 0) (take end bytes) place → unwrap_or place end ≡ min n (nul_place bytes)
+nul_place-searched bytes n end (Some place) is found = nul_place-found bytes n end place is found
+nul_place-searched bytes n end None is none = nul_place-missed bytes n end is none

@@ -10,10 +10,5 @@ pub fn strnlen(bytes: &[u8], n: usize) -> usize
     ensures { result ≡ min n (nul_place bytes.now) }
 {
     let end = n.min(bytes.len());
-    for i in 0..end {
-        if bytes[i] == 0 {
-            return i;
-        }
-    }
-    end
+    memchr::memchr(0, &bytes[..end]).unwrap_or(end)
 }
