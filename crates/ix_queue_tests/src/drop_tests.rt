@@ -1,4 +1,5 @@
 //! When items are dropped: each one once, and the oldest one first.
+use crate::expecting::{expect, expect_same};
 use crate::items::{Noted, relocatable_of};
 use ix_cells::Table;
 use ix_maps::{FixedSizeQueue, MetaQueue, Queue};
@@ -19,7 +20,7 @@ fn fill_turned<'a, S: Table<Noted<'a>>>(
     }
     drop(queue.pop());
     queue.push(Noted::new(4, drops));
-    assert_eq!(rt; drops.get(), 1, "one was taken, and three are held");
+    expect_same(rt, drops.get(), 1, "one was taken, and three are held");
 }
 
 /// `queue` is empty, and has room for three items.
@@ -38,12 +39,13 @@ fn check_refusals<'a, S: Table<Noted<'a>>>(
     drop(oldest);
     let by_the_caller = drops.get();
     drop(queue);
-    assert_eq!(rt;
+    expect_same(
+        rt,
         (refused, handed_back, by_the_caller),
         (15, 15, 152),
-        "{kind}"
+        kind,
     );
-    assert_eq!(rt; drops.get(), 152_346, "the end, {kind}");
+    expect_same(rt, drops.get(), 152_346, kind);
 }
 
 /// `queue` is empty, and has room for three items.
@@ -61,8 +63,8 @@ fn check_clears<'a, S: Table<Noted<'a>>>(
     queue.push(Noted::new(5, drops));
     let cleared_again = drops.get();
     drop(queue);
-    assert_eq!(rt; (cleared, cleared_again), (1234, 1234), "{kind}");
-    assert_eq!(rt; drops.get(), 12_345, "the end, {kind}");
+    expect_same(rt, (cleared, cleared_again), (1234, 1234), kind);
+    expect_same(rt, drops.get(), 12_345, kind);
 }
 
 /// `queue` is empty, and has room for three items.
@@ -79,7 +81,7 @@ fn check_writes<'a, S: Table<Noted<'a>>>(
     }
     let written_over = drops.get();
     drop(queue);
-    assert_eq!(rt; (written_over, drops.get()), (12, 12_734), "{kind}");
+    expect_same(rt, (written_over, drops.get()), (12, 12_734), kind);
 }
 
 #[test]
@@ -125,7 +127,7 @@ fn check_no_room<'a, S: Table<Noted<'a>>>(
     drop(same);
     queue.clear();
     drop(queue);
-    assert_eq!(rt; (refused, handed_back, drops.get()), (1, 1, 12), "{kind}");
+    expect_same(rt, (refused, handed_back, drops.get()), (1, 1, 12), kind);
 }
 
 #[test]
@@ -143,10 +145,10 @@ fn scopes_end_queues(rt: HostRuntime) -> Result<(), Fail> {
     {
         let mut queue = Queue::<Noted, Global>::new(rt.alloc(), 9)?;
         for name in 1..6 {
-            assert!(rt; queue.push(Noted::new(name, &drops)));
+            expect(&rt, queue.push(Noted::new(name, &drops)), "there is room");
         }
-        assert_eq!(rt; drops.get(), 0, "all are held");
+        expect_same(&rt, drops.get(), 0, "all are held");
     }
-    assert_eq!(rt; drops.get(), 12_345, "the queue ended");
+    expect_same(&rt, drops.get(), 12_345, "the queue ended");
     Ok(())
 }

@@ -1,4 +1,5 @@
 //! Every function of queues once, with ample memory.
+use crate::expecting::{expect, expect_same};
 use crate::items::relocatable_of;
 use crate::replacing::replace_oldest;
 use bumpalo::Bump;
@@ -17,10 +18,10 @@ fn check_sizes<S: Table<u64>>(rt: &impl Abort, mut queue: MetaQueue<u64, S>, kin
         queue.is_empty(),
         queue.is_full(),
     );
-    assert_eq!(rt; before, (2, 0, true, false), "{kind}");
+    expect_same(rt, before, (2, 0, true, false), kind);
     queue.push(1);
     let between = (queue.len(), queue.is_empty(), queue.is_full());
-    assert_eq!(rt; between, (1, false, false), "{kind}");
+    expect_same(rt, between, (1, false, false), kind);
     queue.push(2);
     let after = (
         queue.capacity(),
@@ -28,36 +29,37 @@ fn check_sizes<S: Table<u64>>(rt: &impl Abort, mut queue: MetaQueue<u64, S>, kin
         queue.is_empty(),
         queue.is_full(),
     );
-    assert_eq!(rt; after, (2, 2, false, true), "{kind}");
+    expect_same(rt, after, (2, 2, false, true), kind);
 }
 
 /// `queue` is empty, and has room for two items.
 fn check_pushes<S: Table<u64>>(rt: &impl Abort, mut queue: MetaQueue<u64, S>, kind: &str) {
     let pushed = [queue.push(1), queue.push(2), queue.push(3)];
-    assert_eq!(rt; pushed, [true, true, false], "{kind}");
+    expect_same(rt, pushed, [true, true, false], kind);
     let left = [
         queue.push_with_overflow(3),
         queue.pop(),
         queue.push_with_overflow(4),
     ];
-    assert_eq!(rt; left, [Some(1), Some(2), None], "{kind}");
+    expect_same(rt, left, [Some(1), Some(2), None], kind);
     let rest = [queue.pop(), queue.pop(), queue.pop()];
-    assert_eq!(rt; rest, [Some(3), Some(4), None], "{kind}");
+    expect_same(rt, rest, [Some(3), Some(4), None], kind);
 }
 
 /// `queue` is empty, and has room for two items.
 fn check_reads<S: Table<u64>>(rt: &impl Abort, mut queue: MetaQueue<u64, S>, kind: &str) {
-    assert!(rt;
+    expect(
+        rt,
         queue.peek().is_none() && queue.peek_mut().is_none(),
-        "{kind}"
+        kind,
     );
     queue.push(5);
     queue.push(6);
-    assert_eq!(rt; queue.peek().copied(), Some(5), "{kind}");
-    assert_eq!(rt; queue.len(), 2, "{kind}");
+    expect_same(rt, queue.peek().copied(), Some(5), kind);
+    expect(rt, queue.len() == 2, kind);
     let read = [queue.get(0), queue.get(1)];
     let again = [queue.get_unchecked(0), queue.get_unchecked(1)];
-    assert_eq!(rt; (read, again), ([5, 6], [5, 6]), "{kind}");
+    expect_same(rt, (read, again), ([5, 6], [5, 6]), kind);
 }
 
 /// `queue` is empty, and has room for two items.
@@ -67,13 +69,13 @@ fn check_changes<S: Table<u64>>(rt: &impl Abort, mut queue: MetaQueue<u64, S>, k
     if let Some(oldest) = queue.peek_mut() {
         *oldest = 7;
     }
-    assert_eq!(rt; queue.pop(), Some(7), "{kind}");
+    expect_same(rt, queue.pop(), Some(7), kind);
     queue.clear();
-    assert_eq!(rt; (queue.capacity(), queue.len()), (2, 0), "{kind}");
+    expect_same(rt, (queue.capacity(), queue.len()), (2, 0), kind);
     queue.push(8);
     queue.push(9);
     let left = [queue.pop(), queue.pop(), queue.pop()];
-    assert_eq!(rt; left, [Some(8), Some(9), None], "{kind}");
+    expect_same(rt, left, [Some(8), Some(9), None], kind);
 }
 
 fn check_in<A: Allocator + Copy>(rt: &impl Abort, alloc: A, memory: &str) -> Result<(), Fail> {
@@ -103,7 +105,7 @@ fn calls_in_memory(rt: HostRuntime) -> Result<(), Fail> {
     check_in(&rt, &bump, "bump")?;
     let heap = LocalHeap::new(rt.alloc(), 256)?;
     check_in(&rt, &heap, "heap")?;
-    assert_eq!(rt; heap.used(), 0);
+    expect_same(&rt, heap.used(), 0, "the heap has all of its memory back");
     Ok(())
 }
 
@@ -111,22 +113,37 @@ fn calls_in_memory(rt: HostRuntime) -> Result<(), Fail> {
 fn two_steps(rt: HostRuntime) {
     let uninit = RelocatableQueue::<u64>::new_uninit(5);
     let ready = InitError::new(uninit).into_uninit().init(rt.alloc()).ok();
-    assert_eq!(rt; ready.expect(&rt, "there is memory").capacity(), 5);
+    expect_same(
+        &rt,
+        ready.expect(&rt, "there is memory").capacity(),
+        5,
+        "in two steps",
+    );
     let uninit = <UninitQueue<u8> as RelocatableContainer<Global>>::new_uninit(6);
     let ready = uninit.init(rt.alloc()).ok();
-    assert_eq!(rt; ready.expect(&rt, "there is memory").capacity(), 6);
+    expect_same(
+        &rt,
+        ready.expect(&rt, "there is memory").capacity(),
+        6,
+        "in two steps",
+    );
     let ready = UninitQueue::<u8>::new_uninit(7).init(rt.alloc()).ok();
-    assert_eq!(rt; ready.expect(&rt, "there is memory").capacity(), 7);
+    expect_same(
+        &rt,
+        ready.expect(&rt, "there is memory").capacity(),
+        7,
+        "in two steps",
+    );
 }
 
 /// `queue` is empty, and has room for two items.
 fn check_replaced<S: Table<u64>>(rt: &impl Abort, mut queue: MetaQueue<u64, S>, kind: &str) {
-    assert_eq!(rt; replace_oldest(&mut queue, 1), None, "{kind}");
+    expect_same(rt, replace_oldest(&mut queue, 1), None, kind);
     queue.push(2);
     queue.push(3);
-    assert_eq!(rt; replace_oldest(&mut queue, 4), Some(2), "{kind}");
+    expect_same(rt, replace_oldest(&mut queue, 4), Some(2), kind);
     let left = [queue.pop(), queue.pop(), queue.pop()];
-    assert_eq!(rt; left, [Some(4), Some(3), None], "{kind}");
+    expect_same(rt, left, [Some(4), Some(3), None], kind);
 }
 
 #[test]

@@ -34,6 +34,14 @@ pub fn relocatable_of<T: Drop, A: Allocator>(
     }
 }
 
+/// Numbers of places, and how a queue is told apart that was turned by so many.
+pub const TURNS: [(usize, &str); 4] = [
+    (0, "not turned"),
+    (1, "turned by one"),
+    (2, "turned by two"),
+    (3, "turned by three"),
+];
+
 /// The queue, whose next items stand so many places further on, if it is empty and has room for one.
 pub fn turned_by<S: Table<u64>>(mut queue: MetaQueue<u64, S>, places: usize) -> MetaQueue<u64, S> {
     for _ in 0..places {

@@ -7,6 +7,8 @@ mod drop_tests;
 #[cfg(test)]
 mod equality_tests;
 #[cfg(test)]
+mod expecting;
+#[cfg(test)]
 mod function_tests;
 #[cfg(test)]
 mod items;

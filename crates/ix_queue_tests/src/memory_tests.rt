@@ -1,4 +1,5 @@
 //! Queues whose memory is refused: nothing stays taken.
+use crate::expecting::{expect, expect_same};
 use bumpalo::Bump;
 use ix_cells::RelocatableContainer;
 use ix_maps::{Queue, RelocatableQueue, UninitQueue};
@@ -12,13 +13,15 @@ fn check_queue(rt: &impl Abort, heap: &LocalHeap, found: bool) {
     let used = heap.used();
     match Queue::<u64, &LocalHeap>::new(heap, 1) {
         Ok(mut queue) => {
-            assert_eq!(rt; (found, queue.capacity(), queue.len()), (true, 1, 0));
-            assert!(rt; heap.used() > used);
-            assert!(rt; queue.push(7));
+            expect(rt, found, "memory is refused");
+            expect_same(rt, queue.capacity(), 1, "capacity");
+            expect_same(rt, queue.len(), 0, "length");
+            expect(rt, heap.used() > used, "at once");
+            expect(rt, queue.push(7), "at once");
         }
-        Err(AllocError) => assert!(rt; !found),
+        Err(AllocError) => expect(rt, !found, "memory is found"),
     }
-    assert_eq!(rt; heap.used(), used);
+    expect_same(rt, heap.used(), used, "at once");
 }
 
 /// As above. `ample` finds memory.
@@ -26,19 +29,22 @@ fn check_two_steps(rt: &impl Abort, heap: &LocalHeap, found: bool, ample: Global
     let used = heap.used();
     match RelocatableQueue::<u64, &LocalHeap>::new_uninit(1).init(heap) {
         Ok(queue) => {
-            assert_eq!(rt; (found, queue.capacity(), queue.len()), (true, 1, 0));
-            assert!(rt; heap.used() > used);
+            expect(rt, found, "memory is refused");
+            expect_same(rt, queue.capacity(), 1, "capacity");
+            expect_same(rt, queue.len(), 0, "length");
+            expect(rt, heap.used() > used, "in two steps");
         }
         Err(error) => {
-            assert!(rt; !found);
-            assert_eq!(rt; heap.used(), used);
+            expect(rt, !found, "memory is found");
+            expect_same(rt, heap.used(), used, "in two steps");
             let ready = error.into_uninit().init(ample).ok();
             let mut queue = ready.expect(rt, "there is memory now");
-            assert_eq!(rt; (queue.capacity(), queue.len()), (1, 0));
-            assert!(rt; queue.push(7));
+            expect_same(rt, queue.capacity(), 1, "capacity");
+            expect_same(rt, queue.len(), 0, "length");
+            expect(rt, queue.push(7), "in two steps");
         }
     }
-    assert_eq!(rt; heap.used(), used);
+    expect_same(rt, heap.used(), used, "in two steps");
 }
 
 #[test]
@@ -56,25 +62,33 @@ fn makings_refused(rt: HostRuntime) -> Result<(), Fail> {
 fn no_room_needs_no_memory(rt: HostRuntime) -> Result<(), Fail> {
     let heap = LocalHeap::new(rt.alloc(), 16)?;
     let _held = Box::new(&heap, 0u64)?;
-    assert!(rt; Queue::<u64, &LocalHeap>::new(&heap, 1).is_err());
+    let refused = Queue::<u64, &LocalHeap>::new(&heap, 1).is_err();
+    expect(&rt, refused, "no memory for one");
     let queue = Queue::<u64, &LocalHeap>::new(&heap, 0)?;
-    assert!(rt; queue.is_empty() && queue.is_full());
+    expect(
+        &rt,
+        queue.is_empty() && queue.is_full(),
+        "no room needs no memory",
+    );
     let ready = UninitQueue::<u64>::new_uninit(0).init(&heap).ok();
-    assert_eq!(rt; ready.expect(&rt, "no memory is needed").capacity(), 0);
+    expect_same(
+        &rt,
+        ready.expect(&rt, "no memory is needed").capacity(),
+        0,
+        "no room needs no memory",
+    );
     Ok(())
 }
 
 /// No memory holds `capacity` numbers.
 fn check_past_all_memory<A: Allocator + Copy>(rt: &impl Abort, alloc: A, capacity: usize) {
-    assert!(rt;
-        Queue::<u64, A>::new(alloc, capacity).is_err(),
-        "{capacity}"
-    );
+    let refused = Queue::<u64, A>::new(alloc, capacity).is_err();
+    expect(rt, refused, "`new` refuses");
     match UninitQueue::<u64>::new_uninit(capacity).init(alloc) {
-        Ok(_queue) => assert!(rt; false, "a queue of {capacity}"),
+        Ok(_queue) => expect(rt, false, "`init` refuses"),
         Err(error) => {
             let again = error.into_uninit().init(alloc);
-            assert!(rt; again.is_err(), "{capacity} came back");
+            expect(rt, again.is_err(), "the capacity came back");
         }
     }
 }
@@ -83,12 +97,12 @@ fn check_past_all_memory<A: Allocator + Copy>(rt: &impl Abort, alloc: A, capacit
 fn past_all_memory(rt: HostRuntime) -> Result<(), Fail> {
     let bump = Bump::new(rt.alloc());
     let heap = LocalHeap::new(rt.alloc(), 64)?;
-    for capacity in [usize::MAX, usize::MAX / 16 + 1, usize::MAX / 32 + 1] {
-        check_past_all_memory(&rt, rt.alloc(), capacity);
-        check_past_all_memory(&rt, &bump, capacity);
-        check_past_all_memory(&rt, &heap, capacity);
+    for capacity in &[usize::MAX, usize::MAX / 16 + 1, usize::MAX / 32 + 1] {
+        check_past_all_memory(&rt, rt.alloc(), *capacity);
+        check_past_all_memory(&rt, &bump, *capacity);
+        check_past_all_memory(&rt, &heap, *capacity);
     }
-    assert_eq!(rt; heap.used(), 0);
+    expect_same(&rt, heap.used(), 0, "past all memory");
     Ok(())
 }
 
@@ -99,8 +113,9 @@ fn refused_then_ready(rt: HostRuntime) -> Result<(), Fail> {
     let error = refused.expect(&rt, "64 bytes are too few");
     let ready = error.into_uninit().init(rt.alloc()).ok();
     let mut queue = ready.expect(&rt, "there is memory now");
-    assert_eq!(rt; (queue.capacity(), queue.len()), (1000, 0));
-    assert!(rt; queue.push(7));
-    assert_eq!(rt; heap.used(), 0);
+    expect_same(&rt, queue.capacity(), 1000, "capacity");
+    expect_same(&rt, queue.len(), 0, "length");
+    expect(&rt, queue.push(7), "refused then ready");
+    expect_same(&rt, heap.used(), 0, "refused then ready");
     Ok(())
 }

@@ -1,4 +1,5 @@
 //! Worked examples: queues of one item and of none, of every kind and with every allocator.
+use crate::expecting::expect_same;
 use crate::items::relocatable_of;
 use bumpalo::Bump;
 use ix_cells::Table;
@@ -10,12 +11,12 @@ use std::test::Fail;
 
 fn check_one<S: Table<u64>>(rt: &impl Abort, mut queue: MetaQueue<u64, S>, kind: &str) {
     let answers = (queue.push(123), queue.push_with_overflow(456), queue.pop());
-    assert_eq!(rt; answers, (true, Some(123), Some(456)), "{kind}");
+    expect_same(rt, answers, (true, Some(123), Some(456)), kind);
 }
 
 fn check_none<S: Table<u64>>(rt: &impl Abort, mut queue: MetaQueue<u64, S>, kind: &str) {
     let answers = (queue.push(1), queue.push_with_overflow(2), queue.pop());
-    assert_eq!(rt; answers, (false, Some(2), None), "{kind}");
+    expect_same(rt, answers, (false, Some(2), None), kind);
 }
 
 fn check_in<A: Allocator + Copy>(rt: &impl Abort, alloc: A, memory: &str) -> Result<(), Fail> {
@@ -35,6 +36,6 @@ fn small_queues(rt: HostRuntime) -> Result<(), Fail> {
     check_in(&rt, &bump, "bump")?;
     let heap = LocalHeap::new(rt.alloc(), 256)?;
     check_in(&rt, &heap, "heap")?;
-    assert_eq!(rt; heap.used(), 0);
+    expect_same(&rt, heap.used(), 0, "the heap has all of its memory back");
     Ok(())
 }

@@ -1,11 +1,11 @@
 //! Calls of slot maps as values, so that an example is a list of calls and their answers.
+use crate::expecting::expect_at;
 use ix_cells::Table;
 use ix_maps::{Link, MetaSlotMap, SlotMapKey};
-use std::fmt::Debug;
 use std::process::Abort;
 
 /// A call of a slot map. Keys stand by their numbers.
-#[derive(Clone, Copy, Debug)]
+#[derive(Clone, Copy)]
 pub enum Call<T> {
     Insert(T),
     InsertAt(usize, T),
@@ -22,7 +22,7 @@ pub enum Call<T> {
 }
 
 /// What a call answers.
-#[derive(Clone, Copy, Debug, PartialEq)]
+#[derive(Clone, Copy, PartialEq)]
 pub enum Answer<T> {
     Bool(bool),
     Number(usize),
@@ -87,15 +87,15 @@ fn read<T: Copy, S: Table<T>, L: Table<Link>>(
 }
 
 /// Makes each call, and compares its answer.
-pub fn check_calls<T: Copy + PartialEq + Debug, S: Table<T>, L: Table<Link>>(
+pub fn check_calls<T: Copy + PartialEq, S: Table<T>, L: Table<Link>>(
     rt: &impl Abort,
     mut map: MetaSlotMap<T, S, L>,
     row: &[(Call<T>, Answer<T>)],
     place: &str,
 ) {
-    for (call, answer) in row {
+    for (number, (call, answer)) in row.iter().enumerate() {
         let changed = change(&mut map, *call);
         let told = changed.or(read(&map, *call));
-        assert_eq!(rt; told, Some(*answer), "{call:?}, {place}");
+        expect_at(rt, told == Some(*answer), number, place);
     }
 }

@@ -1,6 +1,7 @@
 //! How often a call reaches a table, whatever the capacity.
 ghost use Rattle.std.specs.Prelude.{◌≡◌, ℕ, refl};
 
+use crate::expecting::{expect, expect_same};
 use ix_cells::{HeapTable, Table, Touches};
 use ix_maps::{Link, MetaSlotMap, SlotMapKey};
 use std::alloc::{AllocError, Global};
@@ -106,20 +107,31 @@ fn half_full(alloc: Global, calls: &Cell<u64>) -> Result<CountingMap<'_>, AllocE
 /// One call, and at most 16, reached the tables since the last time.
 fn assert_few(rt: &impl Abort, calls: &Cell<u64>) {
     let count = calls.replace(0);
-    assert!(rt; 1 <= count && count <= 16, "{count} calls");
+    expect(rt, 1 <= count, "at least one call");
+    expect(rt, count <= 16, "at most 16 calls");
 }
 
 #[test]
 fn plain_calls(rt: HostRuntime) -> Result<(), Fail> {
     let calls = Cell::new(0);
     let mut map = half_full(rt.alloc(), &calls)?;
-    assert_eq!(rt; map.insert(7), Some(SlotMapKey::new(500)));
+    expect_same(
+        &rt,
+        map.insert(7),
+        Some(SlotMapKey::new(500)),
+        "plain calls",
+    );
     assert_few(&rt, &calls);
     let mut map = half_full(rt.alloc(), &calls)?;
-    assert!(rt; map.insert_at(SlotMapKey::new(999), 7));
+    expect(&rt, map.insert_at(SlotMapKey::new(999), 7), "plain calls");
     assert_few(&rt, &calls);
     let mut map = half_full(rt.alloc(), &calls)?;
-    assert_eq!(rt; map.remove(SlotMapKey::new(250)), Some(250));
+    expect_same(
+        &rt,
+        map.remove(SlotMapKey::new(250)),
+        Some(250),
+        "plain calls",
+    );
     assert_few(&rt, &calls);
     Ok(())
 }
@@ -130,14 +142,18 @@ fn counted_calls(rt: HostRuntime) -> Result<(), Fail> {
     let mut touches = Touches::new();
     let mut map = half_full(rt.alloc(), &calls)?;
     let key = map.insert_counted(7, &mut touches);
-    assert_eq!(rt; key, Some(SlotMapKey::new(500)));
+    expect_same(&rt, key, Some(SlotMapKey::new(500)), "counted calls");
     assert_few(&rt, &calls);
     let mut map = half_full(rt.alloc(), &calls)?;
-    assert!(rt; map.insert_at_counted(SlotMapKey::new(999), 7, &mut touches));
+    expect(
+        &rt,
+        map.insert_at_counted(SlotMapKey::new(999), 7, &mut touches),
+        "counted calls",
+    );
     assert_few(&rt, &calls);
     let mut map = half_full(rt.alloc(), &calls)?;
     let value = map.remove_counted(SlotMapKey::new(250), &mut touches);
-    assert_eq!(rt; value, Some(250));
+    expect_same(&rt, value, Some(250), "counted calls");
     assert_few(&rt, &calls);
     Ok(())
 }

@@ -1,4 +1,5 @@
 //! When values are dropped: each one once, and at the end of a map that of the least key first.
+use crate::expecting::{expect, expect_at, expect_same};
 use crate::making::relocatable_of;
 use ix_cells::Table;
 use ix_maps::{FixedSizeSlotMap, Link, MetaSlotMap, SlotMap, SlotMapKey};
@@ -29,7 +30,7 @@ fn check_drops<'a, S: Table<Noted<'a>>, L: Table<Link>>(
     puts: &[(Option<usize>, u64, u64)],
     at_end: u64,
 ) {
-    for (key, name, dropped) in puts {
+    for (number, (key, name, dropped)) in puts.iter().enumerate() {
         let value = Noted { name: *name, drops };
         match key {
             Some(key) => {
@@ -39,10 +40,10 @@ fn check_drops<'a, S: Table<Noted<'a>>, L: Table<Link>>(
                 let _ = map.insert(value);
             }
         }
-        assert_eq!(rt; drops.replace(0), *dropped, "{name} under {key:?}");
+        expect_at(rt, drops.replace(0) == *dropped, number, "dropped by");
     }
     drop(map);
-    assert_eq!(rt; drops.replace(0), at_end, "at the end");
+    expect_same(rt, drops.replace(0), at_end, "at the end");
 }
 
 /// Values that maps with three keys take, replace and refuse.
@@ -84,13 +85,13 @@ fn removals_hand_out(rt: HostRuntime) {
         name: 1,
         drops: &drops,
     };
-    assert!(rt; map.insert(first).is_some());
+    expect(&rt, map.insert(first).is_some(), "there is room");
     let removed = map.remove(SlotMapKey::new(0));
-    assert_eq!(rt; drops.get(), 0, "handed out");
+    expect_same(&rt, drops.get(), 0, "handed out");
     drop(removed);
-    assert_eq!(rt; drops.replace(0), 1, "dropped by the caller");
+    expect_same(&rt, drops.replace(0), 1, "dropped by the caller");
     drop(map);
-    assert_eq!(rt; drops.get(), 0, "the map held nothing");
+    expect_same(&rt, drops.get(), 0, "the map held nothing");
 }
 
 #[test]
@@ -101,11 +102,11 @@ fn values_are_written_over(rt: HostRuntime) {
         drops: &drops,
     };
     let mut map = FixedSizeSlotMap::<Noted, 2>::new();
-    assert!(rt; map.insert(item(1)).is_some());
+    expect(&rt, map.insert(item(1)).is_some(), "there is room");
     if let Some(value) = map.get_mut(SlotMapKey::new(0)) {
         *value = item(2);
     }
-    assert_eq!(rt; drops.replace(0), 1, "the one before");
+    expect_same(&rt, drops.replace(0), 1, "the one before");
     drop(map);
-    assert_eq!(rt; drops.get(), 2, "the one that was written");
+    expect_same(&rt, drops.get(), 2, "the one that was written");
 }

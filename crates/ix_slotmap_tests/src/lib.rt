@@ -9,6 +9,8 @@ mod counting_tests;
 #[cfg(test)]
 mod drop_tests;
 #[cfg(test)]
+mod expecting;
+#[cfg(test)]
 mod function_tests;
 #[cfg(test)]
 mod making;

@@ -1,4 +1,5 @@
 //! Maps whose memory is refused, at the first request and at the second: nothing stays taken.
+use crate::expecting::{expect, expect_same};
 use ix_cells::{HeapTable, RelocatableContainer, Table};
 use ix_maps::{RelocatableSlotMap, SlotMap, UninitSlotMap};
 use linked_list_allocator::LocalHeap;
@@ -30,7 +31,8 @@ fn check_new(rt: &impl Abort, heap: &LocalHeap, found: bool) {
         Err(error) => Err(error),
     };
     let wanted = if found { Ok((2, 0)) } else { Err(AllocError) };
-    assert_eq!(rt; (made, heap.used()), (wanted, used));
+    expect_same(rt, made, wanted, "at once");
+    expect_same(rt, heap.used(), used, "at once");
 }
 
 /// The heap has memory for a map with two keys if `found`. `ample` finds memory.
@@ -45,34 +47,42 @@ fn check_init(rt: &impl Abort, heap: &LocalHeap, found: bool, ample: Global) {
     };
     let sizes = Some((2, 0));
     let wanted = if found { (sizes, None) } else { (None, sizes) };
-    assert_eq!(rt; ((first, again), heap.used()), (wanted, used));
+    expect_same(rt, (first, again), wanted, "in two steps");
+    expect_same(rt, heap.used(), used, "in two steps");
 }
+
+/// How many blocks a heap has, and whether it finds memory for the first request, and for both.
+const BLOCKS: [(usize, bool, bool); 3] = [(2, false, false), (3, true, false), (8, true, true)];
 
 #[test]
 fn makings_refused(rt: HostRuntime) -> Result<(), Fail> {
-    for (blocks, first, both) in [(2, false, false), (3, true, false), (8, true, true)] {
-        let heap = LocalHeap::new(rt.alloc(), 16 * blocks)?;
+    for (blocks, first, both) in &BLOCKS {
+        let heap = LocalHeap::new(rt.alloc(), 16 * *blocks)?;
         let _held = Box::new(&heap, 0u64)?;
-        assert_eq!(rt; has_first(&heap), first, "of {blocks}");
-        check_new(&rt, &heap, both);
-        check_init(&rt, &heap, both, rt.alloc());
+        expect_same(&rt, has_first(&heap), *first, "the first request");
+        check_new(&rt, &heap, *both);
+        check_init(&rt, &heap, *both, rt.alloc());
         let empty = SlotMap::<u64, &LocalHeap>::new(&heap, 0)?;
-        assert!(rt; empty.is_full(), "no memory is needed");
+        expect(&rt, empty.is_full(), "no memory is needed");
     }
     Ok(())
 }
 
-#[test]
-fn past_all_memory(rt: HostRuntime) {
-    for capacity in [usize::MAX, usize::MAX / 16] {
-        let made = SlotMap::<u64, Global>::new(rt.alloc(), capacity);
-        assert_eq!(rt; made.err(), Some(AllocError), "{capacity}");
-        match UninitSlotMap::<u64>::new_uninit(capacity).init(rt.alloc()) {
-            Ok(_map) => assert!(rt; false, "a map of {capacity}"),
-            Err(error) => {
-                let again = error.into_uninit().init(rt.alloc());
-                assert!(rt; again.is_err(), "{capacity} came back");
-            }
+/// No memory holds a map with `capacity` keys.
+fn check_past_all_memory(rt: &impl Abort, alloc: Global, capacity: usize) {
+    let made = SlotMap::<u64, Global>::new(alloc, capacity);
+    expect_same(rt, made.err(), Some(AllocError), "`new` refuses");
+    match UninitSlotMap::<u64>::new_uninit(capacity).init(alloc) {
+        Ok(_map) => expect(rt, false, "`init` refuses"),
+        Err(error) => {
+            let again = error.into_uninit().init(alloc);
+            expect(rt, again.is_err(), "the capacity came back");
         }
     }
+}
+
+#[test]
+fn past_all_memory(rt: HostRuntime) {
+    check_past_all_memory(&rt, rt.alloc(), usize::MAX);
+    check_past_all_memory(&rt, rt.alloc(), usize::MAX / 16);
 }

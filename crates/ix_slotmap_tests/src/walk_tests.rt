@@ -1,4 +1,5 @@
 //! Random walks of slot maps beside the plain slow map: every answer, and from time to time the whole content.
+use crate::expecting::{expect, expect_same};
 use crate::making::relocatable_of;
 use crate::slow_map::SlowMap;
 use ix_cells::Table;
@@ -42,16 +43,16 @@ fn assert_call<S: Table<u64>, L: Table<Link>>(
     match kind % 5 {
         0 | 1 => {
             let answer = slow.insert(value).map(SlotMapKey::new);
-            assert_eq!(rt; map.insert(value), answer, "call {value}");
+            expect_same(rt, map.insert(value), answer, "insert");
         }
         2 => {
             let answer = map.insert_at(SlotMapKey::new(key), value);
-            assert_eq!(rt; answer, slow.insert_at(key, value), "{key}, call {value}");
+            expect_same(rt, answer, slow.insert_at(key, value), "insert at");
         }
         _ => {
             let answer = slow.remove(key)?;
             let removed = map.remove(SlotMapKey::new(key));
-            assert_eq!(rt; removed, answer, "{key}, call {value}");
+            expect_same(rt, removed, answer, "remove");
         }
     }
     Ok(())
@@ -65,11 +66,16 @@ fn assert_reads<S: Table<u64>, L: Table<Link>>(
     key: usize,
 ) {
     let first = slow.first_free().map(SlotMapKey::new);
-    assert_eq!(rt; map.next_free_key(), first);
-    assert_eq!(rt; map.is_full(), first.is_none());
+    expect_same(rt, map.next_free_key(), first, "next free key");
+    expect_same(rt, map.is_full(), first.is_none(), "full");
     let held = slow.get(key);
-    assert_eq!(rt; map.contains(SlotMapKey::new(key)), held.is_some(), "{key}");
-    assert_eq!(rt; map.get(SlotMapKey::new(key)).copied(), held, "{key}");
+    expect_same(
+        rt,
+        map.contains(SlotMapKey::new(key)),
+        held.is_some(),
+        "contains",
+    );
+    expect_same(rt, map.get(SlotMapKey::new(key)).copied(), held, "get");
 }
 
 /// Compares all that both hold.
@@ -78,16 +84,16 @@ fn assert_content<S: Table<u64>, L: Table<Link>>(
     map: &MetaSlotMap<u64, S, L>,
     slow: &SlowMap,
 ) {
-    assert_eq!(rt; map.len(), slow.len());
+    expect_same(rt, map.len(), slow.len(), "length");
     let mut count = 0usize;
     let mut least = 0usize;
     for (key, value) in map.iter() {
-        assert!(rt; key.value() >= least, "the keys rise");
-        assert_eq!(rt; slow.get(key.value()), Some(*value));
+        expect(rt, key.value() >= least, "the keys rise");
+        expect_same(rt, slow.get(key.value()), Some(*value), "a held key");
         least = key.value().wrapping_add(1);
         count = count.wrapping_add(1);
     }
-    assert_eq!(rt; count, slow.len(), "every held key was there");
+    expect_same(rt, count, slow.len(), "every held key was there");
 }
 
 /// Walks a map, which is empty, and the slow map.

@@ -1,4 +1,5 @@
 //! The examples and the refusals at each kind of string and in each kind of memory.
+use crate::expecting::expect_same;
 use crate::refusals::{check_refused_by_full, check_refused_byte, check_refused_bytes};
 use crate::rows::{
     check_comparisons, check_copies, check_insertions, check_ranges, check_refused_ranges,
@@ -13,6 +14,32 @@ use std::alloc::Allocator;
 use std::process::Abort;
 use std::test::Fail;
 
+/// `string` has room for six bytes.
+fn check_six<S: String>(rt: &impl Abort, string: &mut S, place: &str) {
+    check_insertions(rt, string, place);
+    check_unchecked_insertion(rt, string, place);
+    check_removals(rt, string, place);
+    check_ranges(rt, string, place);
+    check_refused_ranges(rt, string, place);
+    check_searches(rt, string, place);
+    check_stripping(rt, string, place);
+    check_retaining(rt, string, place);
+    check_retaining_again(rt, string, place);
+    check_copies(rt, string, place);
+    check_comparisons(rt, string, place);
+    check_refused_bytes(rt, string, place);
+    check_refused_byte(rt, string, place);
+    expect_same(rt, string.capacity(), 6, "capacity", place);
+}
+
+/// `string` has room for two bytes.
+fn check_two<S: String>(rt: &impl Abort, string: &mut S, place: &str) {
+    check_copies(rt, string, place);
+    check_comparisons(rt, string, place);
+    check_refused_by_full(rt, string, place);
+    expect_same(rt, string.capacity(), 2, "capacity", place);
+}
+
 /// `six` has room for six bytes and `two` for two.
 fn check_kind<Six: String + Drop, Two: String + Drop>(
     rt: &impl Abort,
@@ -20,24 +47,8 @@ fn check_kind<Six: String + Drop, Two: String + Drop>(
     mut two: Two,
     place: &str,
 ) {
-    check_insertions(rt, &mut six, place);
-    check_unchecked_insertion(rt, &mut six, place);
-    check_removals(rt, &mut six, place);
-    check_ranges(rt, &mut six, place);
-    check_refused_ranges(rt, &mut six, place);
-    check_searches(rt, &mut six, place);
-    check_stripping(rt, &mut six, place);
-    check_retaining(rt, &mut six, place);
-    check_retaining_again(rt, &mut six, place);
-    check_copies(rt, &mut six, place);
-    check_comparisons(rt, &mut six, place);
-    check_refused_bytes(rt, &mut six, place);
-    check_refused_byte(rt, &mut six, place);
-    assert_eq!(rt; six.capacity(), 6, "{place}");
-    check_copies(rt, &mut two, place);
-    check_comparisons(rt, &mut two, place);
-    check_refused_by_full(rt, &mut two, place);
-    assert_eq!(rt; two.capacity(), 2, "{place}");
+    check_six(rt, &mut six, place);
+    check_two(rt, &mut two, place);
 }
 
 fn check_kinds_in<A: Allocator + Copy>(
@@ -61,7 +72,7 @@ fn check_kinds_in<A: Allocator + Copy>(
 }
 
 #[test]
-fn each_kind_in_each_memory(rt: HostRuntime) -> Result<(), Fail> {
+fn fixed_kinds(rt: HostRuntime) {
     check_kind(
         &rt,
         StaticString::<6>::new(),
@@ -73,11 +84,21 @@ fn each_kind_in_each_memory(rt: HostRuntime) -> Result<(), Fail> {
     check_removals(&rt, &mut long, "a long one");
     check_retaining(&rt, &mut long, "a long one");
     check_retaining_again(&rt, &mut long, "a long one");
+}
+
+#[test]
+fn each_kind_in_each_memory(rt: HostRuntime) -> Result<(), Fail> {
     check_kinds_in(&rt, rt.alloc(), "the machine's memory")?;
     let bump = Bump::new(rt.alloc());
     check_kinds_in(&rt, &bump, "an arena")?;
     let heap = LocalHeap::new(rt.alloc(), 64)?;
     check_kinds_in(&rt, &heap, "a heap")?;
-    assert_eq!(rt; heap.used(), 0, "the heap has all of its memory back");
+    expect_same(
+        &rt,
+        heap.used(),
+        0,
+        "used",
+        "a heap that has all of its memory back",
+    );
     Ok(())
 }

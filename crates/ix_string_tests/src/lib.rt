@@ -5,6 +5,8 @@
 #[cfg(test)]
 mod capacity_tests;
 #[cfg(test)]
+mod expecting;
+#[cfg(test)]
 mod fixed_tests;
 #[cfg(test)]
 mod kind_tests;

@@ -1,4 +1,5 @@
 //! Equality, order and hash of strings agree, whatever the capacities.
+use crate::expecting::{expect, expect_same};
 use crate::recorder::fed_by;
 use crate::strings::{holding, relocatable_of};
 use ix_string::{PolymorphicString, StaticString, String};
@@ -20,13 +21,26 @@ const RISING: [(&str, u64); 6] = [
 
 fn check_pair<S: String + Ord + Hash>(rt: &impl Abort, left: &S, right: &S, order: Ordering) {
     let same = order == Ordering::Equal;
-    assert_eq!(rt; left.cmp(right), order);
-    assert_eq!(rt; left.partial_cmp(right), Some(order));
-    assert_eq!(rt; left.cmp_bytes(right.as_bytes()), order);
-    assert_eq!(rt; left == right, same);
-    assert_eq!(rt; left.eq_bytes(right.as_bytes()), same);
-    assert_eq!(rt; left < right, order == Ordering::Less);
-    assert_eq!(rt; fed_by(left) == fed_by(right), same);
+    let place = right.as_str();
+    expect_same(rt, left.cmp(right), order, "cmp", place);
+    expect_same(
+        rt,
+        left.partial_cmp(right),
+        Some(order),
+        "partial_cmp",
+        place,
+    );
+    expect_same(
+        rt,
+        left.cmp_bytes(right.as_bytes()),
+        order,
+        "cmp_bytes",
+        place,
+    );
+    expect_same(rt, left == right, same, "==", place);
+    expect_same(rt, left.eq_bytes(right.as_bytes()), same, "eq_bytes", place);
+    expect_same(rt, left < right, order == Ordering::Less, "<", place);
+    expect_same(rt, fed_by(left) == fed_by(right), same, "hash", place);
 }
 
 /// The two strings of each kind; those that have a capacity of their own have different ones.
@@ -57,13 +71,24 @@ fn comparisons_agree(rt: HostRuntime) -> Result<(), Fail> {
             check_kinds(&rt, rt.alloc(), texts, i.cmp(&j))?;
         }
     }
-    for (text, fed) in RISING {
-        let fixed = holding(StaticString::<4>::new(), text);
-        assert_eq!(rt; fed_by(&fixed), fed, "{text}");
-        let relocatable = holding(relocatable_of(rt.alloc(), 4)?, text);
-        assert_eq!(rt; fed_by(&relocatable), fed, "{text}");
-        let polymorphic = holding(PolymorphicString::new(rt.alloc(), 4)?, text);
-        assert_eq!(rt; fed_by(&polymorphic), fed, "{text}");
+    Ok(())
+}
+
+/// What a string of each kind feeds to a hasher.
+fn check_fed(rt: &impl Abort, alloc: Global, text: &str, fed: u64) -> Result<(), Fail> {
+    let fixed = holding(StaticString::<4>::new(), text);
+    expect_same(rt, fed_by(&fixed), fed, text, "fixed");
+    let relocatable = holding(relocatable_of(alloc, 4)?, text);
+    expect_same(rt, fed_by(&relocatable), fed, text, "relocatable");
+    let polymorphic = holding(PolymorphicString::new(alloc, 4)?, text);
+    expect_same(rt, fed_by(&polymorphic), fed, text, "polymorphic");
+    Ok(())
+}
+
+#[test]
+fn hashes_of_each_kind(rt: HostRuntime) -> Result<(), Fail> {
+    for (text, fed) in &RISING {
+        check_fed(&rt, rt.alloc(), text, *fed)?;
     }
     Ok(())
 }
@@ -75,7 +100,7 @@ fn removed_bytes_leave_no_trace(rt: HostRuntime) -> Result<(), Fail> {
     changed.truncate(2);
     check_pair(&rt, &plain, &changed, Ordering::Equal);
     let mut changed = StaticString::<4>::from_bytes(b"xyab")?;
-    assert!(rt; changed.strip_prefix(b"xy"));
+    expect(&rt, changed.strip_prefix(b"xy"), "the front is stripped");
     check_pair(&rt, &plain, &changed, Ordering::Equal);
     Ok(())
 }

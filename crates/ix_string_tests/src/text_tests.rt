@@ -1,4 +1,5 @@
 //! Printed texts.
+use crate::expecting::expect_same;
 use crate::strings::{holding, relocatable_of};
 use ix_string::{PolymorphicString, StaticString, StringModificationError, as_escaped_string};
 use std::alloc::Global;
@@ -6,22 +7,21 @@ use std::fmt;
 use std::process::Abort;
 use std::test::Fail;
 
+/// Bytes, and how they are shown.
+const ESCAPED: [(&[u8], &str); 6] = [
+    (&[97, 9, 1, 255, 92, 127], "a\\t\\x01\\xff\\\u{7f}"),
+    (&[9, 10, 13], "\\t\\n\\r"),
+    (&[0, 8, 11, 12, 14], "\\x00\\x08\\x0b\\x0c\\x0e"),
+    (&[31, 32, 34, 126], "\\x1f \"~"),
+    (&[128, 159, 171], "\\x80\\x9f\\xab"),
+    (&[], ""),
+];
+
 #[test]
 fn escaped_bytes(rt: HostRuntime) -> Result<(), Fail> {
-    let cases = [
-        (
-            [97, 9, 1, 255, 92, 127].as_slice(),
-            "a\\t\\x01\\xff\\\u{7f}",
-        ),
-        ([9, 10, 13].as_slice(), "\\t\\n\\r"),
-        ([0, 8, 11, 12, 14].as_slice(), "\\x00\\x08\\x0b\\x0c\\x0e"),
-        ([31, 32, 34, 126].as_slice(), "\\x1f \"~"),
-        ([128, 159, 171].as_slice(), "\\x80\\x9f\\xab"),
-        ([].as_slice(), ""),
-    ];
-    for (bytes, text) in cases {
+    for (bytes, text) in &ESCAPED {
         let escaped = as_escaped_string(rt.alloc(), bytes)?;
-        assert_eq!(rt; escaped.as_str(), text, "of {bytes:?}");
+        expect_same(&rt, escaped.as_str(), *text, "escaped", "bytes");
     }
     Ok(())
 }
@@ -34,15 +34,15 @@ fn check_printed<T: fmt::Display + fmt::Debug>(
     debugged: &str,
 ) -> Result<(), Fail> {
     let text = format!(in alloc; "{}", printed)?;
-    assert_eq!(rt; text.as_str(), displayed);
+    expect_same(rt, text.as_str(), displayed, "displayed", "a string");
     let text = format!(in alloc; "{:?}", printed)?;
-    assert_eq!(rt; text.as_str(), debugged);
+    expect_same(rt, text.as_str(), debugged, "debugged", "a string");
     Ok(())
 }
 
 #[test]
 fn shown_fixed_strings(rt: HostRuntime) -> Result<(), Fail> {
-    let cases = [
+    let cases = &[
         ("ab", "ab", "StaticString<5> { len: 2, data: \"ab\" }"),
         ("\t", "\\t", "StaticString<5> { len: 1, data: \"\\t\" }"),
         ("", "", "StaticString<5> { len: 0, data: \"\" }"),
@@ -67,7 +67,7 @@ fn shown_strings_in_memory(rt: HostRuntime) -> Result<(), Fail> {
 
 #[test]
 fn error_texts(rt: HostRuntime) -> Result<(), Fail> {
-    let errors = [
+    let errors = &[
         (
             StringModificationError::InvalidCharacter,
             "StringModificationError::InvalidCharacter",
@@ -79,7 +79,7 @@ fn error_texts(rt: HostRuntime) -> Result<(), Fail> {
     ];
     for (error, text) in errors {
         let printed = format!(in rt.alloc(); "{error}")?;
-        assert_eq!(rt; printed.as_str(), text);
+        expect_same(&rt, printed.as_str(), *text, "printed", "an error");
     }
     Ok(())
 }
