@@ -1,6 +1,7 @@
 //! Calls of vectors as values, so that a test of any kind is a table: calls, what each answers, and what it leaves.
 ghost use Rattle.ix_cells.specs.Cloning.{AreEqualClones};
 
+use crate::expecting::{expect, expect_at};
 use crate::items::relocatable_of;
 use ix_cells::VectorModificationError::{self, OutOfMemory};
 use ix_cells::{PolymorphicVec, Vector};
@@ -42,7 +43,7 @@ fn answer_of<T: Copy + Drop, V: Vector<T>>(
     match *call {
         Call::Push(item) => vector.push(item)?,
         Call::PushUnchecked(item) => {
-            assert!(rt; vector.len() < vector.capacity());
+            expect(rt, vector.len() < vector.capacity(), "there is room");
             vector.push_unchecked(item);
         }
         Call::Pop => return Ok(vector.pop()),
@@ -52,7 +53,8 @@ fn answer_of<T: Copy + Drop, V: Vector<T>>(
         Call::Clear => vector.clear(),
         Call::Extend(items) => vector.extend_from_slice(items)?,
         Call::ExtendUnchecked(items) => {
-            assert!(rt; items.len() <= vector.capacity() - vector.len());
+            let room = vector.capacity() - vector.len();
+            expect(rt, items.len() <= room, "there is room");
             if vector.extend_from_slice_unchecked(items).is_err() {
                 return Err(OutOfMemory);
             }
@@ -62,7 +64,7 @@ fn answer_of<T: Copy + Drop, V: Vector<T>>(
         Call::Fill(item) => {
             let len = vector.len();
             let items = vector.as_mut_slice();
-            assert_eq!(rt; items.len(), len);
+            expect(rt, items.len() == len, "the length of the slice");
             for place in items {
                 *place = item;
             }
@@ -91,14 +93,11 @@ pub fn check_rows<T: Copy + Drop + PartialEq, V: Vector<T>>(
 )
     requires { AreEqualClones T.is_clone }
 {
-    assert!(rt; is_as_told(vector, capacity, &[]), "at first, {kind}");
+    expect(rt, is_as_told(vector, capacity, &[]), kind);
     for (number, row) in rows.iter().enumerate() {
         let answer = answer_of(rt, vector, &row.0);
-        assert!(rt; answer == row.1, "answer {number}, {kind}");
-        assert!(rt;
-            is_as_told(vector, capacity, row.2),
-            "left by {number}, {kind}"
-        );
+        expect_at(rt, answer == row.1, number, kind);
+        expect_at(rt, is_as_told(vector, capacity, row.2), number, kind);
     }
 }
 

@@ -1,4 +1,5 @@
 //! When items are dropped: each one once, and the last one first.
+use crate::expecting::expect_same;
 use crate::items::{Noted, Notes};
 use crate::noted_calls::NotedCall::{
     Clear, Insert, Pop, Push, Remove, Resize, ResizeWith, Truncate,
@@ -67,8 +68,8 @@ fn scopes_end_vectors(rt: HostRuntime) -> Result<(), Fail> {
         let numbered = |n: usize| Noted::new((n as u64).wrapping_add(1), &notes);
         let made = PolymorphicVec::from_fn(rt.alloc(), 3, numbered)?;
         let _copy = StaticVec::<Noted, 5>::try_from(made.as_slice())?;
-        assert_eq!(rt; notes.take_drops(), 0, "all are held");
+        expect_same(&rt, notes.take_drops(), 0, "all are held");
     }
-    assert_eq!(rt; notes.take_drops(), 321_321, "both ended");
+    expect_same(&rt, notes.take_drops(), 321_321, "both ended");
     Ok(())
 }

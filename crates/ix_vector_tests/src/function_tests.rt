@@ -4,6 +4,7 @@ use crate::calls::Call::{
     ResizeWith, Truncate,
 };
 use crate::calls::{Row, check_kinds};
+use crate::expecting::{expect, expect_same};
 use crate::items::relocatable_of;
 use ix_cells::VectorModificationError::{InsertWouldExceedCapacity, OutOfBounds};
 use ix_cells::{
@@ -79,14 +80,24 @@ fn calls_for_lengths(rt: HostRuntime) -> Result<(), Fail> {
 
 #[test]
 fn two_steps(rt: HostRuntime) {
-    assert_eq!(rt; StaticVec::<u64, 3>::capacity(), 3);
-    assert_eq!(rt; MAX_FIXED_CAPACITY, 4_294_967_295);
+    expect(&rt, StaticVec::<u64, 3>::capacity() == 3, "fixed");
+    expect_same(&rt, MAX_FIXED_CAPACITY, 4_294_967_295, "the greatest");
     let uninit = RelocatableVec::<u64, Global>::new_uninit(5);
     let ready = InitError::new(uninit).into_uninit().init(rt.alloc()).ok();
-    assert_eq!(rt; ready.expect(&rt, "there is memory").capacity(), 5);
+    expect_same(
+        &rt,
+        ready.expect(&rt, "there is memory").capacity(),
+        5,
+        "in two steps",
+    );
     let uninit = <UninitVec<u8> as RelocatableContainer<Global>>::new_uninit(6);
     let ready = uninit.init(rt.alloc()).ok();
-    assert_eq!(rt; ready.expect(&rt, "there is memory").capacity(), 6);
+    expect_same(
+        &rt,
+        ready.expect(&rt, "there is memory").capacity(),
+        6,
+        "in two steps",
+    );
 }
 
 /// Fills two empty vectors, compares them, and then compares them after the second one lost its last item.
@@ -96,22 +107,26 @@ fn check_equality<V: Vector<u64> + PartialEq + Drop>(
     mut other: V,
     items: [u64; 2],
 ) {
-    assert!(rt; one.extend_from_slice(&[1, 2]).is_ok());
-    assert!(rt; other.extend_from_slice(items.as_slice()).is_ok());
-    assert!(rt; (one == other) == (items == [1, 2]), "{items:?}");
+    expect(rt, one.extend_from_slice(&[1, 2]).is_ok(), "there is room");
+    expect(
+        rt,
+        other.extend_from_slice(items.as_slice()).is_ok(),
+        "there is room",
+    );
+    expect(rt, (one == other) == (items == [1, 2]), "equality");
     other.truncate(1);
-    assert!(rt; one != other, "a shorter one, {items:?}");
+    expect(rt, one != other, "a shorter one");
 }
 
 #[test]
 fn equality_is_of_items(rt: HostRuntime) -> Result<(), Fail> {
     let alloc = rt.alloc();
-    for items in [[1, 2], [1, 3], [3, 2]] {
-        check_equality(&rt, StaticVec::<u64, 2>::new(), StaticVec::new(), items);
+    for items in &[[1, 2], [1, 3], [3, 2]] {
+        check_equality(&rt, StaticVec::<u64, 2>::new(), StaticVec::new(), *items);
         let wider = PolymorphicVec::new(alloc, 5)?;
-        check_equality(&rt, PolymorphicVec::new(alloc, 2)?, wider, items);
+        check_equality(&rt, PolymorphicVec::new(alloc, 2)?, wider, *items);
         let wider = relocatable_of(alloc, 5)?;
-        check_equality(&rt, relocatable_of(alloc, 2)?, wider, items);
+        check_equality(&rt, relocatable_of(alloc, 2)?, wider, *items);
     }
     Ok(())
 }
@@ -119,24 +134,29 @@ fn equality_is_of_items(rt: HostRuntime) -> Result<(), Fail> {
 #[test]
 fn tables_in_memory(rt: HostRuntime) -> Result<(), Fail> {
     let mut table = HeapTable::<u64, Global>::new(rt.alloc(), 2)?;
-    assert_eq!(rt; table.len(), 2);
+    expect(&rt, table.len() == 2, "in memory");
     table.put(1, 7);
     table.put(0, 6);
-    assert_eq!(rt; *table.get(0), 6);
+    expect_same(&rt, *table.get(0), 6, "in memory");
     *table.get_mut(1) = 8;
-    assert_eq!(rt; *table.get(1), 8);
-    assert_eq!(rt; table.take(1), 8);
-    assert_eq!(rt; table.take(0), 6);
+    expect_same(&rt, *table.get(1), 8, "in memory");
+    expect_same(&rt, table.take(1), 8, "in memory");
+    expect_same(&rt, table.take(0), 6, "in memory");
     table.put(1, 9);
-    assert_eq!(rt; table.take(1), 9);
+    expect_same(&rt, table.take(1), 9, "in memory");
     table.end();
+    Ok(())
+}
+
+#[test]
+fn tables_of_size_zero(rt: HostRuntime) -> Result<(), Fail> {
     let empty = HeapTable::<u64, Global>::new(rt.alloc(), 0)?;
-    assert_eq!(rt; empty.len(), 0);
+    expect(&rt, empty.len() == 0, "no place in memory");
     empty.end();
     let mut units = HeapTable::<(), Global>::new(rt.alloc(), 3)?;
-    assert_eq!(rt; units.len(), 3);
+    expect(&rt, units.len() == 3, "of size zero");
     units.put(2, ());
-    assert_eq!(rt; *units.get(2), ());
+    expect_same(&rt, *units.get(2), (), "in memory");
     units.take(2);
     units.end();
     Ok(())
@@ -145,16 +165,16 @@ fn tables_in_memory(rt: HostRuntime) -> Result<(), Fail> {
 #[test]
 fn tables_in_the_value(rt: HostRuntime) {
     let mut table = InlineTable::<u64, 2>::new();
-    assert_eq!(rt; table.len(), 2);
+    expect(&rt, table.len() == 2, "in the value");
     table.put(0, 6);
     table.put(1, 7);
     *table.get_mut(0) = 8;
-    assert_eq!(rt; *table.get(0), 8);
-    assert_eq!(rt; *table.get(1), 7);
-    assert_eq!(rt; table.take(0), 8);
-    assert_eq!(rt; table.take(1), 7);
+    expect_same(&rt, *table.get(0), 8, "in the value");
+    expect_same(&rt, *table.get(1), 7, "in the value");
+    expect_same(&rt, table.take(0), 8, "in the value");
+    expect_same(&rt, table.take(1), 7, "in the value");
     table.end();
     let empty = InlineTable::<u64, 0>::new();
-    assert_eq!(rt; empty.len(), 0);
+    expect(&rt, empty.len() == 0, "no place in the value");
     empty.end();
 }

@@ -1,4 +1,5 @@
 //! Makings whose memory is refused: nothing stays taken.
+use crate::expecting::{expect, expect_same};
 use crate::items::with_one_and_two;
 use ix_cells::{HeapTable, PolymorphicVec, RelocatableContainer, Table, UninitVec, Vector};
 use linked_list_allocator::LocalHeap;
@@ -11,10 +12,15 @@ use std::test::Fail;
 fn check_vectors(rt: &impl Abort, heap: &LocalHeap, found: bool) {
     let used = heap.used();
     match PolymorphicVec::<u64, &LocalHeap>::new(heap, 2) {
-        Ok(vector) => assert_eq!(rt; (found, vector.capacity()), (true, 2)),
-        Err(AllocError) => assert!(rt; !found),
+        Ok(vector) => expect(rt, found && vector.capacity() == 2, "memory is refused"),
+        Err(AllocError) => expect(rt, !found, "memory is found"),
     }
-    assert_eq!(rt; heap.used(), used);
+    expect_same(rt, heap.used(), used, "a vector");
+}
+
+/// As above.
+fn check_vectors_by_closures(rt: &impl Abort, heap: &LocalHeap, found: bool) {
+    let used = heap.used();
     let calls = Cell::new(0u64);
     let counted = |n: usize| {
         calls.set(calls.get().wrapping_add(1));
@@ -22,36 +28,46 @@ fn check_vectors(rt: &impl Abort, heap: &LocalHeap, found: bool) {
     };
     match PolymorphicVec::<usize, &LocalHeap>::from_fn(heap, 2, counted) {
         Ok(vector) => {
-            assert!(rt; found);
-            assert_eq!(rt; vector.as_slice(), [0, 1].as_slice());
-            assert_eq!(rt; calls.get(), 2);
+            expect(rt, found, "memory is refused");
+            expect_same(rt, vector.as_slice(), [0, 1].as_slice(), "a vector");
+            expect_same(rt, calls.get(), 2, "a vector");
         }
-        Err(AllocError) => assert_eq!(rt; (found, calls.get()), (false, 0)),
+        Err(AllocError) => expect(rt, !found && calls.get() == 0, "memory is found"),
     }
-    assert_eq!(rt; heap.used(), used);
+    expect_same(rt, heap.used(), used, "a vector");
 }
 
 /// As above. `ample` finds memory.
 fn check_two_steps(rt: &impl Abort, heap: &LocalHeap, found: bool, ample: Global) {
     let used = heap.used();
     match UninitVec::<u64>::new_uninit(2).init(heap) {
-        Ok(vector) => assert_eq!(rt; (found, vector.capacity()), (true, 2)),
+        Ok(vector) => expect(rt, found && vector.capacity() == 2, "memory is refused"),
         Err(error) => {
-            assert!(rt; !found);
+            expect(rt, !found, "memory is found");
             let ready = error.into_uninit().init(ample).ok();
-            assert_eq!(rt; ready.expect(rt, "there is memory").capacity(), 2);
+            expect_same(
+                rt,
+                ready.expect(rt, "there is memory").capacity(),
+                2,
+                "in two steps",
+            );
         }
     }
-    assert_eq!(rt; heap.used(), used);
+    expect_same(rt, heap.used(), used, "in two steps");
+}
+
+/// As above.
+fn check_tables(rt: &impl Abort, heap: &LocalHeap, found: bool) {
+    let used = heap.used();
     match HeapTable::<u64, &LocalHeap>::new(heap, 1) {
         Ok(table) => {
-            assert!(rt; found);
-            assert_eq!(rt; table.len(), 1);
+            expect(rt, found, "memory is refused");
+            expect(rt, table.len() == 1, "a table");
             table.end();
         }
-        Err(AllocError) => assert!(rt; !found),
+        Err(AllocError) => expect(rt, !found, "memory is found"),
     }
-    assert_eq!(rt; heap.used(), used);
+    expect_same(rt, heap.used(), used, "in two steps");
 }
 
 #[test]
@@ -60,9 +76,31 @@ fn makings_refused(rt: HostRuntime) -> Result<(), Fail> {
         let heap = LocalHeap::new(rt.alloc(), 16 * (blocks + 1))?;
         let _held = Box::new(&heap, 0u64)?;
         check_vectors(&rt, &heap, blocks > 0);
+        check_vectors_by_closures(&rt, &heap, blocks > 0);
         check_two_steps(&rt, &heap, blocks > 0, rt.alloc());
+        check_tables(&rt, &heap, blocks > 0);
     }
     Ok(())
+}
+
+/// The heap, of `blocks` blocks, holds the vector alone.
+fn check_clone(
+    rt: &impl Abort,
+    heap: &LocalHeap,
+    vector: &PolymorphicVec<u64, &LocalHeap>,
+    blocks: usize,
+) {
+    let used = heap.used();
+    match vector.try_clone() {
+        Ok(copy) => {
+            expect(rt, blocks > 1, "a clone is refused");
+            expect_same(rt, copy.as_slice(), [1, 2].as_slice(), "a clone");
+            expect(rt, heap.used() > used, "memory is taken");
+        }
+        Err(AllocError) => expect(rt, blocks == 1, "a clone is made"),
+    }
+    expect_same(rt, heap.used(), used, "after the clone");
+    expect_same(rt, vector.as_slice(), [1, 2].as_slice(), "after the clone");
 }
 
 #[test]
@@ -70,17 +108,7 @@ fn copies_refused(rt: HostRuntime) -> Result<(), Fail> {
     for blocks in 1..4usize {
         let heap = LocalHeap::new(rt.alloc(), 16 * blocks)?;
         let vector = with_one_and_two(PolymorphicVec::new(&heap, 2)?);
-        let used = heap.used();
-        match vector.try_clone() {
-            Ok(copy) => {
-                assert!(rt; blocks > 1);
-                assert_eq!(rt; copy.as_slice(), [1, 2].as_slice(), "of {blocks}");
-                assert!(rt; heap.used() > used, "of {blocks}");
-            }
-            Err(AllocError) => assert_eq!(rt; blocks, 1),
-        }
-        assert_eq!(rt; heap.used(), used, "of {blocks}");
-        assert_eq!(rt; vector.as_slice(), [1, 2].as_slice(), "of {blocks}");
+        check_clone(&rt, &heap, &vector, blocks);
     }
     Ok(())
 }

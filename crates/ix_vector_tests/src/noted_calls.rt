@@ -1,4 +1,5 @@
 //! Calls of vectors of noted items as values, so that a test is a table that tells which items each call drops.
+use crate::expecting::{expect, expect_at, expect_same};
 use crate::items::{Noted, Notes, names_of, relocatable_of};
 use ix_cells::VectorModificationError::{self, OutOfMemory};
 use ix_cells::{PolymorphicVec, StaticVec, Vector};
@@ -30,7 +31,7 @@ pub type NotedRow = (NotedCall, Answer, u64, u64);
 
 /// The item's name. The item is dropped here, and nothing was before.
 fn handed_out(rt: &impl Abort, notes: &Notes, item: Option<Noted>) -> Option<u64> {
-    assert_eq!(rt; notes.take_drops(), 0);
+    expect_same(rt, notes.take_drops(), 0, "nothing is dropped before");
     let item = item?;
     let name = item.name;
     drop(item);
@@ -58,7 +59,8 @@ fn answer_of<'a, V: Vector<Noted<'a>>>(
         }
         NotedCall::ExtendUnchecked(clones) => {
             notes.allow_clones(clones);
-            assert!(rt; others.len() <= vector.capacity() - vector.len());
+            let room = vector.capacity() - vector.len();
+            expect(rt, others.len() <= room, "there is room");
             if vector.extend_from_slice_unchecked(others).is_err() {
                 return Err(OutOfMemory);
             }
@@ -83,15 +85,12 @@ fn check_rows<'a, V: Vector<Noted<'a>> + Drop>(
 ) {
     for (number, row) in rows.iter().enumerate() {
         let answer = answer_of(rt, &mut vector, &row.0, notes, others);
-        assert!(rt; answer == row.1, "answer {number}, {end}");
-        assert!(rt; notes.take_drops() == row.2, "dropped by {number}, {end}");
-        assert!(rt;
-            names_of(vector.as_slice()) == row.3,
-            "left by {number}, {end}"
-        );
+        expect_at(rt, answer == row.1, number, "answer");
+        expect_at(rt, notes.take_drops() == row.2, number, "dropped");
+        expect_at(rt, names_of(vector.as_slice()) == row.3, number, "left");
     }
     drop(vector);
-    assert_eq!(rt; notes.take_drops(), end);
+    expect_same(rt, notes.take_drops(), end, "the end");
 }
 
 /// Makes the calls on a vector of each kind with room for four items.

@@ -1,4 +1,5 @@
 //! Clones that are refused in turn: the items are as before, and the clones already made are dropped.
+use crate::expecting::{expect, expect_same};
 use crate::items::{Heavy, Noted, Notes, heavy_names_of, names_of, relocatable_of};
 use crate::noted_calls::NotedCall::{Extend, ExtendUnchecked, Push, Resize};
 use crate::noted_calls::{NotedRow, check_noted_kinds};
@@ -40,7 +41,7 @@ fn check_growth<'a>(rt: &impl Abort, alloc: Global, notes: &'a Notes) -> Result<
     let rows = EXTENSIONS.as_slice();
     check_noted_kinds(rt, alloc, notes, items.as_slice(), rows, 3215)?;
     drop(items);
-    assert_eq!(rt; notes.take_drops(), 123, "the slice kept its own");
+    expect_same(rt, notes.take_drops(), 123, "the slice kept its own");
     check_noted_kinds(rt, alloc, notes, &[], RESIZES.as_slice(), 75)
 }
 
@@ -53,6 +54,35 @@ fn growth_refused(rt: HostRuntime) -> Result<(), Fail> {
 /// How many clones succeed, and which are dropped then, all of the name 1.
 const REFUSED_COPIES: [(u64, u64); 3] = [(0, 0), (1, 1), (2, 11)];
 
+/// A copy of three items of the name 1 into a fixed vector is refused after so many clones.
+fn check_refused_copy(rt: &impl Abort, notes: &Notes, items: &[Noted], row: (u64, u64)) {
+    let (clones, drops) = row;
+    notes.allow_clones(clones);
+    let refused = StaticVec::<Noted, 3>::try_from(items).err();
+    expect(rt, refused == Some(OutOfMemory), "a copy is refused");
+    expect_same(rt, notes.take_drops(), drops, "by a refused copy");
+}
+
+/// A clone of three items of the name 1 is refused after so many of theirs.
+fn check_refused_clone(
+    rt: &impl Abort,
+    notes: &Notes,
+    vector: &StaticVec<Noted, 3>,
+    row: (u64, u64),
+) {
+    let (clones, drops) = row;
+    notes.allow_clones(clones);
+    let refused = vector.clone().err();
+    expect(rt, refused == Some(AllocError), "a clone is refused");
+    expect_same(rt, notes.take_drops(), drops, "by a refused clone");
+    expect_same(
+        rt,
+        names_of(vector.as_slice()),
+        111,
+        "after a refused clone",
+    );
+}
+
 #[test]
 fn static_copies_refused(rt: HostRuntime) -> Result<(), Fail> {
     let notes = Notes::new(0);
@@ -61,24 +91,38 @@ fn static_copies_refused(rt: HostRuntime) -> Result<(), Fail> {
         Noted::new(1, &notes),
         Noted::new(1, &notes),
     ];
-    for (clones, drops) in REFUSED_COPIES {
-        notes.allow_clones(clones);
-        let refused = StaticVec::<Noted, 3>::try_from(items.as_slice()).err();
-        assert_eq!(rt; refused, Some(OutOfMemory), "after {clones}");
-        assert_eq!(rt; notes.take_drops(), drops, "after {clones}");
+    for row in &REFUSED_COPIES {
+        check_refused_copy(&rt, &notes, items.as_slice(), *row);
     }
     notes.allow_clones(3);
     let vector = StaticVec::<Noted, 3>::try_from(items.as_slice())?;
-    for (clones, drops) in REFUSED_COPIES {
-        notes.allow_clones(clones);
-        assert_eq!(rt; vector.clone().err(), Some(AllocError), "after {clones}");
-        assert_eq!(rt; notes.take_drops(), drops, "after {clones}");
-        assert_eq!(rt; names_of(vector.as_slice()), 111, "after {clones}");
+    for row in &REFUSED_COPIES {
+        check_refused_clone(&rt, &notes, &vector, *row);
     }
     notes.allow_clones(3);
-    assert_eq!(rt; names_of(vector.clone()?.as_slice()), 111);
-    assert_eq!(rt; notes.take_drops(), 111);
+    expect_same(&rt, names_of(vector.clone()?.as_slice()), 111, "of a clone");
+    expect_same(&rt, notes.take_drops(), 111, "by the end of a clone");
     Ok(())
+}
+
+/// A clone of three items of the name 1 is refused after so many of theirs.
+fn check_refused_in_heap(
+    rt: &impl Abort,
+    notes: &Notes,
+    vector: &PolymorphicVec<Noted, &LocalHeap>,
+    row: (u64, u64),
+) {
+    let (clones, drops) = row;
+    notes.allow_clones(clones);
+    let refused = vector.try_clone().err();
+    expect(rt, refused == Some(AllocError), "a clone is refused");
+    expect_same(rt, notes.take_drops(), drops, "by a refused clone");
+    expect_same(
+        rt,
+        names_of(vector.as_slice()),
+        111,
+        "after a refused clone",
+    );
 }
 
 #[test]
@@ -87,21 +131,15 @@ fn polymorphic_copies_refused(rt: HostRuntime) -> Result<(), Fail> {
     let heap = LocalHeap::new(rt.alloc(), 4096)?;
     let vector = PolymorphicVec::from_fn(&heap, 3, |_| Noted::new(1, &notes))?;
     let used = heap.used();
-    for (clones, drops) in REFUSED_COPIES {
-        notes.allow_clones(clones);
-        assert_eq!(rt;
-            vector.try_clone().err(),
-            Some(AllocError),
-            "after {clones}"
-        );
-        assert_eq!(rt; notes.take_drops(), drops, "after {clones}");
-        assert_eq!(rt; names_of(vector.as_slice()), 111, "after {clones}");
-        assert_eq!(rt; heap.used(), used, "after {clones}");
+    for row in &REFUSED_COPIES {
+        check_refused_in_heap(&rt, &notes, &vector, *row);
+        expect_same(&rt, heap.used(), used, "after a refused clone");
     }
     notes.allow_clones(3);
-    assert_eq!(rt; names_of(vector.try_clone()?.as_slice()), 111);
-    assert_eq!(rt; notes.take_drops(), 111);
-    assert_eq!(rt; heap.used(), used);
+    let names = names_of(vector.try_clone()?.as_slice());
+    expect_same(&rt, names, 111, "of a clone");
+    expect_same(&rt, notes.take_drops(), 111, "by the end of a clone");
+    expect_same(&rt, heap.used(), used, "after the end of a clone");
     Ok(())
 }
 
@@ -114,16 +152,17 @@ fn check_heavy<'a, V: Vector<Heavy<'a>> + Drop>(
     heap: &'a LocalHeap,
     found: bool,
 ) -> Result<(), Fail> {
-    assert!(rt; vector.push(Heavy::new(5, heap)?).is_ok());
+    let pushed = vector.push(Heavy::new(5, heap)?).is_ok();
+    expect(rt, pushed, "there is room");
     let used = heap.used();
     let answer = vector.extend_from_slice(items);
     if found {
-        assert_eq!(rt; answer, Ok(()));
-        assert_eq!(rt; heavy_names_of(vector.as_slice()), 5123);
+        expect(rt, answer.is_ok(), "memory is found");
+        expect_same(rt, heavy_names_of(vector.as_slice()), 5123, "extended");
     } else {
-        assert_eq!(rt; answer, Err(OutOfMemory));
-        assert_eq!(rt; heavy_names_of(vector.as_slice()), 5);
-        assert_eq!(rt; heap.used(), used);
+        expect(rt, answer == Err(OutOfMemory), "memory is refused");
+        expect_same(rt, heavy_names_of(vector.as_slice()), 5, "not extended");
+        expect_same(rt, heap.used(), used, "after a refusal");
     }
     Ok(())
 }
@@ -150,7 +189,7 @@ fn check_heavy_kinds<'a>(
     check_heavy(rt, relocatable, items.as_slice(), heap, found)?;
     let polymorphic = PolymorphicVec::<Heavy<'a>, Global>::new(ample, 4)?;
     check_heavy(rt, polymorphic, items.as_slice(), heap, found)?;
-    assert_eq!(rt; heap.used(), used);
+    expect_same(rt, heap.used(), used, "after each kind");
     Ok(())
 }
 
@@ -159,7 +198,7 @@ fn items_with_memory(rt: HostRuntime) -> Result<(), Fail> {
     for clones in 0..4usize {
         let heap = LocalHeap::new(rt.alloc(), 16 * (4 + clones))?;
         check_heavy_kinds(&rt, rt.alloc(), &heap, clones == 3)?;
-        assert_eq!(rt; heap.used(), 0, "after {clones}");
+        expect_same(&rt, heap.used(), 0, "at the end");
     }
     Ok(())
 }

@@ -1,6 +1,7 @@
 //! Worked examples: what calls in a row answer, and what they leave.
 use crate::calls::Call::{Extend, ExtendUnchecked, Insert, Push, Remove, Resize};
 use crate::calls::{Row, check_kinds};
+use crate::expecting::{expect, expect_same};
 use crate::items::{relocatable_of, with_one_and_two};
 use ix_cells::VectorModificationError::{InsertWouldExceedCapacity, OutOfBounds};
 use ix_cells::{
@@ -52,9 +53,14 @@ fn check_resize_with<V: Vector<u64> + Drop>(
         called.set(called.get().wrapping_add(1));
         called.get().wrapping_add(6)
     };
-    assert_eq!(rt; vector.resize_with(n, seven_and_on), answer, "to {n}");
-    assert_eq!(rt; called.get(), calls, "calls to {n}");
-    assert_eq!(rt; vector.as_slice(), items, "left to {n}");
+    expect_same(
+        rt,
+        vector.resize_with(n, seven_and_on),
+        answer,
+        "resize with",
+    );
+    expect_same(rt, called.get(), calls, "calls");
+    expect_same(rt, vector.as_slice(), items, "left");
 }
 
 fn check_resizes_with(
@@ -108,28 +114,45 @@ fn extends(rt: HostRuntime) -> Result<(), Fail> {
 fn check_static_copies(rt: &impl Abort) -> Result<(), Fail> {
     let vector = StaticVec::<u64, 4>::try_from([1, 2].as_slice())?;
     let mut copy = vector.clone()?;
-    assert!(rt; copy.as_slice() == [1, 2].as_slice());
-    assert!(rt; copy.len() < copy.capacity());
-    assert!(rt; copy.extend_from_slice_unchecked(&[3]).is_ok());
-    assert!(rt; copy.as_slice() == [1, 2, 3].as_slice());
-    assert!(rt;
+    expect(rt, copy.as_slice() == [1, 2].as_slice(), "static copies");
+    expect(rt, copy.len() < copy.capacity(), "there is room");
+    expect(
+        rt,
+        copy.extend_from_slice_unchecked(&[3]).is_ok(),
+        "static copies",
+    );
+    expect(rt, copy.as_slice() == [1, 2, 3].as_slice(), "static copies");
+    expect(
+        rt,
         vector.as_slice() == [1, 2].as_slice(),
-        "after the clone's change"
+        "after the clone's change",
     );
     let refused = StaticVec::<u64, 1>::try_from([1, 2].as_slice());
-    assert!(rt; refused.err() == Some(InsertWouldExceedCapacity));
+    expect(
+        rt,
+        refused.err() == Some(InsertWouldExceedCapacity),
+        "static copies",
+    );
     Ok(())
 }
 
 fn check_polymorphic_copies(rt: &impl Abort, alloc: Global) -> Result<(), Fail> {
     let vector = with_one_and_two(PolymorphicVec::new(alloc, 2)?);
     let copy = vector.try_clone()?;
-    assert!(rt; copy.as_slice() == [1, 2].as_slice());
-    assert_eq!(rt; copy.capacity(), 2);
-    assert!(rt; copy == vector);
+    expect(
+        rt,
+        copy.as_slice() == [1, 2].as_slice(),
+        "polymorphic copies",
+    );
+    expect_same(rt, copy.capacity(), 2, "polymorphic copies");
+    expect(rt, copy == vector, "polymorphic copies");
     let squares = PolymorphicVec::from_fn(alloc, 3, |n: usize| n.wrapping_mul(n))?;
-    assert!(rt; squares.as_slice() == [0, 1, 4].as_slice());
-    assert!(rt; squares.is_full());
+    expect(
+        rt,
+        squares.as_slice() == [0, 1, 4].as_slice(),
+        "polymorphic copies",
+    );
+    expect(rt, squares.is_full(), "polymorphic copies");
     Ok(())
 }
 
@@ -147,15 +170,15 @@ fn memory_is_found_later(rt: HostRuntime) -> Result<(), Fail> {
     let error = refused.expect(&rt, "64 bytes are too few");
     let ready = error.into_uninit().init(rt.alloc()).ok();
     let vector = ready.expect(&rt, "there is memory now");
-    assert_eq!(rt; vector.capacity(), 1000);
-    assert!(rt; vector.is_empty());
-    assert_eq!(rt; heap.used(), 0);
+    expect_same(&rt, vector.capacity(), 1000, "memory is found");
+    expect(&rt, vector.is_empty(), "memory is found");
+    expect_same(&rt, heap.used(), 0, "memory is found");
     Ok(())
 }
 
 #[test]
 fn error_texts(rt: HostRuntime) -> Result<(), Fail> {
-    let texts = [
+    let texts = &[
         (OutOfBounds, "VectorModificationError::OutOfBounds"),
         (
             InsertWouldExceedCapacity,
@@ -168,7 +191,7 @@ fn error_texts(rt: HostRuntime) -> Result<(), Fail> {
     ];
     for (error, text) in texts {
         let printed = format!(in rt.alloc(); "{error}")?;
-        assert_eq!(rt; printed.as_str(), text);
+        expect_same(&rt, printed.as_str(), *text, "an error");
     }
     Ok(())
 }

@@ -3,6 +3,7 @@ use crate::calls::Call::{
     Clear, Extend, ExtendUnchecked, Fill, Insert, Pop, Push, Remove, Resize, ResizeWith, Truncate,
 };
 use crate::calls::{Row, check_kinds, check_rows};
+use crate::expecting::{expect, expect_same};
 use ix_cells::VectorModificationError::InsertWouldExceedCapacity;
 use ix_cells::{
     HeapTable, PolymorphicVec, RelocatableContainer, StaticVec, Table, UninitVec, Vector,
@@ -69,7 +70,7 @@ fn items_of_size_zero(rt: HostRuntime) -> Result<(), Fail> {
     let fixed = StaticVec::<(), 3>::new();
     check_kinds(&rt, rt.alloc(), fixed, 3, OF_SIZE_ZERO.as_slice())?;
     let units = PolymorphicVec::from_fn(rt.alloc(), 3, |_| ())?;
-    assert_eq!(rt; units.try_clone()?.len(), 3);
+    expect_same(&rt, units.try_clone()?.len(), 3, "items of size zero");
     Ok(())
 }
 
@@ -86,11 +87,12 @@ fn is_table_refused(alloc: Global, len: usize) -> bool {
 #[test]
 fn past_all_memory(rt: HostRuntime) {
     let alloc = rt.alloc();
-    for len in [usize::MAX, usize::MAX / 8, usize::MAX / 16 + 1] {
-        let vector = PolymorphicVec::<u64, Global>::new(alloc, len);
-        assert!(rt; vector.is_err(), "{len}");
-        let ready = UninitVec::<u64>::new_uninit(len).init(alloc);
-        assert!(rt; ready.is_err(), "{len}");
-        assert!(rt; is_table_refused(alloc, len), "{len}");
+    for len in &[usize::MAX, usize::MAX / 8, usize::MAX / 16 + 1] {
+        let vector = PolymorphicVec::<u64, Global>::new(alloc, *len);
+        expect(&rt, vector.is_err(), "`new` refuses");
+        let ready = UninitVec::<u64>::new_uninit(*len).init(alloc);
+        expect(&rt, ready.is_err(), "`init` refuses");
+        let refused = is_table_refused(alloc, *len);
+        expect(&rt, refused, "a table is refused");
     }
 }
