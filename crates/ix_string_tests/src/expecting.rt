@@ -6,7 +6,7 @@ use std::process::Abort;
 
 /// Ends the test unless `holds`.
 pub fn expect(rt: &impl Abort, holds: bool, place: &str)
-    // a test that goes on knows it
+    // A test that goes on knows it.
     ensures { IsTrue holds }
 {
     assert!(rt; holds, "{place}");
