@@ -1,7 +1,8 @@
 //! Times Tolkzin's containers beside Rust's own on the same operations, and prints one table.
 //!
-//! Each operation runs on both sides in turn, several times; the table has the medians. Both sides answer a checksum,
-//! which must be the same. `bench PICTURE.svg` also writes a picture of the ratios.
+//! Each operation runs on both sides in turn, many times; the table has the medians and the least times, and the ratio of
+//! the least ones, which other work on the machine disturbs least. Both sides answer a checksum, which must be the same.
+//! `bench PICTURE.svg` also writes a picture of the ratios.
 mod linked;
 mod picture;
 mod plain;
@@ -20,23 +21,36 @@ pub struct Operation {
     pub theirs: Kernel,
 }
 
-pub struct Timed {
-    pub name: &'static str,
-    pub ours: f64,
-    pub peer: &'static str,
-    pub theirs: f64,
+/// Nanoseconds an operation, over all runs of one side.
+pub struct Times {
+    pub median: f64,
+    pub least: f64,
 }
 
-const REPETITIONS: usize = 15;
-const MILLISECONDS_A_RUN: f64 = 8.0;
+pub struct Timed {
+    pub name: &'static str,
+    pub ours: Times,
+    pub peer: &'static str,
+    pub theirs: Times,
+}
+
+impl Timed {
+    pub fn ratio(&self) -> f64 {
+        self.ours.least / self.theirs.least
+    }
+}
+
+const REPETITIONS: usize = 61;
+const MILLISECONDS_A_RUN: f64 = 4.0;
 const ROUNDS_TO_COMPARE: u64 = 1000;
 
 fn main() {
-    println!("{:<18} {:>10} {:>10} {:>7}  {}", "operation", "Tolkzin ns", "Rust ns", "ratio", "Rust's side");
+    println!("{:<18} {:>10} {:>10} {:>10} {:>10} {:>7}  {}", "operation", "Tolkzin ns", "Rust ns", "(least)", "(least)", "ratio", "Rust's side");
     let mut rows = Vec::new();
     for operation in linked::OPERATIONS {
         let row = timed(operation);
-        println!("{:<18} {:>10.2} {:>10.2} {:>7.2}  {}", row.name, row.ours, row.theirs, row.ours / row.theirs, row.peer);
+        let (ours, theirs) = (&row.ours, &row.theirs);
+        println!("{:<18} {:>10.2} {:>10.2} {:>10.2} {:>10.2} {:>7.2}  {}", row.name, ours.median, theirs.median, ours.least, theirs.least, row.ratio(), row.peer);
         rows.push(row);
     }
     if let Some(path) = std::env::args().nth(1) {
@@ -44,7 +58,7 @@ fn main() {
     }
 }
 
-/// The medians of both sides, run in turn.
+/// The times of both sides, run in turn.
 fn timed(operation: &Operation) -> Timed {
     let (ours, theirs) = ((operation.ours)(ROUNDS_TO_COMPARE, operation.param), (operation.theirs)(ROUNDS_TO_COMPARE, operation.param));
     assert_eq!(ours, theirs, "{}: the checksums differ", operation.name);
@@ -54,7 +68,7 @@ fn timed(operation: &Operation) -> Timed {
         times[0].push(nanoseconds(operation.ours, rounds[0], operation.param));
         times[1].push(nanoseconds(operation.theirs, rounds[1], operation.param));
     }
-    let [ours, theirs] = times.map(median);
+    let [ours, theirs] = times.map(of_all_runs);
     Timed { name: operation.name, ours, peer: operation.peer, theirs }
 }
 
@@ -75,7 +89,7 @@ fn nanoseconds(kernel: Kernel, rounds: u64, param: u64) -> f64 {
     start.elapsed().as_secs_f64() * 1e9 / rounds as f64
 }
 
-fn median(mut times: Vec<f64>) -> f64 {
+fn of_all_runs(mut times: Vec<f64>) -> Times {
     times.sort_by(f64::total_cmp);
-    times[times.len() / 2]
+    Times { median: times[times.len() / 2], least: times[0] }
 }

@@ -15,7 +15,7 @@ pub fn of(rows: &[Timed]) -> String {
     let _ = writeln!(text, r##"<rect width="100%" height="100%" fill="#ffffff"/>"##);
     let _ = writeln!(text, r#"<text x="8" y="15">Time of Tolkzin as a share of the time of Rust's own collection (shorter is faster)</text>"#);
     for (i, row) in rows.iter().enumerate() {
-        let ratio = row.ours / row.theirs;
+        let ratio = row.ratio();
         let y = ROW * (i + 1);
         let length = ratio.min(GREATEST) / GREATEST * WIDTH as f64;
         let colour = if ratio <= 1.0 { "#2a7f62" } else { "#b5651d" };
