@@ -7,6 +7,7 @@ mod linked;
 mod picture;
 mod plain;
 
+use picture::Bar;
 use std::hint::black_box;
 use std::time::Instant;
 
@@ -54,8 +55,13 @@ fn main() {
         rows.push(row);
     }
     if let Some(path) = std::env::args().nth(1) {
-        std::fs::write(&path, picture::of(&rows)).expect("the picture can be written");
+        let bars: Vec<Bar> = rows.iter().map(bar).collect();
+        std::fs::write(&path, picture::of(&bars)).expect("the picture can be written");
     }
+}
+
+fn bar(row: &Timed) -> Bar<'_> {
+    Bar { operation: row.name, ratio: row.ratio(), peer: row.peer }
 }
 
 /// The times of both sides, run in turn.
