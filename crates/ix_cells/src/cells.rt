@@ -9,6 +9,7 @@ mod relocatable_container;
 pub(crate) mod row;
 mod table;
 mod touches;
+mod uninit;
 
 pub use counted::Counted;
 pub use heap_table::HeapTable;
@@ -16,3 +17,4 @@ pub use inline_table::InlineTable;
 pub use relocatable_container::{InitError, RelocatableContainer};
 pub use table::{MAX_FIXED_CAPACITY, Table};
 pub use touches::Touches;
+pub use uninit::{ContainerFamily, Uninit};

@@ -10,9 +10,10 @@ pub mod cells;
 pub mod vector;
 
 pub use cells::{
-    Counted, HeapTable, InitError, InlineTable, MAX_FIXED_CAPACITY, RelocatableContainer, Table,
-    Touches,
+    ContainerFamily, Counted, HeapTable, InitError, InlineTable, MAX_FIXED_CAPACITY,
+    RelocatableContainer, Table, Touches, Uninit,
 };
 pub use vector::{
-    PolymorphicVec, RelocatableVec, StaticVec, UninitVec, Vector, VectorModificationError,
+    PolymorphicVec, RelocatableVec, StaticVec, UninitVec, VecFamily, Vector,
+    VectorModificationError,
 };

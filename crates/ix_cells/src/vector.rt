@@ -11,5 +11,5 @@ pub use modification_error::VectorModificationError;
 pub use polymorphic_vec::PolymorphicVec;
 pub use relocatable_vec::RelocatableVec;
 pub use static_vec::StaticVec;
-pub use uninit_vec::UninitVec;
+pub use uninit_vec::{UninitVec, VecFamily};
 pub use vector_trait::Vector;

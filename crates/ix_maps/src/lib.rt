@@ -7,8 +7,8 @@
 pub mod queue;
 pub mod slotmap;
 
-pub use queue::{FixedSizeQueue, MetaQueue, Queue, RelocatableQueue, UninitQueue};
+pub use queue::{FixedSizeQueue, MetaQueue, Queue, QueueFamily, RelocatableQueue, UninitQueue};
 pub use slotmap::{
-    FixedSizeSlotMap, Iter, Link, MetaSlotMap, RelocatableSlotMap, SlotMap, SlotMapKey,
-    UninitSlotMap,
+    FixedSizeSlotMap, Iter, Link, MetaSlotMap, RelocatableSlotMap, SlotMap, SlotMapFamily,
+    SlotMapKey, UninitSlotMap,
 };

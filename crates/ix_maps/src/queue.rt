@@ -8,4 +8,4 @@ mod uninit_queue;
 pub use fixed_size_queue::FixedSizeQueue;
 pub use heap_queue::{Queue, RelocatableQueue};
 pub use meta_queue::MetaQueue;
-pub use uninit_queue::UninitQueue;
+pub use uninit_queue::{QueueFamily, UninitQueue};

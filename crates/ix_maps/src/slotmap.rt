@@ -18,4 +18,4 @@ pub use meta_slot_map::MetaSlotMap;
 pub use relocatable_slot_map::RelocatableSlotMap;
 pub use slot_map::SlotMap;
 pub use slot_map_key::SlotMapKey;
-pub use uninit_slot_map::UninitSlotMap;
+pub use uninit_slot_map::{SlotMapFamily, UninitSlotMap};

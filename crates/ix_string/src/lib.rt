@@ -7,6 +7,7 @@
 pub mod string;
 
 pub use string::{
-    PolymorphicString, RelocatableString, StaticString, String, StringModificationError,
-    UninitString, as_escaped_string, strnlen,
+    HeapString, HeapStringKind, Polymorphic, PolymorphicString, Relocatable, RelocatableString,
+    StaticString, String, StringFamily, StringModificationError, UninitString, as_escaped_string,
+    strnlen,
 };

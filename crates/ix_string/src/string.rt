@@ -2,6 +2,7 @@
 
 mod escape;
 mod gaps;
+mod heap_string;
 mod modification_error;
 mod nul;
 mod polymorphic_string;
@@ -14,10 +15,11 @@ mod uninit_string;
 mod vector_text;
 
 pub use escape::as_escaped_string;
+pub use heap_string::{HeapString, HeapStringKind};
 pub use modification_error::StringModificationError;
 pub use nul::strnlen;
-pub use polymorphic_string::PolymorphicString;
-pub use relocatable_string::RelocatableString;
+pub use polymorphic_string::{Polymorphic, PolymorphicString};
+pub use relocatable_string::{Relocatable, RelocatableString};
 pub use static_string::StaticString;
 pub use string_trait::String;
-pub use uninit_string::UninitString;
+pub use uninit_string::{StringFamily, UninitString};

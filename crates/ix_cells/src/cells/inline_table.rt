@@ -1,15 +1,19 @@
 //! A table in the value itself.
 ghost use Rattle.std.specs.Prelude.{◌≡◌, ◌<◌, ◌≤◌, Some, None, slice_index_or, slice_set, replicate, refl};
-ghost use Rattle.std.specs.Borrow.{sem};
 
 use crate::cells::places::{item, item_mut};
-use crate::cells::row::Row;
+use crate::cells::row::place_mut;
 use crate::cells::{MAX_FIXED_CAPACITY, Table};
+use arrayvec::ArrayVec;
 use std::marker::Model;
+use std::mem;
 
 /// A table of `CAP` places in the value itself. It takes no memory of an allocator.
+///
+/// The places lie in an `ArrayVec` that is full from its making to its end: it takes an array in one fill, and lends its
+/// places as a slice.
 pub struct InlineTable<T, const CAP: usize> {
-    row: Row<Option<T>, CAP>,
+    row: ArrayVec<Option<T>, CAP>,
 }
 
 impl<T, const CAP: usize> Model for InlineTable<T, CAP> {
@@ -17,9 +21,9 @@ impl<T, const CAP: usize> Model for InlineTable<T, CAP> {
 
     ghost Value = { List (Option T) };
 
-    ghost view = { λ table. table.row.places };
+    ghost view = { λ table. table.row.items };
 
-    ghost invariant = { λ table. length table.row.places ≡ CAP };
+    ghost invariant = { λ table. length table.row.items ≡ CAP };
 }
 
 impl<T: Drop, const CAP: usize> InlineTable<T, CAP> {
@@ -32,7 +36,9 @@ impl<T: Drop, const CAP: usize> InlineTable<T, CAP> {
         // There are CAP places, all empty.
         ensures { result ≡ replicate CAP None }
     {
-        InlineTable { row: Row::vacant() }
+        InlineTable {
+            row: ArrayVec::from(vacant()),
+        }
     }
 }
 
@@ -51,12 +57,12 @@ impl<T: Drop, const CAP: usize> Table<T> for InlineTable<T, CAP> {
 
     #[inline]
     fn put(&mut self, i: usize, item: T) {
-        self.row.put(i, Some(item));
+        *place_mut(&mut self.row, i) = Some(item);
     }
 
     #[inline]
     fn take(&mut self, i: usize) -> T {
-        match self.row.replace(i, None) {
+        match mem::replace(place_mut(&mut self.row, i), None) {
             Some(item) => item,
             None => unreachable!(),
         }
@@ -64,15 +70,22 @@ impl<T: Drop, const CAP: usize> Table<T> for InlineTable<T, CAP> {
 
     #[inline]
     fn get(&self, i: usize) -> &T {
-        item(self.row.get(i))
+        item(&self.row.as_slice()[i])
     }
 
     #[inline]
     fn get_mut(&mut self, i: usize) -> &mut T {
-        item_mut(self.row.place_mut(i))
+        item_mut(place_mut(&mut self.row, i))
     }
 
     fn end(self) {
         let InlineTable { row: _ } = self;
     }
+}
+
+/// `CAP` empty places.
+fn vacant<T, const CAP: usize>() -> [Option<T>; CAP]
+    ensures { result ≡ replicate CAP None }
+{
+    [const { None }; CAP]
 }

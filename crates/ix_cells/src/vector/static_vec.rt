@@ -6,10 +6,12 @@ ghost use Rattle.ix_cells.specs.Cloning.{AreInfallible};
 ghost use Rattle.ix_cells.specs.Rewriting.{refilled_is};
 
 use crate::cells::MAX_FIXED_CAPACITY;
-use crate::cells::row::Row;
+use crate::cells::row::front_mut;
 use crate::vector::{Vector, VectorModificationError};
+use arrayvec::ArrayVec;
 use std::alloc::AllocError;
 use std::marker::Model;
+use std::mem;
 
 /// A vector of at most `CAPACITY` items, in the value itself. It takes no memory of an allocator. Contracts see it as
 /// the list of its items.
@@ -27,7 +29,7 @@ use std::marker::Model;
 ///
 /// This is `StaticVec` of iceoryx2-bb-container.
 pub struct StaticVec<T: Default, const CAPACITY: usize> {
-    row: Row<T, CAPACITY>,
+    row: ArrayVec<T, CAPACITY>,
     len: usize,
 }
 
@@ -40,9 +42,9 @@ impl<T: Default, const CAPACITY: usize> Model for StaticVec<T, CAPACITY> {
 
     ghost coded = { coded_list T.code };
 
-    ghost view = { λ vector. take vector.len vector.row.places };
+    ghost view = { λ vector. take vector.len vector.row.items };
 
-    ghost invariant = { λ vector. IsFront CAPACITY vector.row.places vector.len };
+    ghost invariant = { λ vector. IsFront CAPACITY vector.row.items vector.len };
 }
 
 impl<T: Default, const CAPACITY: usize> StaticVec<T, CAPACITY> {
@@ -62,9 +64,7 @@ impl<T: Default, const CAPACITY: usize> StaticVec<T, CAPACITY> {
         ensures { result ≡ [] }
     {
         StaticVec {
-            row: Row {
-                places: Default::default(),
-            },
+            row: ArrayVec::from(<[T; CAPACITY]>::default()),
             len: 0,
         }
     }
@@ -74,7 +74,7 @@ impl<T: Default, const CAPACITY: usize> StaticVec<T, CAPACITY> {
         ensures value { result.now ≡ self.now }
         ensures within { length result.now ≤ CAPACITY }
     {
-        &self.row.places[..self.len]
+        &self.row.as_slice()[..self.len]
     }
 
     /// The number of items for which there is room, held ones among them. O(1).
@@ -101,10 +101,8 @@ impl<T: Default + Clone, const CAPACITY: usize> StaticVec<T, CAPACITY> {
         ensures memory { AreInfallible T.is_infallible items.now → IsOk result }
     {
         let len = self.len;
-        let end = len + items.len();
-        let places = &mut self.row.places[..];
-        put_clones(&mut places[len..end], items)?;
-        self.len = end;
+        put_clones_from(self.row.as_mut_slice(), len, items)?;
+        self.len = len + items.len();
         Ok(())
     }
 }
@@ -121,7 +119,7 @@ impl<T: Default + Drop, const CAPACITY: usize> Vector<T> for StaticVec<T, CAPACI
 
     #[inline]
     fn as_mut_slice(&mut self) -> &mut [T] {
-        self.row.front_mut(self.len)
+        front_mut(&mut self.row, self.len)
     }
 
     #[inline]
@@ -137,7 +135,7 @@ impl<T: Default + Drop, const CAPACITY: usize> Vector<T> for StaticVec<T, CAPACI
     #[inline]
     fn push_unchecked(&mut self, item: T) {
         let len = self.len;
-        self.row.put(len, item);
+        self.row.as_mut_slice()[len] = item;
         self.len = len + 1;
     }
 
@@ -147,7 +145,7 @@ impl<T: Default + Drop, const CAPACITY: usize> Vector<T> for StaticVec<T, CAPACI
             return None;
         }
         let last = self.len - 1;
-        let item = self.row.replace(last, T::default());
+        let item = mem::replace(&mut self.row.as_mut_slice()[last], T::default());
         self.len = last;
         Some(item)
     }
@@ -155,7 +153,7 @@ impl<T: Default + Drop, const CAPACITY: usize> Vector<T> for StaticVec<T, CAPACI
     /// O(`len - n`).
     fn truncate(&mut self, n: usize) {
         if n < self.len {
-            let places = &mut self.row.places[..];
+            let places = self.row.as_mut_slice();
             put_defaults(&mut places[n..self.len]);
             self.len = n;
         }
@@ -205,6 +203,26 @@ fn put_clones<T: Default + Clone + Drop>(places: &mut [T], items: &[T]) -> Resul
         }
     }
     Ok(())
+}
+
+/// The same, in the places from `start` on.
+#[inline]
+fn put_clones_from<T: Default + Clone + Drop>(
+    places: &mut [T],
+    start: usize,
+    items: &[T],
+) -> Result<(), AllocError>
+    // There are places for all of them.
+    requires { start + length items.now ≤ length places.old }
+    // The number of places stays, and so do the places before.
+    ensures len { length places.new ≡ length places.old }
+    ensures front { take start places.new ≡ take start places.old }
+    // The places hold the clones.
+    ensures done { OnOk result (AppendsClones T.is_clone (take start places.old) (take (start + length items.now) places.new) items.now) }
+    // It is done where no clone of these items can fail.
+    ensures memory { AreInfallible T.is_infallible items.now → IsOk result }
+{
+    put_clones(&mut places[start..start + items.len()], items)
 }
 
 /// The items are dropped, the last one first.

@@ -48,7 +48,7 @@ pub trait Vector<T: Drop> {
 
     /// Whether there is no item. O(1).
     #[inline]
-    fn is_empty(&self) -> bool
+    final fn is_empty(&self) -> bool
         ensures { IsTrue result ↔ ((bounded self.now).items ≡ []) }
     {
         self.len() == 0
@@ -56,7 +56,7 @@ pub trait Vector<T: Drop> {
 
     /// Whether there are as many items as the capacity. A vector of capacity 0 is empty and full. O(1).
     #[inline]
-    fn is_full(&self) -> bool
+    final fn is_full(&self) -> bool
         ensures { IsTrue result ↔ IsFull (bounded self.now) }
     {
         self.len() == self.capacity()
@@ -80,7 +80,7 @@ pub trait Vector<T: Drop> {
     ///
     /// A full vector answers [`VectorModificationError::InsertWouldExceedCapacity`].
     #[inline]
-    fn push(&mut self, item: T) -> Result<(), VectorModificationError>
+    final fn push(&mut self, item: T) -> Result<(), VectorModificationError>
         // It is refused exactly where there is no room.
         ensures answer { result ≡ push_answer (bounded self.old) }
         // The item stands behind the others where there was room.
@@ -99,7 +99,7 @@ pub trait Vector<T: Drop> {
     ///
     /// A full vector answers [`VectorModificationError::InsertWouldExceedCapacity`], and else an `index` past the
     /// length is answered by [`VectorModificationError::OutOfBounds`].
-    fn insert(&mut self, index: usize, item: T) -> Result<(), VectorModificationError>
+    final fn insert(&mut self, index: usize, item: T) -> Result<(), VectorModificationError>
         // It is refused exactly where there is no room, or no such place.
         ensures answer { result ≡ insert_answer (bounded self.old) index }
         // The item stands between the first ones and the others where it is not refused.
@@ -120,7 +120,7 @@ pub trait Vector<T: Drop> {
 
     /// Takes the item at place `index`, and moves each later item one place down; or answers None where there is no
     /// such item. O(`len - index`).
-    fn remove(&mut self, index: usize) -> Option<T>
+    final fn remove(&mut self, index: usize) -> Option<T>
         // It answers the item of that place.
         ensures answer { result ≡ removed_item (bounded self.old) index }
         // That item left, and the others stay in their order.
@@ -146,7 +146,7 @@ pub trait Vector<T: Drop> {
     }
 
     /// Drops every item, the last one first. O(`len`).
-    fn clear(&mut self)
+    final fn clear(&mut self)
         ensures { bounded self.new ≡ with_items (bounded self.old) [] }
     {
         self.truncate(0);
@@ -186,7 +186,7 @@ pub trait Vector<T: Drop> {
     /// Where they do not fit, it answers [`VectorModificationError::InsertWouldExceedCapacity`] and clones nothing.
     /// Where a clone found no memory, it drops the clones already made, and answers
     /// [`VectorModificationError::OutOfMemory`].
-    fn extend_from_slice(&mut self, other: &[T]) -> Result<(), VectorModificationError>
+    final fn extend_from_slice(&mut self, other: &[T]) -> Result<(), VectorModificationError>
     where
         T: Clone,
         // Clones of the items equal them.
@@ -218,7 +218,7 @@ pub trait Vector<T: Drop> {
     ///
     /// An `n` past the capacity is answered by [`VectorModificationError::InsertWouldExceedCapacity`]. Where a clone
     /// found no memory, it drops the clones already made, and answers [`VectorModificationError::OutOfMemory`].
-    fn resize(&mut self, n: usize, item: T) -> Result<(), VectorModificationError>
+    final fn resize(&mut self, n: usize, item: T) -> Result<(), VectorModificationError>
     where
         T: Clone,
         // Clones of the items equal them.
@@ -261,7 +261,7 @@ pub trait Vector<T: Drop> {
     ///
     /// An `n` past the capacity is answered by [`VectorModificationError::InsertWouldExceedCapacity`]; `f` is not
     /// called then, and it is not called for a cut.
-    fn resize_with<F: FnMut() -> T>(
+    final fn resize_with<F: FnMut() -> T>(
         &mut self,
         n: usize,
         mut f: F,

@@ -66,7 +66,7 @@ pub trait String {
 
     /// The bytes as a text. O(1).
     #[inline]
-    fn as_str(&self) -> &str
+    final fn as_str(&self) -> &str
         ensures { result.now ≡ (bounded self.now).items }
     {
         // SAFETY: bytes from 1 to 127 are UTF-8.
@@ -75,7 +75,7 @@ pub trait String {
 
     /// Whether there is no byte. O(1).
     #[inline]
-    fn is_empty(&self) -> bool
+    final fn is_empty(&self) -> bool
         ensures { IsTrue result ↔ ((bounded self.now).items ≡ []) }
     {
         self.len() == 0
@@ -83,7 +83,7 @@ pub trait String {
 
     /// Whether there are as many bytes as the capacity. A string of capacity 0 is empty and full. O(1).
     #[inline]
-    fn is_full(&self) -> bool
+    final fn is_full(&self) -> bool
         ensures { IsTrue result ↔ IsFull (bounded self.now) }
     {
         self.len() == self.capacity()
@@ -94,7 +94,11 @@ pub trait String {
     ///
     /// Where they do not fit, it answers [`StringModificationError::InsertWouldExceedCapacity`]; and else, where one
     /// of them is 0 or above 127, [`StringModificationError::InvalidCharacter`].
-    fn insert_bytes(&mut self, idx: usize, bytes: &[u8]) -> Result<(), StringModificationError>
+    final fn insert_bytes(
+        &mut self,
+        idx: usize,
+        bytes: &[u8],
+    ) -> Result<(), StringModificationError>
         // The place is one of the string, or the one behind its last byte.
         requires { idx ≤ length (bounded self.old).items }
         // It is refused exactly where there is no room, or a byte that is none of a text.
@@ -120,7 +124,7 @@ pub trait String {
     /// A full string answers [`StringModificationError::InsertWouldExceedCapacity`], and else a byte that is 0 or above
     /// 127 is answered by [`StringModificationError::InvalidCharacter`].
     #[inline]
-    fn insert(&mut self, idx: usize, byte: u8) -> Result<(), StringModificationError>
+    final fn insert(&mut self, idx: usize, byte: u8) -> Result<(), StringModificationError>
         // The place is one of the string, or the one behind its last byte.
         requires { idx ≤ length (bounded self.old).items }
         // It is refused exactly where there is no room, or the byte is none of a text.
@@ -137,7 +141,7 @@ pub trait String {
     ///
     /// It refuses as [`String::insert_bytes`] does.
     #[inline]
-    fn push_bytes(&mut self, bytes: &[u8]) -> Result<(), StringModificationError>
+    final fn push_bytes(&mut self, bytes: &[u8]) -> Result<(), StringModificationError>
         // It is refused exactly where there is no room, or a byte that is none of a text.
         ensures answer { result ≡ insert_answer (bounded self.old) bytes.now }
         // The bytes stand behind the others where it is not refused.
@@ -152,7 +156,7 @@ pub trait String {
     ///
     /// It refuses as [`String::insert`] does.
     #[inline]
-    fn push(&mut self, byte: u8) -> Result<(), StringModificationError>
+    final fn push(&mut self, byte: u8) -> Result<(), StringModificationError>
         // It is refused exactly where there is no room, or the byte is none of a text.
         ensures answer { result ≡ insert_answer (bounded self.old) (byte ∷ []) }
         // The byte stands behind the others where it is not refused.
@@ -165,7 +169,7 @@ pub trait String {
 
     /// Takes the byte at place `idx`, and moves each later byte one place down; or answers None where there is no
     /// such byte. O(`len - idx`).
-    fn remove(&mut self, idx: usize) -> Option<u8>
+    final fn remove(&mut self, idx: usize) -> Option<u8>
         // It answers the byte of that place.
         ensures answer { result ≡ removed_item (bounded self.old) idx }
         // That byte left, and the others stay in their order.
@@ -182,7 +186,7 @@ pub trait String {
     }
 
     /// Takes the last byte, or answers None where there is none. O(1).
-    fn pop(&mut self) -> Option<u8>
+    final fn pop(&mut self) -> Option<u8>
         // It answers the last byte.
         ensures answer { result ≡ last_of (bounded self.old) }
         // The last byte left.
@@ -196,7 +200,7 @@ pub trait String {
     }
 
     /// Keeps the first `n` bytes. It changes nothing where there are no more than `n` bytes. O(`len - n`).
-    fn truncate(&mut self, n: usize)
+    final fn truncate(&mut self, n: usize)
         // The first bytes stay.
         ensures string { bounded self.new ≡ truncated (bounded self.old) n }
         // Where there are no more, nothing changes.
@@ -209,28 +213,28 @@ pub trait String {
     }
 
     /// Takes every byte out. O(`len`).
-    fn clear(&mut self)
+    final fn clear(&mut self)
         ensures { bounded self.new ≡ with_items (bounded self.old) [] }
     {
         self.truncate(0);
     }
 
     /// The least place where `needle` stands, or None where it stands nowhere. An empty one stands at 0.
-    fn find(&self, needle: &[u8]) -> Option<usize>
+    final fn find(&self, needle: &[u8]) -> Option<usize>
         ensures { IsFirstPlace (bounded self.now).items needle.now result }
     {
         memmem::find(self.as_bytes(), needle)
     }
 
     /// The greatest place where `needle` stands, or None where it stands nowhere. An empty one stands at `len`.
-    fn rfind(&self, needle: &[u8]) -> Option<usize>
+    final fn rfind(&self, needle: &[u8]) -> Option<usize>
         ensures { IsLastPlace (bounded self.now).items needle.now result }
     {
         memmem::rfind(self.as_bytes(), needle)
     }
 
     /// Takes `bytes` out and answers true where the string begins with them; or answers false. O(`len`).
-    fn strip_prefix(&mut self, bytes: &[u8]) -> bool
+    final fn strip_prefix(&mut self, bytes: &[u8]) -> bool
         // It is done exactly where they stand in front.
         ensures answer { IsTrue result ↔ StandsAt (bounded self.old).items bytes.now 0 }
         // They left, and the others stay in their order.
@@ -245,7 +249,7 @@ pub trait String {
     }
 
     /// Takes `bytes` out and answers true where the string ends with them; or answers false. O(`bytes.len()`).
-    fn strip_suffix(&mut self, bytes: &[u8]) -> bool
+    final fn strip_suffix(&mut self, bytes: &[u8]) -> bool
         // It is done exactly where they are the ending.
         ensures answer { IsTrue result ↔ EndsIn (bounded self.old).items bytes.now }
         // They left, and the others stay.
@@ -273,7 +277,7 @@ pub trait String {
 
     /// Copies the bytes and one zero to the front of `out`, and answers their number, which is `len + 1`; or answers
     /// None where `out` is shorter. The rest of `out` stays. O(`len`).
-    fn copy_with_nul(&self, out: &mut [u8]) -> Option<usize>
+    final fn copy_with_nul(&self, out: &mut [u8]) -> Option<usize>
         // It is refused exactly where the slice is too short.
         ensures variant { IsSome result ↔ (length (bounded self.now).items < length out.old) }
         // It answers how many bytes were written.
@@ -296,7 +300,7 @@ pub trait String {
 
     /// Whether the bytes are those of `other`. O(`len`).
     #[inline]
-    fn eq_bytes(&self, other: &[u8]) -> bool
+    final fn eq_bytes(&self, other: &[u8]) -> bool
         ensures { IsTrue result ↔ ((bounded self.now).items ≡ other.now) }
     {
         self.as_bytes() == other
@@ -304,7 +308,7 @@ pub trait String {
 
     /// Whether the bytes are those of `other`. O(`len`).
     #[inline]
-    fn eq_str(&self, other: &str) -> bool
+    final fn eq_str(&self, other: &str) -> bool
         ensures { IsTrue result ↔ ((bounded self.now).items ≡ other.now) }
     {
         self.eq_bytes(other.as_bytes())
@@ -313,7 +317,7 @@ pub trait String {
     /// The order of the bytes and those of `other`: by the first place where they differ, and else the shorter one is
     /// less. O(`len`).
     #[inline]
-    fn cmp_bytes(&self, other: &[u8]) -> Ordering
+    final fn cmp_bytes(&self, other: &[u8]) -> Ordering
         ensures { result ≡ slice_cmp nat_cmp (bounded self.now).items other.now }
     {
         self.as_bytes().cmp(&other)

@@ -1,6 +1,6 @@
 use Rattle.ix_string.proofs.Retaining.{All-Retains}
 use Rattle.ix_string.specs.Text.{IsTextByte}
-use Rattle.ix_string.proofs.string.relocatable_string.RelocatableStringString.retain.Goals as goal
+use Rattle.ix_string.proofs.string.heap_string.HeapStringString.retain.Goals as goal
 
 pub invariant_of-self : goal.invariant_of-self
 invariant_of-self g c =

@@ -1,5 +1,6 @@
 -- `place_mut` lends one place of a row. The borrow checker learns nothing of a call that takes a slice and lends a part of
 -- it, so this proof walks the code by hand: one call lends all places, another lends one of them on. Assumes `Logic`.
+use Rattle.std.proofs.Math.ListN.{length-set}
 use Rattle.std.proofs.Common.{◌≡◌, ℕ, ◌^◌, ◌<◌, List, [], ◌∷◌, ◌∙◌, length, refl, ap, arith, w64, MutBor}
 use Rattle.std.proofs.raw_atomic.Walks.{proved}
 use Rattle.std.specs.Prelude.{slice_set, slice_index_or}
@@ -8,7 +9,7 @@ use mir.Syntax.{Fn, named}
 use mir.MapTy.{inst_fn}
 use mir.Val.{Val, vint, vptr}
 use base.Logic.{id⊢}
-use base.Fml.{Fml, Lft, GName, Share, ftrue, flft}
+use base.Fml.{Lft, Share, ftrue, flft}
 use contract.Lifetimes.{Lfts, Shares}
 use contract.BorrowLft.{◌⊑◌}
 use contract.Monad.{fact}
@@ -21,7 +22,7 @@ use types.ByLocal.{alloc_all, pass_all, free_all, look_at, get, through, sets, l
 use denote.Array.{Array}
 use denote.Builtin.{usize}
 use denote.Exit.{yes}
-use denote.Follow.{follows, follows_then}
+use denote.Follow.{follows}
 use denote.Laws.{shows}
 use denote.Param.{layout, number}
 use denote.Plain.{uint_vals, uint_Tells}
@@ -36,14 +37,14 @@ use denote.Triple.Entry.{alive}
 use denote.Triple.Spec.{triple_of}
 use denote.Triple.Table.{framed}
 use denote.Triple.Walked.{says, Goes-dropped, Goes-spent_ref, walk_of, ends_at}
-use Rattle.ix_cells.proofs.Loans.{args, R, S, Slice, ends, stayed, AllLent, states}
-use Rattle.ix_cells.proofs.cells.row.Row.all_mut.Met.{met as all_met}
+use Rattle.ix_cells.proofs.Loans.{args, R, S, Slice, ends, lent_on, stayed, AllLent, states}
+use Rattle.ix_cells.proofs.cells.row.all_mut.Met.{met as all_met}
 use Rattle.ix_cells.proofs.cells.row.place_of.Met.{met as place_met}
-use Rattle.ix_cells.proofs.cells.row.Row.place_mut.Statement.{statement}
-use Rattle.ix_cells.proofs.cells.row.Row.place_mut.Code as code
-use Rattle.ix_cells.specs.contracts.cells.row.Row.all_mut as g
+use Rattle.ix_cells.proofs.cells.row.place_mut.Statement.{statement}
+use Rattle.ix_cells.proofs.cells.row.place_mut.Code as code
+use Rattle.ix_cells.specs.contracts.cells.row.all_mut as g
 use Rattle.ix_cells.specs.contracts.cells.row.place_of as h
-use Rattle.ix_cells.specs.contracts.cells.row.Row.place_mut as f
+use Rattle.ix_cells.specs.contracts.cells.row.place_mut as f
 
 module _ (X : RattleType) (cap : ℕ) where
   abbrev function : Fn
@@ -52,10 +53,6 @@ module _ (X : RattleType) (cap : ℕ) where
   -- a reference to one place
   abbrev One : Lft → RattleType
   One κ = MutRef (named 0) κ (R X cap)
-
-  -- the row of the name γ ends with xs, where place i is the last value under the name δ
-  abbrev ends_with : List X.Denot → ℕ → GName → GName → Fml
-  ends_with xs i = ends X cap (R X cap) (slice_set xs i)
 
   -- what `place_of` gives of all places, at the machine value v:  a reference to place i, two tokens, and what all places end as
   module _ {M : Type 1} {𝓤 : Ura M} (𝓛 : Logic 𝓤) (κs : Lfts 2) (qs : Shares 2) (all : MutBor (List X.Denot)) (i : ℕ) where
@@ -74,13 +71,13 @@ place_mut_spec 𝓤 𝓛 𝓜 𝓡 wired X cap L fits =
     proved 𝓛 T (stayed X cap) c 𝓜 𝓡 (Goes-spent_ref 𝓛 3 (0 ∷ []) tt (plain (λ _. S X cap)), (Goes-dropped 𝓛 3 (plain (λ _. usize)) yes (λ κs x w. refl), tt))
     (f.Key.name (args X cap)) (function X cap) (code.unfolded 𝓤 𝓛.H 𝓜 𝓡 wired (X, (N, tt)))
     (λ κs. (mut_vals, (uint_vals w64, tt))) (λ κs. (mut_Tells (named 0) κs.0 (S X cap), (uint_Tells w64, tt))) (λ κs qs bounds a _ are.
-    let κ : Lft = κs.0 in let q : Share = qs.0 in let r : MutBor (S X cap).Denot = a.0 in let i : ℕ = a.1.0 in
+    let κ : Lft = κs.0 in let q : Share = qs.0 in let r : MutBor (S X cap).Denot = a.0 in let i : ℕ = a.1.0 in let ys : List X.Denot = r.now.items in
     let y : W.Ghost = ((κs, qs, bounds, a, (mut_vals r, (vint w64 i ∷ [], tt))), tt) in
     let G = triple_of 𝓛 (g.signature X N) (g.spec X N 𝓛 𝓜.mem 𝓡.returns) in
     let z : G.Ghost = ((κs, qs, bounds, (r, tt), (mut_vals r, tt)), tt) in
     let H = triple_of 𝓛 (h.signature X) (h.spec X 𝓛 𝓜.mem 𝓡.returns) in
     qed 𝓛 ((raw (alive 𝓛 T.signature κs qs) ⊛ ‵ ((MutRef (named 0) κ (S X cap)).own_val r (mut_vals r)) ⊛ ‵ (owns (usize ∷ []) a.1 y.0.4.1))
-    ∷ (raw (fact 𝓤 (κs.1.0 ⊑ X.lives)) ⊛ raw (fact 𝓤 (κs.1.1.0 ⊑ [])) ⊛ raw (fact 𝓤 (size (layout (S X cap)) < 2 ^ 63)) ⊛ raw (fact 𝓤 (i < cap))) ∷ []) ∵
+    ∷ (raw (fact 𝓤 (κs.1.0 ⊑ X.lives)) ⊛ raw (fact 𝓤 (κs.1.1.0 ⊑ [])) ⊛ raw (fact 𝓤 (size (layout (S X cap)) < 2 ^ 63)) ⊛ raw (fact 𝓤 (i < length ys))) ∷ []) ∵
     split3 ! $ nothing ! $ move ! (2 ∷ 0 ∷ []) $ join ! $ move ! (1 ∷ 0 ∷ []) $ join ! $
     -- [the tokens and the row; the number; the conditions]
     move ! (2 ∷ []) $ split3 ! $ heard ! _ (λ outlives. move ! (1 ∷ []) $ split ! $ move ! (1 ∷ []) $ heard ! _ (λ within.
@@ -90,10 +87,10 @@ place_mut_spec 𝓤 𝓛 𝓜 𝓡 wired X cap L fits =
     move ! (1 ∷ 0 ∷ []) $ use2 𝓛 (raw (G.pre z)) (id⊢ 𝓤 _) $ keep ! (0 ∷ 1 ∷ []) $
     enter ! _ _ _ _ _ $ alloc_all ! (λ l. pass_all ! refl ((tt, tt), ((tt, record { fits = are.1.0.1 }), tt)) $
     sets ! (addr ! (through ! refl (stop !))) refl (tt, tt) $
-    calls_at ! (framed 𝓤 𝓛.H 𝓜 (tables 𝓤 𝓛.H 𝓜 𝓡 𝓡.env)) G (all_met 𝓤 𝓛 𝓜 𝓡 (code.calls-ix_cells::cells::row::Row::all_mut 𝓡.env wired) X cap L fits) z
+    calls_at ! (framed 𝓤 𝓛.H 𝓜 (tables 𝓤 𝓛.H 𝓜 𝓡 𝓡.env)) G (all_met 𝓤 𝓛 𝓜 𝓡 (code.calls-ix_cells::cells::row::all_mut 𝓡.env wired) X cap L fits) z
     (and_then ! (get ! refl) (no_more !)) (λ v.
     use1 𝓛 (AllLent X cap 𝓛 κs qs r v) (id⊢ 𝓤 _) $
-    await ! tt $ pick ! (λ all. split ! $ split ! $ move ! (2 ∷ []) $ pick ! (λ ws. split3 ! $ drop ! $ move ! (1 ∷ []) $ split ! $ heard ! _ (λ same. heard ! _ (λ long.
+    await ! tt $ pick ! (λ all. split ! $ split ! $ move ! (2 ∷ []) $ pick ! (λ ws. split3 ! $ drop ! $ move ! (1 ∷ []) $ heard ! _ (λ same.
     -- [what the row ends as; the tokens; the reference to all places; the number; the locals]
     move ! (2 ∷ []) $ peeks ! (Slice X cap κ) _ (shows 𝓛 (Slice X cap κ)) all (v ∷ []) (λ is.
     rewrite ! 0 (λ (vs : List Val). ‵ ((Slice X cap κ).own_val all vs)) is.0.0 refl $
@@ -104,7 +101,7 @@ place_mut_spec 𝓤 𝓛 𝓜 𝓡 wired X cap L fits =
     move ! (0 ∷ 3 ∷ []) $ join ! $ move ! (2 ∷ []) $ split3 ! $ nothing ! $ move ! (2 ∷ 0 ∷ []) $ join ! $ move ! (1 ∷ 0 ∷ []) $ join ! $
     -- [the tokens of the call; the token that is left; the reference and the number; what the row ends as]
     move ! (0 ∷ 2 ∷ []) $ join ! $
-    let inside : i < length all.now = omega arith in states ! inside $ states ! outlives $ join ! $
+    let inside : i < length all.now = omega (arith, ap length same) in states ! inside $ states ! outlives $ join ! $
     move ! (1 ∷ 0 ∷ []) $ use2 𝓛 (raw (H.pre z')) (id⊢ 𝓤 _) $
     calls_at ! (framed 𝓤 𝓛.H 𝓜 (tables 𝓤 𝓛.H 𝓜 𝓡 𝓡.env)) H (place_met 𝓤 𝓛 𝓜 𝓡 (code.calls-ix_cells::cells::row::place_of 𝓡.env wired) X L) z'
     (and_then ! (get ! refl) (and_then ! (get ! refl) (no_more !))) (λ w.
@@ -112,9 +109,9 @@ place_mut_spec 𝓤 𝓛 𝓜 𝓡 wired X cap L fits =
     await ! tt $ pick ! (λ place. split ! $ split ! $ move ! (2 ∷ []) $ pick ! (λ ws'. split3 ! $ drop ! $ move ! (1 ∷ []) $ heard ! _ (λ holds.
     -- [what all places end as; the tokens; the reference to the place; the token that is left; what the row ends as]
     move ! (4 ∷ 0 ∷ []) $
-    use2 𝓛 (‵ (ends_with X cap all.now i r.ghost_name place.ghost_name))
-    (follows_then 𝓛 (S X cap) (Array (R X cap) 0) (R X cap) (λ w. record { places = w }) (slice_set all.now i) r.ghost_name all.ghost_name place.ghost_name) $
-    rewrite ! 0 (λ (xs : List X.Denot). ‵ (ends_with X cap xs i r.ghost_name place.ghost_name)) same refl $
+    rewrite ! 1 (λ (xs : List X.Denot). ‵ (follows (Array (R X cap) 0) (R X cap) all.ghost_name place.ghost_name (slice_set xs i))) same refl $
+    use2 𝓛 (‵ (ends X cap (R X cap) (slice_set ys i) r.ghost_name place.ghost_name))
+    (lent_on X cap 𝓛 (R X cap) (slice_set ys i) r.ghost_name all.ghost_name place.ghost_name ys (λ w. length-set ys i w)) $
     move ! (2 ∷ []) $ peeks ! (One X cap κ) _ (shows 𝓛 (One X cap κ)) place (w ∷ []) (λ at.
     rewrite ! 0 (λ (vs : List Val). ‵ ((One X cap κ).own_val place vs)) at.0 refl $
     lands_as ! (ap only at.0) refl (tt, tt) $
@@ -124,4 +121,4 @@ place_mut_spec 𝓤 𝓛 𝓜 𝓡 wired X cap L fits =
     move ! (2 ∷ []) $ split3 ! $ move ! (1 ∷ 5 ∷ []) $ join ! $ move ! (1 ∷ 0 ∷ []) $ join ! $
     -- [all tokens; nothing; the reference to the place; what the row ends as]
     move ! (1 ∷ []) $ nothing ! $ fjoin ! $ nothing ! $ fjoin ! $ move ! (0 ∷ 2 ∷ []) $ join ! $ move ! (1 ∷ 0 ∷ []) $ join ! $ frame ! $
-    says ! (holds ∙ ap (λ (xs : List X.Denot). slice_index_or xs i place.now) same) $ done !)))))))))))))))
+    says ! (holds ∙ ap (λ (xs : List X.Denot). slice_index_or xs i place.now) same) $ done !))))))))))))))

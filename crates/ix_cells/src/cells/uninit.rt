@@ -1,0 +1,79 @@
+//! Containers that have a capacity, and no memory yet.
+ghost use Rattle.std.specs.Prelude.{◌≡◌, ℕ, IsOk, IfOk, IfErr};
+
+use crate::cells::{InitError, RelocatableContainer};
+use std::alloc::AllocError;
+use std::marker::{Model, PhantomData};
+
+/// The containers of one kind, one type for each allocator `A`. [`Uninit::init`](RelocatableContainer::init) makes them.
+pub trait ContainerFamily<A> {
+    /// The container in memory of an `A`.
+    type Container;
+
+    /// Holds of a capacity and an empty container that has it.
+    ghost is_empty_with: { ℕ → Self.Container → Type 0 };
+
+    /// Returns an empty container with memory of `alloc` for `capacity` items, or `AllocError` where there is no memory.
+    fn with_capacity(alloc: A, capacity: usize) -> Result<Self::Container, AllocError>
+        ensures container { IfOk result (is_empty_with capacity) }
+        // A capacity of 0 needs no memory.
+        ensures memory { capacity ≡ 0 → IsOk result };
+}
+
+/// A container of the family `F` that has a capacity, and no memory yet. Contracts see it as that capacity.
+///
+/// It offers [`RelocatableContainer::init`] alone.
+#[derive(Drop)]
+pub struct Uninit<F> {
+    capacity: usize,
+    of: PhantomData<F>,
+}
+
+impl<F> Model for Uninit<F> {
+    ghost use Rattle.std.specs.Prelude.{ℕ};
+    ghost use Rattle.std.specs.Coded.{coded_ℕ};
+
+    ghost Value = { ℕ };
+
+    ghost coded = { coded_ℕ };
+
+    ghost view = { λ uninit. uninit.capacity };
+}
+
+impl<F> Uninit<F> {
+    /// Returns an uninitialised container for `capacity` items. It takes no memory. O(1).
+    #[inline]
+    pub fn new_uninit(capacity: usize) -> Self
+        ensures { result ≡ capacity }
+    {
+        Uninit {
+            capacity,
+            of: PhantomData,
+        }
+    }
+}
+
+impl<A, F: ContainerFamily<A>> RelocatableContainer<A> for Uninit<F> {
+    type Ready = F::Container;
+
+    ghost capacity_of = { λ uninit. uninit };
+
+    ghost is_empty_with = { F.is_empty_with };
+
+    #[inline]
+    fn new_uninit(capacity: usize) -> Self {
+        Uninit::new_uninit(capacity)
+    }
+
+    fn init(self, alloc: A) -> Result<F::Container, InitError<Self>>
+        ensures ready { IfOk result (F.is_empty_with self) }
+        ensures refused { IfErr result (λ error. error ≡ self) }
+        // A capacity of 0 needs no memory.
+        ensures memory { self ≡ 0 → IsOk result }
+    {
+        match F::with_capacity(alloc, self.capacity) {
+            Ok(container) => Ok(container),
+            Err(AllocError) => Err(InitError::new(self)),
+        }
+    }
+}

@@ -1,7 +1,0 @@
-use Rattle.ix_string.proofs.Retaining.{All-Retains}
-use Rattle.ix_string.specs.Text.{IsTextByte}
-use Rattle.ix_string.proofs.string.polymorphic_string.PolymorphicStringString.retain.Goals as goal
-
-pub invariant_of-self : goal.invariant_of-self
-invariant_of-self g c =
-    All-Retains (λ b. IsTextByte b) (λ p x b q. goal.F-step g p x b q) c.args.f c.self.inside.bytes.items c.retain_in.new.vector.items c.retain_in.ensures.text c.self.invariant

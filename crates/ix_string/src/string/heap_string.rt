@@ -1,0 +1,175 @@
+//! The string in memory of an allocator.
+ghost use Rattle.std.specs.Prelude.{◌≡◌, ◌==◌, ◌∷◌, [], Some};
+ghost use Rattle.std.specs.Cmp.Lexicographic.{pointwise, slice_cmp};
+ghost use Rattle.std.specs.Cmp.Rules.{comparing, hashing};
+ghost use Rattle.std.specs.Cmp.{partial_order_from_own_ties};
+ghost use Rattle.std.specs.Ordering.{nat_cmp, as_partial_cmp};
+ghost use Rattle.std.proofs.Common.{rules};
+ghost use Rattle.ix_string.specs.Escape.{escaped};
+
+use crate::string::String;
+use crate::string::escape::Escaped;
+use crate::string::vector_text::{insert_into, remove_from, retain_in};
+use ix_cells::{PolymorphicVec, Vector};
+use std::alloc::{Allocator, Global};
+use std::cmp::Ordering;
+use std::fmt;
+use std::hash::{Hash, Hasher};
+use std::marker::{Model, PhantomData};
+
+/// The kind of a [`HeapString`], which its `Debug` text begins with.
+pub trait HeapStringKind {
+    /// Returns the name of the kind's type.
+    fn name() -> &'static str;
+}
+
+/// A string whose memory is taken of the allocator `A` once, where it is made, and given back at its end. Contracts see
+/// it as a bounded list.
+///
+/// `A` is an allocator whose value can be copied. The kinds `K` are [`PolymorphicString`](crate::PolymorphicString) and
+/// [`RelocatableString`](crate::RelocatableString).
+#[derive(Drop)]
+pub struct HeapString<K, A: Allocator = Global> {
+    pub(crate) bytes: PolymorphicVec<u8, A>,
+    pub(crate) kind: PhantomData<K>,
+}
+
+impl<K, A: Allocator> Model for HeapString<K, A> {
+    ghost use Rattle.std.specs.Prelude.{ℕ};
+    ghost use Rattle.std.specs.Coded.{coded_ℕ};
+    ghost use Rattle.ix_cells.specs.Bounded.{Bounded, bounded_code};
+    ghost use Rattle.ix_string.specs.Text.{IsText};
+
+    ghost Value = { Bounded ℕ };
+
+    ghost coded = { bounded_code coded_ℕ };
+
+    ghost view = { λ string. string.bytes };
+
+    ghost invariant = { λ string. IsText string.bytes.items };
+}
+
+impl<K, A: Allocator> HeapString<K, A> {
+    /// The empty string in an empty vector.
+    #[inline]
+    pub(crate) fn in_vector(bytes: PolymorphicVec<u8, A>) -> Self
+        requires { bytes.items ≡ [] }
+        ensures { result ≡ bytes }
+    {
+        HeapString {
+            bytes,
+            kind: PhantomData,
+        }
+    }
+}
+
+impl<K, A: Allocator> String for HeapString<K, A> {
+    ghost bounded = { λ string. string };
+
+    #[inline]
+    fn as_bytes(&self) -> &[u8] {
+        self.bytes.as_slice()
+    }
+
+    #[inline]
+    fn capacity(&self) -> usize {
+        self.bytes.capacity()
+    }
+
+    #[inline]
+    fn len(&self) -> usize {
+        self.bytes.len()
+    }
+
+    fn insert_bytes_unchecked(&mut self, idx: usize, bytes: &[u8]) {
+        insert_into(&mut self.bytes, idx, bytes);
+    }
+
+    fn remove_range(&mut self, idx: usize, n: usize) -> bool {
+        let len = self.bytes.len();
+        if idx > len || n > len - idx {
+            return false;
+        }
+        remove_from(&mut self.bytes, idx, n);
+        true
+    }
+
+    fn retain<F: FnMut(u8) -> bool>(&mut self, f: F) {
+        retain_in(&mut self.bytes, f);
+    }
+}
+
+/// Strings are equal if their bytes are, whatever the capacities.
+impl<K, A: Allocator> PartialEq for HeapString<K, A> {
+    ghost eq = { λ string other. pointwise ◌==◌ string.items other.items };
+
+    ghost laws = { Prim.search (comparing, rules) };
+
+    fn eq(&self, other: &Self) -> bool {
+        self.as_bytes() == other.as_bytes()
+    }
+}
+
+impl<K, A: Allocator> Eq for HeapString<K, A> {
+    ghost laws = { Prim.search (comparing, rules) };
+}
+
+/// The order by the first byte where the strings differ, and else the shorter one is less, whatever the capacities.
+impl<K, A: Allocator> Ord for HeapString<K, A> {
+    ghost cmp = { λ string other. slice_cmp nat_cmp string.items other.items };
+
+    ghost total = { Prim.search (comparing, rules) };
+
+    ghost matches_partial_cmp = { Prim.search (comparing, rules) };
+
+    ghost matches_eq = { Prim.search (comparing, rules) };
+
+    fn cmp(&self, other: &Self) -> Ordering {
+        self.as_bytes().cmp(&other.as_bytes())
+    }
+}
+
+impl<K, A: Allocator> PartialOrd for HeapString<K, A> {
+    ghost partial_cmp = { as_partial_cmp (λ string other. slice_cmp nat_cmp string.items other.items) };
+
+    ghost laws = { partial_order_from_own_ties (Prim.search (comparing, rules)) (Prim.search (comparing, rules)) };
+
+    fn partial_cmp(&self, other: &Self) -> Option<Ordering> {
+        Some(self.cmp(other))
+    }
+}
+
+/// The bytes are fed to the hasher in one write.
+impl<K, A: Allocator> Hash for HeapString<K, A> {
+    ghost hash_input = { λ string. string.items ∷ [] };
+
+    ghost respects_eq = { Prim.search (hashing, rules) };
+
+    fn hash<H: Hasher>(&self, state: &mut H) {
+        state.write(self.as_bytes());
+    }
+}
+
+/// The bytes are shown escaped.
+impl<K, A: Allocator> fmt::Display for HeapString<K, A> {
+    ghost output = { λ string. Some (escaped string.items) };
+
+    fn fmt<W: fmt::Write>(&self, f: &mut fmt::Formatter<W>) -> fmt::Result {
+        Escaped(self.as_bytes()).fmt(f)
+    }
+}
+
+/// The kind, the capacity, the length and the escaped bytes are shown, as
+/// `RelocatableString { capacity: 5, len: 2, data: "ab" }`.
+impl<K: HeapStringKind, A: Allocator> fmt::Debug for HeapString<K, A> {
+    fn fmt<W: fmt::Write>(&self, f: &mut fmt::Formatter<W>) -> fmt::Result {
+        write!(
+            f,
+            "{} {{ capacity: {}, len: {}, data: \"{}\" }}",
+            K::name(),
+            self.capacity(),
+            self.len(),
+            Escaped(self.as_bytes())
+        )
+    }
+}
