@@ -2,11 +2,10 @@
 ghost use Rattle.std.specs.Prelude.{◌≡◌, ◌<◌, ◌≤◌, Some, None, slice_index_or, slice_set, replicate, refl};
 
 use crate::cells::places::{item, item_mut};
-use crate::cells::row::place_mut;
+use crate::cells::row::{place, place_mut, put, replace};
 use crate::cells::{MAX_FIXED_CAPACITY, Table};
 use arrayvec::ArrayVec;
 use std::marker::Model;
-use std::mem;
 
 /// A table of `CAP` places in the value itself. It takes no memory of an allocator.
 ///
@@ -57,12 +56,12 @@ impl<T: Drop, const CAP: usize> Table<T> for InlineTable<T, CAP> {
 
     #[inline]
     fn put(&mut self, i: usize, item: T) {
-        *place_mut(&mut self.row, i) = Some(item);
+        put(&mut self.row, i, Some(item));
     }
 
     #[inline]
     fn take(&mut self, i: usize) -> T {
-        match mem::replace(place_mut(&mut self.row, i), None) {
+        match replace(&mut self.row, i, None) {
             Some(item) => item,
             None => unreachable!(),
         }
@@ -70,7 +69,7 @@ impl<T: Drop, const CAP: usize> Table<T> for InlineTable<T, CAP> {
 
     #[inline]
     fn get(&self, i: usize) -> &T {
-        item(&self.row.as_slice()[i])
+        item(place(&self.row, i))
     }
 
     #[inline]

@@ -6,12 +6,11 @@ ghost use Rattle.ix_cells.specs.Cloning.{AreInfallible};
 ghost use Rattle.ix_cells.specs.Rewriting.{refilled_is};
 
 use crate::cells::MAX_FIXED_CAPACITY;
-use crate::cells::row::front_mut;
+use crate::cells::row::{front_mut, put, put_clones, put_defaults, replace};
 use crate::vector::{Vector, VectorModificationError};
 use arrayvec::ArrayVec;
 use std::alloc::AllocError;
 use std::marker::Model;
-use std::mem;
 
 /// A vector of at most `CAPACITY` items, in the value itself. It takes no memory of an allocator. Contracts see it as
 /// the list of its items.
@@ -101,7 +100,7 @@ impl<T: Default + Clone, const CAPACITY: usize> StaticVec<T, CAPACITY> {
         ensures memory { AreInfallible T.is_infallible items.now → IsOk result }
     {
         let len = self.len;
-        put_clones_from(self.row.as_mut_slice(), len, items)?;
+        put_clones(&mut self.row, len, items)?;
         self.len = len + items.len();
         Ok(())
     }
@@ -135,7 +134,7 @@ impl<T: Default + Drop, const CAPACITY: usize> Vector<T> for StaticVec<T, CAPACI
     #[inline]
     fn push_unchecked(&mut self, item: T) {
         let len = self.len;
-        self.row.as_mut_slice()[len] = item;
+        put(&mut self.row, len, item);
         self.len = len + 1;
     }
 
@@ -145,7 +144,7 @@ impl<T: Default + Drop, const CAPACITY: usize> Vector<T> for StaticVec<T, CAPACI
             return None;
         }
         let last = self.len - 1;
-        let item = mem::replace(&mut self.row.as_mut_slice()[last], T::default());
+        let item = replace(&mut self.row, last, T::default());
         self.len = last;
         Some(item)
     }
@@ -153,8 +152,7 @@ impl<T: Default + Drop, const CAPACITY: usize> Vector<T> for StaticVec<T, CAPACI
     /// O(`len - n`).
     fn truncate(&mut self, n: usize) {
         if n < self.len {
-            let places = self.row.as_mut_slice();
-            put_defaults(&mut places[n..self.len]);
+            put_defaults(&mut self.row, n, self.len);
             self.len = n;
         }
     }
@@ -168,61 +166,6 @@ impl<T: Default + Drop, const CAPACITY: usize> Vector<T> for StaticVec<T, CAPACI
     }
 
     ghost rewrites = { λ vector. refilled_is (record { items = vector; capacity = CAPACITY }) };
-}
-
-/// Puts defaults in all places, the last one first, and drops what was there.
-#[inline]
-fn put_defaults<T: Default + Drop>(places: &mut [T])
-    ensures { length places.new ≡ length places.old }
-{
-    for i in (0..places.len()).rev() {
-        places[i] = T::default();
-    }
-}
-
-/// Puts clones of the items in the places, in their order; or leaves defaults in the places, and drops the clones
-/// already made, where a clone found no memory.
-#[inline]
-fn put_clones<T: Default + Clone + Drop>(places: &mut [T], items: &[T]) -> Result<(), AllocError>
-    // There are as many places as items.
-    requires { length places.old ≡ length items.now }
-    // The number of places stays.
-    ensures len { length places.new ≡ length places.old }
-    // The places hold the clones.
-    ensures done { OnOk result (AllZip T.is_clone items.now places.new) }
-    // It is done where no clone of these items can fail.
-    ensures memory { AreInfallible T.is_infallible items.now → IsOk result }
-{
-    for i in 0..items.len() {
-        match items[i].clone() {
-            Ok(copy) => places[i] = copy,
-            Err(error) => {
-                put_defaults(&mut places[..i]);
-                return Err(error);
-            }
-        }
-    }
-    Ok(())
-}
-
-/// The same, in the places from `start` on.
-#[inline]
-fn put_clones_from<T: Default + Clone + Drop>(
-    places: &mut [T],
-    start: usize,
-    items: &[T],
-) -> Result<(), AllocError>
-    // There are places for all of them.
-    requires { start + length items.now ≤ length places.old }
-    // The number of places stays, and so do the places before.
-    ensures len { length places.new ≡ length places.old }
-    ensures front { take start places.new ≡ take start places.old }
-    // The places hold the clones.
-    ensures done { OnOk result (AppendsClones T.is_clone (take start places.old) (take (start + length items.now) places.new) items.now) }
-    // It is done where no clone of these items can fail.
-    ensures memory { AreInfallible T.is_infallible items.now → IsOk result }
-{
-    put_clones(&mut places[start..start + items.len()], items)
 }
 
 /// The items are dropped, the last one first.

@@ -1,5 +1,5 @@
 use Rattle.std.proofs.Common.{◌≡◌, length}
-use Rattle.ix_cells.proofs.vector.static_vec.put_defaults.Given as goal
+use Rattle.ix_cells.proofs.cells.row.fill_with_defaults.Given as goal
 
 -- the number of places stays
 abbrev pub invariant-loop-i : goal.invariant-loop-i

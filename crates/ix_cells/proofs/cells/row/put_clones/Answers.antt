@@ -1,0 +1,19 @@
+use Rattle.std.proofs.Common.{◌+◌, ◌≤◌, length, arith}
+use Rattle.std.proofs.lemmas.Result.{on_ok_weaker}
+use Rattle.ix_cells.proofs.Rows.{length-refill-written, take-refill-before, take-refill-behind}
+use Rattle.ix_cells.proofs.cells.row.put_clones.Goals as goal
+
+pub returns : goal.returns
+returns g c =
+    let xs = c.args.row.now.items in
+    let ys = c.fill_with_clones.new.places in
+    let a = c.args.start in
+    let e = a + length c.args.items.now in
+    let order : a ≤ e = omega arith in
+    let same = rw c.as_mut_slice-places.ensures.value at c.fill_with_clones.ensures.len in
+    rw c.as_mut_slice-places.ensures.value (record {
+      len = length-refill-written xs ys a e order c.requires same;
+      front = take-refill-before xs ys a e order c.requires same;
+      done = on_ok_weaker c.fill_with_clones.result (λ clones. (ys, take-refill-behind xs ys a e order c.requires same, clones)) c.fill_with_clones.ensures.done;
+      memory = c.fill_with_clones.ensures.memory;
+    })
