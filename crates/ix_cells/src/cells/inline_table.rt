@@ -1,5 +1,5 @@
 //! A table in the value itself.
-ghost use Rattle.std.specs.Prelude.{◌≡◌, ◌<◌, ◌≤◌, Some, None, slice_index_or, slice_set, replicate, refl};
+ghost use Rattle.std.specs.Prelude.{◌≡◌, ◌≤◌, Some, None, slice_set, replicate, refl};
 
 use crate::cells::places::{item, item_mut};
 use crate::cells::row::{place, place_mut, put, replace};

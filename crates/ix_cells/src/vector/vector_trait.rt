@@ -1,5 +1,5 @@
 //! The trait of all vectors.
-ghost use Rattle.std.specs.Prelude.{◌≡◌, ℕ, ◌+◌, ◌<◌, ◌≤◌, ◌↔◌, List, [], ◌∷◌, ◌++◌, length, take, drop, Ok, Err, IsTrue, IsOk, IsOkUnless, OnOk, OnErr, slice_range};
+ghost use Rattle.std.specs.Prelude.{◌≡◌, ◌+◌, ◌<◌, ◌≤◌, ◌↔◌, List, [], ◌∷◌, ◌++◌, length, take, drop, Ok, Err, IsTrue, IsOk, IsOkUnless, OnOk, OnErr, slice_range};
 ghost use Rattle.std.specs.List.{AppendsResults, remove_range};
 ghost use Rattle.std.specs.Borrow.{sem};
 ghost use Rattle.ix_cells.specs.Bounded.{Bounded, IsWithin, IsFull, with_items};

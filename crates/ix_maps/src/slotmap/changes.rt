@@ -1,5 +1,5 @@
 //! The calls that change a slot map.
-ghost use Rattle.std.specs.Prelude.{◌≡◌, ◌≢◌, ℕ, ◌+◌, ◌<◌, ◌≤◌, ◌↔◌, [], length, Some, None, IsSome, IsNone, IsTrue};
+ghost use Rattle.std.specs.Prelude.{◌≡◌, ◌≢◌, ℕ, ◌+◌, ◌<◌, ◌≤◌, ◌↔◌, [], Some, None, IsNone, IsTrue};
 ghost use Rattle.std.specs.Bool.{OnFalse};
 ghost use Rattle.ix_maps.specs.SlotState.{times, first_of, value_at, IsHeld, IsKey, IsWellFormed};
 ghost use Rattle.ix_maps.specs.SlotSteps.{filled, emptied, inserted, inserted_at, removed};

@@ -1,7 +1,7 @@
 //! Steps on a table of links, which is a doubly linked list of free keys.
 ghost use Rattle.std.specs.Prelude.{◌≡◌, ◌+◌, ◌<◌, ◌≤◌, length, Some, None, replicate, slice_set};
 ghost use Rattle.std.specs.List.{range_with_len};
-ghost use Rattle.ix_cells.specs.Places.{place_at, IsHeldAt, IsVacant};
+ghost use Rattle.ix_cells.specs.Places.{IsHeldAt, IsVacant};
 ghost use Rattle.ix_maps.specs.FreeList.{no_key, first_or, IsLinkTable, IsKeyOrNone, IsLinkWithin, IsRisingList, IsToldBy, with_next, with_previous, unlinked, linked_first, first_without};
 
 use crate::slotmap::Link;

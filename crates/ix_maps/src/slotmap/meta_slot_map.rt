@@ -1,10 +1,10 @@
 //! The slot map over any two tables, and the calls that read it.
-ghost use Rattle.std.specs.Prelude.{◌≡◌, ℕ, nat_eq, ◌+◌, ◌<◌, ◌↔◌, List, [], length, drop, replicate, Option, Some, None, IsSome, IsTrue, IsNone, option_copied, true, false};
+ghost use Rattle.std.specs.Prelude.{◌≡◌, ℕ, nat_eq, ◌+◌, ◌<◌, ◌↔◌, [], length, drop, replicate, Option, Some, None, IsTrue, IsNone, option_copied, true, false};
 ghost use Rattle.std.specs.List.Sorted.{IsStrictlyIncreasing};
 ghost use Rattle.std.specs.Map.{keys_of, lookup};
 ghost use Rattle.std.specs.Borrow.{sem, Lends, LendsIf};
 ghost use Rattle.std.specs.Option.{option_copied_mut};
-ghost use Rattle.ix_cells.specs.Places.{IsEmptyAt, IsVacant};
+ghost use Rattle.ix_cells.specs.Places.{IsVacant};
 ghost use Rattle.ix_maps.specs.SlotState.{SlotState, times, first_of, value_at, IsHeld, IsKey, IsWellFormed, empty_slots, held_count, entries, entries_from};
 ghost use Rattle.ix_maps.specs.SlotSteps.{with_value};
 ghost use Rattle.ix_maps.specs.FreeList.{no_key};

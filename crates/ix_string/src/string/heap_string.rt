@@ -1,5 +1,5 @@
 //! The string in memory of an allocator.
-ghost use Rattle.std.specs.Prelude.{◌≡◌, ◌==◌, ◌∷◌, [], Some};
+ghost use Rattle.std.specs.Prelude.{◌≡◌, ◌==◌, ℕ, List, ◌∷◌, [], Some};
 ghost use Rattle.std.specs.Cmp.Lexicographic.{pointwise, slice_cmp};
 ghost use Rattle.std.specs.Cmp.Rules.{comparing, hashing};
 ghost use Rattle.std.specs.Cmp.{partial_order_from_own_ties};
@@ -19,8 +19,12 @@ use std::marker::{Model, PhantomData};
 
 /// The kind of a [`HeapString`], which its `Debug` text begins with.
 pub trait HeapStringKind {
+    /// The name of the kind's type.
+    ghost text: { List ℕ };
+
     /// Returns the name of the kind's type.
-    fn name() -> &'static str;
+    fn name() -> &'static str
+        ensures { result.now ≡ text };
 }
 
 /// A string whose memory is taken of the allocator `A` once, where it is made, and given back at its end. Contracts see

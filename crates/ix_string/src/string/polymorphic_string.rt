@@ -1,5 +1,5 @@
 //! The string whose memory is taken where it is made.
-ghost use Rattle.std.specs.Prelude.{◌≡◌, IsOk, IfOk};
+ghost use Rattle.std.specs.Prelude.{◌≡◌, IsOk, IfOk, codes};
 ghost use Rattle.ix_cells.specs.Bounded.{empty_of};
 
 use crate::string::heap_string::{HeapString, HeapStringKind};
@@ -12,6 +12,8 @@ use std::marker::PhantomData;
 pub struct Polymorphic;
 
 impl HeapStringKind for Polymorphic {
+    ghost text = { codes "PolymorphicString" };
+
     #[inline]
     fn name() -> &'static str {
         "PolymorphicString"

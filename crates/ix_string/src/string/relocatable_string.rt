@@ -1,5 +1,5 @@
 //! The string that is made in two steps.
-ghost use Rattle.std.specs.Prelude.{◌≡◌};
+ghost use Rattle.std.specs.Prelude.{◌≡◌, codes};
 
 use crate::string::UninitString;
 use crate::string::heap_string::{HeapString, HeapStringKind};
@@ -10,6 +10,8 @@ use std::alloc::{Allocator, Global};
 pub struct Relocatable;
 
 impl HeapStringKind for Relocatable {
+    ghost text = { codes "RelocatableString" };
+
     #[inline]
     fn name() -> &'static str {
         "RelocatableString"
