@@ -1,9 +1,10 @@
 -- Lemmas on a row of places that are written by way of a slice.
 use Rattle.std.proofs.Common.{◌≡◌, ℕ, ◌-◌, ◌≤◌, List, ◌++◌, length, take, drop, refl, sym, arith}
-use Rattle.std.specs.Prelude.{slice_set}
-use Rattle.std.specs.List.{refill, length_refill}
+use Rattle.std.specs.Prelude.{slice_set, Result, OnOk}
+use Rattle.std.specs.List.{AllZip, AppendsClones, refill, length_refill}
 use Rattle.std.proofs.Math.ListN.{length-set}
 use Rattle.std.proofs.lemmas.Grind.{common_steps}
+use Rattle.std.proofs.lemmas.Result.{on_ok_weaker}
 use Rattle.std.proofs.lemmas.Slice.{take-put_mid, take-put_mid_below}
 use borrow.Rule.Slice.PartMut.{put_mid}
 use Rattle.ix_cells.specs.Rewriting.{refill_same}
@@ -31,3 +32,8 @@ module _ {T : Type 0} where
     pub take-refill-behind : take e (refill (length xs) xs (put_mid a (e - a) xs ys)) ≡ take a xs ++ ys
     take-refill-behind =
         rw (refill_same xs (put_mid a (e - a) xs ys) length-written) (take-put_mid a (e - a) xs ys e (omega (arith, length-part)) (omega arith))
+
+    -- the written places are clones, where it is done
+    pub AppendsClones-written : {E : Type 0} (clones : T → T → Type 0) (items : List T) (r : Result (Unit {0}) E) → OnOk r (AllZip clones items ys)
+        → OnOk r (AppendsClones clones (take a xs) (take e (refill (length xs) xs (put_mid a (e - a) xs ys))) items)
+    AppendsClones-written clones items r = on_ok_weaker r (λ are. (ys, take-refill-behind, are))

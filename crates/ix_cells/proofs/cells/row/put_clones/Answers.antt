@@ -1,6 +1,5 @@
 use Rattle.std.proofs.Common.{◌+◌, ◌≤◌, length, arith}
-use Rattle.std.proofs.lemmas.Result.{on_ok_weaker}
-use Rattle.ix_cells.proofs.Rows.{length-refill-written, take-refill-before, take-refill-behind}
+use Rattle.ix_cells.proofs.Rows.{length-refill-written, take-refill-before, AppendsClones-written}
 use Rattle.ix_cells.proofs.cells.row.put_clones.Goals as goal
 
 pub returns : goal.returns
@@ -14,6 +13,6 @@ returns g c =
     rw c.as_mut_slice-places.ensures.value (record {
       len = length-refill-written xs ys a e order c.requires same;
       front = take-refill-before xs ys a e order c.requires same;
-      done = on_ok_weaker c.fill_with_clones.result (λ clones. (ys, take-refill-behind xs ys a e order c.requires same, clones)) c.fill_with_clones.ensures.done;
+      done = AppendsClones-written xs ys a e order c.requires same g.T.Clone.is_clone c.args.items.now c.fill_with_clones.result c.fill_with_clones.ensures.done;
       memory = c.fill_with_clones.ensures.memory;
     })
