@@ -1,95 +1,107 @@
 //! Equality of queues: of their items in order, wherever these stand in the ring.
-use crate::expecting::expect_same;
-use crate::items::{TURNS, relocatable_of, turned_by};
-use ix_cells::Table;
-use ix_maps::{FixedSizeQueue, MetaQueue, Queue};
-use std::process::Abort;
+use crate::calls::Call::{self, Clear, Len, Pop, Push};
+use crate::calls::answer_of;
+use crate::equality_tests::Side::{One, Other};
+use crate::turning::{TURNS, Turn};
+use ix_cells::{RelocatableContainer, Table};
+use ix_expect::Findings;
+use ix_maps::{FixedSizeQueue, MetaQueue, Queue, RelocatableQueue};
+use std::alloc::AllocError;
 use std::test::Fail;
 
-/// Both queues are empty, and have room for three items.
-fn check_equal<S: Table<u64>>(
-    rt: &impl Abort,
-    mut one: MetaQueue<u64, S>,
-    mut other: MetaQueue<u64, S>,
-    place: &str,
-) {
-    let both_empty = one == other;
-    one.push(1);
-    let one_empty = one == other;
-    other.push(1);
-    let of_one = one == other;
-    one.push(2);
-    let one_shorter = one == other;
-    other.push(2);
-    one.push(3);
-    other.push(3);
-    let both_full = one == other;
-    let _ = one.pop();
-    let head_left = one == other;
-    expect_same(
-        rt,
-        (both_empty, of_one, both_full),
-        (true, true, true),
-        place,
-    );
-    expect_same(
-        rt,
-        (one_empty, one_shorter, head_left),
-        (false, false, false),
-        place,
-    );
+/// One of two queues.
+enum Side {
+    One,
+    Other,
 }
 
-/// As above.
-fn check_different<S: Table<u64>>(
-    rt: &impl Abort,
-    mut one: MetaQueue<u64, S>,
-    mut other: MetaQueue<u64, S>,
-    place: &str,
+/// A call of one of two queues, and whether they are equal behind it.
+type Row = (Side, Call<u64>, bool);
+
+/// Makes the calls, and compares the queues behind each.
+fn check_rows<S: Table<u64>>(
+    findings: &Findings,
+    one: &mut MetaQueue<u64, S>,
+    other: &mut MetaQueue<u64, S>,
+    rows: &[Row],
+    turned: &str,
 ) {
-    one.push(1);
-    one.push(2);
-    other.push(1);
-    other.push(3);
-    let last_item = one != other;
-    other.clear();
-    other.push(3);
-    other.push(2);
-    let first_item = one != other;
-    other.clear();
-    other.push(2);
-    other.push(1);
-    let order = one != other;
-    expect_same(
-        rt,
-        (last_item, first_item, order),
-        (true, true, true),
-        place,
-    );
+    for (number, (side, call, equal)) in rows.iter().enumerate() {
+        match side {
+            One => answer_of(one, call),
+            Other => answer_of(other, call),
+        };
+        let found = (*one == *other, *one != *other);
+        findings.expect_same_at(found, (*equal, !*equal), number, turned);
+    }
 }
+
+/// Turns `other`, and makes the calls. There was memory for both, which are empty.
+fn check_made<S: Table<u64>, E: Drop, F: Drop>(
+    findings: &Findings,
+    one: Result<MetaQueue<u64, S>, E>,
+    other: Result<MetaQueue<u64, S>, F>,
+    rows: &[Row],
+    (turn, turned): &Turn,
+) {
+    if let Ok(mut one) = one {
+        if let Ok(mut other) = other {
+            for (call, _) in *turn {
+                answer_of(&mut other, call);
+            }
+            check_rows(findings, &mut one, &mut other, rows, turned);
+            return;
+        }
+    }
+    findings.miss(turned);
+}
+
+const EQUAL: &[Row] = &[
+    (One, Len, true),
+    (One, Push(1), false),
+    (Other, Push(1), true),
+    (One, Push(2), false),
+    (Other, Push(2), true),
+    (One, Push(3), false),
+    (Other, Push(3), true),
+    (One, Pop, false),
+];
+
+const DIFFERENT: &[Row] = &[
+    (One, Push(1), false),
+    (One, Push(2), false),
+    (Other, Push(1), false),
+    (Other, Push(3), false),
+    (Other, Clear, false),
+    (Other, Push(3), false),
+    (Other, Push(2), false),
+    (Other, Clear, false),
+    (Other, Push(2), false),
+    (Other, Push(1), false),
+];
 
 #[test]
-fn fixed_queues(rt: HostRuntime) {
-    for (places, name) in &TURNS {
-        let one = FixedSizeQueue::<u64, 3>::new();
-        let other = turned_by(FixedSizeQueue::<u64, 3>::new(), *places);
-        check_equal(&rt, one, other, name);
-        let one = FixedSizeQueue::<u64, 3>::new();
-        let other = turned_by(FixedSizeQueue::<u64, 3>::new(), *places);
-        check_different(&rt, one, other, name);
+fn fixed_queues() -> Result<(), Fail> {
+    let findings = Findings::new();
+    for turn in TURNS {
+        for rows in &[EQUAL, DIFFERENT] {
+            let one = Ok::<_, AllocError>(FixedSizeQueue::<u64, 3>::new());
+            let other = Ok::<_, AllocError>(FixedSizeQueue::<u64, 3>::new());
+            check_made(&findings, one, other, rows, turn);
+        }
     }
+    findings.verdict()
 }
 
 #[test]
 fn queues_in_memory(rt: HostRuntime) -> Result<(), Fail> {
+    let findings = Findings::new();
     let alloc = rt.alloc();
-    for (places, name) in &TURNS {
-        let one = relocatable_of(alloc, 3)?;
-        let other = turned_by(Queue::new(alloc, 3)?, *places);
-        check_equal(&rt, one, other, name);
-        let one = Queue::new(alloc, 3)?;
-        let other = turned_by(relocatable_of(alloc, 5)?, *places);
-        check_different(&rt, one, other, name);
+    for turn in TURNS {
+        let one = RelocatableQueue::<u64>::new_uninit(3).init(alloc);
+        check_made(&findings, one, Queue::new(alloc, 3), EQUAL, turn);
+        let other = RelocatableQueue::<u64>::new_uninit(5).init(alloc);
+        check_made(&findings, Queue::new(alloc, 3), other, DIFFERENT, turn);
     }
-    Ok(())
+    findings.verdict()
 }

@@ -1,155 +1,160 @@
-//! Every function of queues once, with ample memory.
-use crate::expecting::{expect, expect_same};
-use crate::items::relocatable_of;
-use crate::replacing::replace_oldest;
+//! Every function of queues once, with ample memory, and worked examples: queues of one item and of none.
+use crate::calls::Answer::{Bool, Done, Item, Number};
+use crate::calls::Call::{
+    Capacity, Clear, Get, IsEmpty, IsFull, Len, Peek, Pop, Push, PushWithOverflow, ReplaceOldest,
+    Write,
+};
+use crate::calls::{Row, check_fixed, check_in};
 use bumpalo::Bump;
 use ix_cells::{InitError, RelocatableContainer, Table};
-use ix_maps::{FixedSizeQueue, MetaQueue, Queue, RelocatableQueue, UninitQueue};
+use ix_expect::Findings;
+use ix_maps::{FixedSizeQueue, MetaQueue, RelocatableQueue, UninitQueue};
 use linked_list_allocator::LocalHeap;
 use std::alloc::{Allocator, Global};
-use std::process::Abort;
 use std::test::Fail;
 
-/// `queue` is empty, and has room for two items.
-fn check_sizes<S: Table<u64>>(rt: &impl Abort, mut queue: MetaQueue<u64, S>, kind: &str) {
-    let before = (
-        queue.capacity(),
-        queue.len(),
-        queue.is_empty(),
-        queue.is_full(),
-    );
-    expect_same(rt, before, (2, 0, true, false), kind);
-    queue.push(1);
-    let between = (queue.len(), queue.is_empty(), queue.is_full());
-    expect_same(rt, between, (1, false, false), kind);
-    queue.push(2);
-    let after = (
-        queue.capacity(),
-        queue.len(),
-        queue.is_empty(),
-        queue.is_full(),
-    );
-    expect_same(rt, after, (2, 2, false, true), kind);
-}
+const SIZES: &[Row<u64>] = &[
+    (Capacity, Number(2)),
+    (Len, Number(0)),
+    (IsEmpty, Bool(true)),
+    (IsFull, Bool(false)),
+    (Push(1), Bool(true)),
+    (Len, Number(1)),
+    (IsEmpty, Bool(false)),
+    (IsFull, Bool(false)),
+    (Push(2), Bool(true)),
+    (Capacity, Number(2)),
+    (Len, Number(2)),
+    (IsEmpty, Bool(false)),
+    (IsFull, Bool(true)),
+];
 
-/// `queue` is empty, and has room for two items.
-fn check_pushes<S: Table<u64>>(rt: &impl Abort, mut queue: MetaQueue<u64, S>, kind: &str) {
-    let pushed = [queue.push(1), queue.push(2), queue.push(3)];
-    expect_same(rt, pushed, [true, true, false], kind);
-    let left = [
-        queue.push_with_overflow(3),
-        queue.pop(),
-        queue.push_with_overflow(4),
-    ];
-    expect_same(rt, left, [Some(1), Some(2), None], kind);
-    let rest = [queue.pop(), queue.pop(), queue.pop()];
-    expect_same(rt, rest, [Some(3), Some(4), None], kind);
-}
+const PUSHES: &[Row<u64>] = &[
+    (Push(1), Bool(true)),
+    (Push(2), Bool(true)),
+    (Push(3), Bool(false)),
+    (PushWithOverflow(3), Item(Some(1))),
+    (Pop, Item(Some(2))),
+    (PushWithOverflow(4), Item(None)),
+    (Pop, Item(Some(3))),
+    (Pop, Item(Some(4))),
+    (Pop, Item(None)),
+];
 
-/// `queue` is empty, and has room for two items.
-fn check_reads<S: Table<u64>>(rt: &impl Abort, mut queue: MetaQueue<u64, S>, kind: &str) {
-    expect(
-        rt,
-        queue.peek().is_none() && queue.peek_mut().is_none(),
-        kind,
-    );
-    queue.push(5);
-    queue.push(6);
-    expect_same(rt, queue.peek().copied(), Some(5), kind);
-    expect(rt, queue.len() == 2, kind);
-    let read = [queue.get(0), queue.get(1)];
-    let again = [queue.get_unchecked(0), queue.get_unchecked(1)];
-    expect_same(rt, (read, again), ([5, 6], [5, 6]), kind);
-}
+const READS: &[Row<u64>] = &[
+    (Peek, Item(None)),
+    (Write(9), Item(None)),
+    (Push(5), Bool(true)),
+    (Push(6), Bool(true)),
+    (Peek, Item(Some(5))),
+    (Len, Number(2)),
+    (Get(0), Item(Some(5))),
+    (Get(1), Item(Some(6))),
+];
 
-/// `queue` is empty, and has room for two items.
-fn check_changes<S: Table<u64>>(rt: &impl Abort, mut queue: MetaQueue<u64, S>, kind: &str) {
-    queue.push(5);
-    queue.push(6);
-    if let Some(oldest) = queue.peek_mut() {
-        *oldest = 7;
+const CHANGES: &[Row<u64>] = &[
+    (Push(5), Bool(true)),
+    (Push(6), Bool(true)),
+    (Write(7), Item(Some(5))),
+    (Pop, Item(Some(7))),
+    (Clear, Done),
+    (Capacity, Number(2)),
+    (Len, Number(0)),
+    (Push(8), Bool(true)),
+    (Push(9), Bool(true)),
+    (Pop, Item(Some(8))),
+    (Pop, Item(Some(9))),
+    (Pop, Item(None)),
+];
+
+const REPLACEMENTS: &[Row<u64>] = &[
+    (ReplaceOldest(1), Item(None)),
+    (Push(2), Bool(true)),
+    (Push(3), Bool(true)),
+    (ReplaceOldest(4), Item(Some(2))),
+    (Pop, Item(Some(4))),
+    (Pop, Item(Some(3))),
+    (Pop, Item(None)),
+];
+
+const ONE: &[Row<u64>] = &[
+    (Push(123), Bool(true)),
+    (PushWithOverflow(456), Item(Some(123))),
+    (Pop, Item(Some(456))),
+];
+
+const NONE: &[Row<u64>] = &[
+    (IsEmpty, Bool(true)),
+    (IsFull, Bool(true)),
+    (Push(1), Bool(false)),
+    (PushWithOverflow(2), Item(Some(2))),
+    (Pop, Item(None)),
+];
+
+/// Calls of a queue with room for two items.
+const OF_TWO: &[&[Row<u64>]] = &[SIZES, PUSHES, READS, CHANGES, REPLACEMENTS];
+
+#[test]
+fn in_the_value_itself() -> Result<(), Fail> {
+    let findings = Findings::new();
+    for rows in OF_TWO {
+        check_fixed(&findings, FixedSizeQueue::<u64, 2>::new(), rows);
     }
-    expect_same(rt, queue.pop(), Some(7), kind);
-    queue.clear();
-    expect_same(rt, (queue.capacity(), queue.len()), (2, 0), kind);
-    queue.push(8);
-    queue.push(9);
-    let left = [queue.pop(), queue.pop(), queue.pop()];
-    expect_same(rt, left, [Some(8), Some(9), None], kind);
+    check_fixed(&findings, FixedSizeQueue::<u64, 1>::new(), ONE);
+    check_fixed(&findings, FixedSizeQueue::<u64, 0>::new(), NONE);
+    findings.verdict()
 }
 
-fn check_in<A: Allocator + Copy>(rt: &impl Abort, alloc: A, memory: &str) -> Result<(), Fail> {
-    check_sizes(rt, Queue::new(alloc, 2)?, memory);
-    check_sizes(rt, relocatable_of(alloc, 2)?, memory);
-    check_pushes(rt, Queue::new(alloc, 2)?, memory);
-    check_pushes(rt, relocatable_of(alloc, 2)?, memory);
-    check_reads(rt, Queue::new(alloc, 2)?, memory);
-    check_reads(rt, relocatable_of(alloc, 2)?, memory);
-    check_changes(rt, Queue::new(alloc, 2)?, memory);
-    check_changes(rt, relocatable_of(alloc, 2)?, memory);
-    Ok(())
+/// Makes the calls on a queue of each kind in memory of `alloc`.
+fn check_examples<A: Allocator + Copy>(findings: &Findings, alloc: A, memory: &str) {
+    for rows in OF_TWO {
+        check_in(findings, alloc, 2, &[*rows], memory);
+    }
+    check_in(findings, alloc, 1, &[ONE], memory);
+    check_in(findings, alloc, 0, &[NONE], memory);
 }
 
-#[test]
-fn fixed_calls(rt: HostRuntime) {
-    check_sizes(&rt, FixedSizeQueue::<u64, 2>::new(), "fixed");
-    check_pushes(&rt, FixedSizeQueue::<u64, 2>::new(), "fixed");
-    check_reads(&rt, FixedSizeQueue::<u64, 2>::new(), "fixed");
-    check_changes(&rt, FixedSizeQueue::<u64, 2>::new(), "fixed");
+/// As above. All of the memory comes back.
+fn check_heap(findings: &Findings, heap: &LocalHeap) {
+    check_examples(findings, heap, "a heap");
+    findings.expect_same(heap.used(), 0, "the heap has all of its memory back");
 }
 
 #[test]
-fn calls_in_memory(rt: HostRuntime) -> Result<(), Fail> {
-    check_in(&rt, rt.alloc(), "global")?;
-    let bump = Bump::new(rt.alloc());
-    check_in(&rt, &bump, "bump")?;
-    let heap = LocalHeap::new(rt.alloc(), 256)?;
-    check_in(&rt, &heap, "heap")?;
-    expect_same(&rt, heap.used(), 0, "the heap has all of its memory back");
-    Ok(())
+fn in_each_memory(rt: HostRuntime) -> Result<(), Fail> {
+    let findings = Findings::new();
+    check_examples(&findings, rt.alloc(), "the machine's memory");
+    check_examples(&findings, &Bump::new(rt.alloc()), "an arena");
+    match LocalHeap::new(rt.alloc(), 256) {
+        Ok(heap) => check_heap(&findings, &heap),
+        Err(_) => findings.miss("a heap"),
+    }
+    findings.verdict()
+}
+
+/// `made` is empty, and there was memory for it.
+fn check_capacity<T: Drop, S: Table<T>, E: Drop>(
+    findings: &Findings,
+    made: Result<MetaQueue<T, S>, E>,
+    capacity: usize,
+) {
+    match made {
+        Ok(queue) => findings.expect_same(queue.capacity(), capacity, "in two steps"),
+        Err(_) => findings.miss("in two steps"),
+    }
 }
 
 #[test]
-fn two_steps(rt: HostRuntime) {
-    let uninit = RelocatableQueue::<u64>::new_uninit(5);
-    let ready = InitError::new(uninit).into_uninit().init(rt.alloc()).ok();
-    expect_same(
-        &rt,
-        ready.expect(&rt, "there is memory").capacity(),
-        5,
-        "in two steps",
-    );
+fn two_steps(rt: HostRuntime) -> Result<(), Fail> {
+    let findings = Findings::new();
+    let uninit = InitError::new(RelocatableQueue::<u64>::new_uninit(5)).into_uninit();
+    check_capacity(&findings, uninit.init(rt.alloc()), 5);
     let uninit = <UninitQueue<u8> as RelocatableContainer<Global>>::new_uninit(6);
-    let ready = uninit.init(rt.alloc()).ok();
-    expect_same(
-        &rt,
-        ready.expect(&rt, "there is memory").capacity(),
-        6,
-        "in two steps",
-    );
-    let ready = UninitQueue::<u8>::new_uninit(7).init(rt.alloc()).ok();
-    expect_same(
-        &rt,
-        ready.expect(&rt, "there is memory").capacity(),
+    check_capacity(&findings, uninit.init(rt.alloc()), 6);
+    check_capacity(
+        &findings,
+        UninitQueue::<u8>::new_uninit(7).init(rt.alloc()),
         7,
-        "in two steps",
     );
-}
-
-/// `queue` is empty, and has room for two items.
-fn check_replaced<S: Table<u64>>(rt: &impl Abort, mut queue: MetaQueue<u64, S>, kind: &str) {
-    expect_same(rt, replace_oldest(&mut queue, 1), None, kind);
-    queue.push(2);
-    queue.push(3);
-    expect_same(rt, replace_oldest(&mut queue, 4), Some(2), kind);
-    let left = [queue.pop(), queue.pop(), queue.pop()];
-    expect_same(rt, left, [Some(4), Some(3), None], kind);
-}
-
-#[test]
-fn replaces_the_oldest(rt: HostRuntime) -> Result<(), Fail> {
-    check_replaced(&rt, FixedSizeQueue::<u64, 2>::new(), "fixed");
-    check_replaced(&rt, Queue::new(rt.alloc(), 2)?, "allocated");
-    check_replaced(&rt, relocatable_of(rt.alloc(), 2)?, "relocatable");
-    Ok(())
+    findings.verdict()
 }

@@ -3,19 +3,17 @@
 #![tactic(auto)]
 
 #[cfg(test)]
+mod calls;
+#[cfg(test)]
 mod drop_tests;
 #[cfg(test)]
 mod equality_tests;
 #[cfg(test)]
-mod expecting;
-#[cfg(test)]
 mod function_tests;
-#[cfg(test)]
-mod items;
 #[cfg(test)]
 mod memory_tests;
 pub mod replacing;
 #[cfg(test)]
 mod ring_tests;
 #[cfg(test)]
-mod row_tests;
+mod turning;

@@ -1,121 +1,121 @@
 //! Queues whose memory is refused: nothing stays taken.
-use crate::expecting::{expect, expect_same};
 use bumpalo::Bump;
-use ix_cells::RelocatableContainer;
-use ix_maps::{Queue, RelocatableQueue, UninitQueue};
+use ix_cells::{InitError, RelocatableContainer, Table};
+use ix_expect::Findings;
+use ix_maps::{MetaQueue, Queue, RelocatableQueue, UninitQueue};
 use linked_list_allocator::LocalHeap;
-use std::alloc::{AllocError, Allocator, Global};
-use std::process::Abort;
+use std::alloc::{Allocator, Global};
 use std::test::Fail;
 
-/// The heap has memory for a queue of one number if `found`.
-fn check_queue(rt: &impl Abort, heap: &LocalHeap, found: bool) {
-    let used = heap.used();
-    match Queue::<u64, &LocalHeap>::new(heap, 1) {
-        Ok(mut queue) => {
-            expect(rt, found, "memory is refused");
-            expect_same(rt, queue.capacity(), 1, "capacity");
-            expect_same(rt, queue.len(), 0, "length");
-            expect(rt, heap.used() > used, "at once");
-            expect(rt, queue.push(7), "at once");
-        }
-        Err(AllocError) => expect(rt, !found, "memory is found"),
-    }
-    expect_same(rt, heap.used(), used, "at once");
+/// `queue` is empty, and takes an item if it has room.
+fn check_ready<S: Table<u64>>(
+    findings: &Findings,
+    mut queue: MetaQueue<u64, S>,
+    capacity: usize,
+    place: &str,
+) {
+    let found = (queue.capacity(), queue.len(), queue.push(7));
+    findings.expect_same(found, (capacity, 0, capacity > 0), place);
 }
 
-/// As above. `ample` finds memory.
-fn check_two_steps(rt: &impl Abort, heap: &LocalHeap, found: bool, ample: Global) {
-    let used = heap.used();
-    match RelocatableQueue::<u64, &LocalHeap>::new_uninit(1).init(heap) {
+/// The heap had memory for a queue with room for `capacity` numbers if `found`, and `used` of it were used before.
+fn check_made<S: Table<u64>, E: Drop>(
+    findings: &Findings,
+    heap: &LocalHeap,
+    used: usize,
+    made: Result<MetaQueue<u64, S>, E>,
+    (capacity, found): (usize, bool),
+) {
+    match made {
         Ok(queue) => {
-            expect(rt, found, "memory is refused");
-            expect_same(rt, queue.capacity(), 1, "capacity");
-            expect_same(rt, queue.len(), 0, "length");
-            expect(rt, heap.used() > used, "in two steps");
+            findings.expect(found, "memory is refused");
+            findings.expect((heap.used() > used) == (capacity > 0), "memory is taken");
+            check_ready(findings, queue, capacity, "in the heap");
         }
-        Err(error) => {
-            expect(rt, !found, "memory is found");
-            expect_same(rt, heap.used(), used, "in two steps");
-            let ready = error.into_uninit().init(ample).ok();
-            let mut queue = ready.expect(rt, "there is memory now");
-            expect_same(rt, queue.capacity(), 1, "capacity");
-            expect_same(rt, queue.len(), 0, "length");
-            expect(rt, queue.push(7), "in two steps");
+        Err(_) => findings.expect(!found, "memory is found"),
+    }
+    findings.expect_same(heap.used(), used, "nothing stays taken");
+}
+
+/// A refusal hands back what finds memory in `ample` then.
+fn check_again(
+    findings: &Findings,
+    refused: Option<InitError<UninitQueue<u64>>>,
+    ample: Global,
+    capacity: usize,
+) {
+    if let Some(error) = refused {
+        match error.into_uninit().init(ample) {
+            Ok(queue) => check_ready(findings, queue, capacity, "in ample memory"),
+            Err(_) => findings.miss("there is memory now"),
         }
     }
-    expect_same(rt, heap.used(), used, "in two steps");
+}
+
+/// The heap has memory for a queue with room for `capacity` numbers if `found`. `ample` finds memory.
+fn check_heap(findings: &Findings, heap: &LocalHeap, ample: Global, capacity: usize, found: bool) {
+    let used = heap.used();
+    let wanted = (capacity, found);
+    check_made(findings, heap, used, Queue::new(heap, capacity), wanted);
+    let ready = RelocatableQueue::<u64, &LocalHeap>::new_uninit(capacity).init(heap);
+    check_made(findings, heap, used, ready, wanted);
+    let refused = UninitQueue::new_uninit(capacity).init(heap).err();
+    findings.expect_same(refused.is_none(), found, "in two steps");
+    findings.expect_same(heap.used(), used, "nothing stays taken by a refusal");
+    check_again(findings, refused, ample, capacity);
+}
+
+/// A block of the heap is taken, and of the others each one is room for one number.
+fn check_blocks(findings: &Findings, heap: &LocalHeap, ample: Global, blocks: usize) {
+    let held = Box::new(heap, 0u64);
+    findings.expect(held.is_ok(), "a block");
+    check_heap(findings, heap, ample, 1, blocks > 0);
+    check_heap(findings, heap, ample, 0, true);
 }
 
 #[test]
 fn makings_refused(rt: HostRuntime) -> Result<(), Fail> {
+    let findings = Findings::new();
     for blocks in 0..3usize {
-        let heap = LocalHeap::new(rt.alloc(), 16 * (blocks + 1))?;
-        let _held = Box::new(&heap, 0u64)?;
-        check_queue(&rt, &heap, blocks > 0);
-        check_two_steps(&rt, &heap, blocks > 0, rt.alloc());
+        match LocalHeap::new(rt.alloc(), 16 * (blocks + 1)) {
+            Ok(heap) => check_blocks(&findings, &heap, rt.alloc(), blocks),
+            Err(_) => findings.miss("a heap"),
+        }
     }
-    Ok(())
-}
-
-#[test]
-fn no_room_needs_no_memory(rt: HostRuntime) -> Result<(), Fail> {
-    let heap = LocalHeap::new(rt.alloc(), 16)?;
-    let _held = Box::new(&heap, 0u64)?;
-    let refused = Queue::<u64, &LocalHeap>::new(&heap, 1).is_err();
-    expect(&rt, refused, "no memory for one");
-    let queue = Queue::<u64, &LocalHeap>::new(&heap, 0)?;
-    expect(
-        &rt,
-        queue.is_empty() && queue.is_full(),
-        "no room needs no memory",
-    );
-    let ready = UninitQueue::<u64>::new_uninit(0).init(&heap).ok();
-    expect_same(
-        &rt,
-        ready.expect(&rt, "no memory is needed").capacity(),
-        0,
-        "no room needs no memory",
-    );
-    Ok(())
+    findings.verdict()
 }
 
 /// No memory holds `capacity` numbers.
-fn check_past_all_memory<A: Allocator + Copy>(rt: &impl Abort, alloc: A, capacity: usize) {
+fn check_past_all_memory<A: Allocator + Copy>(findings: &Findings, alloc: A, capacity: usize) {
     let refused = Queue::<u64, A>::new(alloc, capacity).is_err();
-    expect(rt, refused, "`new` refuses");
+    findings.expect(refused, "`new` refuses");
     match UninitQueue::<u64>::new_uninit(capacity).init(alloc) {
-        Ok(_queue) => expect(rt, false, "`init` refuses"),
+        Ok(_queue) => findings.miss("`init` refuses"),
         Err(error) => {
             let again = error.into_uninit().init(alloc);
-            expect(rt, again.is_err(), "the capacity came back");
+            findings.expect(again.is_err(), "the capacity came back");
         }
     }
 }
 
-#[test]
-fn past_all_memory(rt: HostRuntime) -> Result<(), Fail> {
-    let bump = Bump::new(rt.alloc());
-    let heap = LocalHeap::new(rt.alloc(), 64)?;
+/// `heap` has 64 bytes.
+fn check_too_little(findings: &Findings, alloc: Global, heap: &LocalHeap) {
+    let bump = Bump::new(alloc);
     for capacity in &[usize::MAX, usize::MAX / 16 + 1, usize::MAX / 32 + 1] {
-        check_past_all_memory(&rt, rt.alloc(), *capacity);
-        check_past_all_memory(&rt, &bump, *capacity);
-        check_past_all_memory(&rt, &heap, *capacity);
+        check_past_all_memory(findings, alloc, *capacity);
+        check_past_all_memory(findings, &bump, *capacity);
+        check_past_all_memory(findings, heap, *capacity);
     }
-    expect_same(&rt, heap.used(), 0, "past all memory");
-    Ok(())
+    check_heap(findings, heap, alloc, 1000, false);
+    findings.expect_same(heap.used(), 0, "past all memory");
 }
 
 #[test]
-fn refused_then_ready(rt: HostRuntime) -> Result<(), Fail> {
-    let heap = LocalHeap::new(rt.alloc(), 64)?;
-    let refused = UninitQueue::<u64>::new_uninit(1000).init(&heap).err();
-    let error = refused.expect(&rt, "64 bytes are too few");
-    let ready = error.into_uninit().init(rt.alloc()).ok();
-    let mut queue = ready.expect(&rt, "there is memory now");
-    expect_same(&rt, queue.capacity(), 1000, "capacity");
-    expect_same(&rt, queue.len(), 0, "length");
-    expect(&rt, queue.push(7), "refused then ready");
-    expect_same(&rt, heap.used(), 0, "refused then ready");
-    Ok(())
+fn too_little_memory(rt: HostRuntime) -> Result<(), Fail> {
+    let findings = Findings::new();
+    match LocalHeap::new(rt.alloc(), 64) {
+        Ok(heap) => check_too_little(&findings, rt.alloc(), &heap),
+        Err(_) => findings.miss("a heap"),
+    }
+    findings.verdict()
 }

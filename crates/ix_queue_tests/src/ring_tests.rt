@@ -1,116 +1,108 @@
 //! Turns of the ring: items go round past the last place, from every first place.
-use crate::expecting::{expect, expect_same};
-use crate::items::{TURNS, relocatable_of, turned_by};
-use ix_cells::Table;
-use ix_maps::{FixedSizeQueue, MetaQueue, Queue};
-use std::process::Abort;
+use crate::calls::Answer::{Bool, Done, Item, Number};
+use crate::calls::Call::{Clear, Get, Len, Pop, Push, PushWithOverflow, Write};
+use crate::calls::{Row, check_fixed, check_in, check_made};
+use crate::turning::TURNS;
+use ix_expect::Findings;
+use ix_maps::FixedSizeQueue;
+use std::alloc::{AllocError, Global};
 use std::test::Fail;
 
-/// `queue` is empty, and has room for three items.
-fn check_overflow<S: Table<u64>>(rt: &impl Abort, mut queue: MetaQueue<u64, S>, place: &str) {
-    for n in 1..4 {
-        queue.push(n);
-    }
-    expect_same(rt, queue.push_with_overflow(4), Some(1), place);
-    expect(rt, queue.len() == 3, place);
-    let read = [queue.get(0), queue.get(1), queue.get(2)];
-    expect_same(rt, read, [2, 3, 4], place);
-}
+const OVERFLOWS: &[Row<u64>] = &[
+    (Push(1), Bool(true)),
+    (Push(2), Bool(true)),
+    (Push(3), Bool(true)),
+    (PushWithOverflow(4), Item(Some(1))),
+    (Len, Number(3)),
+    (Get(0), Item(Some(2))),
+    (Get(1), Item(Some(3))),
+    (Get(2), Item(Some(4))),
+];
 
-/// `queue` is empty, and has room for three items.
-fn check_turn<S: Table<u64>>(rt: &impl Abort, mut queue: MetaQueue<u64, S>, place: &str) {
-    for n in 1..4 {
-        queue.push(n);
-    }
-    expect_same(rt, queue.pop(), Some(1), place);
-    let pushed = (queue.push(4), queue.push(5));
-    expect_same(rt, pushed, (true, false), place);
-    let left = [queue.pop(), queue.pop(), queue.pop(), queue.pop()];
-    expect_same(rt, left, [Some(2), Some(3), Some(4), None], place);
-}
+const PUSHES_AND_POPS: &[Row<u64>] = &[
+    (Push(1), Bool(true)),
+    (Push(2), Bool(true)),
+    (Push(3), Bool(true)),
+    (Pop, Item(Some(1))),
+    (Push(4), Bool(true)),
+    (Push(5), Bool(false)),
+    (Pop, Item(Some(2))),
+    (Pop, Item(Some(3))),
+    (Pop, Item(Some(4))),
+    (Pop, Item(None)),
+];
 
-/// `queue` is empty, and has room for three items.
-fn check_written<S: Table<u64>>(rt: &impl Abort, mut queue: MetaQueue<u64, S>, place: &str) {
-    for n in 1..4 {
-        queue.push(n);
-    }
-    for _ in 0..3 {
-        if let Some(oldest) = queue.peek_mut() {
-            *oldest = oldest.wrapping_mul(10);
-        }
-        if let Some(oldest) = queue.pop() {
-            queue.push(oldest);
-        }
-    }
-    let left = [queue.pop(), queue.pop(), queue.pop(), queue.pop()];
-    expect_same(rt, left, [Some(10), Some(20), Some(30), None], place);
-}
+const WRITES_OF_THE_OLDEST: &[Row<u64>] = &[
+    (Push(1), Bool(true)),
+    (Push(2), Bool(true)),
+    (Push(3), Bool(true)),
+    (Write(10), Item(Some(1))),
+    (Pop, Item(Some(10))),
+    (Push(10), Bool(true)),
+    (Write(20), Item(Some(2))),
+    (Pop, Item(Some(20))),
+    (Push(20), Bool(true)),
+    (Write(30), Item(Some(3))),
+    (Pop, Item(Some(30))),
+    (Push(30), Bool(true)),
+    (Pop, Item(Some(10))),
+    (Pop, Item(Some(20))),
+    (Pop, Item(Some(30))),
+    (Pop, Item(None)),
+];
 
-#[test]
-fn overflows(rt: HostRuntime) -> Result<(), Fail> {
-    let alloc = rt.alloc();
-    for (places, name) in &TURNS {
-        let queue = turned_by(FixedSizeQueue::<u64, 3>::new(), *places);
-        check_overflow(&rt, queue, name);
-        check_overflow(&rt, turned_by(Queue::new(alloc, 3)?, *places), name);
-        check_overflow(&rt, turned_by(relocatable_of(alloc, 3)?, *places), name);
-    }
-    Ok(())
+/// Calls of a queue with room for three items.
+const OF_THREE: &[&[Row<u64>]] = &[OVERFLOWS, PUSHES_AND_POPS, WRITES_OF_THE_OLDEST];
+
+/// Makes the calls on a queue of each kind behind those that turn it.
+fn check_turned(findings: &Findings, alloc: Global, tables: &[&[Row<u64>]], turned: &str) {
+    let fixed = Ok::<_, AllocError>(FixedSizeQueue::<u64, 3>::new());
+    check_made(findings, fixed, tables, turned);
+    check_in(findings, alloc, 3, tables, turned);
 }
 
 #[test]
 fn turns(rt: HostRuntime) -> Result<(), Fail> {
-    let alloc = rt.alloc();
-    for (places, name) in &TURNS {
-        let queue = turned_by(FixedSizeQueue::<u64, 3>::new(), *places);
-        check_turn(&rt, queue, name);
-        check_turn(&rt, turned_by(Queue::new(alloc, 3)?, *places), name);
-        check_turn(&rt, turned_by(relocatable_of(alloc, 3)?, *places), name);
+    let findings = Findings::new();
+    for (turn, turned) in TURNS {
+        for rows in OF_THREE {
+            check_turned(&findings, rt.alloc(), &[*turn, *rows], turned);
+        }
     }
-    Ok(())
+    findings.verdict()
 }
 
-#[test]
-fn writes_of_the_oldest(rt: HostRuntime) -> Result<(), Fail> {
-    let alloc = rt.alloc();
-    for (places, name) in &TURNS {
-        let queue = turned_by(FixedSizeQueue::<u64, 3>::new(), *places);
-        check_written(&rt, queue, name);
-        check_written(&rt, turned_by(Queue::new(alloc, 3)?, *places), name);
-        check_written(&rt, turned_by(relocatable_of(alloc, 3)?, *places), name);
-    }
-    Ok(())
-}
-
-/// `queue` is empty, and has room for three items.
-fn check_size_zero<S: Table<()>>(rt: &impl Abort, mut queue: MetaQueue<(), S>, kind: &str) {
-    for _ in 0..3 {
-        queue.push(());
-    }
-    let answers = (queue.push(()), queue.push_with_overflow(()));
-    expect_same(rt, answers, (false, Some(())), kind);
-    expect(rt, queue.len() == 3, kind);
-    let read = queue.get(2);
-    expect_same(rt, (read, queue.pop()), ((), Some(())), kind);
-    expect(rt, queue.peek_mut().is_some(), kind);
-    queue.clear();
-    expect_same(rt, queue.pop(), None, kind);
-}
+/// Calls of a queue with room for three items.
+const OF_SIZE_ZERO: &[Row<()>] = &[
+    (Push(()), Bool(true)),
+    (Push(()), Bool(true)),
+    (Push(()), Bool(true)),
+    (Push(()), Bool(false)),
+    (PushWithOverflow(()), Item(Some(()))),
+    (Len, Number(3)),
+    (Get(2), Item(Some(()))),
+    (Pop, Item(Some(()))),
+    (Write(()), Item(Some(()))),
+    (Clear, Done),
+    (Pop, Item(None)),
+];
 
 #[test]
 fn items_of_size_zero(rt: HostRuntime) -> Result<(), Fail> {
-    check_size_zero(&rt, FixedSizeQueue::<(), 3>::new(), "fixed");
-    check_size_zero(&rt, Queue::new(rt.alloc(), 3)?, "allocated");
-    check_size_zero(&rt, relocatable_of(rt.alloc(), 3)?, "relocatable");
-    Ok(())
+    let findings = Findings::new();
+    check_fixed(&findings, FixedSizeQueue::<(), 3>::new(), OF_SIZE_ZERO);
+    check_in(&findings, rt.alloc(), 3, &[OF_SIZE_ZERO], "in memory");
+    findings.verdict()
 }
 
 #[test]
-fn a_long_run(rt: HostRuntime) {
+fn a_long_run() -> Result<(), Fail> {
+    let findings = Findings::new();
     let mut queue = FixedSizeQueue::<u64, 8>::new();
     for n in 0..1000u64 {
         let left = queue.push_with_overflow(n);
-        expect_same(&rt, left, n.checked_sub(8), "overflow");
+        findings.expect_same(left, n.checked_sub(8), "overflow");
     }
-    expect_same(&rt, queue.pop(), Some(992), "pop");
+    findings.expect_same(queue.pop(), Some(992), "pop");
+    findings.verdict()
 }

@@ -1,11 +1,11 @@
 //! Calls of slot maps as values, so that an example is a list of calls and their answers.
-use crate::expecting::expect_at;
 use ix_cells::Table;
+use ix_expect::Findings;
 use ix_maps::{Link, MetaSlotMap, SlotMapKey};
-use std::process::Abort;
+use std::fmt::Debug;
+use std::mem;
 
 /// A call of a slot map. Keys stand by their numbers.
-#[derive(Clone, Copy)]
 pub enum Call<T> {
     Insert(T),
     InsertAt(usize, T),
@@ -22,7 +22,7 @@ pub enum Call<T> {
 }
 
 /// What a call answers.
-#[derive(Clone, Copy, PartialEq)]
+#[derive(PartialEq, Debug, Drop)]
 pub enum Answer<T> {
     Bool(bool),
     Number(usize),
@@ -30,25 +30,8 @@ pub enum Answer<T> {
     Value(Option<T>),
 }
 
-/// Makes a call that changes the map, if it is one.
-fn change<T: Copy, S: Table<T>, L: Table<Link>>(
-    map: &mut MetaSlotMap<T, S, L>,
-    call: Call<T>,
-) -> Option<Answer<T>> {
-    match call {
-        Call::Insert(value) => {
-            let key = map.insert(value);
-            Some(Answer::Key(key.map(|key| key.value())))
-        }
-        Call::InsertAt(key, value) => {
-            let is_key = map.insert_at(SlotMapKey::new(key), value);
-            Some(Answer::Bool(is_key))
-        }
-        Call::Remove(key) => Some(Answer::Value(map.remove(SlotMapKey::new(key)))),
-        Call::Write(key, value) => Some(Answer::Value(write(map, key, value))),
-        _ => None,
-    }
-}
+/// A call and its answer.
+pub type Line<T> = (Call<T>, Answer<T>);
 
 /// Writes a value in the place of the one under `key`, and answers that.
 fn write<T: Copy, S: Table<T>, L: Table<Link>>(
@@ -57,45 +40,61 @@ fn write<T: Copy, S: Table<T>, L: Table<Link>>(
     value: T,
 ) -> Option<T> {
     match map.get_mut(SlotMapKey::new(key)) {
-        Some(place) => {
-            let before = *place;
-            *place = value;
-            Some(before)
-        }
+        Some(place) => Some(mem::replace(place, value)),
         None => None,
     }
 }
 
-/// Makes a call that reads the map. Calls that change it are none.
-fn read<T: Copy, S: Table<T>, L: Table<Link>>(
-    map: &MetaSlotMap<T, S, L>,
-    call: Call<T>,
-) -> Option<Answer<T>> {
+/// The number of a key.
+fn number_of(key: Option<SlotMapKey>) -> Option<usize> {
+    match key {
+        Some(key) => Some(key.value()),
+        None => None,
+    }
+}
+
+/// Makes a call.
+fn answer_of<T: Copy, S: Table<T>, L: Table<Link>>(
+    map: &mut MetaSlotMap<T, S, L>,
+    call: &Call<T>,
+) -> Answer<T> {
     match call {
-        Call::NextFreeKey => {
-            let key = map.next_free_key();
-            Some(Answer::Key(key.map(|key| key.value())))
-        }
-        Call::Contains(key) => Some(Answer::Bool(map.contains(SlotMapKey::new(key)))),
-        Call::Get(key) => Some(Answer::Value(map.get(SlotMapKey::new(key)).copied())),
-        Call::Capacity => Some(Answer::Number(map.capacity())),
-        Call::Len => Some(Answer::Number(map.len())),
-        Call::IsEmpty => Some(Answer::Bool(map.is_empty())),
-        Call::IsFull => Some(Answer::Bool(map.is_full())),
-        _ => None,
+        Call::Insert(value) => Answer::Key(number_of(map.insert(*value))),
+        Call::InsertAt(key, value) => { Answer::Bool(map.insert_at(SlotMapKey::new(*key), *value)) }
+        Call::Remove(key) => Answer::Value(map.remove(SlotMapKey::new(*key))),
+        Call::Write(key, value) => Answer::Value(write(map, *key, *value)),
+        Call::NextFreeKey => Answer::Key(number_of(map.next_free_key())),
+        Call::Contains(key) => Answer::Bool(map.contains(SlotMapKey::new(*key))),
+        Call::Get(key) => Answer::Value(map.get(SlotMapKey::new(*key)).copied()),
+        Call::Capacity => Answer::Number(map.capacity()),
+        Call::Len => Answer::Number(map.len()),
+        Call::IsEmpty => Answer::Bool(map.is_empty()),
+        Call::IsFull => Answer::Bool(map.is_full()),
     }
 }
 
 /// Makes each call, and compares its answer.
-pub fn check_calls<T: Copy + PartialEq, S: Table<T>, L: Table<Link>>(
-    rt: &impl Abort,
+pub fn check_calls<T: Copy + PartialEq + Debug, S: Table<T>, L: Table<Link>>(
+    findings: &Findings,
     mut map: MetaSlotMap<T, S, L>,
-    row: &[(Call<T>, Answer<T>)],
+    lines: &[Line<T>],
     place: &str,
 ) {
-    for (number, (call, answer)) in row.iter().enumerate() {
-        let changed = change(&mut map, *call);
-        let told = changed.or(read(&map, *call));
-        expect_at(rt, told == Some(*answer), number, place);
+    for (number, (call, answer)) in lines.iter().enumerate() {
+        let found = answer_of(&mut map, call);
+        findings.expect_same_at(&found, answer, number, place);
+    }
+}
+
+/// As `check_calls`, on a map for which there was memory.
+pub fn check_made<T: Copy + PartialEq + Debug, S: Table<T>, L: Table<Link>, E: Drop>(
+    findings: &Findings,
+    made: Result<MetaSlotMap<T, S, L>, E>,
+    lines: &[Line<T>],
+    place: &str,
+) {
+    match made {
+        Ok(map) => check_calls(findings, map, lines, place),
+        Err(_) => findings.miss(place),
     }
 }

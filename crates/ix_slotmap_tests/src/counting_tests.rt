@@ -1,12 +1,11 @@
 //! How often a call reaches a table, whatever the capacity.
 ghost use Rattle.std.specs.Prelude.{◌≡◌, ℕ, refl};
 
-use crate::expecting::{expect, expect_same};
 use ix_cells::{HeapTable, Table, Touches};
+use ix_expect::Findings;
 use ix_maps::{Link, MetaSlotMap, SlotMapKey};
 use std::alloc::{AllocError, Global};
 use std::cell::Cell;
-use std::process::Abort;
 use std::test::Fail;
 
 /// Adds numbers up.
@@ -105,55 +104,49 @@ fn half_full(alloc: Global, calls: &Cell<u64>) -> Result<CountingMap<'_>, AllocE
 }
 
 /// One call, and at most 16, reached the tables since the last time.
-fn assert_few(rt: &impl Abort, calls: &Cell<u64>) {
+fn check_few(findings: &Findings, calls: &Cell<u64>) {
     let count = calls.replace(0);
-    expect(rt, 1 <= count, "at least one call");
-    expect(rt, count <= 16, "at most 16 calls");
+    findings.expect(1 <= count, "at least one call");
+    findings.expect(count <= 16, "at most 16 calls");
 }
 
-#[test]
-fn plain_calls(rt: HostRuntime) -> Result<(), Fail> {
-    let calls = Cell::new(0);
-    let mut map = half_full(rt.alloc(), &calls)?;
-    expect_same(
-        &rt,
-        map.insert(7),
-        Some(SlotMapKey::new(500)),
-        "plain calls",
-    );
-    assert_few(&rt, &calls);
-    let mut map = half_full(rt.alloc(), &calls)?;
-    expect(&rt, map.insert_at(SlotMapKey::new(999), 7), "plain calls");
-    assert_few(&rt, &calls);
-    let mut map = half_full(rt.alloc(), &calls)?;
-    expect_same(
-        &rt,
-        map.remove(SlotMapKey::new(250)),
-        Some(250),
-        "plain calls",
-    );
-    assert_few(&rt, &calls);
-    Ok(())
+/// The three calls that change a map, of which `map` is half full.
+fn check_plain_calls(findings: &Findings, calls: &Cell<u64>, map: &mut CountingMap) {
+    let key = map.insert(7);
+    findings.expect_same(key, Some(SlotMapKey::new(500)), "insert");
+    check_few(findings, calls);
+    findings.expect(map.insert_at(SlotMapKey::new(999), 7), "insert at");
+    check_few(findings, calls);
+    let value = map.remove(SlotMapKey::new(250));
+    findings.expect_same(value, Some(250), "remove");
+    check_few(findings, calls);
 }
 
-#[test]
-fn counted_calls(rt: HostRuntime) -> Result<(), Fail> {
-    let calls = Cell::new(0);
+/// As above.
+fn check_counted_calls(findings: &Findings, calls: &Cell<u64>, map: &mut CountingMap) {
     let mut touches = Touches::new();
-    let mut map = half_full(rt.alloc(), &calls)?;
     let key = map.insert_counted(7, &mut touches);
-    expect_same(&rt, key, Some(SlotMapKey::new(500)), "counted calls");
-    assert_few(&rt, &calls);
-    let mut map = half_full(rt.alloc(), &calls)?;
-    expect(
-        &rt,
-        map.insert_at_counted(SlotMapKey::new(999), 7, &mut touches),
-        "counted calls",
-    );
-    assert_few(&rt, &calls);
-    let mut map = half_full(rt.alloc(), &calls)?;
+    findings.expect_same(key, Some(SlotMapKey::new(500)), "insert");
+    check_few(findings, calls);
+    let is_key = map.insert_at_counted(SlotMapKey::new(999), 7, &mut touches);
+    findings.expect(is_key, "insert at");
+    check_few(findings, calls);
     let value = map.remove_counted(SlotMapKey::new(250), &mut touches);
-    expect_same(&rt, value, Some(250), "counted calls");
-    assert_few(&rt, &calls);
-    Ok(())
+    findings.expect_same(value, Some(250), "remove");
+    check_few(findings, calls);
+}
+
+#[test]
+fn each_call(rt: HostRuntime) -> Result<(), Fail> {
+    let findings = Findings::new();
+    let calls = Cell::new(0);
+    match half_full(rt.alloc(), &calls) {
+        Ok(mut map) => check_plain_calls(&findings, &calls, &mut map),
+        Err(AllocError) => findings.miss("there is memory"),
+    }
+    match half_full(rt.alloc(), &calls) {
+        Ok(mut map) => check_counted_calls(&findings, &calls, &mut map),
+        Err(AllocError) => findings.miss("there is memory"),
+    }
+    findings.verdict()
 }

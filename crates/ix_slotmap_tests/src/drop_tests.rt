@@ -1,112 +1,128 @@
 //! When values are dropped: each one once, and at the end of a map that of the least key first.
-use crate::expecting::{expect, expect_at, expect_same};
-use crate::making::relocatable_of;
-use ix_cells::Table;
-use ix_maps::{FixedSizeSlotMap, Link, MetaSlotMap, SlotMap, SlotMapKey};
-use std::alloc::Global;
-use std::cell::Cell;
-use std::process::Abort;
+use crate::drop_tests::Call::{Insert, InsertAt, Remove, Write};
+use ix_cells::{RelocatableContainer, Table};
+use ix_expect::{Findings, Noted, Notes};
+use ix_maps::{FixedSizeSlotMap, Link, MetaSlotMap, SlotMap, SlotMapKey, UninitSlotMap};
+use std::alloc::{AllocError, Global};
 use std::test::Fail;
 
-/// A value with a name from 1 to 9, which it adds as a further digit to a shared number when it is dropped.
-struct Noted<'a> {
-    name: u64,
-    drops: &'a Cell<u64>,
+/// One call. New values have the name that stands last.
+enum Call {
+    Insert(u64),
+    InsertAt(usize, u64),
+    /// Writes a value in the place of the one that `get_mut` lends.
+    Write(usize, u64),
+    Remove(usize),
 }
 
-impl Drop for Noted<'_> {
-    fn drop(self) {
-        let Self { name, drops } = self;
-        drops.set(drops.get().wrapping_mul(10).wrapping_add(name));
-    }
-}
+/// A call, the names that it drops, and the name of the value that it hands out.
+type Row = (Call, u64, Option<u64>);
 
-/// Puts values in by turns: with a key by `insert_at`, without one by `insert`. Each comes with the names that are
-/// dropped then. `at_end` are those that are dropped at the end of the map, which is empty at first.
-fn check_drops<'a, S: Table<Noted<'a>>, L: Table<Link>>(
-    rt: &impl Abort,
-    mut map: MetaSlotMap<Noted<'a>, S, L>,
-    drops: &'a Cell<u64>,
-    puts: &[(Option<usize>, u64, u64)],
-    at_end: u64,
+/// Writes a value in the place of the one under `key`.
+fn write<'a, S: Table<Noted<'a>>, L: Table<Link>>(
+    map: &mut MetaSlotMap<Noted<'a>, S, L>,
+    key: usize,
+    value: Noted<'a>,
 ) {
-    for (number, (key, name, dropped)) in puts.iter().enumerate() {
-        let value = Noted { name: *name, drops };
-        match key {
-            Some(key) => {
-                let _ = map.insert_at(SlotMapKey::new(*key), value);
-            }
-            None => {
-                let _ = map.insert(value);
-            }
-        }
-        expect_at(rt, drops.replace(0) == *dropped, number, "dropped by");
+    if let Some(place) = map.get_mut(SlotMapKey::new(key)) {
+        *place = value;
     }
-    drop(map);
-    expect_same(rt, drops.replace(0), at_end, "at the end");
+}
+
+/// Makes a call, and answers the value that it hands out.
+fn handed_out<'a, S: Table<Noted<'a>>, L: Table<Link>>(
+    map: &mut MetaSlotMap<Noted<'a>, S, L>,
+    call: &Call,
+    notes: &'a Notes,
+) -> Option<Noted<'a>> {
+    match call {
+        Insert(name) => {
+            let _ = map.insert(Noted::new(*name, notes));
+        }
+        InsertAt(key, name) => {
+            let _ = map.insert_at(SlotMapKey::new(*key), Noted::new(*name, notes));
+        }
+        Write(key, name) => write(map, *key, Noted::new(*name, notes)),
+        Remove(key) => return map.remove(SlotMapKey::new(*key)),
+    }
+    None
+}
+
+/// The value's name, which it notes here.
+fn name_of(value: Option<Noted>) -> Option<u64> {
+    let value = value?;
+    Some(value.name)
+}
+
+/// Makes the calls one after the other on `map`, which is empty at first.
+fn check_rows<'a, S: Table<Noted<'a>>, L: Table<Link>>(
+    findings: &Findings,
+    map: &mut MetaSlotMap<Noted<'a>, S, L>,
+    notes: &'a Notes,
+    rows: &[Row],
+) {
+    for (number, (call, dropped, name)) in rows.iter().enumerate() {
+        let value = handed_out(map, call, notes);
+        findings.expect_same_at(notes.take_drops(), *dropped, number, "dropped by the map");
+        findings.expect_same_at(name_of(value), *name, number, "handed out");
+        let dropped = notes.take_drops();
+        findings.expect_same_at(dropped, name.unwrap_or(0), number, "dropped by the caller");
+    }
+}
+
+/// Makes the calls, at whose end `end` tells which values are dropped. There was memory for the map.
+fn check_made<'a, S: Table<Noted<'a>>, L: Table<Link>, E: Drop>(
+    findings: &Findings,
+    made: Result<MetaSlotMap<Noted<'a>, S, L>, E>,
+    notes: &'a Notes,
+    (rows, end): &(&[Row], u64),
+) {
+    match made {
+        Ok(mut map) => {
+            check_rows(findings, &mut map, notes, rows);
+            drop(map);
+            findings.expect_same(notes.take_drops(), *end, "at the end");
+        }
+        Err(_) => findings.miss("there is memory"),
+    }
 }
 
 /// Values that maps with three keys take, replace and refuse.
-const PUTS: [(Option<usize>, u64, u64); 9] = [
-    (Some(2), 1, 0),
-    (Some(0), 2, 0),
-    (Some(2), 3, 1),
-    (Some(3), 4, 4),
-    (None, 5, 0),
-    (None, 6, 6),
-    (Some(1), 7, 5),
-    (Some(usize::MAX), 8, 8),
-    (Some(0), 9, 2),
+const PUTS: &[Row] = &[
+    (InsertAt(2, 1), 0, None),
+    (InsertAt(0, 2), 0, None),
+    (InsertAt(2, 3), 1, None),
+    (InsertAt(3, 4), 4, None),
+    (Insert(5), 0, None),
+    (Insert(6), 6, None),
+    (InsertAt(1, 7), 5, None),
+    (InsertAt(usize::MAX, 8), 8, None),
+    (InsertAt(0, 9), 2, None),
 ];
 
-fn check_kinds<'a>(rt: &impl Abort, alloc: Global, drops: &'a Cell<u64>) -> Result<(), Fail> {
-    let fixed = FixedSizeSlotMap::<Noted<'a>, 3>::new();
-    check_drops(rt, fixed, drops, &PUTS, 973);
-    let allocated = SlotMap::<Noted<'a>, Global>::new(alloc, 3)?;
-    check_drops(rt, allocated, drops, &PUTS, 973);
-    let relocatable = relocatable_of::<Noted<'a>, Global>(alloc, 3)?;
-    check_drops(rt, relocatable, drops, &PUTS, 973);
-    let half_full = SlotMap::<Noted<'a>, Global>::new(alloc, 3)?;
-    check_drops(rt, half_full, drops, &[(Some(2), 1, 0), (None, 2, 0)], 21);
-    Ok(())
-}
+/// A map that is not full.
+const HALF_FULL: &[Row] = &[(InsertAt(2, 1), 0, None), (Insert(2), 0, None)];
+
+/// The caller drops what is handed out, and the map held nothing else.
+const REMOVALS: &[Row] = &[(Insert(1), 0, None), (Remove(0), 0, Some(1))];
+
+/// The value before is dropped, and that which was written at the end.
+const WRITES: &[Row] = &[(Insert(1), 0, None), (Write(0, 2), 1, None)];
+
+/// Calls of a map with three keys, and what its end drops.
+const EXAMPLES: &[(&[Row], u64)] = &[(PUTS, 973), (HALF_FULL, 21), (REMOVALS, 0), (WRITES, 2)];
 
 #[test]
-fn puts_and_ends(rt: HostRuntime) -> Result<(), Fail> {
-    let drops = Cell::new(0);
-    check_kinds(&rt, rt.alloc(), &drops)
-}
-
-#[test]
-fn removals_hand_out(rt: HostRuntime) {
-    let drops = Cell::new(0);
-    let mut map = FixedSizeSlotMap::<Noted, 2>::new();
-    let first = Noted {
-        name: 1,
-        drops: &drops,
-    };
-    expect(&rt, map.insert(first).is_some(), "there is room");
-    let removed = map.remove(SlotMapKey::new(0));
-    expect_same(&rt, drops.get(), 0, "handed out");
-    drop(removed);
-    expect_same(&rt, drops.replace(0), 1, "dropped by the caller");
-    drop(map);
-    expect_same(&rt, drops.get(), 0, "the map held nothing");
-}
-
-#[test]
-fn values_are_written_over(rt: HostRuntime) {
-    let drops = Cell::new(0);
-    let item = |name| Noted {
-        name,
-        drops: &drops,
-    };
-    let mut map = FixedSizeSlotMap::<Noted, 2>::new();
-    expect(&rt, map.insert(item(1)).is_some(), "there is room");
-    if let Some(value) = map.get_mut(SlotMapKey::new(0)) {
-        *value = item(2);
+fn each_kind(rt: HostRuntime) -> Result<(), Fail> {
+    let findings = Findings::new();
+    let notes = Notes::new(0);
+    for example in EXAMPLES {
+        let fixed = Ok::<_, AllocError>(FixedSizeSlotMap::<Noted, 3>::new());
+        check_made(&findings, fixed, &notes, example);
+        let allocated = SlotMap::<Noted, Global>::new(rt.alloc(), 3);
+        check_made(&findings, allocated, &notes, example);
+        let relocatable = UninitSlotMap::<Noted>::new_uninit(3).init(rt.alloc());
+        check_made(&findings, relocatable, &notes, example);
     }
-    expect_same(&rt, drops.replace(0), 1, "the one before");
-    drop(map);
-    expect_same(&rt, drops.get(), 2, "the one that was written");
+    findings.verdict()
 }

@@ -9,11 +9,7 @@ mod counting_tests;
 #[cfg(test)]
 mod drop_tests;
 #[cfg(test)]
-mod expecting;
-#[cfg(test)]
 mod function_tests;
-#[cfg(test)]
-mod making;
 #[cfg(test)]
 mod memory_tests;
 #[cfg(test)]

@@ -1,10 +1,9 @@
 //! Maps whose memory is refused, at the first request and at the second: nothing stays taken.
-use crate::expecting::{expect, expect_same};
-use ix_cells::{HeapTable, RelocatableContainer, Table};
-use ix_maps::{RelocatableSlotMap, SlotMap, UninitSlotMap};
+use ix_cells::{HeapTable, InitError, RelocatableContainer, Table};
+use ix_expect::Findings;
+use ix_maps::{Link, MetaSlotMap, SlotMap, UninitSlotMap};
 use linked_list_allocator::LocalHeap;
-use std::alloc::{AllocError, Allocator, Global};
-use std::process::Abort;
+use std::alloc::{AllocError, Global};
 use std::test::Fail;
 
 /// Whether the heap has memory for the values of two keys.
@@ -18,71 +17,87 @@ fn has_first(heap: &LocalHeap) -> bool {
     }
 }
 
-/// The capacity and the number of values of a map, which ends.
-fn sizes_of<A: Allocator + Copy>(map: SlotMap<u64, A>) -> (usize, usize) {
-    (map.capacity(), map.len())
+/// The heap had memory for an empty map with `capacity` keys if `found`, and `used` of it were used before.
+fn check_made<S: Table<u64>, L: Table<Link>, E: Drop>(
+    findings: &Findings,
+    heap: &LocalHeap,
+    used: usize,
+    made: Result<MetaSlotMap<u64, S, L>, E>,
+    (capacity, found): (usize, bool),
+) {
+    match made {
+        Ok(map) => {
+            findings.expect(found, "memory is refused");
+            let sizes = (map.capacity(), map.len(), map.is_full());
+            findings.expect_same(sizes, (capacity, 0, capacity == 0), "in the heap");
+        }
+        Err(_) => findings.expect(!found, "memory is found"),
+    }
+    findings.expect_same(heap.used(), used, "nothing stays taken");
 }
 
-/// The heap has memory for a map with two keys if `found`.
-fn check_new(rt: &impl Abort, heap: &LocalHeap, found: bool) {
-    let used = heap.used();
-    let made = match SlotMap::<u64, &LocalHeap>::new(heap, 2) {
-        Ok(map) => Ok(sizes_of(map)),
-        Err(error) => Err(error),
-    };
-    let wanted = if found { Ok((2, 0)) } else { Err(AllocError) };
-    expect_same(rt, made, wanted, "at once");
-    expect_same(rt, heap.used(), used, "at once");
+/// A refusal hands back what finds memory in `ample` then.
+fn check_again(findings: &Findings, refused: Option<InitError<UninitSlotMap<u64>>>, ample: Global) {
+    if let Some(error) = refused {
+        match error.into_uninit().init(ample) {
+            Ok(map) => {
+                let sizes = (map.capacity(), map.len());
+                findings.expect_same(sizes, (2, 0), "in ample memory");
+            }
+            Err(_) => findings.miss("there is memory now"),
+        }
+    }
 }
 
 /// The heap has memory for a map with two keys if `found`. `ample` finds memory.
-fn check_init(rt: &impl Abort, heap: &LocalHeap, found: bool, ample: Global) {
+fn check_heap(findings: &Findings, heap: &LocalHeap, ample: Global, found: bool) {
     let used = heap.used();
-    let (first, again) = match UninitSlotMap::<u64>::new_uninit(2).init(heap) {
-        Ok(map) => (Some(sizes_of(map)), None),
-        Err(error) => {
-            let ready: Option<RelocatableSlotMap<u64>> = error.into_uninit().init(ample).ok();
-            (None, ready.map(sizes_of))
-        }
-    };
-    let sizes = Some((2, 0));
-    let wanted = if found { (sizes, None) } else { (None, sizes) };
-    expect_same(rt, (first, again), wanted, "in two steps");
-    expect_same(rt, heap.used(), used, "in two steps");
+    check_made(findings, heap, used, SlotMap::new(heap, 2), (2, found));
+    let made = UninitSlotMap::new_uninit(2).init(heap);
+    check_made(findings, heap, used, made, (2, found));
+    let refused = UninitSlotMap::new_uninit(2).init(heap).err();
+    findings.expect_same(refused.is_none(), found, "in two steps");
+    findings.expect_same(heap.used(), used, "nothing stays taken by a refusal");
+    check_again(findings, refused, ample);
+    check_made(findings, heap, used, SlotMap::new(heap, 0), (0, true));
+}
+
+/// A block of the heap is taken. It has memory for the first request of a map if `first`, and for both if `both`.
+fn check_blocks(findings: &Findings, heap: &LocalHeap, ample: Global, (first, both): (bool, bool)) {
+    let held = Box::new(heap, 0u64);
+    findings.expect(held.is_ok(), "a block");
+    findings.expect_same(has_first(heap), first, "the first request");
+    check_heap(findings, heap, ample, both);
 }
 
 /// How many blocks a heap has, and whether it finds memory for the first request, and for both.
-const BLOCKS: [(usize, bool, bool); 3] = [(2, false, false), (3, true, false), (8, true, true)];
+const BLOCKS: &[(usize, bool, bool)] = &[(2, false, false), (3, true, false), (8, true, true)];
 
 #[test]
 fn makings_refused(rt: HostRuntime) -> Result<(), Fail> {
-    for (blocks, first, both) in &BLOCKS {
-        let heap = LocalHeap::new(rt.alloc(), 16 * *blocks)?;
-        let _held = Box::new(&heap, 0u64)?;
-        expect_same(&rt, has_first(&heap), *first, "the first request");
-        check_new(&rt, &heap, *both);
-        check_init(&rt, &heap, *both, rt.alloc());
-        let empty = SlotMap::<u64, &LocalHeap>::new(&heap, 0)?;
-        expect(&rt, empty.is_full(), "no memory is needed");
-    }
-    Ok(())
-}
-
-/// No memory holds a map with `capacity` keys.
-fn check_past_all_memory(rt: &impl Abort, alloc: Global, capacity: usize) {
-    let made = SlotMap::<u64, Global>::new(alloc, capacity);
-    expect_same(rt, made.err(), Some(AllocError), "`new` refuses");
-    match UninitSlotMap::<u64>::new_uninit(capacity).init(alloc) {
-        Ok(_map) => expect(rt, false, "`init` refuses"),
-        Err(error) => {
-            let again = error.into_uninit().init(alloc);
-            expect(rt, again.is_err(), "the capacity came back");
+    let findings = Findings::new();
+    for (blocks, first, both) in BLOCKS {
+        match LocalHeap::new(rt.alloc(), 16 * *blocks) {
+            Ok(heap) => check_blocks(&findings, &heap, rt.alloc(), (*first, *both)),
+            Err(_) => findings.miss("a heap"),
         }
     }
+    findings.verdict()
 }
 
 #[test]
-fn past_all_memory(rt: HostRuntime) {
-    check_past_all_memory(&rt, rt.alloc(), usize::MAX);
-    check_past_all_memory(&rt, rt.alloc(), usize::MAX / 16);
+fn past_all_memory(rt: HostRuntime) -> Result<(), Fail> {
+    let findings = Findings::new();
+    for capacity in &[usize::MAX, usize::MAX / 16] {
+        let made = SlotMap::<u64, Global>::new(rt.alloc(), *capacity);
+        findings.expect(made.is_err(), "`new` refuses");
+        match UninitSlotMap::<u64>::new_uninit(*capacity).init(rt.alloc()) {
+            Ok(_map) => findings.miss("`init` refuses"),
+            Err(error) => {
+                let again = error.into_uninit().init(rt.alloc());
+                findings.expect(again.is_err(), "the capacity came back");
+            }
+        }
+    }
+    findings.verdict()
 }

@@ -1,15 +1,12 @@
 //! Worked examples: calls on an empty map, and what they answer.
-use crate::calls::Answer::{self, Bool, Key, Number, Value};
+use crate::calls::Answer::{Bool, Key, Number, Value};
 use crate::calls::Call::{
-    self, Capacity, Contains, Get, Insert, InsertAt, IsEmpty, IsFull, Len, NextFreeKey, Remove,
-    Write,
+    Capacity, Contains, Get, Insert, InsertAt, IsEmpty, IsFull, Len, NextFreeKey, Remove, Write,
 };
-
-/// A call and its answer.
-pub type Line<T> = (Call<T>, Answer<T>);
+use crate::calls::Line;
 
 /// On a map with three keys.
-pub const REMOVED_COMES_FIRST: [Line<char>; 7] = [
+pub const REMOVED_COMES_FIRST: &[Line<char>] = &[
     (Insert('a'), Key(Some(0))),
     (Insert('b'), Key(Some(1))),
     (Remove(0), Value(Some('a'))),
@@ -20,7 +17,7 @@ pub const REMOVED_COMES_FIRST: [Line<char>; 7] = [
 ];
 
 /// On a map with three keys.
-pub const FIRST_KEY_TAKEN: [Line<char>; 4] = [
+pub const FIRST_KEY_TAKEN: &[Line<char>] = &[
     (InsertAt(0, 'a'), Bool(true)),
     (NextFreeKey, Key(Some(1))),
     (Insert('b'), Key(Some(1))),
@@ -28,7 +25,7 @@ pub const FIRST_KEY_TAKEN: [Line<char>; 4] = [
 ];
 
 /// On a map with four keys.
-pub const MIDDLE_KEY_TAKEN: [Line<char>; 5] = [
+pub const MIDDLE_KEY_TAKEN: &[Line<char>] = &[
     (InsertAt(2, 'x'), Bool(true)),
     (Insert('a'), Key(Some(0))),
     (Insert('b'), Key(Some(1))),
@@ -37,7 +34,7 @@ pub const MIDDLE_KEY_TAKEN: [Line<char>; 5] = [
 ];
 
 /// On a map with three keys.
-pub const VALUE_REPLACED: [Line<char>; 7] = [
+pub const VALUE_REPLACED: &[Line<char>] = &[
     (Insert('a'), Key(Some(0))),
     (InsertAt(0, 'b'), Bool(true)),
     (Remove(0), Value(Some('b'))),
@@ -48,7 +45,7 @@ pub const VALUE_REPLACED: [Line<char>; 7] = [
 ];
 
 /// On a map with three keys.
-pub const KEYS_BEHIND_THE_FIRST: [Line<char>; 7] = [
+pub const KEYS_BEHIND_THE_FIRST: &[Line<char>] = &[
     (Insert('a'), Key(Some(0))),
     (Insert('b'), Key(Some(1))),
     (Remove(0), Value(Some('a'))),
@@ -59,7 +56,7 @@ pub const KEYS_BEHIND_THE_FIRST: [Line<char>; 7] = [
 ];
 
 /// On a map with no key.
-pub const NO_KEY: [Line<char>; 10] = [
+pub const NO_KEY: &[Line<char>] = &[
     (NextFreeKey, Key(None)),
     (Insert('x'), Key(None)),
     (Get(0), Value(None)),
@@ -76,7 +73,7 @@ pub const NO_KEY: [Line<char>; 10] = [
 const GREATEST: usize = 18_446_744_073_709_551_615;
 
 /// On a map with two keys.
-pub const KEYS_PAST_THE_END: [Line<char>; 13] = [
+pub const KEYS_PAST_THE_END: &[Line<char>] = &[
     (Contains(2), Bool(false)),
     (Get(2), Value(None)),
     (Write(2, 'x'), Value(None)),
@@ -93,7 +90,7 @@ pub const KEYS_PAST_THE_END: [Line<char>; 13] = [
 ];
 
 /// On a map with two keys: every call that an example can have.
-pub const EVERY_CALL: [Line<char>; 20] = [
+pub const EVERY_CALL: &[Line<char>] = &[
     (Capacity, Number(2)),
     (Len, Number(0)),
     (IsEmpty, Bool(true)),
@@ -117,7 +114,7 @@ pub const EVERY_CALL: [Line<char>; 20] = [
 ];
 
 /// On a map with three keys, whose values have size zero.
-pub const SIZE_ZERO: [Line<()>; 9] = [
+pub const SIZE_ZERO: &[Line<()>] = &[
     (Insert(()), Key(Some(0))),
     (InsertAt(2, ()), Bool(true)),
     (InsertAt(2, ()), Bool(true)),
@@ -127,4 +124,12 @@ pub const SIZE_ZERO: [Line<()>; 9] = [
     (Remove(2), Value(Some(()))),
     (Remove(2), Value(None)),
     (NextFreeKey, Key(Some(2))),
+];
+
+/// On a map with three keys.
+pub const BY_ITS_NAME: &[Line<char>] = &[
+    (Insert('a'), Key(Some(0))),
+    (InsertAt(2, 'b'), Bool(true)),
+    (Remove(0), Value(Some('a'))),
+    (NextFreeKey, Key(Some(0))),
 ];

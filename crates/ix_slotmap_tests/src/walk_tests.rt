@@ -1,11 +1,11 @@
 //! Random walks of slot maps beside the plain slow map: every answer, and from time to time the whole content.
-use crate::expecting::{expect, expect_same};
-use crate::making::relocatable_of;
+ghost use Rattle.std.specs.Prelude.{◌≤◌};
+
 use crate::slow_map::SlowMap;
-use ix_cells::Table;
-use ix_maps::{FixedSizeSlotMap, Link, MetaSlotMap, SlotMap, SlotMapKey};
-use std::alloc::Global;
-use std::process::Abort;
+use ix_cells::{RelocatableContainer, Table};
+use ix_expect::Findings;
+use ix_maps::{FixedSizeSlotMap, Link, MetaSlotMap, SlotMap, SlotMapKey, UninitSlotMap};
+use std::alloc::{AllocError, Global};
 use std::test::Fail;
 
 /// How many calls a walk makes on one map.
@@ -33,102 +33,118 @@ fn key_of(number: usize, capacity: usize) -> usize {
 }
 
 /// Makes one call on both, and compares the answers.
-fn assert_call<S: Table<u64>, L: Table<Link>>(
-    rt: &impl Abort,
+fn check_call<S: Table<u64>, L: Table<Link>>(
+    findings: &Findings,
     map: &mut MetaSlotMap<u64, S, L>,
     slow: &mut SlowMap,
     kind: usize,
     (key, value): (usize, u64),
-) -> Result<(), Fail> {
+) {
+    let slot = SlotMapKey::new(key);
     match kind % 5 {
         0 | 1 => {
             let answer = slow.insert(value).map(SlotMapKey::new);
-            expect_same(rt, map.insert(value), answer, "insert");
+            findings.expect_same(map.insert(value), answer, "insert");
         }
         2 => {
-            let answer = map.insert_at(SlotMapKey::new(key), value);
-            expect_same(rt, answer, slow.insert_at(key, value), "insert at");
+            let answer = slow.insert_at(key, value);
+            findings.expect_same(map.insert_at(slot, value), answer, "insert at");
         }
         _ => {
-            let answer = slow.remove(key)?;
-            let removed = map.remove(SlotMapKey::new(key));
-            expect_same(rt, removed, answer, "remove");
+            let answer = slow.remove(key);
+            findings.expect_same(Ok(map.remove(slot)), answer, "remove");
         }
     }
-    Ok(())
 }
 
 /// Compares what both tell of their keys.
-fn assert_reads<S: Table<u64>, L: Table<Link>>(
-    rt: &impl Abort,
+fn check_reads<S: Table<u64>, L: Table<Link>>(
+    findings: &Findings,
     map: &MetaSlotMap<u64, S, L>,
     slow: &SlowMap,
     key: usize,
 ) {
+    let slot = SlotMapKey::new(key);
     let first = slow.first_free().map(SlotMapKey::new);
-    expect_same(rt, map.next_free_key(), first, "next free key");
-    expect_same(rt, map.is_full(), first.is_none(), "full");
+    let found = (map.next_free_key(), map.is_full());
+    findings.expect_same(found, (first, first.is_none()), "the free keys");
     let held = slow.get(key);
-    expect_same(
-        rt,
-        map.contains(SlotMapKey::new(key)),
-        held.is_some(),
-        "contains",
-    );
-    expect_same(rt, map.get(SlotMapKey::new(key)).copied(), held, "get");
+    let found = (map.contains(slot), map.get(slot).copied());
+    findings.expect_same(found, (held.is_some(), held), "the value under a key");
 }
 
 /// Compares all that both hold.
-fn assert_content<S: Table<u64>, L: Table<Link>>(
-    rt: &impl Abort,
+fn check_content<S: Table<u64>, L: Table<Link>>(
+    findings: &Findings,
     map: &MetaSlotMap<u64, S, L>,
     slow: &SlowMap,
 ) {
-    expect_same(rt, map.len(), slow.len(), "length");
     let mut count = 0usize;
     let mut least = 0usize;
     for (key, value) in map.iter() {
-        expect(rt, key.value() >= least, "the keys rise");
-        expect_same(rt, slow.get(key.value()), Some(*value), "a held key");
+        findings.expect(key.value() >= least, "the keys rise");
+        findings.expect_same(slow.get(key.value()), Some(*value), "a held key");
         least = key.value().wrapping_add(1);
         count = count.wrapping_add(1);
     }
-    expect_same(rt, count, slow.len(), "every held key was there");
+    let len = slow.len();
+    findings.expect_same((map.len(), count), (len, len), "every held key was there");
 }
 
-/// Walks a map, which is empty, and the slow map.
-fn walk<S: Table<u64>, L: Table<Link>>(
-    rt: &impl Abort,
-    alloc: Global,
-    mut map: MetaSlotMap<u64, S, L>,
-) -> Result<(), Fail> {
+/// Walks both maps, which are empty.
+fn walk_both<S: Table<u64>, L: Table<Link>>(
+    findings: &Findings,
+    map: &mut MetaSlotMap<u64, S, L>,
+    slow: &mut SlowMap,
+) {
     let capacity = map.capacity();
-    let mut slow = SlowMap::new(alloc, capacity)?;
     let mut numbers = Numbers {
         last: capacity as u64,
     };
     for call in 0..CALLS {
         let key = key_of(numbers.next(), capacity);
-        assert_call(rt, &mut map, &mut slow, numbers.next(), (key, call))?;
-        assert_reads(rt, &map, &slow, key_of(numbers.next(), capacity));
+        check_call(findings, map, slow, numbers.next(), (key, call));
+        check_reads(findings, &*map, &*slow, key_of(numbers.next(), capacity));
         if call % 50 == 0 {
-            assert_content(rt, &map, &slow);
+            check_content(findings, &*map, &*slow);
         }
     }
-    Ok(())
+}
+
+/// Walks a map, which is empty and for which there was memory.
+fn walk<S: Table<u64>, L: Table<Link>, E: Drop>(
+    findings: &Findings,
+    alloc: Global,
+    made: Result<MetaSlotMap<u64, S, L>, E>,
+) {
+    if let Ok(mut map) = made {
+        if let Ok(mut slow) = SlowMap::new(alloc, map.capacity()) {
+            return walk_both(findings, &mut map, &mut slow);
+        }
+    }
+    findings.miss("there is memory");
+}
+
+fn walk_fixed<const CAPACITY: usize>(findings: &Findings, alloc: Global)
+    requires { CAPACITY ≤ 40 }
+{
+    let fixed = FixedSizeSlotMap::<u64, CAPACITY>::new();
+    walk(findings, alloc, Ok::<_, AllocError>(fixed));
 }
 
 #[test]
 fn each_kind(rt: HostRuntime) -> Result<(), Fail> {
+    let findings = Findings::new();
     let alloc = rt.alloc();
-    walk(&rt, alloc, FixedSizeSlotMap::<u64, 0>::new())?;
-    walk(&rt, alloc, FixedSizeSlotMap::<u64, 1>::new())?;
-    walk(&rt, alloc, FixedSizeSlotMap::<u64, 2>::new())?;
-    walk(&rt, alloc, FixedSizeSlotMap::<u64, 7>::new())?;
-    walk(&rt, alloc, FixedSizeSlotMap::<u64, 40>::new())?;
+    walk_fixed::<0>(&findings, alloc);
+    walk_fixed::<1>(&findings, alloc);
+    walk_fixed::<2>(&findings, alloc);
+    walk_fixed::<7>(&findings, alloc);
+    walk_fixed::<40>(&findings, alloc);
     for capacity in 0..41 {
-        walk(&rt, alloc, SlotMap::new(alloc, capacity)?)?;
-        walk(&rt, alloc, relocatable_of(alloc, capacity)?)?;
+        walk(&findings, alloc, SlotMap::new(alloc, capacity));
+        let relocatable = UninitSlotMap::new_uninit(capacity).init(alloc);
+        walk(&findings, alloc, relocatable);
     }
-    Ok(())
+    findings.verdict()
 }

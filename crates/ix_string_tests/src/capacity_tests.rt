@@ -1,105 +1,116 @@
 //! Empty and full strings of the least capacities and of a larger one.
-use crate::expecting::{expect, expect_same};
-use crate::strings::relocatable_of;
+use crate::calls::Answer::{Bool, Byte, Changed, Copied, Done, Number, Order, Places};
+use crate::calls::Call::{
+    Clear, Compare, CopyTo, Find, InsertBytes, IsEmpty, Len, Pop, Remove, RemoveRange, RetainEach,
+    StripPrefix, StripSuffix, Truncate,
+};
+use crate::calls::Start::Then;
+use crate::calls::{Row, check_rows};
 use bumpalo::Bump;
+use ix_cells::RelocatableContainer;
+use ix_expect::Findings;
 use ix_string::StringModificationError::InsertWouldExceedCapacity;
-use ix_string::{PolymorphicString, StaticString, String};
+use ix_string::{PolymorphicString, StaticString, String, StringModificationError, UninitString};
 use linked_list_allocator::LocalHeap;
-use std::alloc::Allocator;
-use std::process::Abort;
+use std::alloc::{AllocError, Allocator};
+use std::cmp::Ordering::Equal;
 use std::test::Fail;
 
-const EMPTY: &str = "of an empty string";
+/// Calls of an empty string of any capacity.
+const OF_EMPTY: &[Row] = &[
+    (Then, Len, Number(0), ""),
+    (Then, IsEmpty, Bool(true), ""),
+    (Then, Pop, Byte(None), ""),
+    (Then, Remove(0), Byte(None), ""),
+    (Then, RemoveRange(0, 0), Bool(true), ""),
+    (Then, RemoveRange(0, 1), Bool(false), ""),
+    (Then, RemoveRange(1, 0), Bool(false), ""),
+    (Then, StripPrefix(""), Bool(true), ""),
+    (Then, StripSuffix(""), Bool(true), ""),
+    (Then, Find(""), Places(Some(0), Some(0)), ""),
+    (Then, Truncate(0), Done, ""),
+    (Then, Clear, Done, ""),
+    (Then, RetainEach(true), Done, ""),
+    (Then, InsertBytes(0, &[]), Changed(Ok(())), ""),
+    (Then, CopyTo(2), Copied(Some(1), [0, 9, 9, 9]), ""),
+    (Then, CopyTo(0), Copied(None, [9, 9, 9, 9]), ""),
+    (Then, Compare(""), Order(Equal, true, true), ""),
+];
 
-const FULL: &str = "of a full string";
-
-fn check_refused_by_empty<S: String>(rt: &impl Abort, string: &mut S) {
-    expect_same(rt, string.pop(), None, "pop", EMPTY);
-    expect_same(rt, string.remove(0), None, "remove", EMPTY);
-    expect(rt, string.remove_range(0, 0), EMPTY);
-    expect(rt, !string.remove_range(0, 1), EMPTY);
-    expect(rt, !string.remove_range(1, 0), EMPTY);
-    expect(
-        rt,
-        string.strip_prefix(b"") && string.strip_suffix(b""),
-        EMPTY,
-    );
-    expect_same(rt, string.find(b""), Some(0), "find", EMPTY);
-    expect_same(rt, string.rfind(b""), Some(0), "rfind", EMPTY);
+fn check_empty<S: String>(findings: &Findings, string: &mut S, capacity: usize) {
+    findings.expect_same(string.capacity(), capacity, "the capacity");
+    findings.expect_same(string.is_full(), capacity == 0, "full");
+    check_rows(findings, string, OF_EMPTY, "empty");
 }
 
-fn check_empty<S: String>(rt: &impl Abort, string: &mut S, capacity: usize) {
-    expect_same(rt, string.capacity(), capacity, "capacity", EMPTY);
-    expect_same(rt, string.len(), 0, "length", EMPTY);
-    expect(rt, string.is_empty(), EMPTY);
-    expect_same(rt, string.is_full(), capacity == 0, "full", EMPTY);
-    check_refused_by_empty(rt, string);
-    string.truncate(0);
-    string.clear();
-    string.retain(|_: u8| true);
-    expect_same(rt, string.insert_bytes(0, &[]), Ok(()), "insert", EMPTY);
-    let mut out = [9u8; 2];
-    expect_same(rt, string.copy_with_nul(&mut out), Some(1), "copy", EMPTY);
-    expect_same(rt, out, [0, 9], "copy", EMPTY);
-    let mut none: [u8; 0] = [];
-    expect_same(rt, string.copy_with_nul(&mut none), None, "no copy", EMPTY);
-    expect(rt, string.eq_str(""), EMPTY);
-}
+const REFUSED: Result<(), StringModificationError> = Err(InsertWouldExceedCapacity);
 
-fn check_refused_by_full<S: String>(rt: &impl Abort, string: &mut S, byte: u8) {
-    let full = Err(InsertWouldExceedCapacity);
-    expect_same(rt, string.push(byte), full, "push", FULL);
-    expect_same(rt, string.insert(0, byte), full, "insert", FULL);
-}
-
-/// `string` is empty.
-fn check_filling<S: String>(rt: &impl Abort, string: &mut S, capacity: usize) {
-    for _ in 0..capacity {
-        expect(rt, !string.is_full(), "before it is full");
-        expect_same(rt, string.push(127), Ok(()), "push", "before it is full");
-    }
-    expect(rt, string.is_full(), FULL);
-    expect_same(rt, string.len(), capacity, "length", FULL);
-}
-
-/// Fills the empty string, and empties it again.
-fn check_full<S: String + Drop>(rt: &impl Abort, mut string: S, capacity: usize) {
-    check_empty(rt, &mut string, capacity);
-    check_filling(rt, &mut string, capacity);
+fn check_full<S: String>(findings: &Findings, string: &mut S, capacity: usize) {
+    findings.expect_same((string.is_full(), string.len()), (true, capacity), "full");
     for byte in &[97, 0, 255] {
-        check_refused_by_full(rt, &mut string, *byte);
+        let answers = (string.push(*byte), string.insert(0, *byte));
+        findings.expect_same(answers, (REFUSED, REFUSED), "no room");
     }
-    expect_same(rt, string.push_bytes(&[]), Ok(()), "push nothing", FULL);
+    findings.expect_same(string.push_bytes(&[]), Ok(()), "push nothing");
     string.retain(|_: u8| false);
-    expect(rt, string.is_full(), FULL);
+    findings.expect(string.is_full(), "nothing is taken out");
     let mut out = [9u8; 200];
     let copied = string.copy_with_nul(&mut out);
-    expect_same(rt, copied, capacity.checked_add(1), "copy", FULL);
-    for _ in 0..capacity {
-        expect_same(rt, string.pop(), Some(127), "pop", FULL);
-    }
-    check_empty(rt, &mut string, capacity);
+    findings.expect_same(copied, capacity.checked_add(1), "a copy");
 }
 
-fn check_full_in<A: Allocator + Copy>(rt: &impl Abort, alloc: A) -> Result<(), Fail> {
-    for capacity in &[0, 1, 2, 127] {
-        check_full(rt, relocatable_of(alloc, *capacity)?, *capacity);
-        check_full(rt, PolymorphicString::new(alloc, *capacity)?, *capacity);
+/// Fills the empty string, and empties it again. There was memory for it.
+fn check_made<S: String + Drop, E: Drop>(findings: &Findings, made: Result<S, E>, capacity: usize) {
+    let Ok(mut string) = made else {
+        return findings.miss("there is memory");
+    };
+    check_empty(findings, &mut string, capacity);
+    for _ in 0..capacity {
+        let found = (string.is_full(), string.push(127));
+        findings.expect_same(found, (false, Ok(())), "before it is full");
     }
-    Ok(())
+    check_full(findings, &mut string, capacity);
+    for _ in 0..capacity {
+        findings.expect_same(string.pop(), Some(127), "pop");
+    }
+    check_empty(findings, &mut string, capacity);
+}
+
+fn check_kinds<A: Allocator + Copy>(findings: &Findings, alloc: A, capacity: usize) {
+    let relocatable = UninitString::new_uninit(capacity).init(alloc);
+    check_made(findings, relocatable, capacity);
+    check_made(findings, PolymorphicString::new(alloc, capacity), capacity);
+}
+
+fn check_in<A: Allocator + Copy>(findings: &Findings, alloc: A) {
+    for capacity in &[0, 1, 2, 127] {
+        check_kinds(findings, alloc, *capacity);
+    }
+}
+
+/// As above. All of the memory comes back.
+fn check_heap(findings: &Findings, heap: &LocalHeap) {
+    check_in(findings, heap);
+    findings.expect_same(heap.used(), 0, "the heap has all of its memory back");
+}
+
+fn check_fixed(findings: &Findings) {
+    check_made(findings, Ok::<_, AllocError>(StaticString::<0>::new()), 0);
+    check_made(findings, Ok::<_, AllocError>(StaticString::<1>::new()), 1);
+    check_made(findings, Ok::<_, AllocError>(StaticString::<2>::new()), 2);
+    let long = Ok::<_, AllocError>(StaticString::<127>::new());
+    check_made(findings, long, 127);
 }
 
 #[test]
 fn empty_and_full(rt: HostRuntime) -> Result<(), Fail> {
-    check_full(&rt, StaticString::<0>::new(), 0);
-    check_full(&rt, StaticString::<1>::new(), 1);
-    check_full(&rt, StaticString::<2>::new(), 2);
-    check_full(&rt, StaticString::<127>::new(), 127);
-    check_full_in(&rt, rt.alloc())?;
-    let bump = Bump::new(rt.alloc());
-    check_full_in(&rt, &bump)?;
-    let heap = LocalHeap::new(rt.alloc(), 256)?;
-    check_full_in(&rt, &heap)?;
-    expect_same(&rt, heap.used(), 0, "used", "the heap");
-    Ok(())
+    let findings = Findings::new();
+    check_fixed(&findings);
+    check_in(&findings, rt.alloc());
+    check_in(&findings, &Bump::new(rt.alloc()));
+    match LocalHeap::new(rt.alloc(), 256) {
+        Ok(heap) => check_heap(&findings, &heap),
+        Err(_) => findings.miss("a heap"),
+    }
+    findings.verdict()
 }

@@ -1,37 +1,32 @@
 //! Conversions into fixed strings, and the length of bytes that a zero ends.
-use crate::expecting::{expect, expect_same};
+use crate::strings::holding;
+use ix_expect::Findings;
 use ix_string::StringModificationError::{InsertWouldExceedCapacity, InvalidCharacter};
 use ix_string::{StaticString, String, StringModificationError, strnlen};
-use std::process::Abort;
 use std::str::FromStr;
 use std::test::Fail;
-
-const UNCHECKED: &str = "made without a check";
 
 /// Bytes, and the text that is made of them or the refusal.
 type Made = (&'static [u8], Result<&'static str, StringModificationError>);
 
-/// What a conversion of `bytes` answers: the text, or the refusal.
+/// What a conversion answers: the text, or the refusal.
 fn check_made<const CAPACITY: usize>(
-    rt: &impl Abort,
+    findings: &Findings,
     made: Result<StaticString<CAPACITY>, StringModificationError>,
-    wanted: Result<&str, StringModificationError>,
-    bytes: &[u8],
+    wanted: &Result<&str, StringModificationError>,
+    row: usize,
+    call: &str,
 ) {
     match made {
         Ok(string) => {
-            assert_eq!(rt; Ok(string.as_str()), wanted, "of {bytes:?}");
-            expect(
-                rt,
-                string.as_bytes_const() == string.as_bytes(),
-                "the bytes",
-            );
+            findings.expect_same_at(Ok(string.as_str()), *wanted, row, call);
+            findings.expect_at(string.as_bytes_const() == string.as_bytes(), row, call);
         }
-        Err(error) => assert_eq!(rt; Err(error), wanted, "of {bytes:?}"),
+        Err(error) => findings.expect_same_at(Err(error), *wanted, row, call),
     }
 }
 
-const WHOLE: [Made; 10] = [
+const WHOLE: &[Made] = &[
     (&[], Ok("")),
     (&[97], Ok("a")),
     (&[97, 98], Ok("ab")),
@@ -44,48 +39,53 @@ const WHOLE: [Made; 10] = [
     (&[200, 97, 98], Err(InsertWouldExceedCapacity)),
 ];
 
-fn check_whole_bytes(rt: &impl Abort) {
-    for (bytes, wanted) in &WHOLE {
-        check_made(rt, StaticString::<2>::from_bytes(bytes), *wanted, bytes);
-        check_made(rt, StaticString::<2>::try_from(*bytes), *wanted, bytes);
+const TEXTS: &[(&str, Result<&str, StringModificationError>)] = &[
+    ("", Ok("")),
+    ("ab", Ok("ab")),
+    ("a\0", Err(InvalidCharacter)),
+    ("é", Err(InvalidCharacter)),
+    ("aé", Err(InsertWouldExceedCapacity)),
+    ("abc", Err(InsertWouldExceedCapacity)),
+];
+
+fn check_whole_texts(findings: &Findings) {
+    for (row, (text, wanted)) in TEXTS.iter().enumerate() {
+        let made = StaticString::<2>::from_str(text);
+        check_made(findings, made, wanted, row, "from_str");
+        let made = StaticString::<2>::try_from(*text);
+        check_made(findings, made, wanted, row, "try_from a text");
     }
 }
 
-fn check_whole_texts(rt: &impl Abort) {
-    let texts = &[
-        ("", Ok("")),
-        ("ab", Ok("ab")),
-        ("a\0", Err(InvalidCharacter)),
-        ("é", Err(InvalidCharacter)),
-        ("aé", Err(InsertWouldExceedCapacity)),
-        ("abc", Err(InsertWouldExceedCapacity)),
-    ];
-    for (text, wanted) in texts {
-        let bytes = text.as_bytes();
-        check_made(rt, StaticString::<2>::from_str(text), *wanted, bytes);
-        check_made(rt, StaticString::<2>::try_from(*text), *wanted, bytes);
-    }
-}
-
-fn check_whole_arrays(rt: &impl Abort) {
-    check_made(rt, StaticString::<2>::try_from(b"ab"), Ok("ab"), b"ab");
+fn check_whole_arrays(findings: &Findings) {
+    let full = &Err(InsertWouldExceedCapacity);
+    let made = StaticString::<2>::try_from(b"ab");
+    check_made(findings, made, &Ok("ab"), 0, "try_from");
     let made = StaticString::<2>::try_from(&[97u8, 0]);
-    check_made(rt, made, Err(InvalidCharacter), &[97, 0]);
+    check_made(findings, made, &Err(InvalidCharacter), 1, "try_from");
     let made = StaticString::<2>::try_from(&[97u8, 0, 98]);
-    check_made(rt, made, Err(InsertWouldExceedCapacity), &[97, 0, 98]);
-    check_made(rt, StaticString::<0>::from_bytes(b""), Ok(""), b"");
+    check_made(findings, made, full, 2, "try_from");
+    let made = StaticString::<0>::from_bytes(b"");
+    check_made(findings, made, &Ok(""), 3, "from_bytes");
     let made = StaticString::<0>::from_bytes(&[0]);
-    check_made(rt, made, Err(InsertWouldExceedCapacity), &[0]);
+    check_made(findings, made, full, 4, "from_bytes");
 }
 
 #[test]
-fn whole_conversions(rt: HostRuntime) {
-    check_whole_bytes(&rt);
-    check_whole_texts(&rt);
-    check_whole_arrays(&rt);
+fn whole_conversions() -> Result<(), Fail> {
+    let findings = Findings::new();
+    for (row, (bytes, wanted)) in WHOLE.iter().enumerate() {
+        let made = StaticString::<2>::from_bytes(bytes);
+        check_made(&findings, made, wanted, row, "from_bytes");
+        let made = StaticString::<2>::try_from(*bytes);
+        check_made(&findings, made, wanted, row, "try_from");
+    }
+    check_whole_texts(&findings);
+    check_whole_arrays(&findings);
+    findings.verdict()
 }
 
-const CUT: [Made; 6] = [
+const CUT: &[Made] = &[
     (&[], Ok("")),
     (&[97], Ok("a")),
     (&[97, 98, 200], Ok("ab")),
@@ -94,37 +94,32 @@ const CUT: [Made; 6] = [
     (&[200], Err(InvalidCharacter)),
 ];
 
-fn check_cut_bytes(rt: &impl Abort) {
-    for (bytes, wanted) in &CUT {
-        let made = StaticString::<2>::from_bytes_truncated(bytes);
-        check_made(rt, made, *wanted, bytes);
-    }
-}
-
-fn check_cut_texts(rt: &impl Abort) {
-    let texts = &[
-        ("", Ok("")),
-        ("abc", Ok("ab")),
-        ("abé", Ok("ab")),
-        ("ab\0", Ok("ab")),
-        ("aé", Err(InvalidCharacter)),
-        ("a\0b", Err(InvalidCharacter)),
-    ];
-    for (text, wanted) in texts {
-        let made = StaticString::<2>::from_str_truncated(text);
-        check_made(rt, made, *wanted, text.as_bytes());
-    }
-    let made = StaticString::<0>::from_bytes_truncated(&[200]);
-    check_made(rt, made, Ok(""), &[200]);
-}
+const CUT_TEXTS: &[(&str, Result<&str, StringModificationError>)] = &[
+    ("", Ok("")),
+    ("abc", Ok("ab")),
+    ("abé", Ok("ab")),
+    ("ab\0", Ok("ab")),
+    ("aé", Err(InvalidCharacter)),
+    ("a\0b", Err(InvalidCharacter)),
+];
 
 #[test]
-fn cut_conversions(rt: HostRuntime) {
-    check_cut_bytes(&rt);
-    check_cut_texts(&rt);
+fn cut_conversions() -> Result<(), Fail> {
+    let findings = Findings::new();
+    for (row, (bytes, wanted)) in CUT.iter().enumerate() {
+        let made = StaticString::<2>::from_bytes_truncated(bytes);
+        check_made(&findings, made, wanted, row, "from_bytes_truncated");
+    }
+    for (row, (text, wanted)) in CUT_TEXTS.iter().enumerate() {
+        let made = StaticString::<2>::from_str_truncated(text);
+        check_made(&findings, made, wanted, row, "from_str_truncated");
+    }
+    let made = StaticString::<0>::from_bytes_truncated(&[200]);
+    check_made(&findings, made, &Ok(""), 0, "no room");
+    findings.verdict()
 }
 
-const ENDED_BY_ZERO: [Made; 7] = [
+const ENDED_BY_ZERO: &[Made] = &[
     (&[104, 105, 0, 200], Ok("hi")),
     (&[97, 98], Ok("ab")),
     (&[0, 97], Ok("")),
@@ -134,15 +129,8 @@ const ENDED_BY_ZERO: [Made; 7] = [
     (&[97, 98, 200, 0], Err(InsertWouldExceedCapacity)),
 ];
 
-#[test]
-fn ended_by_zero(rt: HostRuntime) {
-    for (bytes, wanted) in &ENDED_BY_ZERO {
-        check_made(&rt, StaticString::<2>::from_c_str(bytes), *wanted, bytes);
-    }
-}
-
 /// Bytes, how many may be looked at, and how many stand before the first zero of those.
-const LENGTHS: [(&[u8], usize, usize); 8] = [
+const LENGTHS: &[(&[u8], usize, usize)] = &[
     (&[97, 0, 98], 5, 1),
     (&[97, 0, 98], 1, 1),
     (&[97, 0, 98], 0, 0),
@@ -154,39 +142,38 @@ const LENGTHS: [(&[u8], usize, usize); 8] = [
 ];
 
 #[test]
-fn lengths_up_to_zero(rt: HostRuntime) {
-    for (bytes, n, length) in &LENGTHS {
-        let answer = (*bytes, *n, strnlen(bytes, *n));
-        expect_same(&rt, answer, (*bytes, *n, *length), "strnlen", "of bytes");
+fn ended_by_zero() -> Result<(), Fail> {
+    let findings = Findings::new();
+    for (row, (bytes, wanted)) in ENDED_BY_ZERO.iter().enumerate() {
+        let made = StaticString::<2>::from_c_str(bytes);
+        check_made(&findings, made, wanted, row, "from_c_str");
     }
+    for (row, (bytes, n, length)) in LENGTHS.iter().enumerate() {
+        findings.expect_same_at(strnlen(bytes, *n), *length, row, "strnlen");
+    }
+    findings.verdict()
 }
 
-fn check_unchecked_makings(rt: &impl Abort, hello: &StaticString<5>) {
-    expect(rt, hello.len() <= 5, UNCHECKED);
-    let whole = StaticString::<5>::from_bytes_unchecked(hello.as_bytes());
-    expect_same(rt, whole.as_str(), "hello", "whole", UNCHECKED);
+fn check_unchecked_makings(findings: &Findings) {
+    let whole = StaticString::<5>::from_bytes_unchecked(b"hello");
+    findings.expect_same(whole.as_str(), "hello", "whole");
     let cut = StaticString::<5>::from_bytes_unchecked_restricted(&[97, 98, 0, 200], 2);
-    expect_same(rt, cut.as_str(), "ab", "cut", UNCHECKED);
+    findings.expect_same(cut.as_str(), "ab", "cut");
     let none = StaticString::<5>::from_bytes_unchecked_restricted(&[0, 200], 0);
-    expect_same(rt, none.as_str(), "", "cut to nothing", UNCHECKED);
+    findings.expect_same(none.as_str(), "", "cut to nothing");
 }
 
 #[test]
-fn other_makings(rt: HostRuntime) -> Result<(), Fail> {
-    let mut string = StaticString::<5>::from_bytes(b"hello")?;
-    expect(&rt, StaticString::<5>::capacity() == 5, "the capacity");
+fn other_makings() -> Result<(), Fail> {
+    let findings = Findings::new();
+    let mut string = holding(StaticString::<5>::new(), "hello");
+    findings.expect_same(StaticString::<5>::capacity(), 5, "the capacity");
     let copy = string;
     string.clear();
-    expect_same(
-        &rt,
-        copy.as_str(),
-        "hello",
-        "copy",
-        "after the other's change",
-    );
-    expect_same(&rt, string.as_str(), "", "cleared", "after its copy");
-    expect(&rt, string == StaticString::<5>::default(), "the default");
-    expect(&rt, string == StaticString::<5>::new(), "a new one");
-    check_unchecked_makings(&rt, &copy);
-    Ok(())
+    findings.expect_same(copy.as_str(), "hello", "after the other's change");
+    findings.expect_same(string.as_str(), "", "cleared after its copy");
+    findings.expect(string == StaticString::<5>::default(), "the default");
+    findings.expect(string == StaticString::<5>::new(), "a new one");
+    check_unchecked_makings(&findings);
+    findings.verdict()
 }

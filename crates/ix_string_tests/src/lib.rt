@@ -3,9 +3,9 @@
 #![tactic(auto)]
 
 #[cfg(test)]
-mod capacity_tests;
+mod calls;
 #[cfg(test)]
-mod expecting;
+mod capacity_tests;
 #[cfg(test)]
 mod fixed_tests;
 #[cfg(test)]

@@ -1,145 +1,167 @@
 //! Strings whose memory is refused: nothing stays taken.
-use crate::expecting::{expect, expect_same};
 use crate::strings::holding;
-use ix_cells::RelocatableContainer;
+use ix_cells::{InitError, RelocatableContainer};
+use ix_expect::Findings;
 use ix_string::{PolymorphicString, String, UninitString};
 use linked_list_allocator::LocalHeap;
 use std::alloc::{AllocError, Global};
-use std::process::Abort;
 use std::test::Fail;
 
-/// `string` was made in `heap`, of which `used` were used before.
-fn check_five<S: String>(rt: &impl Abort, heap: &LocalHeap, used: usize, string: &S) {
-    expect_same(rt, string.capacity(), 5, "capacity", "of five");
-    expect_same(rt, string.len(), 0, "length", "of five");
-    expect(rt, heap.used() > used, "memory is taken");
-}
-
-/// The heap has a free block for five bytes if `found`.
-fn check_making(rt: &impl Abort, heap: &LocalHeap, found: bool) {
-    let used = heap.used();
-    match PolymorphicString::<&LocalHeap>::new(heap, 5) {
+/// The heap had memory for an empty string of `capacity` bytes if `found`, and `used` of it were used before.
+fn check_made<S: String + Drop, E: Drop>(
+    findings: &Findings,
+    heap: &LocalHeap,
+    used: usize,
+    made: Result<S, E>,
+    (capacity, found): (usize, bool),
+) {
+    match made {
         Ok(string) => {
-            expect(rt, found, "memory is refused");
-            check_five(rt, heap, used, &string);
+            findings.expect(found, "memory is refused");
+            let sizes = (string.capacity(), string.len());
+            findings.expect_same(sizes, (capacity, 0), "in the heap");
+            findings.expect((heap.used() > used) == (capacity > 0), "memory is taken");
         }
-        Err(AllocError) => expect(rt, !found, "memory is found"),
+        Err(_) => findings.expect(!found, "memory is found"),
     }
-    expect_same(rt, heap.used(), used, "used", "after `new`");
+    findings.expect_same(heap.used(), used, "nothing stays taken");
 }
 
-/// The heap has a free block for five bytes if `found`. `ample` finds memory.
-fn check_making_in_steps(rt: &impl Abort, heap: &LocalHeap, found: bool, ample: Global) {
+/// A refusal hands back what finds memory in `ample` then.
+fn check_again(
+    findings: &Findings,
+    refused: Option<InitError<UninitString>>,
+    ample: Global,
+    capacity: usize,
+) {
+    if let Some(error) = refused {
+        match error.into_uninit().init(ample) {
+            Ok(string) => {
+                let sizes = (string.capacity(), string.len());
+                findings.expect_same(sizes, (capacity, 0), "in ample memory");
+            }
+            Err(_) => findings.miss("there is memory now"),
+        }
+    }
+}
+
+/// The heap has a free block for `capacity` bytes if `found`. `ample` finds memory.
+fn check_heap(findings: &Findings, heap: &LocalHeap, ample: Global, capacity: usize, found: bool) {
     let used = heap.used();
-    match UninitString::new_uninit(5).init(heap) {
-        Ok(string) => {
-            expect(rt, found, "memory is refused");
-            check_five(rt, heap, used, &string);
-        }
-        Err(error) => {
-            expect(rt, !found, "memory is found");
-            expect_same(rt, heap.used(), used, "used", "after `init`");
-            let ready = error.into_uninit().init(ample).ok();
-            let string = ready.expect(rt, "there is memory now");
-            expect_same(rt, string.capacity(), 5, "capacity", "of five");
-            expect_same(rt, string.len(), 0, "length", "of five");
-        }
-    }
-    expect_same(rt, heap.used(), used, "used", "after both steps");
+    let wanted = (capacity, found);
+    let made = PolymorphicString::new(heap, capacity);
+    check_made(findings, heap, used, made, wanted);
+    let made = UninitString::new_uninit(capacity).init(heap);
+    check_made(findings, heap, used, made, wanted);
+    let refused = UninitString::new_uninit(capacity).init(heap).err();
+    findings.expect_same(refused.is_none(), found, "in two steps");
+    findings.expect_same(heap.used(), used, "nothing stays taken by a refusal");
+    check_again(findings, refused, ample, capacity);
 }
 
-fn check_empty_makings(rt: &impl Abort, heap: &LocalHeap) -> Result<(), Fail> {
-    let empty = PolymorphicString::<&LocalHeap>::new(heap, 0)?;
-    expect(
-        rt,
-        empty.try_clone()?.capacity() == 0,
-        "no memory is needed",
-    );
-    expect(
-        rt,
-        UninitString::new_uninit(0).init(heap).is_ok(),
-        "none here",
-    );
-    Ok(())
+/// The clone of a string without room needs no memory.
+fn check_empty_clone(findings: &Findings, heap: &LocalHeap) {
+    if let Ok(empty) = PolymorphicString::new(heap, 0) {
+        let used = heap.used();
+        check_made(findings, heap, used, empty.try_clone(), (0, true));
+    }
+}
+
+/// A block of the heap is taken, and of the others each one is room for five bytes.
+fn check_blocks(findings: &Findings, heap: &LocalHeap, ample: Global, blocks: usize) {
+    let held = Box::new(heap, 0u64);
+    findings.expect(held.is_ok(), "a block");
+    check_heap(findings, heap, ample, 5, blocks > 0);
+    check_heap(findings, heap, ample, 0, true);
+    check_empty_clone(findings, heap);
 }
 
 #[test]
 fn makings_refused(rt: HostRuntime) -> Result<(), Fail> {
+    let findings = Findings::new();
     for blocks in 0..3usize {
-        let heap = LocalHeap::new(rt.alloc(), 16 * (blocks + 1))?;
-        let _held = Box::new(&heap, 0u64)?;
-        let used = heap.used();
-        check_making(&rt, &heap, blocks > 0);
-        check_making_in_steps(&rt, &heap, blocks > 0, rt.alloc());
-        check_empty_makings(&rt, &heap)?;
-        expect_same(&rt, heap.used(), used, "used", "at the end");
+        match LocalHeap::new(rt.alloc(), 16 * (blocks + 1)) {
+            Ok(heap) => check_blocks(&findings, &heap, rt.alloc(), blocks),
+            Err(_) => findings.miss("a heap"),
+        }
     }
-    Ok(())
+    findings.verdict()
+}
+
+/// `copy` is the clone of a string that holds "ab" and has room for four bytes.
+fn check_copy<'a>(
+    findings: &Findings,
+    string: &PolymorphicString<&'a LocalHeap>,
+    mut copy: PolymorphicString<&'a LocalHeap>,
+) {
+    findings.expect(copy == *string, "a clone is equal");
+    findings.expect_same(copy.as_str(), "ab", "the text of a clone");
+    findings.expect_same(copy.capacity(), 4, "the capacity of a clone");
+    findings.expect_same(copy.push(99), Ok(()), "a push onto a clone");
 }
 
 /// The heap, of `blocks` blocks, holds the string alone.
 fn check_clone(
-    rt: &impl Abort,
+    findings: &Findings,
     heap: &LocalHeap,
     string: &PolymorphicString<&LocalHeap>,
     blocks: usize,
 ) {
     let used = heap.used();
     match string.try_clone() {
-        Ok(mut copy) => {
-            expect(rt, blocks > 1, "a clone is refused");
-            expect(rt, copy == *string, "a clone is equal");
-            expect_same(rt, copy.as_str(), "ab", "text", "of a clone");
-            expect_same(rt, copy.capacity(), 4, "capacity", "of a clone");
-            expect(rt, heap.used() > used, "memory is taken");
-            expect_same(rt, copy.push(99), Ok(()), "push", "onto a clone");
+        Ok(copy) => {
+            findings.expect(blocks > 1, "a clone is refused");
+            findings.expect(heap.used() > used, "memory is taken");
+            check_copy(findings, string, copy);
         }
-        Err(AllocError) => expect(rt, blocks == 1, "a clone is made"),
+        Err(AllocError) => findings.expect(blocks == 1, "a clone is made"),
     }
-    expect_same(rt, heap.used(), used, "used", "after the clone");
-    expect_same(rt, string.as_str(), "ab", "text", "after the clone");
+    findings.expect_same(heap.used(), used, "after the clone");
+    findings.expect_same(string.as_str(), "ab", "after the clone");
+}
+
+/// The heap, of `blocks` blocks, is empty.
+fn check_clones(findings: &Findings, heap: &LocalHeap, blocks: usize) {
+    match PolymorphicString::new(heap, 4) {
+        Ok(string) => check_clone(findings, heap, &holding(string, "ab"), blocks),
+        Err(AllocError) => findings.miss("there is a block"),
+    }
 }
 
 #[test]
 fn clones_refused(rt: HostRuntime) -> Result<(), Fail> {
+    let findings = Findings::new();
     for blocks in 1..4usize {
-        let heap = LocalHeap::new(rt.alloc(), 16 * blocks)?;
-        let string = holding(PolymorphicString::new(&heap, 4)?, "ab");
-        check_clone(&rt, &heap, &string, blocks);
+        match LocalHeap::new(rt.alloc(), 16 * blocks) {
+            Ok(heap) => check_clones(&findings, &heap, blocks),
+            Err(_) => findings.miss("a heap"),
+        }
     }
-    Ok(())
+    findings.verdict()
 }
 
 /// No memory holds `capacity` bytes.
-fn check_past_all_memory(rt: &impl Abort, alloc: Global, capacity: usize) {
+fn check_past_all_memory(findings: &Findings, alloc: Global, capacity: usize) {
     let refused = PolymorphicString::<Global>::new(alloc, capacity).err();
-    expect(rt, refused == Some(AllocError), "`new` refuses");
+    findings.expect_same(refused, Some(AllocError), "`new` refuses");
     match UninitString::new_uninit(capacity).init(alloc) {
-        Ok(_string) => expect(rt, false, "`init` refuses"),
+        Ok(_string) => findings.miss("`init` refuses"),
         Err(error) => {
             let again = error.into_uninit().init(alloc);
-            expect(rt, again.is_err(), "the capacity came back");
+            findings.expect(again.is_err(), "the capacity came back");
         }
     }
 }
 
 #[test]
-fn past_all_memory(rt: HostRuntime) -> Result<(), Fail> {
+fn too_little_memory(rt: HostRuntime) -> Result<(), Fail> {
+    let findings = Findings::new();
     for capacity in &[usize::MAX, usize::MAX / 2 + 1] {
-        check_past_all_memory(&rt, rt.alloc(), *capacity);
+        check_past_all_memory(&findings, rt.alloc(), *capacity);
     }
-    Ok(())
-}
-
-#[test]
-fn too_few_bytes(rt: HostRuntime) -> Result<(), Fail> {
-    let heap = LocalHeap::new(rt.alloc(), 64)?;
-    let refused = UninitString::new_uninit(1000).init(&heap).err();
-    let error = refused.expect(&rt, "64 bytes are too few");
-    let ready = error.into_uninit().init(rt.alloc()).ok();
-    let string = ready.expect(&rt, "there is memory now");
-    expect_same(&rt, string.capacity(), 1000, "capacity", "in enough memory");
-    expect_same(&rt, string.len(), 0, "length", "in enough memory");
-    expect_same(&rt, heap.used(), 0, "used", "the heap that refused");
-    Ok(())
+    match LocalHeap::new(rt.alloc(), 64) {
+        Ok(heap) => check_heap(&findings, &heap, rt.alloc(), 1000, false),
+        Err(_) => findings.miss("a heap"),
+    }
+    findings.verdict()
 }

@@ -1,12 +1,52 @@
 //! Refusals of any string: by name, and nothing changes.
-use crate::expecting::{expect, expect_same};
-use crate::strings::refill;
+use crate::calls::Answer::{Bool, Byte, Changed, Number};
+use crate::calls::Call::{
+    Capacity, Insert, InsertBytes, IsEmpty, IsFull, Push, PushBytes, Remove, RemoveRange,
+    StripPrefix,
+};
+use crate::calls::Start::{Then, With};
+use crate::calls::{Answer, Row, check_row};
+use ix_expect::Findings;
 use ix_string::StringModificationError::{InsertWouldExceedCapacity, InvalidCharacter};
 use ix_string::{String, StringModificationError};
-use std::process::Abort;
+
+const INVALID: Answer = Changed(Err(InvalidCharacter));
+
+const FULL: Answer = Changed(Err(InsertWouldExceedCapacity));
+
+/// Calls of a string with room for six bytes.
+pub const REFUSED_BYTE: &[Row] = &[
+    (With("abcd"), Push(0), INVALID, "abcd"),
+    (Then, Insert(2, 0), INVALID, "abcd"),
+    (Then, Push(128), INVALID, "abcd"),
+    (Then, Insert(2, 128), INVALID, "abcd"),
+    (Then, Push(255), INVALID, "abcd"),
+    (Then, Insert(2, 255), INVALID, "abcd"),
+];
+
+/// Calls of a string with room for two bytes.
+pub const REFUSED_BY_FULL: &[Row] = &[
+    (With("ab"), IsFull, Bool(true), "ab"),
+    (Then, IsEmpty, Bool(false), "ab"),
+    (Then, Push(97), FULL, "ab"),
+    (Then, PushBytes(&[97]), FULL, "ab"),
+    (Then, Insert(1, 97), FULL, "ab"),
+    (Then, Push(0), FULL, "ab"),
+    (Then, PushBytes(&[0]), FULL, "ab"),
+    (Then, Insert(1, 0), FULL, "ab"),
+    (Then, Push(200), FULL, "ab"),
+    (Then, PushBytes(&[200]), FULL, "ab"),
+    (Then, Insert(1, 200), FULL, "ab"),
+    (Then, InsertBytes(1, &[]), Changed(Ok(())), "ab"),
+    (Then, Remove(2), Byte(None), "ab"),
+    (Then, RemoveRange(2, 0), Bool(true), "ab"),
+    (Then, RemoveRange(1, usize::MAX), Bool(false), "ab"),
+    (Then, StripPrefix(""), Bool(true), "ab"),
+    (Then, Capacity, Number(2), "ab"),
+];
 
 /// Bytes that a string of four bytes with room for six refuses.
-const REFUSED: [(&[u8], StringModificationError); 8] = [
+const REFUSED: &[(&[u8], StringModificationError)] = &[
     (&[0], InvalidCharacter),
     (&[128], InvalidCharacter),
     (&[255], InvalidCharacter),
@@ -17,67 +57,14 @@ const REFUSED: [(&[u8], StringModificationError); 8] = [
     (&[97, 98, 200], InsertWouldExceedCapacity),
 ];
 
-/// `string` holds `text`.
-fn check_refused_insertion<S: String>(
-    rt: &impl Abort,
-    string: &mut S,
-    (text, idx): (&str, usize),
-    bytes: &[u8],
-    error: StringModificationError,
-    place: &str,
-) {
-    expect(rt, idx <= string.len(), place);
-    let answer = string.insert_bytes(idx, bytes);
-    expect_same(rt, (bytes, answer), (bytes, Err(error)), "inserted", place);
-    expect_same(rt, string.as_str(), text, "not inserted", place);
-}
-
-/// `string` has room for six bytes.
-pub fn check_refused_bytes<S: String>(rt: &impl Abort, string: &mut S, place: &str) {
-    refill(string, "abcd");
-    for (bytes, error) in &REFUSED {
-        let answer = string.push_bytes(bytes);
-        expect_same(rt, answer, Err(*error), "push of bytes", place);
+/// `string` has room for six bytes. It refuses the bytes at each place.
+pub fn check_refused_bytes<S: String>(findings: &Findings, string: &mut S, place: &str) {
+    for (number, (bytes, error)) in REFUSED.iter().enumerate() {
+        let row = (With("abcd"), PushBytes(bytes), Changed(Err(*error)), "abcd");
+        check_row(findings, string, &row, number, place);
         for idx in 0..5usize {
-            check_refused_insertion(rt, string, ("abcd", idx), bytes, *error, place);
+            let row = (Then, InsertBytes(idx, bytes), Changed(Err(*error)), "abcd");
+            check_row(findings, string, &row, number, place);
         }
     }
-}
-
-/// `string` has room for six bytes.
-pub fn check_refused_byte<S: String>(rt: &impl Abort, string: &mut S, place: &str) {
-    refill(string, "abcd");
-    for byte in &[0, 128, 255] {
-        expect_same(rt, string.push(*byte), Err(InvalidCharacter), "push", place);
-        expect(rt, string.len() >= 2, place);
-        let answer = string.insert(2, *byte);
-        expect_same(rt, answer, Err(InvalidCharacter), "insert", place);
-        expect_same(rt, string.as_str(), "abcd", "refused byte", place);
-    }
-}
-
-/// `string` is full.
-fn check_no_room<S: String>(rt: &impl Abort, string: &mut S, byte: u8, place: &str) {
-    let full = Err(InsertWouldExceedCapacity);
-    expect_same(rt, string.push(byte), full, "push", place);
-    expect_same(rt, string.push_bytes(&[byte]), full, "push of bytes", place);
-    expect(rt, string.len() >= 1, place);
-    expect_same(rt, string.insert(1, byte), full, "insert", place);
-    expect_same(rt, string.as_str(), "ab", "no room", place);
-}
-
-/// `string` has room for two bytes.
-pub fn check_refused_by_full<S: String>(rt: &impl Abort, string: &mut S, place: &str) {
-    refill(string, "ab");
-    expect(rt, string.is_full() && !string.is_empty(), place);
-    for byte in &[97, 0, 200] {
-        check_no_room(rt, string, *byte, place);
-    }
-    expect(rt, string.len() >= 1, place);
-    expect_same(rt, string.insert_bytes(1, &[]), Ok(()), "nothing", place);
-    expect_same(rt, string.remove(2), None, "past the end", place);
-    expect(rt, string.remove_range(2, 0), place);
-    expect(rt, !string.remove_range(1, usize::MAX), place);
-    expect(rt, string.strip_prefix(b""), place);
-    expect_same(rt, string.as_str(), "ab", "full", place);
 }

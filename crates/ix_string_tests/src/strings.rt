@@ -1,18 +1,5 @@
-//! Helpers to make and fill strings.
-use ix_cells::RelocatableContainer;
-use ix_string::{RelocatableString, String};
-use std::alloc::{AllocError, Allocator};
-
-/// An empty string that was made in two steps.
-pub fn relocatable_of<A: Allocator>(
-    alloc: A,
-    capacity: usize,
-) -> Result<RelocatableString<A>, AllocError> {
-    match RelocatableString::<A>::new_uninit(capacity).init(alloc) {
-        Ok(string) => Ok(string),
-        Err(_) => Err(AllocError),
-    }
-}
+//! Helpers to fill strings.
+use ix_string::String;
 
 /// Takes every byte out, and puts `text` in where it fits.
 pub fn refill<S: String>(string: &mut S, text: &str) {

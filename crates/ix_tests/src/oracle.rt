@@ -1,9 +1,10 @@
 //! The ring against the plain slow queue: every short list of commands, on each small capacity.
 use crate::slow_queue::{SlowQueue, run_slow_command};
 use ix_cells::Table;
+use ix_expect::Findings;
 use ix_maps::{FixedSizeQueue, MetaQueue};
 use ix_run::run::{QueueCommand, run_queue_command};
-use std::process::Abort;
+use std::test::Fail;
 
 /// How many lists of six commands there are, out of three.
 const LISTS: u64 = 729;
@@ -17,29 +18,52 @@ fn command_of(list: u64, item: u64) -> QueueCommand<u64> {
     }
 }
 
-/// Compares what both hold. A case is the capacity, the list, the turns before it, and the item of its last command.
-fn assert_same<S: Table<u64>>(
-    rt: &impl Abort,
+/// The capacity, the list, the turns before it, and the item of its last command.
+type Case = (usize, u64, u64, u64);
+
+/// Compares what both hold.
+fn check_same<S: Table<u64>>(
+    findings: &Findings,
     ring: &MetaQueue<u64, S>,
     slow: &SlowQueue<u64>,
-    case: (usize, u64, u64, u64),
+    case: Case,
 ) {
     let items = slow.as_slice();
-    assert_eq!(rt; ring.len(), items.len(), "length at {case:?}");
-    assert_eq!(rt; ring.is_empty(), items.is_empty(), "emptiness at {case:?}");
-    assert_eq!(rt;
-        ring.is_full(),
-        items.len() == ring.capacity(),
-        "fullness at {case:?}"
-    );
-    for (i, item) in items.iter().enumerate() {
-        assert_eq!(rt; ring.get(i), *item, "item {i} at {case:?}");
+    let is_full = items.len() == ring.capacity();
+    let found = (ring.len(), ring.is_empty(), ring.is_full());
+    let wanted = (items.len(), items.is_empty(), is_full);
+    findings.expect_same((case, found), (case, wanted), "the sizes of a case");
+    if ring.len() == items.len() {
+        for (i, item) in items.iter().enumerate() {
+            let found = (case, i, ring.get(i));
+            findings.expect_same(found, (case, i, *item), "an item of a case");
+        }
     }
 }
 
-/// Runs six commands on both, and compares each reply and the contents behind it. The ring first turns on by `turns`.
-fn assert_agree<S: Table<u64>>(
-    rt: &impl Abort,
+/// Runs six commands on both, and compares each reply and the contents behind it.
+fn check_list<S: Table<u64>>(
+    findings: &Findings,
+    ring: &mut MetaQueue<u64, S>,
+    slow: &mut SlowQueue<u64>,
+    list: u64,
+    turns: u64,
+) {
+    let mut left = list;
+    for item in 1..7 {
+        let command = command_of(left, item);
+        left /= 3;
+        let case = (ring.capacity(), list, turns, item);
+        let reply = run_slow_command(slow, command);
+        let found = run_queue_command(ring, command);
+        findings.expect_same((case, found), (case, reply), "the reply of a case");
+        check_same(findings, &*ring, &*slow, case);
+    }
+}
+
+/// As above. The ring, which is empty, first turns on by `turns`.
+fn check_agree<S: Table<u64>>(
+    findings: &Findings,
     mut ring: MetaQueue<u64, S>,
     list: u64,
     turns: u64,
@@ -48,32 +72,24 @@ fn assert_agree<S: Table<u64>>(
         let _ = ring.push(item);
         let _ = ring.pop();
     }
-    let capacity = ring.capacity();
-    assert!(rt; capacity <= 8);
-    let mut slow = SlowQueue::new(capacity);
-    let mut left = list;
-    for item in 1..7 {
-        let command = command_of(left, item);
-        left /= 3;
-        let reply = run_slow_command(&mut slow, command);
-        let case = (capacity, list, turns, item);
-        assert_eq!(rt;
-            run_queue_command(&mut ring, command),
-            reply,
-            "reply at {case:?}"
-        );
-        assert_same(rt, &ring, &slow, case);
+    if ring.capacity() <= 8 {
+        let mut slow = SlowQueue::new(ring.capacity());
+        check_list(findings, &mut ring, &mut slow, list, turns);
+    } else {
+        findings.miss("a short ring");
     }
 }
 
 #[test]
-fn ring_and_slow_queue_agree(rt: HostRuntime) {
+fn ring_and_slow_queue_agree() -> Result<(), Fail> {
+    let findings = Findings::new();
     for list in 0..LISTS {
         for turns in 0..4 {
-            assert_agree(&rt, FixedSizeQueue::<u64, 0>::new(), list, turns);
-            assert_agree(&rt, FixedSizeQueue::<u64, 1>::new(), list, turns);
-            assert_agree(&rt, FixedSizeQueue::<u64, 2>::new(), list, turns);
-            assert_agree(&rt, FixedSizeQueue::<u64, 3>::new(), list, turns);
+            check_agree(&findings, FixedSizeQueue::<u64, 0>::new(), list, turns);
+            check_agree(&findings, FixedSizeQueue::<u64, 1>::new(), list, turns);
+            check_agree(&findings, FixedSizeQueue::<u64, 2>::new(), list, turns);
+            check_agree(&findings, FixedSizeQueue::<u64, 3>::new(), list, turns);
         }
     }
+    findings.verdict()
 }

@@ -1,10 +1,12 @@
 //! Words and lines at the edge of what is read.
+use ix_expect::Findings;
 use ix_run::run::{
     FixedCapacity, QueueCommand, QueueLine, read_header, read_number, read_queue_line,
 };
+use std::test::Fail;
 
 /// Words that spell no number.
-const UNREADABLE_NUMBERS: [&str; 26] = [
+const UNREADABLE_NUMBERS: &[&str] = &[
     "",
     "00",
     "01",
@@ -33,28 +35,34 @@ const UNREADABLE_NUMBERS: [&str; 26] = [
     "184467440737095516160",
 ];
 
+/// Words that spell a number.
+const NUMBERS: &[(&str, u64)] = &[
+    ("0", 0),
+    ("1", 1),
+    ("9", 9),
+    ("10", 10),
+    ("9999999999999999999", 9_999_999_999_999_999_999),
+    ("10000000000000000000", 10_000_000_000_000_000_000),
+    ("18446744073709551609", 18_446_744_073_709_551_609),
+    ("18446744073709551615", u64::MAX),
+];
+
 #[test]
-fn numbers(rt: HostRuntime) {
-    let cases = [
-        ("0", Some(0)),
-        ("1", Some(1)),
-        ("9", Some(9)),
-        ("10", Some(10)),
-        ("9999999999999999999", Some(9_999_999_999_999_999_999)),
-        ("10000000000000000000", Some(10_000_000_000_000_000_000)),
-        ("18446744073709551609", Some(18_446_744_073_709_551_609)),
-        ("18446744073709551615", Some(u64::MAX)),
-    ];
-    for (word, number) in cases {
-        assert_eq!(rt; read_number(word.as_bytes()), number, "of {word:?}");
+fn numbers() -> Result<(), Fail> {
+    let findings = Findings::new();
+    for (row, (word, number)) in NUMBERS.iter().enumerate() {
+        let found = read_number(word.as_bytes());
+        findings.expect_same_at(found, Some(*number), row, "a number");
     }
-    for word in UNREADABLE_NUMBERS {
-        assert_eq!(rt; read_number(word.as_bytes()), None, "of {word:?}");
+    for (row, word) in UNREADABLE_NUMBERS.iter().enumerate() {
+        let found = read_number(word.as_bytes());
+        findings.expect_same_at(found, None, row, "no number");
     }
+    findings.verdict()
 }
 
 /// Lines that name no capacity.
-const UNREADABLE_HEADERS: [&str; 19] = [
+const UNREADABLE_HEADERS: &[&str] = &[
     "",
     "queue",
     "queue fixed",
@@ -76,24 +84,30 @@ const UNREADABLE_HEADERS: [&str; 19] = [
     "pop",
 ];
 
+/// Lines that name a capacity.
+const HEADERS: &[(&str, FixedCapacity)] = &[
+    ("queue fixed 0", FixedCapacity::Zero),
+    ("queue fixed 1", FixedCapacity::One),
+    ("queue fixed 3", FixedCapacity::Three),
+    ("queue fixed 8", FixedCapacity::Eight),
+];
+
 #[test]
-fn headers(rt: HostRuntime) {
-    let cases = [
-        ("queue fixed 0", FixedCapacity::Zero),
-        ("queue fixed 1", FixedCapacity::One),
-        ("queue fixed 3", FixedCapacity::Three),
-        ("queue fixed 8", FixedCapacity::Eight),
-    ];
-    for (line, capacity) in cases {
-        assert_eq!(rt; read_header(line.as_bytes()), Some(capacity), "of {line:?}");
+fn headers() -> Result<(), Fail> {
+    let findings = Findings::new();
+    for (row, (line, capacity)) in HEADERS.iter().enumerate() {
+        let found = read_header(line.as_bytes());
+        findings.expect_same_at(found, Some(*capacity), row, "a header");
     }
-    for line in UNREADABLE_HEADERS {
-        assert_eq!(rt; read_header(line.as_bytes()), None, "of {line:?}");
+    for (row, line) in UNREADABLE_HEADERS.iter().enumerate() {
+        let found = read_header(line.as_bytes());
+        findings.expect_same_at(found, None, row, "no header");
     }
+    findings.verdict()
 }
 
 /// Lines that ask nothing of a queue.
-const UNREADABLE_QUEUE_LINES: [&str; 31] = [
+const UNREADABLE_QUEUE_LINES: &[&str] = &[
     "",
     " ",
     "push",
@@ -127,30 +141,32 @@ const UNREADABLE_QUEUE_LINES: [&str; 31] = [
     "queue fixed 1",
 ];
 
+/// Lines that ask for something.
+const QUEUE_LINES: &[(&str, QueueLine)] = &[
+    ("push 0", QueueLine::Command(QueueCommand::Push(0))),
+    (
+        "push 18446744073709551615",
+        QueueLine::Command(QueueCommand::Push(u64::MAX)),
+    ),
+    ("over 1", QueueLine::Command(QueueCommand::Over(1))),
+    (
+        "over 4294967296",
+        QueueLine::Command(QueueCommand::Over(4_294_967_296)),
+    ),
+    ("pop", QueueLine::Command(QueueCommand::Pop)),
+    ("show", QueueLine::Show),
+];
+
 #[test]
-fn queue_lines(rt: HostRuntime) {
-    let cases = [
-        ("push 0", QueueLine::Command(QueueCommand::Push(0))),
-        (
-            "push 18446744073709551615",
-            QueueLine::Command(QueueCommand::Push(u64::MAX)),
-        ),
-        ("over 1", QueueLine::Command(QueueCommand::Over(1))),
-        (
-            "over 4294967296",
-            QueueLine::Command(QueueCommand::Over(4_294_967_296)),
-        ),
-        ("pop", QueueLine::Command(QueueCommand::Pop)),
-        ("show", QueueLine::Show),
-    ];
-    for (line, asked) in cases {
-        assert_eq!(rt;
-            read_queue_line(line.as_bytes()),
-            Some(asked),
-            "of {line:?}"
-        );
+fn queue_lines() -> Result<(), Fail> {
+    let findings = Findings::new();
+    for (row, (line, asked)) in QUEUE_LINES.iter().enumerate() {
+        let found = read_queue_line(line.as_bytes());
+        findings.expect_same_at(found, Some(*asked), row, "a line");
     }
-    for line in UNREADABLE_QUEUE_LINES {
-        assert_eq!(rt; read_queue_line(line.as_bytes()), None, "of {line:?}");
+    for (row, line) in UNREADABLE_QUEUE_LINES.iter().enumerate() {
+        let found = read_queue_line(line.as_bytes());
+        findings.expect_same_at(found, None, row, "no line");
     }
+    findings.verdict()
 }

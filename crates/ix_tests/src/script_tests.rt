@@ -1,9 +1,11 @@
 //! Whole scripts: worked examples, bad input, and devices that fail.
+ghost use Rattle.std.specs.Prelude.{◌≤◌};
+
 use crate::devices::{Asker, Exchange, Listener, PoorReader, PoorWriter, first_lines, line_ends};
+use ix_expect::Findings;
 use ix_run::{ScriptFault, exit_status, fault_line, script};
 use std::alloc::{AllocError, Global};
 use std::cmp::min;
-use std::process::Abort;
 use std::test::Fail;
 
 /// A script whose last line lacks its end.
@@ -15,76 +17,76 @@ const ENDED_INPUT: &[u8] = b"queue fixed 1\npush 123\npush 5\nover 456\npop\npop
 /// The replies to either.
 const OUTPUT: &[u8] = b"ready\ntrue\nfalse\nsome 123\nsome 456\nnone\n";
 
+/// A script and its output.
+type Example = (&'static [u8], &'static [u8]);
+
+const WORKED: &[Example] = &[
+    (INPUT, OUTPUT),
+    (
+        b"push 1\nqueue fixed 2\nqueue fixed 3\npush 01\npush 18446744073709551615\npush 18446744073709551616\nshow",
+        b"?\n?\nready\n?\ntrue\n?\n18446744073709551615\n",
+    ),
+    (b"", b""),
+    (
+        b"queue fixed 0\npush 1\nover 2\npop\nshow\n",
+        b"ready\nfalse\nsome 2\nnone\n-\n",
+    ),
+    (
+        b"queue fixed 3\npush 10\npush 20\npush 0\nover 40\nshow\n",
+        b"ready\ntrue\ntrue\ntrue\nsome 10\n20 0 40\n",
+    ),
+    (
+        b"queue fixed 1\npush 18446744073709551615\nover 0\npop",
+        b"ready\ntrue\nsome 18446744073709551615\nsome 0\n",
+    ),
+    (
+        b"queue fixed 8\nover 7\nshow\npop\nshow\n",
+        b"ready\nnone\n7\nsome 7\n-\n",
+    ),
+];
+
+const BAD_INPUT: &[Example] = &[
+    (b"\n", b"?\n"),
+    (b"\n\n", b"?\n?\n"),
+    (b"pop", b"?\n"),
+    (b"\x00", b"?\n"),
+    (b"queue fixed 1\r\n", b"?\n"),
+    (b"queue fixed 1\r", b"?\n"),
+    (b"queue fixed 1", b"ready\n"),
+    (
+        b"queue fixed 1\nqueue fixed 1\n\n\npop\n",
+        b"ready\n?\n?\n?\nnone\n",
+    ),
+    (
+        b"queue fixed 1\npush\x001\npush 1\x00\n\x00\npush 1\r\nshow\n",
+        b"ready\n?\n?\n?\n?\n-\n",
+    ),
+    (
+        b"queue fixed 1\n\xff\n\x80push 1\npush 1\xc3\xa9\npush \xb1\nshow\xff\nshow",
+        b"ready\n?\n?\n?\n?\n?\n-\n",
+    ),
+];
+
 /// Runs a script over memory, which has to end well, and compares its output.
-fn assert_output(rt: &impl Abort, alloc: Global, input: &[u8], output: &[u8], case: usize) {
+fn check_output(findings: &Findings, alloc: Global, input: &[u8], output: &[u8], case: usize) {
     let mut reader = input;
     let mut writer = Vec::new(alloc);
-    assert_eq!(rt;
-        script(alloc, &mut reader, &mut writer),
-        Ok(()),
-        "case {case}"
-    );
-    assert!(rt; reader.is_empty(), "case {case}");
-    assert_eq!(rt; writer.as_slice(), output, "case {case}");
+    let outcome = script(alloc, &mut reader, &mut writer);
+    findings.expect_same_at(outcome, Ok(()), case, "the outcome");
+    findings.expect_at(reader.is_empty(), case, "all is read");
+    findings.expect_same_at(writer.as_slice(), output, case, "the output");
 }
 
 #[test]
-fn worked_scripts(rt: HostRuntime) {
-    let cases = [
-        (INPUT, OUTPUT),
-        (
-            b"push 1\nqueue fixed 2\nqueue fixed 3\npush 01\npush 18446744073709551615\npush 18446744073709551616\nshow".as_slice(),
-            b"?\n?\nready\n?\ntrue\n?\n18446744073709551615\n".as_slice(),
-        ),
-        (b"".as_slice(), b"".as_slice()),
-        (
-            b"queue fixed 0\npush 1\nover 2\npop\nshow\n".as_slice(),
-            b"ready\nfalse\nsome 2\nnone\n-\n".as_slice(),
-        ),
-        (
-            b"queue fixed 3\npush 10\npush 20\npush 0\nover 40\nshow\n".as_slice(),
-            b"ready\ntrue\ntrue\ntrue\nsome 10\n20 0 40\n".as_slice(),
-        ),
-        (
-            b"queue fixed 1\npush 18446744073709551615\nover 0\npop".as_slice(),
-            b"ready\ntrue\nsome 18446744073709551615\nsome 0\n".as_slice(),
-        ),
-        (
-            b"queue fixed 8\nover 7\nshow\npop\nshow\n".as_slice(),
-            b"ready\nnone\n7\nsome 7\n-\n".as_slice(),
-        ),
-    ];
-    for (i, (input, output)) in cases.into_iter().enumerate() {
-        assert_output(&rt, rt.alloc(), input, output, i);
+fn examples(rt: HostRuntime) -> Result<(), Fail> {
+    let findings = Findings::new();
+    for (i, (input, output)) in WORKED.iter().enumerate() {
+        check_output(&findings, rt.alloc(), input, output, i);
     }
-}
-
-#[test]
-fn bad_input(rt: HostRuntime) {
-    let cases = [
-        (b"\n".as_slice(), b"?\n".as_slice()),
-        (b"\n\n".as_slice(), b"?\n?\n".as_slice()),
-        (b"pop".as_slice(), b"?\n".as_slice()),
-        (b"\x00".as_slice(), b"?\n".as_slice()),
-        (b"queue fixed 1\r\n".as_slice(), b"?\n".as_slice()),
-        (b"queue fixed 1\r".as_slice(), b"?\n".as_slice()),
-        (b"queue fixed 1".as_slice(), b"ready\n".as_slice()),
-        (
-            b"queue fixed 1\nqueue fixed 1\n\n\npop\n".as_slice(),
-            b"ready\n?\n?\n?\nnone\n".as_slice(),
-        ),
-        (
-            b"queue fixed 1\npush\x001\npush 1\x00\n\x00\npush 1\r\nshow\n".as_slice(),
-            b"ready\n?\n?\n?\n?\n-\n".as_slice(),
-        ),
-        (
-            b"queue fixed 1\n\xff\n\x80push 1\npush 1\xc3\xa9\npush \xb1\nshow\xff\nshow".as_slice(),
-            b"ready\n?\n?\n?\n?\n?\n-\n".as_slice(),
-        ),
-    ];
-    for (i, (input, output)) in cases.into_iter().enumerate() {
-        assert_output(&rt, rt.alloc(), input, output, i);
+    for (i, (input, output)) in BAD_INPUT.iter().enumerate() {
+        check_output(&findings, rt.alloc(), input, output, i);
     }
+    findings.verdict()
 }
 
 /// `before`, `count` times `byte`, and `behind`.
@@ -103,95 +105,172 @@ fn with_run(
     Ok(bytes)
 }
 
+/// As `check_output`. There was memory for the script.
+fn check_made(
+    findings: &Findings,
+    alloc: Global,
+    input: Result<Vec<u8>, AllocError>,
+    output: &[u8],
+    case: usize,
+) {
+    match input {
+        Ok(input) => check_output(findings, alloc, input.as_slice(), output, case),
+        Err(AllocError) => findings.miss("there is memory"),
+    }
+}
+
+/// What stands before a run of one byte, that byte, what stands behind it, and the output.
+const LONG_LINES: &[(&[u8], u8, &[u8], &[u8])] = &[
+    (
+        b"queue fixed 1\n",
+        b' ',
+        b"push 5\nshow\n",
+        b"ready\n?\n-\n",
+    ),
+    (
+        b"queue fixed 1\npush 5\npush ",
+        b'0',
+        b"\npop",
+        b"ready\ntrue\n?\nsome 5\n",
+    ),
+    (b"queue fixed 3\npop\n", b'x', b"", b"ready\nnone\n?\n"),
+];
+
+const LONG_COUNTS: &[usize] = &[
+    194, 195, 196, 199, 200, 201, 400, 8177, 8178, 8179, 16_370, 1_000_000,
+];
+
 #[test]
 fn long_lines(rt: HostRuntime) -> Result<(), Fail> {
-    let header = b"queue fixed 1\n".as_slice();
-    for count in [
-        194, 195, 196, 199, 200, 201, 400, 8177, 8178, 8179, 16_370, 1_000_000,
-    ] {
-        let input = with_run(rt.alloc(), header, b' ', count, b"push 5\nshow\n")?;
-        let output = b"ready\n?\n-\n".as_slice();
-        assert_output(&rt, rt.alloc(), input.as_slice(), output, count);
-        let input = with_run(
-            rt.alloc(),
-            b"queue fixed 1\npush 5\npush ",
-            b'0',
-            count,
-            b"\npop",
-        )?;
-        let output = b"ready\ntrue\n?\nsome 5\n".as_slice();
-        assert_output(&rt, rt.alloc(), input.as_slice(), output, count);
-        let input = with_run(rt.alloc(), b"queue fixed 3\npop\n", b'x', count, b"")?;
-        let output = b"ready\nnone\n?\n".as_slice();
-        assert_output(&rt, rt.alloc(), input.as_slice(), output, count);
+    let findings = Findings::new();
+    for count in LONG_COUNTS {
+        for (before, byte, behind, output) in LONG_LINES {
+            let input = with_run(rt.alloc(), before, *byte, *count, behind);
+            check_made(&findings, rt.alloc(), input, output, *count);
+        }
     }
-    Ok(())
+    findings.verdict()
+}
+
+/// `before`, and `count` times `lines`.
+fn repeated(
+    alloc: Global,
+    before: &[u8],
+    lines: &[u8],
+    count: usize,
+) -> Result<Vec<u8>, AllocError> {
+    let mut bytes = Vec::from_slice(alloc, before)?;
+    for _ in 0..count {
+        bytes.extend_from_slice(lines)?;
+    }
+    Ok(bytes)
+}
+
+/// As `check_made`. There was memory for the output.
+fn check_both_made(
+    findings: &Findings,
+    alloc: Global,
+    input: Result<Vec<u8>, AllocError>,
+    output: Result<Vec<u8>, AllocError>,
+) {
+    match output {
+        Ok(output) => check_made(findings, alloc, input, output.as_slice(), 0),
+        Err(AllocError) => findings.miss("there is memory"),
+    }
 }
 
 /// So many lines that their replies fill the buffers of a script many times.
 #[test]
 fn many_lines(rt: HostRuntime) -> Result<(), Fail> {
-    let mut input = Vec::from_slice(rt.alloc(), b"queue fixed 1\n")?;
-    let mut output = Vec::from_slice(rt.alloc(), b"ready\n")?;
-    for _ in 0..10_000 {
-        input.extend_from_slice(b"over 7\npop\n\nshow\n")?;
-        output.extend_from_slice(b"none\nsome 7\n?\n-\n")?;
-    }
-    assert_output(&rt, rt.alloc(), input.as_slice(), output.as_slice(), 0);
-    let empty = with_run(rt.alloc(), b"", b'\n', 20_000, b"")?;
-    let mut output = Vec::new(rt.alloc());
-    for _ in 0..20_000 {
-        output.extend_from_slice(b"?\n")?;
-    }
-    assert_output(&rt, rt.alloc(), empty.as_slice(), output.as_slice(), 1);
-    Ok(())
+    let findings = Findings::new();
+    let alloc = rt.alloc();
+    let input = repeated(alloc, b"queue fixed 1\n", b"over 7\npop\n\nshow\n", 10_000);
+    let output = repeated(alloc, b"ready\n", b"none\nsome 7\n?\n-\n", 10_000);
+    check_both_made(&findings, alloc, input, output);
+    let input = repeated(alloc, b"", b"\n", 20_000);
+    let output = repeated(alloc, b"", b"?\n", 20_000);
+    check_both_made(&findings, alloc, input, output);
+    findings.verdict()
 }
 
+/// Whether reads are interrupted, and writes.
+const INTERRUPTIONS: &[(bool, bool)] = &[
+    (false, false),
+    (true, false),
+    (false, true),
+    (true, true),
+];
+
 /// Runs a script whose reader gives so many bytes a call, and compares its output.
-fn assert_in_pieces(rt: &impl Abort, alloc: Global, input: &[u8], piece: usize, output: &[u8]) {
-    for (reads, writes) in [(false, false), (true, false), (false, true), (true, true)] {
-        let mut reader = PoorReader::new(input, piece);
-        reader.interrupts = reads;
-        let mut writer = PoorWriter::new(alloc, 1 + piece % 29);
-        writer.interrupts = writes;
-        let case = (input.len(), piece, reads, writes);
-        let outcome = script(alloc, &mut reader, &mut writer);
-        assert_eq!(rt; outcome, Ok(()), "at {case:?}");
-        assert!(rt; reader.rest.is_empty(), "at {case:?}");
-        assert_eq!(rt; writer.bytes.as_slice(), output, "at {case:?}");
+fn check_piece(
+    findings: &Findings,
+    alloc: Global,
+    input: &[u8],
+    (piece, reads, writes): (usize, bool, bool),
+    output: &[u8],
+) {
+    let mut reader = PoorReader::new(input, piece);
+    reader.interrupts = reads;
+    let mut writer = PoorWriter::new(alloc, 1 + piece % 29);
+    writer.interrupts = writes;
+    let case = (input.len(), piece, reads, writes);
+    let outcome = script(alloc, &mut reader, &mut writer);
+    let found = (case, outcome, reader.rest.len());
+    findings.expect_same(found, (case, Ok(()), 0), "in pieces");
+    let text = writer.bytes.as_slice();
+    findings.expect_same((case, text), (case, output), "in pieces");
+}
+
+/// As above, with every kind of interruption.
+fn check_pieces(findings: &Findings, alloc: Global, input: &[u8], piece: usize, output: &[u8]) {
+    for (reads, writes) in INTERRUPTIONS {
+        check_piece(findings, alloc, input, (piece, *reads, *writes), output);
     }
 }
 
 #[test]
-fn pieces_and_interruptions(rt: HostRuntime) {
+fn pieces_and_interruptions(rt: HostRuntime) -> Result<(), Fail> {
+    let findings = Findings::new();
     for piece in 1..70 {
-        assert_in_pieces(&rt, rt.alloc(), INPUT, piece, OUTPUT);
-        assert_in_pieces(&rt, rt.alloc(), ENDED_INPUT, piece, OUTPUT);
+        check_pieces(&findings, rt.alloc(), INPUT, piece, OUTPUT);
+        check_pieces(&findings, rt.alloc(), ENDED_INPUT, piece, OUTPUT);
+    }
+    findings.verdict()
+}
+
+const PIECES: &[usize] = &[1, 4, 50, 100, 200, 208, 209, 400];
+
+fn check_long_line(findings: &Findings, alloc: Global, count: usize) {
+    match with_run(alloc, b"queue fixed 1\n", b'x', count, b"push 5\nshow\npop") {
+        Ok(input) => {
+            for piece in PIECES {
+                let output = b"ready\n?\n-\nnone\n";
+                check_pieces(findings, alloc, input.as_slice(), *piece, output);
+            }
+        }
+        Err(AllocError) => findings.miss("there is memory"),
     }
 }
 
 /// Some pieces begin with what would be a command, but is the end of a longer line.
 #[test]
 fn long_lines_in_pieces(rt: HostRuntime) -> Result<(), Fail> {
-    for count in [86, 186, 194, 195, 386] {
-        let input = with_run(
-            rt.alloc(),
-            b"queue fixed 1\n",
-            b'x',
-            count,
-            b"push 5\nshow\npop",
-        )?;
-        for piece in [1, 4, 50, 100, 200, 208, 209, 400] {
-            let output = b"ready\n?\n-\nnone\n".as_slice();
-            assert_in_pieces(&rt, rt.alloc(), input.as_slice(), piece, output);
-        }
+    let findings = Findings::new();
+    for count in &[86, 186, 194, 195, 386] {
+        check_long_line(&findings, rt.alloc(), *count);
     }
-    Ok(())
+    findings.verdict()
 }
 
 /// The reader fails at its call number `calls`, and what was written is the replies to the whole lines that it gave
 /// before; or it came to its end before that call.
-fn assert_read_fault(rt: &impl Abort, alloc: Global, input: &[u8], piece: usize, calls: usize) {
+fn check_read_fault(
+    findings: &Findings,
+    alloc: Global,
+    input: &[u8],
+    (piece, calls): (usize, usize),
+) {
+    let case = (piece, calls);
     let mut reader = PoorReader::new(input, piece);
     reader.calls = calls;
     reader.interrupts = calls % 2 == 1;
@@ -199,134 +278,177 @@ fn assert_read_fault(rt: &impl Abort, alloc: Global, input: &[u8], piece: usize,
     let outcome = script(alloc, &mut reader, &mut writer);
     let given = input.len().saturating_sub(reader.rest.len());
     let all = piece.wrapping_mul(calls);
-    assert_eq!(rt; given, min(all, input.len()), "call {calls} of {piece}");
-    if all >= input.len().wrapping_add(piece) {
-        assert_eq!(rt; outcome, Ok(()), "call {calls} of {piece}");
-        assert_eq!(rt; writer.bytes.as_slice(), OUTPUT, "call {calls} of {piece}");
+    let (wanted, output) = if all >= input.len().wrapping_add(piece) {
+        (Ok(()), OUTPUT)
     } else {
         let output = first_lines(OUTPUT, line_ends(&input[..given]));
-        assert_eq!(rt; outcome, Err(ScriptFault::Read), "call {calls} of {piece}");
-        assert_eq!(rt; writer.bytes.as_slice(), output, "call {calls} of {piece}");
-    }
+        (Err(ScriptFault::Read), output)
+    };
+    let found = (case, given, outcome);
+    findings.expect_same(found, (case, min(all, input.len()), wanted), "a read fault");
+    let text = writer.bytes.as_slice();
+    findings.expect_same((case, text), (case, output), "a read fault");
 }
 
 #[test]
-fn read_faults(rt: HostRuntime) {
-    for piece in [1, 3, 7, 14, 46, 47, 100] {
+fn read_faults(rt: HostRuntime) -> Result<(), Fail> {
+    let findings = Findings::new();
+    for piece in &[1, 3, 7, 14, 46, 47, 100] {
         for calls in 0..50 {
-            assert_read_fault(&rt, rt.alloc(), INPUT, piece, calls);
-            assert_read_fault(&rt, rt.alloc(), ENDED_INPUT, piece, calls);
+            check_read_fault(&findings, rt.alloc(), INPUT, (*piece, calls));
+            check_read_fault(&findings, rt.alloc(), ENDED_INPUT, (*piece, calls));
         }
     }
+    findings.verdict()
 }
 
 /// The writer fails, and exactly this was written.
-fn assert_write_fault(
-    rt: &impl Abort,
+fn check_write_fault(
+    findings: &Findings,
     alloc: Global,
     mut reader: PoorReader<'_>,
-    writer: &mut PoorWriter,
+    mut writer: PoorWriter,
     written: &[u8],
 ) {
     let case = (reader.piece, written.len());
-    let outcome = script(alloc, &mut reader, writer);
-    assert_eq!(rt; outcome, Err(ScriptFault::Write), "at {case:?}");
-    assert_eq!(rt; writer.bytes.as_slice(), written, "at {case:?}");
+    let outcome = script(alloc, &mut reader, &mut writer);
+    findings.expect_same(
+        (case, outcome),
+        (case, Err(ScriptFault::Write)),
+        "a write fault",
+    );
+    let text = writer.bytes.as_slice();
+    findings.expect_same((case, text), (case, written), "a write fault");
+}
+
+/// A writer that has room for `count` bytes, and one that has as many calls.
+fn check_count(findings: &Findings, alloc: Global, piece: usize, count: usize)
+    requires { count ≤ 40 }
+{
+    let written = &OUTPUT[..count];
+    let mut full = PoorWriter::new(alloc, 7);
+    full.room = count;
+    full.interrupts = count % 2 == 1;
+    let reader = PoorReader::new(INPUT, piece);
+    check_write_fault(findings, alloc, reader, full, written);
+    let mut broken = PoorWriter::new(alloc, 1);
+    broken.calls = count;
+    broken.interrupts = count % 2 == 0;
+    let reader = PoorReader::new(INPUT, piece);
+    check_write_fault(findings, alloc, reader, broken, written);
 }
 
 #[test]
-fn write_faults(rt: HostRuntime) {
-    let alloc = rt.alloc();
-    for piece in [1, 9, 100] {
+fn write_faults(rt: HostRuntime) -> Result<(), Fail> {
+    let findings = Findings::new();
+    for piece in &[1, 9, 100] {
         for count in 0..OUTPUT.len() {
-            let mut full = PoorWriter::new(alloc, 7);
-            full.room = count;
-            full.interrupts = count % 2 == 1;
-            let reader = PoorReader::new(INPUT, piece);
-            assert_write_fault(&rt, alloc, reader, &mut full, &OUTPUT[..count]);
-            let mut broken = PoorWriter::new(alloc, 1);
-            broken.calls = count;
-            broken.interrupts = count % 2 == 0;
-            let reader = PoorReader::new(INPUT, piece);
-            assert_write_fault(&rt, alloc, reader, &mut broken, &OUTPUT[..count]);
+            check_count(&findings, rt.alloc(), *piece, count);
         }
     }
+    findings.verdict()
+}
+
+/// A writer that takes nothing, and one that does not flush.
+fn check_idle_and_leaky(findings: &Findings, alloc: Global, piece: usize) {
+    let reader = PoorReader::new(INPUT, piece);
+    let idle = PoorWriter::new(alloc, 0);
+    check_write_fault(findings, alloc, reader, idle, b"");
+    let mut leaky = PoorWriter::new(alloc, 7);
+    leaky.flush_fails = true;
+    let reader = PoorReader::new(INPUT, piece);
+    check_write_fault(findings, alloc, reader, leaky, OUTPUT);
 }
 
 #[test]
-fn writers_that_never_work(rt: HostRuntime) {
-    let alloc = rt.alloc();
-    for piece in [1, 9, 100] {
-        let mut idle = PoorWriter::new(alloc, 0);
-        let reader = PoorReader::new(INPUT, piece);
-        assert_write_fault(&rt, alloc, reader, &mut idle, b"");
-        let mut leaky = PoorWriter::new(alloc, 7);
-        leaky.flush_fails = true;
-        let reader = PoorReader::new(INPUT, piece);
-        assert_write_fault(&rt, alloc, reader, &mut leaky, OUTPUT);
+fn writers_that_never_work(rt: HostRuntime) -> Result<(), Fail> {
+    let findings = Findings::new();
+    for piece in &[1, 9, 100] {
+        check_idle_and_leaky(&findings, rt.alloc(), *piece);
     }
     // Where all lines come and end in one piece, all replies are owed at once.
     for calls in 0..14 {
-        let mut broken = PoorWriter::new(alloc, 3);
+        let mut broken = PoorWriter::new(rt.alloc(), 3);
         broken.calls = calls;
         let reader = PoorReader::new(ENDED_INPUT, 100);
-        assert_write_fault(&rt, alloc, reader, &mut broken, &OUTPUT[..3 * calls]);
+        check_write_fault(&findings, rt.alloc(), reader, broken, &OUTPUT[..3 * calls]);
     }
+    findings.verdict()
 }
 
-/// A writer that has just enough room, or just enough calls, is as good as any.
-#[test]
-fn enough_room(rt: HostRuntime) {
-    for piece in [1, 9, 100] {
-        let mut reader = PoorReader::new(INPUT, piece);
-        let mut writer = PoorWriter::new(rt.alloc(), 1);
-        writer.room = OUTPUT.len();
-        writer.calls = OUTPUT.len();
-        let outcome = script(rt.alloc(), &mut reader, &mut writer);
-        assert_eq!(rt; outcome, Ok(()), "in pieces of {piece}");
-        assert_eq!(rt; writer.bytes.as_slice(), OUTPUT, "in pieces of {piece}");
-    }
-}
-
-#[test]
-fn replies_before_questions(rt: HostRuntime) {
-    let cases = [
-        (b"".as_slice(), 0),
-        (b"pop".as_slice(), 1),
-        (INPUT, 6),
-        (ENDED_INPUT, 6),
-        (
-            b"\n\nqueue fixed 3\n\nshow\npush 1\nover 2\nshow\n?\n".as_slice(),
-            9,
-        ),
-    ];
-    for (input, replies) in cases {
-        let exchange = Exchange::new();
-        let mut asker = Asker {
-            rest: input,
-            exchange: &exchange,
-        };
-        let mut listener = Listener {
-            exchange: &exchange,
-        };
-        let outcome = script(rt.alloc(), &mut asker, &mut listener);
-        assert_eq!(rt; outcome, Ok(()), "with {replies} replies");
-        assert_eq!(rt; exchange.replies.get(), replies, "with {replies} replies");
-        assert_eq!(rt; exchange.flushes.get(), 1, "with {replies} replies");
-        assert!(rt; !exchange.was_late.get(), "with {replies} replies");
-    }
+/// A writer that has just enough room, and just enough calls, is as good as any.
+fn check_enough_room(findings: &Findings, alloc: Global, piece: usize) {
+    let mut reader = PoorReader::new(INPUT, piece);
+    let mut writer = PoorWriter::new(alloc, 1);
+    writer.room = OUTPUT.len();
+    writer.calls = OUTPUT.len();
+    let outcome = script(alloc, &mut reader, &mut writer);
+    findings.expect_same((piece, outcome), (piece, Ok(())), "enough room");
+    let text = writer.bytes.as_slice();
+    findings.expect_same((piece, text), (piece, OUTPUT), "enough room");
 }
 
 #[test]
-fn statuses_and_fault_lines(rt: HostRuntime) {
-    assert_eq!(rt; exit_status(&Ok(())), 0);
-    let cases = [
-        (ScriptFault::Read, 1, "boxes: read fault"),
-        (ScriptFault::Write, 1, "boxes: write fault"),
-        (ScriptFault::OutOfMemory, 2, "boxes: out of memory"),
-    ];
-    for (fault, status, line) in cases {
-        assert_eq!(rt; exit_status(&Err(fault)), status, "of {fault:?}");
-        assert_eq!(rt; fault_line(&fault), line, "of {fault:?}");
+fn enough_room(rt: HostRuntime) -> Result<(), Fail> {
+    let findings = Findings::new();
+    for piece in &[1, 9, 100] {
+        check_enough_room(&findings, rt.alloc(), *piece);
     }
+    findings.verdict()
+}
+
+/// A script, and the number of its replies.
+const EXCHANGES: &[(&[u8], usize)] = &[
+    (b"", 0),
+    (b"pop", 1),
+    (INPUT, 6),
+    (ENDED_INPUT, 6),
+    (b"\n\nqueue fixed 3\n\nshow\npush 1\nover 2\nshow\n?\n", 9),
+];
+
+fn check_exchange(findings: &Findings, alloc: Global, input: &[u8], replies: usize) {
+    let exchange = Exchange::new();
+    let mut asker = Asker {
+        rest: input,
+        exchange: &exchange,
+    };
+    let mut listener = Listener {
+        exchange: &exchange,
+    };
+    let outcome = script(alloc, &mut asker, &mut listener);
+    findings.expect_same((replies, outcome), (replies, Ok(())), "an exchange");
+    let found = (
+        exchange.replies.get(),
+        exchange.flushes.get(),
+        exchange.was_late.get(),
+    );
+    findings.expect_same(found, (replies, 1, false), "an exchange");
+}
+
+#[test]
+fn replies_before_questions(rt: HostRuntime) -> Result<(), Fail> {
+    let findings = Findings::new();
+    for (input, replies) in EXCHANGES {
+        check_exchange(&findings, rt.alloc(), input, *replies);
+    }
+    findings.verdict()
+}
+
+const FAULTS: &[(Result<(), ScriptFault>, u8, &str)] = &[
+    (Ok(()), 0, ""),
+    (Err(ScriptFault::Read), 1, "boxes: read fault"),
+    (Err(ScriptFault::Write), 1, "boxes: write fault"),
+    (Err(ScriptFault::OutOfMemory), 2, "boxes: out of memory"),
+];
+
+#[test]
+fn statuses_and_fault_lines() -> Result<(), Fail> {
+    let findings = Findings::new();
+    for (row, (outcome, status, line)) in FAULTS.iter().enumerate() {
+        findings.expect_same_at(exit_status(outcome), *status, row, "a status");
+        if let Err(fault) = outcome {
+            findings.expect_same_at(fault_line(fault), *line, row, "a line");
+        }
+    }
+    findings.verdict()
 }

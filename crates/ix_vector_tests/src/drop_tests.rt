@@ -1,18 +1,16 @@
 //! When items are dropped: each one once, and the last one first.
-use crate::expecting::expect_same;
-use crate::items::{Noted, Notes};
 use crate::noted_calls::NotedCall::{
     Clear, Insert, Pop, Push, Remove, Resize, ResizeWith, Truncate,
 };
 use crate::noted_calls::{NotedRow, check_noted_kinds};
 use ix_cells::VectorModificationError::{InsertWouldExceedCapacity, OutOfBounds};
 use ix_cells::{PolymorphicVec, StaticVec, Vector};
+use ix_expect::{Findings, Noted, Notes};
 use std::alloc::Global;
-use std::process::Abort;
 use std::test::Fail;
 
 /// Items that a full vector refuses.
-const REFUSALS: [NotedRow; 7] = [
+const REFUSALS: &[NotedRow] = &[
     (Push(1), Ok(None), 0, 1),
     (Push(2), Ok(None), 0, 12),
     (Push(3), Ok(None), 0, 123),
@@ -23,7 +21,7 @@ const REFUSALS: [NotedRow; 7] = [
 ];
 
 /// Items that leave one by one: they are handed out, and the caller drops them.
-const LEAVING: [NotedRow; 8] = [
+const LEAVING: &[NotedRow] = &[
     (Push(1), Ok(None), 0, 1),
     (Push(2), Ok(None), 0, 12),
     (Push(3), Ok(None), 0, 123),
@@ -35,7 +33,7 @@ const LEAVING: [NotedRow; 8] = [
 ];
 
 /// Items that leave together.
-const CUTS: [NotedRow; 11] = [
+const CUTS: &[NotedRow] = &[
     (Push(1), Ok(None), 0, 1),
     (Push(2), Ok(None), 0, 12),
     (Push(3), Ok(None), 0, 123),
@@ -49,27 +47,38 @@ const CUTS: [NotedRow; 11] = [
     (Push(9), Ok(None), 0, 689),
 ];
 
-fn check_drops<'a>(rt: &impl Abort, alloc: Global, notes: &'a Notes) -> Result<(), Fail> {
-    check_noted_kinds(rt, alloc, notes, &[], REFUSALS.as_slice(), 4321)?;
-    check_noted_kinds(rt, alloc, notes, &[], LEAVING.as_slice(), 391)?;
-    check_noted_kinds(rt, alloc, notes, &[], CUTS.as_slice(), 986)
+/// Calls, and what the end of the vector drops.
+const EXAMPLES: &[(&[NotedRow], u64)] = &[(REFUSALS, 4321), (LEAVING, 391), (CUTS, 986)];
+
+fn check_examples<'a>(findings: &Findings, alloc: Global, notes: &'a Notes) {
+    for example in EXAMPLES {
+        check_noted_kinds(findings, alloc, notes, &[], example);
+    }
 }
 
 #[test]
 fn drops_once_and_last_first(rt: HostRuntime) -> Result<(), Fail> {
-    let notes = Notes::new(0);
-    check_drops(&rt, rt.alloc(), &notes)
+    let findings = Findings::new();
+    check_examples(&findings, rt.alloc(), &Notes::new(0));
+    findings.verdict()
+}
+
+/// `made` has three items of the names 1 to 3. It ends with this function, and so does a copy.
+fn check_held(findings: &Findings, notes: &Notes, made: PolymorphicVec<Noted, Global>) {
+    let copy = StaticVec::<Noted, 5>::try_from(made.as_slice());
+    findings.expect(copy.is_ok(), "a copy is made");
+    findings.expect_same(notes.take_drops(), 0, "all are held");
 }
 
 #[test]
 fn scopes_end_vectors(rt: HostRuntime) -> Result<(), Fail> {
+    let findings = Findings::new();
     let notes = Notes::new(3);
-    {
-        let numbered = |n: usize| Noted::new((n as u64).wrapping_add(1), &notes);
-        let made = PolymorphicVec::from_fn(rt.alloc(), 3, numbered)?;
-        let _copy = StaticVec::<Noted, 5>::try_from(made.as_slice())?;
-        expect_same(&rt, notes.take_drops(), 0, "all are held");
+    let numbered = |n: usize| Noted::new((n as u64).wrapping_add(1), &notes);
+    match PolymorphicVec::from_fn(rt.alloc(), 3, numbered) {
+        Ok(made) => check_held(&findings, &notes, made),
+        Err(_) => findings.miss("there is memory"),
     }
-    expect_same(&rt, notes.take_drops(), 321_321, "both ended");
-    Ok(())
+    findings.expect_same(notes.take_drops(), 321_321, "both ended");
+    findings.verdict()
 }

@@ -1,22 +1,22 @@
 //! Every function of vectors and tables once, with ample memory.
+ghost use Rattle.ix_cells.specs.Places.{IsVacant};
+
 use crate::calls::Call::{
     Clear, Extend, ExtendUnchecked, Fill, Insert, Pop, Push, PushUnchecked, Remove, Resize,
     ResizeWith, Truncate,
 };
 use crate::calls::{Row, check_kinds};
-use crate::expecting::{expect, expect_same};
-use crate::items::relocatable_of;
 use ix_cells::VectorModificationError::{InsertWouldExceedCapacity, OutOfBounds};
 use ix_cells::{
     HeapTable, InitError, InlineTable, MAX_FIXED_CAPACITY, PolymorphicVec, RelocatableContainer,
     RelocatableVec, StaticVec, Table, UninitVec, Vector,
 };
-use std::alloc::Global;
-use std::process::Abort;
+use ix_expect::Findings;
+use std::alloc::{AllocError, Global};
 use std::test::Fail;
 
 /// Calls of a vector with room for three items.
-const PUSHES: [Row<u64>; 6] = [
+const PUSHES: &[Row<u64>] = &[
     (Pop, Ok(None), &[]),
     (Insert(1, 5), Err(OutOfBounds), &[]),
     (PushUnchecked(2), Ok(None), &[2]),
@@ -26,7 +26,7 @@ const PUSHES: [Row<u64>; 6] = [
 ];
 
 /// Calls of a vector with room for three items.
-const REMOVALS: [Row<u64>; 8] = [
+const REMOVALS: &[Row<u64>] = &[
     (Push(1), Ok(None), &[1]),
     (Push(2), Ok(None), &[1, 2]),
     (Remove(2), Ok(None), &[1, 2]),
@@ -37,16 +37,8 @@ const REMOVALS: [Row<u64>; 8] = [
     (Pop, Ok(Some(8)), &[]),
 ];
 
-#[test]
-fn calls_for_single_items(rt: HostRuntime) -> Result<(), Fail> {
-    let fixed = StaticVec::<u64, 3>::new();
-    check_kinds(&rt, rt.alloc(), fixed, 3, PUSHES.as_slice())?;
-    let fixed = StaticVec::<u64, 3>::new();
-    check_kinds(&rt, rt.alloc(), fixed, 3, REMOVALS.as_slice())
-}
-
 /// Calls of a vector with room for three items.
-const LENGTHS: [Row<u64>; 9] = [
+const LENGTHS: &[Row<u64>] = &[
     (Push(1), Ok(None), &[1]),
     (Push(2), Ok(None), &[1, 2]),
     (Truncate(9), Ok(None), &[1, 2]),
@@ -59,122 +51,167 @@ const LENGTHS: [Row<u64>; 9] = [
 ];
 
 /// Calls of a vector with room for three items.
-const RESIZES: [Row<u64>; 8] = [
+const RESIZES: &[Row<u64>] = &[
     (Push(1), Ok(None), &[1]),
     (Push(2), Ok(None), &[1, 2]),
     (Resize(4, 6), Err(InsertWouldExceedCapacity), &[1, 2]),
     (Resize(2, 6), Ok(None), &[1, 2]),
     (Resize(1, 6), Ok(None), &[1]),
     (Resize(3, 6), Ok(None), &[1, 6, 6]),
-    (ResizeWith(2, 7), Ok(None), &[1, 6]),
-    (ResizeWith(3, 7), Ok(None), &[1, 6, 7]),
+    (ResizeWith(2, &[], 7), Ok(None), &[1, 6]),
+    (ResizeWith(3, &[7], 7), Ok(None), &[1, 6, 7]),
+];
+
+/// Calls of a vector with room for three items.
+const INSERTS: &[Row<u64>] = &[
+    (Push(1), Ok(None), &[1]),
+    (Push(2), Ok(None), &[1, 2]),
+    (Insert(1, 9), Ok(None), &[1, 9, 2]),
+    (Insert(8, 5), Err(InsertWouldExceedCapacity), &[1, 9, 2]),
 ];
 
 #[test]
-fn calls_for_lengths(rt: HostRuntime) -> Result<(), Fail> {
-    let fixed = StaticVec::<u64, 3>::new();
-    check_kinds(&rt, rt.alloc(), fixed, 3, LENGTHS.as_slice())?;
-    let fixed = StaticVec::<u64, 3>::new();
-    check_kinds(&rt, rt.alloc(), fixed, 3, RESIZES.as_slice())
+fn calls_of_each_kind(rt: HostRuntime) -> Result<(), Fail> {
+    let findings = Findings::new();
+    for rows in &[PUSHES, REMOVALS, LENGTHS, RESIZES, INSERTS] {
+        let fixed = StaticVec::<u64, 3>::new();
+        check_kinds(&findings, rt.alloc(), fixed, 3, rows);
+    }
+    findings.verdict()
+}
+
+/// `made` is empty, and there was memory for it.
+fn check_capacity<T: Drop, V: Vector<T> + Drop, E: Drop>(
+    findings: &Findings,
+    made: Result<V, E>,
+    capacity: usize,
+) {
+    match made {
+        Ok(vector) => findings.expect_same(vector.capacity(), capacity, "in two steps"),
+        Err(_) => findings.miss("in two steps"),
+    }
 }
 
 #[test]
-fn two_steps(rt: HostRuntime) {
-    expect(&rt, StaticVec::<u64, 3>::capacity() == 3, "fixed");
-    expect_same(&rt, MAX_FIXED_CAPACITY, 4_294_967_295, "the greatest");
-    let uninit = RelocatableVec::<u64, Global>::new_uninit(5);
-    let ready = InitError::new(uninit).into_uninit().init(rt.alloc()).ok();
-    expect_same(
-        &rt,
-        ready.expect(&rt, "there is memory").capacity(),
-        5,
-        "in two steps",
-    );
+fn two_steps(rt: HostRuntime) -> Result<(), Fail> {
+    let findings = Findings::new();
+    findings.expect_same(StaticVec::<u64, 3>::capacity(), 3, "fixed");
+    findings.expect_same(MAX_FIXED_CAPACITY, 4_294_967_295, "the greatest");
+    let uninit = InitError::new(RelocatableVec::<u64, Global>::new_uninit(5)).into_uninit();
+    check_capacity::<u64, _, _>(&findings, uninit.init(rt.alloc()), 5);
     let uninit = <UninitVec<u8> as RelocatableContainer<Global>>::new_uninit(6);
-    let ready = uninit.init(rt.alloc()).ok();
-    expect_same(
-        &rt,
-        ready.expect(&rt, "there is memory").capacity(),
-        6,
-        "in two steps",
-    );
+    check_capacity::<u8, _, _>(&findings, uninit.init(rt.alloc()), 6);
+    findings.verdict()
 }
 
 /// Fills two empty vectors, compares them, and then compares them after the second one lost its last item.
-fn check_equality<V: Vector<u64> + PartialEq + Drop>(
-    rt: &impl Abort,
-    mut one: V,
-    mut other: V,
-    items: [u64; 2],
+fn check_equality<V: Vector<u64> + PartialEq>(
+    findings: &Findings,
+    one: &mut V,
+    other: &mut V,
+    kind: &str,
 ) {
-    expect(rt, one.extend_from_slice(&[1, 2]).is_ok(), "there is room");
-    expect(
-        rt,
-        other.extend_from_slice(items.as_slice()).is_ok(),
-        "there is room",
-    );
-    expect(rt, (one == other) == (items == [1, 2]), "equality");
-    other.truncate(1);
-    expect(rt, one != other, "a shorter one");
+    for items in &[[1, 2], [1, 3], [3, 2]] {
+        one.clear();
+        other.clear();
+        let filled = (
+            one.extend_from_slice(&[1, 2]),
+            other.extend_from_slice(items),
+        );
+        findings.expect_same(filled, (Ok(()), Ok(())), "there is room");
+        findings.expect_same(*one == *other, *items == [1, 2], kind);
+        other.truncate(1);
+        findings.expect(*one != *other, "a shorter one");
+    }
+}
+
+/// There was memory for both vectors.
+fn check_made<V: Vector<u64> + PartialEq + Drop, E: Drop>(
+    findings: &Findings,
+    one: Result<V, E>,
+    other: Result<V, E>,
+    kind: &str,
+) {
+    if let Ok(mut one) = one {
+        if let Ok(mut other) = other {
+            return check_equality(findings, &mut one, &mut other, kind);
+        }
+    }
+    findings.miss(kind);
 }
 
 #[test]
 fn equality_is_of_items(rt: HostRuntime) -> Result<(), Fail> {
+    let findings = Findings::new();
     let alloc = rt.alloc();
-    for items in &[[1, 2], [1, 3], [3, 2]] {
-        check_equality(&rt, StaticVec::<u64, 2>::new(), StaticVec::new(), *items);
-        let wider = PolymorphicVec::new(alloc, 5)?;
-        check_equality(&rt, PolymorphicVec::new(alloc, 2)?, wider, *items);
-        let wider = relocatable_of(alloc, 5)?;
-        check_equality(&rt, relocatable_of(alloc, 2)?, wider, *items);
-    }
-    Ok(())
+    let one = Ok::<_, AllocError>(StaticVec::<u64, 2>::new());
+    check_made(&findings, one, Ok(StaticVec::new()), "static");
+    let one = PolymorphicVec::<u64, Global>::new(alloc, 2);
+    check_made(&findings, one, PolymorphicVec::new(alloc, 5), "polymorphic");
+    let one = UninitVec::<u64>::new_uninit(2).init(alloc);
+    let wider = UninitVec::<u64>::new_uninit(5).init(alloc);
+    check_made(&findings, one, wider, "relocatable");
+    findings.verdict()
 }
 
 #[test]
 fn tables_in_memory(rt: HostRuntime) -> Result<(), Fail> {
-    let mut table = HeapTable::<u64, Global>::new(rt.alloc(), 2)?;
-    expect(&rt, table.len() == 2, "in memory");
+    let findings = Findings::new();
+    let Ok(mut table) = HeapTable::<u64, Global>::new(rt.alloc(), 2) else {
+        findings.miss("there is memory");
+        return findings.verdict();
+    };
+    findings.expect_same(table.len(), 2, "in memory");
     table.put(1, 7);
     table.put(0, 6);
-    expect_same(&rt, *table.get(0), 6, "in memory");
+    findings.expect_same(*table.get(0), 6, "in memory");
     *table.get_mut(1) = 8;
-    expect_same(&rt, *table.get(1), 8, "in memory");
-    expect_same(&rt, table.take(1), 8, "in memory");
-    expect_same(&rt, table.take(0), 6, "in memory");
+    findings.expect_same(*table.get(1), 8, "in memory");
+    findings.expect_same((table.take(1), table.take(0)), (8, 6), "in memory");
     table.put(1, 9);
-    expect_same(&rt, table.take(1), 9, "in memory");
+    findings.expect_same(table.take(1), 9, "in memory");
     table.end();
-    Ok(())
+    findings.verdict()
+}
+
+fn check_no_place<S: Table<u64>>(findings: &Findings, table: S)
+    requires { IsVacant (S.places table) }
+{
+    findings.expect_same(table.len(), 0, "no place");
+    table.end();
 }
 
 #[test]
 fn tables_of_size_zero(rt: HostRuntime) -> Result<(), Fail> {
-    let empty = HeapTable::<u64, Global>::new(rt.alloc(), 0)?;
-    expect(&rt, empty.len() == 0, "no place in memory");
-    empty.end();
-    let mut units = HeapTable::<(), Global>::new(rt.alloc(), 3)?;
-    expect(&rt, units.len() == 3, "of size zero");
-    units.put(2, ());
-    expect_same(&rt, *units.get(2), (), "in memory");
-    units.take(2);
-    units.end();
-    Ok(())
+    let findings = Findings::new();
+    check_no_place(&findings, InlineTable::<u64, 0>::new());
+    match HeapTable::<u64, Global>::new(rt.alloc(), 0) {
+        Ok(table) => check_no_place(&findings, table),
+        Err(AllocError) => findings.miss("no memory is needed"),
+    }
+    match HeapTable::<(), Global>::new(rt.alloc(), 3) {
+        Ok(mut units) => {
+            findings.expect_same(units.len(), 3, "of size zero");
+            units.put(2, ());
+            findings.expect_same(*units.get(2), (), "of size zero");
+            units.take(2);
+            units.end();
+        }
+        Err(AllocError) => findings.miss("no memory is needed"),
+    }
+    findings.verdict()
 }
 
 #[test]
-fn tables_in_the_value(rt: HostRuntime) {
+fn tables_in_the_value() -> Result<(), Fail> {
+    let findings = Findings::new();
     let mut table = InlineTable::<u64, 2>::new();
-    expect(&rt, table.len() == 2, "in the value");
+    findings.expect_same(table.len(), 2, "in the value");
     table.put(0, 6);
     table.put(1, 7);
     *table.get_mut(0) = 8;
-    expect_same(&rt, *table.get(0), 8, "in the value");
-    expect_same(&rt, *table.get(1), 7, "in the value");
-    expect_same(&rt, table.take(0), 8, "in the value");
-    expect_same(&rt, table.take(1), 7, "in the value");
+    findings.expect_same((*table.get(0), *table.get(1)), (8, 7), "in the value");
+    findings.expect_same((table.take(0), table.take(1)), (8, 7), "in the value");
     table.end();
-    let empty = InlineTable::<u64, 0>::new();
-    expect(&rt, empty.len() == 0, "no place in the value");
-    empty.end();
+    findings.verdict()
 }

@@ -7,8 +7,6 @@ mod calls;
 #[cfg(test)]
 mod drop_tests;
 #[cfg(test)]
-mod expecting;
-#[cfg(test)]
 mod function_tests;
 #[cfg(test)]
 mod items;

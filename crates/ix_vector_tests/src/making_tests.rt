@@ -1,25 +1,31 @@
 //! Makings whose memory is refused: nothing stays taken.
-use crate::expecting::{expect, expect_same};
 use crate::items::with_one_and_two;
-use ix_cells::{HeapTable, PolymorphicVec, RelocatableContainer, Table, UninitVec, Vector};
+use ix_cells::{
+    HeapTable, InitError, PolymorphicVec, RelocatableContainer, Table, UninitVec, Vector,
+};
+use ix_expect::Findings;
 use linked_list_allocator::LocalHeap;
 use std::alloc::{AllocError, Global};
 use std::cell::Cell;
-use std::process::Abort;
 use std::test::Fail;
 
-/// The heap has a free block of 16 bytes for two numbers or for a place, if `found`.
-fn check_vectors(rt: &impl Abort, heap: &LocalHeap, found: bool) {
-    let used = heap.used();
-    match PolymorphicVec::<u64, &LocalHeap>::new(heap, 2) {
-        Ok(vector) => expect(rt, found && vector.capacity() == 2, "memory is refused"),
-        Err(AllocError) => expect(rt, !found, "memory is found"),
+/// The heap had memory for a vector with room for two numbers if `found`, and `used` of it were used before.
+fn check_made<V: Vector<u64> + Drop, E: Drop>(
+    findings: &Findings,
+    heap: &LocalHeap,
+    used: usize,
+    made: Result<V, E>,
+    found: bool,
+) {
+    match made {
+        Ok(vector) => findings.expect(found && vector.capacity() == 2, "memory is refused"),
+        Err(_) => findings.expect(!found, "memory is found"),
     }
-    expect_same(rt, heap.used(), used, "a vector");
+    findings.expect_same(heap.used(), used, "a vector");
 }
 
-/// As above.
-fn check_vectors_by_closures(rt: &impl Abort, heap: &LocalHeap, found: bool) {
+/// The heap has a free block of 16 bytes for two numbers if `found`.
+fn check_by_closure(findings: &Findings, heap: &LocalHeap, found: bool) {
     let used = heap.used();
     let calls = Cell::new(0u64);
     let counted = |n: usize| {
@@ -28,64 +34,70 @@ fn check_vectors_by_closures(rt: &impl Abort, heap: &LocalHeap, found: bool) {
     };
     match PolymorphicVec::<usize, &LocalHeap>::from_fn(heap, 2, counted) {
         Ok(vector) => {
-            expect(rt, found, "memory is refused");
-            expect_same(rt, vector.as_slice(), [0, 1].as_slice(), "a vector");
-            expect_same(rt, calls.get(), 2, "a vector");
+            findings.expect(found, "memory is refused");
+            findings.expect_same(vector.as_slice(), &[0, 1], "by a closure");
         }
-        Err(AllocError) => expect(rt, !found && calls.get() == 0, "memory is found"),
+        Err(AllocError) => findings.expect(!found, "memory is found"),
     }
-    expect_same(rt, heap.used(), used, "a vector");
+    let wanted = if found { 2 } else { 0 };
+    findings.expect_same(calls.get(), wanted, "calls of the closure");
+    findings.expect_same(heap.used(), used, "a vector");
 }
 
-/// As above. `ample` finds memory.
-fn check_two_steps(rt: &impl Abort, heap: &LocalHeap, found: bool, ample: Global) {
-    let used = heap.used();
-    match UninitVec::<u64>::new_uninit(2).init(heap) {
-        Ok(vector) => expect(rt, found && vector.capacity() == 2, "memory is refused"),
-        Err(error) => {
-            expect(rt, !found, "memory is found");
-            let ready = error.into_uninit().init(ample).ok();
-            expect_same(
-                rt,
-                ready.expect(rt, "there is memory").capacity(),
-                2,
-                "in two steps",
-            );
+/// A refusal hands back what finds memory in `ample` then.
+fn check_again(findings: &Findings, refused: Option<InitError<UninitVec<u64>>>, ample: Global) {
+    if let Some(error) = refused {
+        match error.into_uninit().init(ample) {
+            Ok(vector) => findings.expect_same(vector.capacity(), 2, "in two steps"),
+            Err(_) => findings.miss("there is memory"),
         }
     }
-    expect_same(rt, heap.used(), used, "in two steps");
 }
 
-/// As above.
-fn check_tables(rt: &impl Abort, heap: &LocalHeap, found: bool) {
+/// The heap has a free block of 16 bytes for a place if `found`.
+fn check_table(findings: &Findings, heap: &LocalHeap, found: bool) {
     let used = heap.used();
     match HeapTable::<u64, &LocalHeap>::new(heap, 1) {
         Ok(table) => {
-            expect(rt, found, "memory is refused");
-            expect(rt, table.len() == 1, "a table");
+            findings.expect(found && table.len() == 1, "a table");
             table.end();
         }
-        Err(AllocError) => expect(rt, !found, "memory is found"),
+        Err(AllocError) => findings.expect(!found, "memory is found"),
     }
-    expect_same(rt, heap.used(), used, "in two steps");
+    findings.expect_same(heap.used(), used, "a table");
+}
+
+/// A block of the heap is taken, and of the others each one has 16 bytes. `ample` finds memory.
+fn check_blocks(findings: &Findings, heap: &LocalHeap, ample: Global, found: bool) {
+    let held = Box::new(heap, 0u64);
+    findings.expect(held.is_ok(), "a block");
+    let used = heap.used();
+    let made = PolymorphicVec::<u64, &LocalHeap>::new(heap, 2);
+    check_made(findings, heap, used, made, found);
+    let made = UninitVec::<u64>::new_uninit(2).init(heap);
+    check_made(findings, heap, used, made, found);
+    let refused = UninitVec::<u64>::new_uninit(2).init(heap).err();
+    findings.expect_same(refused.is_none(), found, "in two steps");
+    check_again(findings, refused, ample);
+    check_by_closure(findings, heap, found);
+    check_table(findings, heap, found);
 }
 
 #[test]
 fn makings_refused(rt: HostRuntime) -> Result<(), Fail> {
+    let findings = Findings::new();
     for blocks in 0..3usize {
-        let heap = LocalHeap::new(rt.alloc(), 16 * (blocks + 1))?;
-        let _held = Box::new(&heap, 0u64)?;
-        check_vectors(&rt, &heap, blocks > 0);
-        check_vectors_by_closures(&rt, &heap, blocks > 0);
-        check_two_steps(&rt, &heap, blocks > 0, rt.alloc());
-        check_tables(&rt, &heap, blocks > 0);
+        match LocalHeap::new(rt.alloc(), 16 * (blocks + 1)) {
+            Ok(heap) => check_blocks(&findings, &heap, rt.alloc(), blocks > 0),
+            Err(_) => findings.miss("a heap"),
+        }
     }
-    Ok(())
+    findings.verdict()
 }
 
 /// The heap, of `blocks` blocks, holds the vector alone.
 fn check_clone(
-    rt: &impl Abort,
+    findings: &Findings,
     heap: &LocalHeap,
     vector: &PolymorphicVec<u64, &LocalHeap>,
     blocks: usize,
@@ -93,22 +105,32 @@ fn check_clone(
     let used = heap.used();
     match vector.try_clone() {
         Ok(copy) => {
-            expect(rt, blocks > 1, "a clone is refused");
-            expect_same(rt, copy.as_slice(), [1, 2].as_slice(), "a clone");
-            expect(rt, heap.used() > used, "memory is taken");
+            findings.expect(blocks > 1, "a clone is refused");
+            findings.expect_same(copy.as_slice(), &[1, 2], "a clone");
+            findings.expect(heap.used() > used, "memory is taken");
         }
-        Err(AllocError) => expect(rt, blocks == 1, "a clone is made"),
+        Err(AllocError) => findings.expect(blocks == 1, "a clone is made"),
     }
-    expect_same(rt, heap.used(), used, "after the clone");
-    expect_same(rt, vector.as_slice(), [1, 2].as_slice(), "after the clone");
+    findings.expect_same(heap.used(), used, "after the clone");
+    findings.expect_same(vector.as_slice(), &[1, 2], "after the clone");
+}
+
+/// The heap, of `blocks` blocks, is empty.
+fn check_clones(findings: &Findings, heap: &LocalHeap, blocks: usize) {
+    match PolymorphicVec::new(heap, 2) {
+        Ok(vector) => check_clone(findings, heap, &with_one_and_two(vector), blocks),
+        Err(AllocError) => findings.miss("there is a block"),
+    }
 }
 
 #[test]
 fn copies_refused(rt: HostRuntime) -> Result<(), Fail> {
+    let findings = Findings::new();
     for blocks in 1..4usize {
-        let heap = LocalHeap::new(rt.alloc(), 16 * blocks)?;
-        let vector = with_one_and_two(PolymorphicVec::new(&heap, 2)?);
-        check_clone(&rt, &heap, &vector, blocks);
+        match LocalHeap::new(rt.alloc(), 16 * blocks) {
+            Ok(heap) => check_clones(&findings, &heap, blocks),
+            Err(_) => findings.miss("a heap"),
+        }
     }
-    Ok(())
+    findings.verdict()
 }

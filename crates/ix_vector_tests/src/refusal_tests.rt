@@ -1,17 +1,16 @@
 //! Clones that are refused in turn: the items are as before, and the clones already made are dropped.
-use crate::expecting::{expect, expect_same};
-use crate::items::{Heavy, Noted, Notes, heavy_names_of, names_of, relocatable_of};
+use crate::items::{Heavy, heavy_names_of};
 use crate::noted_calls::NotedCall::{Extend, ExtendUnchecked, Push, Resize};
 use crate::noted_calls::{NotedRow, check_noted_kinds};
 use ix_cells::VectorModificationError::OutOfMemory;
-use ix_cells::{PolymorphicVec, StaticVec, Vector};
+use ix_cells::{PolymorphicVec, RelocatableContainer, StaticVec, UninitVec, Vector};
+use ix_expect::{Findings, Noted, Notes, names_of};
 use linked_list_allocator::LocalHeap;
 use std::alloc::{AllocError, Global};
-use std::process::Abort;
 use std::test::Fail;
 
 /// A vector that holds 5 is extended by 1, 2 and 3, whose clones are refused in turn.
-const EXTENSIONS: [NotedRow; 8] = [
+const EXTENSIONS: &[NotedRow] = &[
     (Push(5), Ok(None), 0, 5),
     (Extend(0), Err(OutOfMemory), 0, 5),
     (ExtendUnchecked(0), Err(OutOfMemory), 0, 5),
@@ -23,7 +22,7 @@ const EXTENSIONS: [NotedRow; 8] = [
 ];
 
 /// It grows by clones of 7, which are refused in turn; the item that was handed in is dropped. A cut makes no clone.
-const RESIZES: [NotedRow; 6] = [
+const RESIZES: &[NotedRow] = &[
     (Push(5), Ok(None), 0, 5),
     (Resize(4, 7, 0), Err(OutOfMemory), 7, 5),
     (Resize(4, 7, 1), Err(OutOfMemory), 77, 5),
@@ -32,173 +31,199 @@ const RESIZES: [NotedRow; 6] = [
     (Resize(2, 7, 0), Ok(None), 777, 57),
 ];
 
-fn check_growth<'a>(rt: &impl Abort, alloc: Global, notes: &'a Notes) -> Result<(), Fail> {
+/// Calls, and what the end of the vector drops.
+const EXTENDED: (&[NotedRow], u64) = (EXTENSIONS, 3215);
+
+/// As above.
+const RESIZED: (&[NotedRow], u64) = (RESIZES, 75);
+
+fn check_growth<'a>(findings: &Findings, alloc: Global, notes: &'a Notes) {
     let items = [
         Noted::new(1, notes),
         Noted::new(2, notes),
         Noted::new(3, notes),
     ];
-    let rows = EXTENSIONS.as_slice();
-    check_noted_kinds(rt, alloc, notes, items.as_slice(), rows, 3215)?;
+    check_noted_kinds(findings, alloc, notes, items.as_slice(), &EXTENDED);
     drop(items);
-    expect_same(rt, notes.take_drops(), 123, "the slice kept its own");
-    check_noted_kinds(rt, alloc, notes, &[], RESIZES.as_slice(), 75)
+    findings.expect_same(notes.take_drops(), 123, "the slice kept its own");
+    check_noted_kinds(findings, alloc, notes, &[], &RESIZED);
 }
 
 #[test]
 fn growth_refused(rt: HostRuntime) -> Result<(), Fail> {
-    let notes = Notes::new(0);
-    check_growth(&rt, rt.alloc(), &notes)
+    let findings = Findings::new();
+    check_growth(&findings, rt.alloc(), &Notes::new(0));
+    findings.verdict()
 }
 
 /// How many clones succeed, and which are dropped then, all of the name 1.
-const REFUSED_COPIES: [(u64, u64); 3] = [(0, 0), (1, 1), (2, 11)];
+const REFUSED_COPIES: &[(u64, u64)] = &[(0, 0), (1, 1), (2, 11)];
 
-/// A copy of three items of the name 1 into a fixed vector is refused after so many clones.
-fn check_refused_copy(rt: &impl Abort, notes: &Notes, items: &[Noted], row: (u64, u64)) {
-    let (clones, drops) = row;
-    notes.allow_clones(clones);
-    let refused = StaticVec::<Noted, 3>::try_from(items).err();
-    expect(rt, refused == Some(OutOfMemory), "a copy is refused");
-    expect_same(rt, notes.take_drops(), drops, "by a refused copy");
+/// Copies of three items of the name 1 into a fixed vector are refused after so many clones.
+fn check_refused_copies(findings: &Findings, notes: &Notes, items: &[Noted]) {
+    for (clones, drops) in REFUSED_COPIES {
+        notes.allow_clones(*clones);
+        let refused = StaticVec::<Noted, 3>::try_from(items).err();
+        findings.expect_same(refused, Some(OutOfMemory), "a copy is refused");
+        findings.expect_same(notes.take_drops(), *drops, "by a refused copy");
+    }
+    notes.allow_clones(3);
 }
 
-/// A clone of three items of the name 1 is refused after so many of theirs.
-fn check_refused_clone(
-    rt: &impl Abort,
+/// What the clone of a vector of three items of the name 1 answers, and what it drops, where so many of theirs succeed.
+fn check_clone<'a, V: Vector<Noted<'a>> + Drop>(
+    findings: &Findings,
     notes: &Notes,
-    vector: &StaticVec<Noted, 3>,
-    row: (u64, u64),
+    answer: Result<V, AllocError>,
+    drops: u64,
 ) {
-    let (clones, drops) = row;
-    notes.allow_clones(clones);
-    let refused = vector.clone().err();
-    expect(rt, refused == Some(AllocError), "a clone is refused");
-    expect_same(rt, notes.take_drops(), drops, "by a refused clone");
-    expect_same(
-        rt,
-        names_of(vector.as_slice()),
-        111,
-        "after a refused clone",
-    );
+    match answer {
+        Ok(copy) => findings.expect_same(names_of(copy.as_slice()), 111, "of a clone"),
+        Err(AllocError) => findings.expect(drops < 111, "a clone is refused"),
+    }
+    findings.expect_same(notes.take_drops(), drops, "by a clone");
+}
+
+/// As `REFUSED_COPIES`, and a clone that is made, which drops all at its end.
+const CLONES: &[(u64, u64)] = &[(0, 0), (1, 1), (2, 11), (3, 111)];
+
+fn check_static_clones(findings: &Findings, notes: &Notes, vector: &StaticVec<Noted, 3>) {
+    for (clones, drops) in CLONES {
+        notes.allow_clones(*clones);
+        check_clone(findings, notes, vector.clone(), *drops);
+        findings.expect_same(names_of(vector.as_slice()), 111, "after a clone");
+    }
 }
 
 #[test]
-fn static_copies_refused(rt: HostRuntime) -> Result<(), Fail> {
+fn static_copies_refused() -> Result<(), Fail> {
+    let findings = Findings::new();
     let notes = Notes::new(0);
     let items = [
         Noted::new(1, &notes),
         Noted::new(1, &notes),
         Noted::new(1, &notes),
     ];
-    for row in &REFUSED_COPIES {
-        check_refused_copy(&rt, &notes, items.as_slice(), *row);
+    check_refused_copies(&findings, &notes, &items);
+    match StaticVec::<Noted, 3>::try_from(items.as_slice()) {
+        Ok(vector) => check_static_clones(&findings, &notes, &vector),
+        Err(_) => findings.miss("a copy is made"),
     }
-    notes.allow_clones(3);
-    let vector = StaticVec::<Noted, 3>::try_from(items.as_slice())?;
-    for row in &REFUSED_COPIES {
-        check_refused_clone(&rt, &notes, &vector, *row);
-    }
-    notes.allow_clones(3);
-    expect_same(&rt, names_of(vector.clone()?.as_slice()), 111, "of a clone");
-    expect_same(&rt, notes.take_drops(), 111, "by the end of a clone");
-    Ok(())
+    findings.verdict()
 }
 
-/// A clone of three items of the name 1 is refused after so many of theirs.
-fn check_refused_in_heap(
-    rt: &impl Abort,
+fn check_clones_in_heap(
+    findings: &Findings,
     notes: &Notes,
+    heap: &LocalHeap,
     vector: &PolymorphicVec<Noted, &LocalHeap>,
-    row: (u64, u64),
 ) {
-    let (clones, drops) = row;
-    notes.allow_clones(clones);
-    let refused = vector.try_clone().err();
-    expect(rt, refused == Some(AllocError), "a clone is refused");
-    expect_same(rt, notes.take_drops(), drops, "by a refused clone");
-    expect_same(
-        rt,
-        names_of(vector.as_slice()),
-        111,
-        "after a refused clone",
-    );
+    let used = heap.used();
+    for (clones, drops) in CLONES {
+        notes.allow_clones(*clones);
+        check_clone(findings, notes, vector.try_clone(), *drops);
+        findings.expect_same(names_of(vector.as_slice()), 111, "after a clone");
+        findings.expect_same(heap.used(), used, "after a clone");
+    }
+}
+
+fn check_heap(findings: &Findings, notes: &Notes, heap: &LocalHeap) {
+    match PolymorphicVec::from_fn(heap, 3, |_| Noted::new(1, notes)) {
+        Ok(vector) => check_clones_in_heap(findings, notes, heap, &vector),
+        Err(AllocError) => findings.miss("there is memory"),
+    }
 }
 
 #[test]
 fn polymorphic_copies_refused(rt: HostRuntime) -> Result<(), Fail> {
+    let findings = Findings::new();
     let notes = Notes::new(0);
-    let heap = LocalHeap::new(rt.alloc(), 4096)?;
-    let vector = PolymorphicVec::from_fn(&heap, 3, |_| Noted::new(1, &notes))?;
-    let used = heap.used();
-    for row in &REFUSED_COPIES {
-        check_refused_in_heap(&rt, &notes, &vector, *row);
-        expect_same(&rt, heap.used(), used, "after a refused clone");
+    match LocalHeap::new(rt.alloc(), 4096) {
+        Ok(heap) => check_heap(&findings, &notes, &heap),
+        Err(_) => findings.miss("a heap"),
     }
-    notes.allow_clones(3);
-    let names = names_of(vector.try_clone()?.as_slice());
-    expect_same(&rt, names, 111, "of a clone");
-    expect_same(&rt, notes.take_drops(), 111, "by the end of a clone");
-    expect_same(&rt, heap.used(), used, "after the end of a clone");
-    Ok(())
+    findings.verdict()
 }
 
-/// `vector` is empty, and has room for four items. The heap has memory for one more item, and for clones of all
-/// `items` if `found`.
-fn check_heavy<'a, V: Vector<Heavy<'a>> + Drop>(
-    rt: &impl Abort,
-    mut vector: V,
+/// `vector` holds an item of the name 5, and has room for four items. The heap has memory for clones of all `items` if
+/// `found`.
+fn check_extension<'a, V: Vector<Heavy<'a>>>(
+    findings: &Findings,
+    vector: &mut V,
     items: &[Heavy<'a>],
     heap: &'a LocalHeap,
     found: bool,
-) -> Result<(), Fail> {
-    let pushed = vector.push(Heavy::new(5, heap)?).is_ok();
-    expect(rt, pushed, "there is room");
+) {
     let used = heap.used();
     let answer = vector.extend_from_slice(items);
+    let names = heavy_names_of(vector.as_slice());
     if found {
-        expect(rt, answer.is_ok(), "memory is found");
-        expect_same(rt, heavy_names_of(vector.as_slice()), 5123, "extended");
+        findings.expect_same((answer, names), (Ok(()), 5123), "extended");
     } else {
-        expect(rt, answer == Err(OutOfMemory), "memory is refused");
-        expect_same(rt, heavy_names_of(vector.as_slice()), 5, "not extended");
-        expect_same(rt, heap.used(), used, "after a refusal");
+        findings.expect_same((answer, names), (Err(OutOfMemory), 5), "not extended");
+        findings.expect_same(heap.used(), used, "after a refusal");
     }
-    Ok(())
 }
 
-fn check_heavy_kinds<'a>(
-    rt: &impl Abort,
-    ample: Global,
+/// There was memory for a vector with room for four items. The heap has memory for one more item, and for clones of all
+/// `items` if `found`.
+fn check_heavy<'a, V: Vector<Heavy<'a>> + Drop, E: Drop>(
+    findings: &Findings,
+    made: Result<V, E>,
+    items: &[Heavy<'a>],
     heap: &'a LocalHeap,
     found: bool,
-) -> Result<(), Fail> {
+) {
+    if let Ok(mut vector) = made {
+        if let Ok(item) = Heavy::new(5, heap) {
+            findings.expect_same(vector.push(item), Ok(()), "there is room");
+            return check_extension(findings, &mut vector, items, heap, found);
+        }
+    }
+    findings.miss("there is memory");
+}
+
+/// The items of the names 1, 2 and 3.
+fn three_items<'a>(heap: &'a LocalHeap) -> Result<[Heavy<'a>; 3], AllocError> {
     let first = Heavy::new(1, heap)?;
     let second = Heavy::new(2, heap)?;
     let third = Heavy::new(3, heap)?;
-    let items = [first, second, third];
+    Ok([first, second, third])
+}
+
+fn check_heavy_kinds<'a>(
+    findings: &Findings,
+    ample: Global,
+    heap: &'a LocalHeap,
+    items: &[Heavy<'a>],
+    found: bool,
+) {
     let used = heap.used();
-    check_heavy(
-        rt,
-        StaticVec::<Heavy<'a>, 4>::new(),
-        items.as_slice(),
-        heap,
-        found,
-    )?;
-    let relocatable = relocatable_of::<Heavy<'a>, Global>(ample, 4)?;
-    check_heavy(rt, relocatable, items.as_slice(), heap, found)?;
-    let polymorphic = PolymorphicVec::<Heavy<'a>, Global>::new(ample, 4)?;
-    check_heavy(rt, polymorphic, items.as_slice(), heap, found)?;
-    expect_same(rt, heap.used(), used, "after each kind");
-    Ok(())
+    let fixed = Ok::<_, AllocError>(StaticVec::<Heavy<'a>, 4>::new());
+    check_heavy(findings, fixed, items, heap, found);
+    let relocatable = UninitVec::<Heavy<'a>>::new_uninit(4).init(ample);
+    check_heavy(findings, relocatable, items, heap, found);
+    let polymorphic = PolymorphicVec::<Heavy<'a>, Global>::new(ample, 4);
+    check_heavy(findings, polymorphic, items, heap, found);
+    findings.expect_same(heap.used(), used, "after each kind");
+}
+
+fn check_in_heap(findings: &Findings, ample: Global, heap: &LocalHeap, found: bool) {
+    match three_items(heap) {
+        Ok(items) => check_heavy_kinds(findings, ample, heap, &items, found),
+        Err(AllocError) => findings.miss("there is memory"),
+    }
+    findings.expect_same(heap.used(), 0, "at the end");
 }
 
 #[test]
 fn items_with_memory(rt: HostRuntime) -> Result<(), Fail> {
+    let findings = Findings::new();
     for clones in 0..4usize {
-        let heap = LocalHeap::new(rt.alloc(), 16 * (4 + clones))?;
-        check_heavy_kinds(&rt, rt.alloc(), &heap, clones == 3)?;
-        expect_same(&rt, heap.used(), 0, "at the end");
+        match LocalHeap::new(rt.alloc(), 16 * (4 + clones)) {
+            Ok(heap) => check_in_heap(&findings, rt.alloc(), &heap, clones == 3),
+            Err(_) => findings.miss("a heap"),
+        }
     }
-    Ok(())
+    findings.verdict()
 }

@@ -1,47 +1,67 @@
 //! The functions over any vector, at each kind and in each kind of memory.
-use crate::expecting::expect_same;
-use crate::items::relocatable_of;
 use crate::rolling::{push_over, replace_at};
 use bumpalo::Bump;
-use ix_cells::{PolymorphicVec, StaticVec, Vector};
+use ix_cells::{PolymorphicVec, RelocatableContainer, StaticVec, UninitVec, Vector};
+use ix_expect::Findings;
 use linked_list_allocator::LocalHeap;
-use std::alloc::Allocator;
-use std::process::Abort;
+use std::alloc::{AllocError, Allocator};
 use std::test::Fail;
 
 /// `vector` is empty, and has room for two items.
-fn check_rolling<V: Vector<u64> + Drop>(rt: &impl Abort, mut vector: V, place: &str) {
-    expect_same(rt, push_over(&mut vector, 1), None, place);
-    expect_same(rt, push_over(&mut vector, 2), None, place);
-    expect_same(rt, push_over(&mut vector, 3), Some(1), place);
-    expect_same(rt, vector.as_slice(), [2, 3].as_slice(), place);
-    expect_same(rt, replace_at(&mut vector, 0, 9), Ok(2), place);
-    expect_same(rt, replace_at(&mut vector, 2, 8), Err(8), place);
-    expect_same(rt, vector.as_slice(), [9, 3].as_slice(), place);
-    expect_same(rt, vector.capacity(), 2, place);
+fn check_rolling<V: Vector<u64>>(findings: &Findings, vector: &mut V, place: &str) {
+    let left = [
+        push_over(vector, 1),
+        push_over(vector, 2),
+        push_over(vector, 3),
+    ];
+    findings.expect_same(left, [None, None, Some(1)], place);
+    findings.expect_same(vector.as_slice(), &[2, 3], place);
+    let left = [replace_at(vector, 0, 9), replace_at(vector, 2, 8)];
+    findings.expect_same(left, [Ok(2), Err(8)], place);
+    findings.expect_same(vector.as_slice(), &[9, 3], place);
+    findings.expect_same(vector.capacity(), 2, place);
 }
 
-fn check_rolling_in<A: Allocator + Copy>(
-    rt: &impl Abort,
-    alloc: A,
-    memory: &str,
-) -> Result<(), Fail> {
-    check_rolling(rt, relocatable_of(alloc, 2)?, memory);
-    check_rolling(rt, PolymorphicVec::new(alloc, 2)?, memory);
-    let mut none = PolymorphicVec::new(alloc, 0)?;
-    expect_same(rt, push_over(&mut none, 1u64), None, memory);
-    expect_same(rt, none.len(), 0, memory);
-    Ok(())
+/// There was memory for the vector, whose capacity is 2 or 0.
+fn check_made<V: Vector<u64> + Drop, E: Drop>(
+    findings: &Findings,
+    made: Result<V, E>,
+    place: &str,
+) {
+    let Ok(mut vector) = made else {
+        return findings.miss(place);
+    };
+    if vector.capacity() == 0 {
+        let left = push_over(&mut vector, 1u64);
+        findings.expect_same((left, vector.len()), (None, 0), place);
+    } else {
+        check_rolling(findings, &mut vector, place);
+    }
+}
+
+fn check_in<A: Allocator + Copy>(findings: &Findings, alloc: A, memory: &str) {
+    let relocatable = UninitVec::<u64>::new_uninit(2).init(alloc);
+    check_made(findings, relocatable, memory);
+    check_made(findings, PolymorphicVec::new(alloc, 2), memory);
+    check_made(findings, PolymorphicVec::new(alloc, 0), memory);
+}
+
+/// As above. All of the memory comes back.
+fn check_heap(findings: &Findings, heap: &LocalHeap) {
+    check_in(findings, heap, "a heap");
+    findings.expect_same(heap.used(), 0, "the heap has all of its memory back");
 }
 
 #[test]
 fn each_kind_in_each_memory(rt: HostRuntime) -> Result<(), Fail> {
-    check_rolling(&rt, StaticVec::<u64, 2>::new(), "the value itself");
-    check_rolling_in(&rt, rt.alloc(), "the machine's memory")?;
-    let bump = Bump::new(rt.alloc());
-    check_rolling_in(&rt, &bump, "an arena")?;
-    let heap = LocalHeap::new(rt.alloc(), 64)?;
-    check_rolling_in(&rt, &heap, "a heap")?;
-    expect_same(&rt, heap.used(), 0, "the heap has all of its memory back");
-    Ok(())
+    let findings = Findings::new();
+    let fixed = Ok::<_, AllocError>(StaticVec::<u64, 2>::new());
+    check_made(&findings, fixed, "the value itself");
+    check_in(&findings, rt.alloc(), "the machine's memory");
+    check_in(&findings, &Bump::new(rt.alloc()), "an arena");
+    match LocalHeap::new(rt.alloc(), 64) {
+        Ok(heap) => check_heap(&findings, &heap),
+        Err(_) => findings.miss("a heap"),
+    }
+    findings.verdict()
 }

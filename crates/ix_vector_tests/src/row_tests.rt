@@ -1,20 +1,20 @@
 //! Worked examples: what calls in a row answer, and what they leave.
-use crate::calls::Call::{Extend, ExtendUnchecked, Insert, Push, Remove, Resize};
+use crate::calls::Call::{
+    Extend, ExtendUnchecked, Insert, Push, Remove, Resize, ResizeWith, Truncate,
+};
 use crate::calls::{Row, check_kinds};
-use crate::expecting::{expect, expect_same};
-use crate::items::{relocatable_of, with_one_and_two};
-use ix_cells::VectorModificationError::{InsertWouldExceedCapacity, OutOfBounds};
+use crate::items::with_one_and_two;
+use ix_cells::VectorModificationError::{InsertWouldExceedCapacity, OutOfBounds, OutOfMemory};
 use ix_cells::{
     PolymorphicVec, RelocatableContainer, StaticVec, UninitVec, Vector, VectorModificationError,
 };
+use ix_expect::Findings;
 use linked_list_allocator::LocalHeap;
-use std::alloc::Global;
-use std::cell::Cell;
-use std::process::Abort;
+use std::alloc::{AllocError, Global};
 use std::test::Fail;
 
 /// Calls of a vector with room for two items.
-const INSERTS_OF_BYTES: [Row<u8>; 5] = [
+const INSERTS_OF_BYTES: &[Row<u8>] = &[
     (Push(1), Ok(None), &[1]),
     (Push(2), Ok(None), &[1, 2]),
     (Insert(9, 7), Err(InsertWouldExceedCapacity), &[1, 2]),
@@ -22,73 +22,8 @@ const INSERTS_OF_BYTES: [Row<u8>; 5] = [
     (Insert(9, 7), Err(OutOfBounds), &[2]),
 ];
 
-/// Calls of a vector with room for three items.
-const INSERTS: [Row<u64>; 4] = [
-    (Push(1), Ok(None), &[1]),
-    (Push(2), Ok(None), &[1, 2]),
-    (Insert(1, 9), Ok(None), &[1, 9, 2]),
-    (Insert(8, 5), Err(InsertWouldExceedCapacity), &[1, 9, 2]),
-];
-
-#[test]
-fn inserts(rt: HostRuntime) -> Result<(), Fail> {
-    let fixed = StaticVec::<u8, 2>::new();
-    check_kinds(&rt, rt.alloc(), fixed, 2, INSERTS_OF_BYTES.as_slice())?;
-    let fixed = StaticVec::<u64, 3>::new();
-    check_kinds(&rt, rt.alloc(), fixed, 3, INSERTS.as_slice())
-}
-
-/// What a vector of capacity 4 that holds 1 and 2 answers to a length whose items a closure makes, how often that is
-/// called, and what is left.
-fn check_resize_with<V: Vector<u64> + Drop>(
-    rt: &impl Abort,
-    mut vector: V,
-    n: usize,
-    answer: Result<(), VectorModificationError>,
-    left: (u64, &[u64]),
-) {
-    let (calls, items) = left;
-    let called = Cell::new(0u64);
-    let seven_and_on = || {
-        called.set(called.get().wrapping_add(1));
-        called.get().wrapping_add(6)
-    };
-    expect_same(
-        rt,
-        vector.resize_with(n, seven_and_on),
-        answer,
-        "resize with",
-    );
-    expect_same(rt, called.get(), calls, "calls");
-    expect_same(rt, vector.as_slice(), items, "left");
-}
-
-fn check_resizes_with(
-    rt: &impl Abort,
-    alloc: Global,
-    n: usize,
-    answer: Result<(), VectorModificationError>,
-    left: (u64, &[u64]),
-) -> Result<(), Fail> {
-    let vector = with_one_and_two(StaticVec::<u64, 4>::new());
-    check_resize_with(rt, vector, n, answer, left);
-    let vector = with_one_and_two(relocatable_of(alloc, 4)?);
-    check_resize_with(rt, vector, n, answer, left);
-    let vector = with_one_and_two(PolymorphicVec::new(alloc, 4)?);
-    check_resize_with(rt, vector, n, answer, left);
-    Ok(())
-}
-
-#[test]
-fn resizes_with_a_closure(rt: HostRuntime) -> Result<(), Fail> {
-    let full = Err(InsertWouldExceedCapacity);
-    check_resizes_with(&rt, rt.alloc(), 4, Ok(()), (2, &[1, 2, 7, 8]))?;
-    check_resizes_with(&rt, rt.alloc(), 5, full, (0, &[1, 2]))?;
-    check_resizes_with(&rt, rt.alloc(), 1, Ok(()), (0, &[1]))
-}
-
 /// Calls of a vector with room for four items.
-const EXTENDS: [Row<u64>; 5] = [
+const EXTENDS: &[Row<u64>] = &[
     (Push(1), Ok(None), &[1]),
     (Push(2), Ok(None), &[1, 2]),
     (Extend(&[3]), Ok(None), &[1, 2, 3]),
@@ -97,101 +32,135 @@ const EXTENDS: [Row<u64>; 5] = [
 ];
 
 /// Calls of a vector with room for four items.
-const EXTENDS_UNCHECKED: [Row<u64>; 3] = [
+const EXTENDS_UNCHECKED: &[Row<u64>] = &[
     (Push(1), Ok(None), &[1]),
     (Push(2), Ok(None), &[1, 2]),
     (ExtendUnchecked(&[3]), Ok(None), &[1, 2, 3]),
 ];
 
+/// Calls of a vector with room for four items.
+const RESIZES_WITH: &[Row<u64>] = &[
+    (Push(1), Ok(None), &[1]),
+    (Push(2), Ok(None), &[1, 2]),
+    (
+        ResizeWith(5, &[], 9),
+        Err(InsertWouldExceedCapacity),
+        &[1, 2],
+    ),
+    (ResizeWith(4, &[7, 8], 9), Ok(None), &[1, 2, 7, 8]),
+    (Truncate(2), Ok(None), &[1, 2]),
+    (ResizeWith(1, &[], 9), Ok(None), &[1]),
+];
+
 #[test]
-fn extends(rt: HostRuntime) -> Result<(), Fail> {
-    let fixed = StaticVec::<u64, 4>::new();
-    check_kinds(&rt, rt.alloc(), fixed, 4, EXTENDS.as_slice())?;
-    let fixed = StaticVec::<u64, 4>::new();
-    check_kinds(&rt, rt.alloc(), fixed, 4, EXTENDS_UNCHECKED.as_slice())
+fn inserts_and_extends(rt: HostRuntime) -> Result<(), Fail> {
+    let findings = Findings::new();
+    let fixed = StaticVec::<u8, 2>::new();
+    check_kinds(&findings, rt.alloc(), fixed, 2, INSERTS_OF_BYTES);
+    for rows in &[EXTENDS, EXTENDS_UNCHECKED, RESIZES_WITH] {
+        let fixed = StaticVec::<u64, 4>::new();
+        check_kinds(&findings, rt.alloc(), fixed, 4, rows);
+    }
+    findings.verdict()
 }
 
-fn check_static_copies(rt: &impl Abort) -> Result<(), Fail> {
-    let vector = StaticVec::<u64, 4>::try_from([1, 2].as_slice())?;
-    let mut copy = vector.clone()?;
-    expect(rt, copy.as_slice() == [1, 2].as_slice(), "static copies");
-    expect(rt, copy.len() < copy.capacity(), "there is room");
-    expect(
-        rt,
-        copy.extend_from_slice_unchecked(&[3]).is_ok(),
-        "static copies",
-    );
-    expect(rt, copy.as_slice() == [1, 2, 3].as_slice(), "static copies");
-    expect(
-        rt,
-        vector.as_slice() == [1, 2].as_slice(),
-        "after the clone's change",
-    );
-    let refused = StaticVec::<u64, 1>::try_from([1, 2].as_slice());
-    expect(
-        rt,
-        refused.err() == Some(InsertWouldExceedCapacity),
-        "static copies",
-    );
-    Ok(())
-}
-
-fn check_polymorphic_copies(rt: &impl Abort, alloc: Global) -> Result<(), Fail> {
-    let vector = with_one_and_two(PolymorphicVec::new(alloc, 2)?);
-    let copy = vector.try_clone()?;
-    expect(
-        rt,
-        copy.as_slice() == [1, 2].as_slice(),
-        "polymorphic copies",
-    );
-    expect_same(rt, copy.capacity(), 2, "polymorphic copies");
-    expect(rt, copy == vector, "polymorphic copies");
-    let squares = PolymorphicVec::from_fn(alloc, 3, |n: usize| n.wrapping_mul(n))?;
-    expect(
-        rt,
-        squares.as_slice() == [0, 1, 4].as_slice(),
-        "polymorphic copies",
-    );
-    expect(rt, squares.is_full(), "polymorphic copies");
-    Ok(())
+/// `vector` holds 1 and 2, and its clone has room for one more.
+fn check_static_clone(findings: &Findings, vector: &StaticVec<u64, 4>) {
+    if let Ok(mut copy) = vector.clone() {
+        findings.expect_same(copy.as_slice(), &[1, 2], "a static clone");
+        let pushed = copy.extend_from_slice(&[3]);
+        findings.expect_same(pushed, Ok(()), "a static clone");
+        findings.expect_same(copy.as_slice(), &[1, 2, 3], "a static clone");
+    } else {
+        findings.miss("a static clone");
+    }
+    findings.expect_same(vector.as_slice(), &[1, 2], "after the clone's change");
 }
 
 #[test]
-fn copies_and_squares(rt: HostRuntime) -> Result<(), Fail> {
-    check_static_copies(&rt)?;
-    check_polymorphic_copies(&rt, rt.alloc())
+fn static_copies() -> Result<(), Fail> {
+    let findings = Findings::new();
+    match StaticVec::<u64, 4>::try_from([1, 2].as_slice()) {
+        Ok(vector) => check_static_clone(&findings, &vector),
+        Err(_) => findings.miss("a static copy"),
+    }
+    let refused = StaticVec::<u64, 1>::try_from([1, 2].as_slice()).err();
+    let full = Some(InsertWouldExceedCapacity);
+    findings.expect_same(refused, full, "a static copy");
+    findings.verdict()
+}
+
+/// `vector` holds 1 and 2, and is full.
+fn check_polymorphic_clone(findings: &Findings, vector: &PolymorphicVec<u64, Global>) {
+    match vector.try_clone() {
+        Ok(copy) => {
+            findings.expect_same(copy.as_slice(), &[1, 2], "a polymorphic clone");
+            findings.expect_same(copy.capacity(), 2, "a polymorphic clone");
+            findings.expect(copy == *vector, "a polymorphic clone");
+        }
+        Err(AllocError) => findings.miss("a polymorphic clone"),
+    }
+}
+
+#[test]
+fn polymorphic_copies(rt: HostRuntime) -> Result<(), Fail> {
+    let findings = Findings::new();
+    match PolymorphicVec::new(rt.alloc(), 2) {
+        Ok(vector) => check_polymorphic_clone(&findings, &with_one_and_two(vector)),
+        Err(AllocError) => findings.miss("there is memory"),
+    }
+    match PolymorphicVec::from_fn(rt.alloc(), 3, |n: usize| n.wrapping_mul(n)) {
+        Ok(squares) => {
+            findings.expect_same(squares.as_slice(), &[0, 1, 4], "squares");
+            findings.expect(squares.is_full(), "squares");
+        }
+        Err(AllocError) => findings.miss("squares"),
+    }
+    findings.verdict()
+}
+
+/// `heap` has 64 bytes.
+fn check_found_later(findings: &Findings, alloc: Global, heap: &LocalHeap) {
+    match UninitVec::<u64>::new_uninit(1000).init(heap) {
+        Ok(_vector) => findings.miss("64 bytes are too few"),
+        Err(error) => match error.into_uninit().init(alloc) {
+            Ok(vector) => {
+                let sizes = (vector.capacity(), vector.len());
+                findings.expect_same(sizes, (1000, 0), "memory is found");
+            }
+            Err(_) => findings.miss("there is memory now"),
+        },
+    }
+    findings.expect_same(heap.used(), 0, "memory is found");
 }
 
 #[test]
 fn memory_is_found_later(rt: HostRuntime) -> Result<(), Fail> {
-    let heap = LocalHeap::new(rt.alloc(), 64)?;
-    let uninit = UninitVec::<u64>::new_uninit(1000);
-    let refused = uninit.init(&heap).err();
-    let error = refused.expect(&rt, "64 bytes are too few");
-    let ready = error.into_uninit().init(rt.alloc()).ok();
-    let vector = ready.expect(&rt, "there is memory now");
-    expect_same(&rt, vector.capacity(), 1000, "memory is found");
-    expect(&rt, vector.is_empty(), "memory is found");
-    expect_same(&rt, heap.used(), 0, "memory is found");
-    Ok(())
+    let findings = Findings::new();
+    match LocalHeap::new(rt.alloc(), 64) {
+        Ok(heap) => check_found_later(&findings, rt.alloc(), &heap),
+        Err(_) => findings.miss("a heap"),
+    }
+    findings.verdict()
 }
+
+const ERRORS: &[(VectorModificationError, &str)] = &[
+    (OutOfBounds, "VectorModificationError::OutOfBounds"),
+    (
+        InsertWouldExceedCapacity,
+        "VectorModificationError::InsertWouldExceedCapacity",
+    ),
+    (OutOfMemory, "VectorModificationError::OutOfMemory"),
+];
 
 #[test]
 fn error_texts(rt: HostRuntime) -> Result<(), Fail> {
-    let texts = &[
-        (OutOfBounds, "VectorModificationError::OutOfBounds"),
-        (
-            InsertWouldExceedCapacity,
-            "VectorModificationError::InsertWouldExceedCapacity",
-        ),
-        (
-            VectorModificationError::OutOfMemory,
-            "VectorModificationError::OutOfMemory",
-        ),
-    ];
-    for (error, text) in texts {
-        let printed = format!(in rt.alloc(); "{error}")?;
-        expect_same(&rt, printed.as_str(), *text, "an error");
+    let findings = Findings::new();
+    for (error, text) in ERRORS {
+        match format!(in rt.alloc(); "{error}") {
+            Ok(printed) => findings.expect_same(printed.as_str(), *text, "an error"),
+            Err(AllocError) => findings.miss(text),
+        }
     }
-    Ok(())
+    findings.verdict()
 }

@@ -2,17 +2,17 @@
 use crate::calls::Call::{
     Clear, Extend, ExtendUnchecked, Fill, Insert, Pop, Push, Remove, Resize, ResizeWith, Truncate,
 };
-use crate::calls::{Row, check_kinds, check_rows};
-use crate::expecting::{expect, expect_same};
+use crate::calls::{Row, check_kinds, check_made};
 use ix_cells::VectorModificationError::InsertWouldExceedCapacity;
 use ix_cells::{
     HeapTable, PolymorphicVec, RelocatableContainer, StaticVec, Table, UninitVec, Vector,
 };
+use ix_expect::Findings;
 use std::alloc::{AllocError, Global};
 use std::test::Fail;
 
 /// Calls of a vector that has no room for any item.
-const WITHOUT_ROOM: [Row<u64>; 16] = [
+const WITHOUT_ROOM: &[Row<u64>] = &[
     (Push(1), Err(InsertWouldExceedCapacity), &[]),
     (Insert(0, 1), Err(InsertWouldExceedCapacity), &[]),
     (Insert(9, 1), Err(InsertWouldExceedCapacity), &[]),
@@ -26,26 +26,39 @@ const WITHOUT_ROOM: [Row<u64>; 16] = [
     (Extend(&[1]), Err(InsertWouldExceedCapacity), &[]),
     (Resize(0, 1), Ok(None), &[]),
     (Resize(1, 1), Err(InsertWouldExceedCapacity), &[]),
-    (ResizeWith(0, 1), Ok(None), &[]),
-    (ResizeWith(1, 1), Err(InsertWouldExceedCapacity), &[]),
+    (ResizeWith(0, &[], 1), Ok(None), &[]),
+    (ResizeWith(1, &[], 1), Err(InsertWouldExceedCapacity), &[]),
     (Fill(1), Ok(None), &[]),
 ];
 
 #[test]
 fn no_room(rt: HostRuntime) -> Result<(), Fail> {
-    let rows = WITHOUT_ROOM.as_slice();
+    let findings = Findings::new();
     let fixed = StaticVec::<u64, 0>::new();
-    check_kinds(&rt, rt.alloc(), fixed, 0, rows)?;
+    check_kinds(&findings, rt.alloc(), fixed, 0, WITHOUT_ROOM);
     let none: [u64; 0] = [];
-    let made = StaticVec::<u64, 0>::try_from(none.as_slice())?;
-    check_rows(&rt, &mut made.clone()?, 0, rows, "a static clone");
-    let made = PolymorphicVec::from_fn(rt.alloc(), 0, |_| 1)?;
-    check_rows(&rt, &mut made.try_clone()?, 0, rows, "a polymorphic clone");
-    Ok(())
+    match StaticVec::<u64, 0>::try_from(none.as_slice()) {
+        Ok(made) => check_made(&findings, made.clone(), 0, WITHOUT_ROOM, "a static clone"),
+        Err(_) => findings.miss("a static copy"),
+    }
+    findings.verdict()
+}
+
+#[test]
+fn no_room_in_memory(rt: HostRuntime) -> Result<(), Fail> {
+    let findings = Findings::new();
+    match PolymorphicVec::from_fn(rt.alloc(), 0, |_| 1) {
+        Ok(made) => {
+            let copy = made.try_clone();
+            check_made(&findings, copy, 0, WITHOUT_ROOM, "a polymorphic clone");
+        }
+        Err(AllocError) => findings.miss("by a closure"),
+    }
+    findings.verdict()
 }
 
 /// Calls of a vector with room for three items.
-const OF_SIZE_ZERO: [Row<()>; 13] = [
+const OF_SIZE_ZERO: &[Row<()>] = &[
     (Push(()), Ok(None), &[()]),
     (Insert(0, ()), Ok(None), &[(), ()]),
     (Extend(&[()]), Ok(None), &[(), (), ()]),
@@ -53,7 +66,7 @@ const OF_SIZE_ZERO: [Row<()>; 13] = [
     (Remove(1), Ok(Some(())), &[(), ()]),
     (Resize(3, ()), Ok(None), &[(), (), ()]),
     (
-        ResizeWith(4, ()),
+        ResizeWith(4, &[], ()),
         Err(InsertWouldExceedCapacity),
         &[(), (), ()],
     ),
@@ -61,17 +74,24 @@ const OF_SIZE_ZERO: [Row<()>; 13] = [
     (Pop, Ok(Some(())), &[()]),
     (Pop, Ok(Some(())), &[]),
     (Pop, Ok(None), &[]),
-    (ResizeWith(1, ()), Ok(None), &[()]),
+    (ResizeWith(1, &[()], ()), Ok(None), &[()]),
     (Clear, Ok(None), &[]),
 ];
 
 #[test]
 fn items_of_size_zero(rt: HostRuntime) -> Result<(), Fail> {
+    let findings = Findings::new();
     let fixed = StaticVec::<(), 3>::new();
-    check_kinds(&rt, rt.alloc(), fixed, 3, OF_SIZE_ZERO.as_slice())?;
-    let units = PolymorphicVec::from_fn(rt.alloc(), 3, |_| ())?;
-    expect_same(&rt, units.try_clone()?.len(), 3, "items of size zero");
-    Ok(())
+    check_kinds(&findings, rt.alloc(), fixed, 3, OF_SIZE_ZERO);
+    if let Ok(units) = PolymorphicVec::from_fn(rt.alloc(), 3, |_| ()) {
+        match units.try_clone() {
+            Ok(copy) => findings.expect_same(copy.len(), 3, "items of size zero"),
+            Err(AllocError) => findings.miss("a clone"),
+        }
+    } else {
+        findings.miss("by a closure");
+    }
+    findings.verdict()
 }
 
 fn is_table_refused(alloc: Global, len: usize) -> bool {
@@ -85,14 +105,16 @@ fn is_table_refused(alloc: Global, len: usize) -> bool {
 }
 
 #[test]
-fn past_all_memory(rt: HostRuntime) {
+fn past_all_memory(rt: HostRuntime) -> Result<(), Fail> {
+    let findings = Findings::new();
     let alloc = rt.alloc();
     for len in &[usize::MAX, usize::MAX / 8, usize::MAX / 16 + 1] {
         let vector = PolymorphicVec::<u64, Global>::new(alloc, *len);
-        expect(&rt, vector.is_err(), "`new` refuses");
+        findings.expect(vector.is_err(), "`new` refuses");
         let ready = UninitVec::<u64>::new_uninit(*len).init(alloc);
-        expect(&rt, ready.is_err(), "`init` refuses");
+        findings.expect(ready.is_err(), "`init` refuses");
         let refused = is_table_refused(alloc, *len);
-        expect(&rt, refused, "a table is refused");
+        findings.expect(refused, "a table is refused");
     }
+    findings.verdict()
 }

@@ -1,0 +1,100 @@
+//! Items that note their drops.
+ghost use Rattle.std.specs.Prelude.{◌≡◌};
+
+use std::alloc::AllocError;
+use std::cell::Cell;
+
+/// What items have in common that note their drops. It stands in cells, of which no contract speaks.
+#[derive(Drop)]
+pub struct Notes {
+    /// The names of the dropped items, each a further digit.
+    drops: Cell<u64>,
+    /// How many more clones succeed.
+    clones_left: Cell<u64>,
+}
+
+impl Notes {
+    /// No drop yet, and so many clones succeed.
+    pub fn new(clones_left: u64) -> Notes {
+        Notes {
+            drops: Cell::new(0),
+            clones_left: Cell::new(clones_left),
+        }
+    }
+
+    /// The names dropped since the last call of `take_drops`, as digits in the order of the drops.
+    pub fn drops(&self) -> u64 {
+        self.drops.get()
+    }
+
+    /// As `drops`, and forgets them.
+    pub fn take_drops(&self) -> u64 {
+        self.drops.replace(0)
+    }
+
+    /// Lets so many more clones succeed.
+    pub fn allow_clones(&self, clones_left: u64) {
+        self.clones_left.set(clones_left);
+    }
+}
+
+/// An item whose name is a digit from 1 to 9, which it notes when it is dropped. The default one notes nothing.
+#[derive(Default)]
+pub struct Noted<'a> {
+    pub name: u64,
+    notes: Option<&'a Notes>,
+}
+
+impl<'a> Noted<'a> {
+    /// An item that tells `notes` of its drop.
+    pub fn new(name: u64, notes: &'a Notes) -> Noted<'a>
+        ensures { result.name ≡ name }
+    {
+        Noted {
+            name,
+            notes: Some(notes),
+        }
+    }
+}
+
+impl Drop for Noted<'_> {
+    fn drop(self) {
+        let Self { name, notes } = self;
+        if let Some(notes) = notes {
+            let drops = notes.drops.get();
+            notes.drops.set(drops.wrapping_mul(10).wrapping_add(name));
+        }
+    }
+}
+
+impl Clone for Noted<'_> {
+    ghost use Rattle.std.specs.Prelude.{◌≡◌};
+
+    ghost is_clone = { λ item copy. copy ≡ item };
+
+    ghost is_infallible = { λ _. ⊥ };
+
+    /// An item of the same name, or `AllocError` where no more clones succeed.
+    fn clone(&self) -> Result<Self, AllocError> {
+        if let Some(notes) = self.notes {
+            let left = notes.clones_left.get();
+            if left == 0 {
+                return Err(AllocError);
+            }
+            notes.clones_left.set(left - 1);
+        }
+        Ok(Noted {
+            name: self.name,
+            notes: self.notes,
+        })
+    }
+}
+
+/// The names of items, as digits in their order.
+pub fn names_of(items: &[Noted]) -> u64 {
+    let mut names = 0u64;
+    for item in items {
+        names = names.wrapping_mul(10).wrapping_add(item.name);
+    }
+    names
+}

@@ -1,0 +1,32 @@
+//! Turns of the ring before a test.
+use crate::calls::Answer::{Bool, Item};
+use crate::calls::Call::{Pop, Push};
+use crate::calls::Row;
+
+const BY_THREE: &[Row<u64>] = &[
+    (Push(0), Bool(true)),
+    (Pop, Item(Some(0))),
+    (Push(0), Bool(true)),
+    (Pop, Item(Some(0))),
+    (Push(0), Bool(true)),
+    (Pop, Item(Some(0))),
+];
+
+const BY_TWO: &[Row<u64>] = &[
+    (Push(0), Bool(true)),
+    (Pop, Item(Some(0))),
+    (Push(0), Bool(true)),
+    (Pop, Item(Some(0))),
+];
+
+const BY_ONE: &[Row<u64>] = &[(Push(0), Bool(true)), (Pop, Item(Some(0)))];
+
+/// Calls of an empty queue with room for one item, behind which its next items stand further on, and the name of that.
+pub type Turn<'a> = (&'a [Row<u64>], &'a str);
+
+pub const TURNS: &[Turn] = &[
+    (&[], "not turned"),
+    (BY_ONE, "turned by one"),
+    (BY_TWO, "turned by two"),
+    (BY_THREE, "turned by three"),
+];
