@@ -103,50 +103,64 @@ fn half_full(alloc: Global, calls: &Cell<u64>) -> Result<CountingMap<'_>, AllocE
     Ok(map)
 }
 
-/// One call, and at most 16, reached the tables since the last time.
-fn check_few(findings: &Findings, calls: &Cell<u64>) {
-    let count = calls.replace(0);
-    findings.expect(1 <= count, "at least one call");
-    findings.expect(count <= 16, "at most 16 calls");
+/// A call that changes a map.
+enum Change {
+    Insert,
+    InsertCounted,
+    InsertAt,
+    InsertAtCounted,
+    Remove,
+    RemoveCounted,
 }
 
-/// The three calls that change a map, of which `map` is half full.
-fn check_plain_calls(findings: &Findings, calls: &Cell<u64>, map: &mut CountingMap) {
-    let key = map.insert(7);
-    findings.expect_same(key, Some(SlotMapKey::new(500)), "insert");
-    check_few(findings, calls);
-    findings.expect(map.insert_at(SlotMapKey::new(999), 7), "insert at");
-    check_few(findings, calls);
-    let value = map.remove(SlotMapKey::new(250));
-    findings.expect_same(value, Some(250), "remove");
-    check_few(findings, calls);
-}
+const CHANGES: &[Change] = &[
+    Change::Insert,
+    Change::InsertCounted,
+    Change::InsertAt,
+    Change::InsertAtCounted,
+    Change::Remove,
+    Change::RemoveCounted,
+];
 
-/// As above.
-fn check_counted_calls(findings: &Findings, calls: &Cell<u64>, map: &mut CountingMap) {
+/// Makes a call on a half full map. Says whether the answer is right.
+fn is_answered(map: &mut CountingMap, change: &Change) -> bool {
+    let first_free = Some(SlotMapKey::new(500));
+    let last = SlotMapKey::new(999);
+    let held = SlotMapKey::new(250);
     let mut touches = Touches::new();
-    let key = map.insert_counted(7, &mut touches);
-    findings.expect_same(key, Some(SlotMapKey::new(500)), "insert");
-    check_few(findings, calls);
-    let is_key = map.insert_at_counted(SlotMapKey::new(999), 7, &mut touches);
-    findings.expect(is_key, "insert at");
-    check_few(findings, calls);
-    let value = map.remove_counted(SlotMapKey::new(250), &mut touches);
-    findings.expect_same(value, Some(250), "remove");
-    check_few(findings, calls);
+    match change {
+        Change::Insert => map.insert(7) == first_free,
+        Change::InsertCounted => map.insert_counted(7, &mut touches) == first_free,
+        Change::InsertAt => map.insert_at(last, 7),
+        Change::InsertAtCounted => map.insert_at_counted(last, 7, &mut touches),
+        Change::Remove => map.remove(held) == Some(250),
+        Change::RemoveCounted => map.remove_counted(held, &mut touches) == Some(250),
+    }
+}
+
+/// The call reaches the tables of `map`, which tell `calls`, once at least and 16 times at most.
+fn check_few(
+    findings: &Findings,
+    calls: &Cell<u64>,
+    map: &mut CountingMap,
+    change: &Change,
+    row: usize,
+) {
+    findings.expect_at(is_answered(map, change), row, "the answer");
+    let count = calls.get();
+    findings.expect_at(1 <= count, row, "at least one call");
+    findings.expect_at(count <= 16, row, "at most 16 calls");
 }
 
 #[test]
-fn each_call(rt: HostRuntime) -> Result<(), Fail> {
+fn each_call_on_a_fresh_map(rt: HostRuntime) -> Result<(), Fail> {
     let findings = Findings::new();
     let calls = Cell::new(0);
-    match half_full(rt.alloc(), &calls) {
-        Ok(mut map) => check_plain_calls(&findings, &calls, &mut map),
-        Err(AllocError) => findings.miss("there is memory"),
-    }
-    match half_full(rt.alloc(), &calls) {
-        Ok(mut map) => check_counted_calls(&findings, &calls, &mut map),
-        Err(AllocError) => findings.miss("there is memory"),
+    for (row, change) in CHANGES.iter().enumerate() {
+        match half_full(rt.alloc(), &calls) {
+            Ok(mut map) => check_few(&findings, &calls, &mut map, change, row),
+            Err(AllocError) => findings.miss("there is memory"),
+        }
     }
     findings.verdict()
 }
