@@ -74,6 +74,11 @@ impl Findings {
         }
     }
 
+    /// Returns the text that was noted first, or None where all is as told.
+    pub fn first(&self) -> Option<InlineText<{ ROOM }>> {
+        self.first.get()
+    }
+
     /// The end of a test: the text that was noted first is its failure.
     pub fn verdict(self) -> Result<(), Fail> {
         let Findings { first } = self;

@@ -1,8 +1,10 @@
-//! Tests that cross crates: queues against a plain slow one, and whole scripts on faulty devices.
+//! Tests that cross crates: queues against a plain slow one, whole scripts on faulty devices, and findings.
 #![tactic(auto)]
 
 #[cfg(test)]
 mod devices;
+#[cfg(test)]
+mod findings_tests;
 #[cfg(test)]
 mod oracle;
 #[cfg(test)]
