@@ -12,7 +12,8 @@ mod equality_tests;
 mod function_tests;
 #[cfg(test)]
 mod memory_tests;
-pub mod replacing;
+#[cfg(test)]
+mod replacing;
 #[cfg(test)]
 mod ring_tests;
 #[cfg(test)]

@@ -16,6 +16,7 @@ mod memory_tests;
 mod row_tests;
 #[cfg(test)]
 mod rows;
-pub mod slow_map;
+#[cfg(test)]
+mod slow_map;
 #[cfg(test)]
 mod walk_tests;

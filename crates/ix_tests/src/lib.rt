@@ -11,4 +11,5 @@ mod oracle;
 mod reading_tests;
 #[cfg(test)]
 mod script_tests;
-pub mod slow_queue;
+#[cfg(test)]
+mod slow_queue;

@@ -16,7 +16,8 @@ mod making_tests;
 mod noted_calls;
 #[cfg(test)]
 mod refusal_tests;
-pub mod rolling;
+#[cfg(test)]
+mod rolling;
 #[cfg(test)]
 mod rolling_tests;
 #[cfg(test)]

@@ -28,10 +28,10 @@ pub type NotedRow = (NotedCall, Answer, u64, u64);
 /// The item's name. The item is dropped here, and nothing was before.
 fn handed_out(findings: &Findings, notes: &Notes, item: Option<Noted>) -> Option<u64> {
     findings.expect_same(notes.take_drops(), 0, "nothing is dropped before");
-    let item = item?;
-    let name = item.name;
-    drop(item);
-    Some(name)
+    match item {
+        Some(item) => Some(item.name),
+        None => None,
+    }
 }
 
 /// Makes a call that clones items, of which so many succeed.
