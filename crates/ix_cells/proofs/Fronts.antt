@@ -25,8 +25,8 @@ use denote.RattleType.{RattleType}
 use denote.Slice.{MutSlice, Room, slice_val}
 
 -- n places ws in front of the others of xs are xs refilled with ws
-refilled : {X : Type 0} (n : ℕ) (xs ws : List X) → n ≤ length xs → length ws ≡ n → ws ++ behind n xs ≡ refill (length xs) xs ws
-refilled n xs ws le same =
+append-refill : {X : Type 0} (n : ℕ) (xs ws : List X) → n ≤ length xs → length ws ≡ n → ws ++ behind n xs ≡ refill (length xs) xs ws
+append-refill n xs ws le same =
     let all = length-append ws (behind n xs) in
     let others = length-drop n xs in
     sym (take_all (length xs) (ws ++ behind n xs) (omega arith)) ∙ ap (λ (k : ℕ). take (length xs) (ws ++ behind k xs)) (sym same)
@@ -82,7 +82,7 @@ module _ {M : Type 1} {𝓤 : Ura M} (𝓛 : Logic 𝓤) (R : RattleType) (κ : 
       qed 𝓛 (‵ ((as_many front).own_at ws b o) ∷ ‵ (others (length front)) ∷ []) ∵ fsplit ! $ feq_l ! (λ same.
       rewrite ! 1 (λ (k : ℕ). ‵ (others k)) (sym same) refl $
       use2 𝓛 (‵ (laid (ws ++ behind n xs) o)) (join_app 𝓛 (mem R) ws (behind n xs) b o) $
-      rewrite ! 0 (λ (ys : List R.Denot). ‵ (laid ys o)) (refilled n xs ws le (same ∙ front_long)) refl $
+      rewrite ! 0 (λ (ys : List R.Denot). ‵ (laid ys o)) (append-refill n xs ws le (same ∙ front_long)) refl $
       feq_i ! ℕ (length (after ws)) (length xs) (sym (length_refill (length xs) xs ws refl)) $ fjoin ! $ done !)
 
   pub lends : Room R (length xs) → ent 𝓤 (sep 𝓤 (sem 𝓛 (slice xs γ (length xs))) (A.lft κ q)) (H.⇛ (ex 𝓤 Lent))

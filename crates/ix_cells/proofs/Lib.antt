@@ -2,5 +2,6 @@ pub mod Calls
 pub mod Fronts
 pub mod Lists
 pub mod Loans
+pub mod Refilling
 pub mod Rows
 pub mod Touching

@@ -27,7 +27,7 @@ use denote.Slice.{MutSlice}
 use denote.Triple.Clauses.{Lasts, lasts}
 use denote.Triple.Walked.{Stays, stay_dropped}
 use Rattle.arrayvec.specs.contracts.array_vec.ArrayVec.{the_row}
-use Rattle.ix_cells.specs.Rewriting.{refill_same}
+use Rattle.ix_cells.proofs.Refilling.{refill-same_length}
 use Rattle.ix_cells.specs.contracts.cells.row.all_mut as all_mut
 
 module _ (X : RattleType) (cap : ℕ) where
@@ -55,7 +55,7 @@ module _ (X : RattleType) (cap : ℕ) where
     pub lent_on : (T : RattleType) (F : T.Denot → List X.Denot) (γ γ' δ : GName) (ys : List X.Denot) → ((w : T.Denot) → length (F w) ≡ length ys)
         → ent 𝓤 (sep 𝓤 (sem 𝓛 (ends (Array R 0) (refill (length ys) ys) γ γ')) (sem 𝓛 (follows (Array R 0) T γ' δ F))) (sem 𝓛 (ends T F γ δ))
     lent_on T F γ γ' δ ys same =
-        let again : ◌≡◌ {A = T.Denot → List X.Denot} (λ w. refill (length ys) ys (F w)) F = λ i w. refill_same ys (F w) (same w) i in
+        let again : ◌≡◌ {A = T.Denot → List X.Denot} (λ w. refill (length ys) ys (F w)) F = λ i w. refill-same_length ys (F w) (same w) i in
         qed 𝓛 (‵ (ends (Array R 0) (refill (length ys) ys) γ γ') ∷ ‵ (follows (Array R 0) T γ' δ F) ∷ []) ∵
         use2 𝓛 (‵ (ends T (λ w. refill (length ys) ys (F w)) γ δ))
         (follows_then 𝓛 S (Array R 0) T (λ w. record { items = refill (length ys) ys w }) F γ γ' δ) $

@@ -7,12 +7,12 @@ use Rattle.std.proofs.lemmas.Grind.{common_steps}
 use Rattle.std.proofs.lemmas.Result.{on_ok_weaker}
 use Rattle.std.proofs.lemmas.Slice.{take-put_mid, take-put_mid_below}
 use borrow.Rule.Slice.PartMut.{put_mid}
-use Rattle.ix_cells.specs.Rewriting.{refill_same}
+use Rattle.ix_cells.proofs.Refilling.{refill-same_length}
 
 module _ {T : Type 0} where
   -- one place is written
   pub refill-set : (xs : List T) (i : ℕ) (x : T) → refill (length xs) xs (slice_set xs i x) ≡ slice_set xs i x
-  refill-set xs i x = refill_same xs (slice_set xs i x) (length-set xs i x)
+  refill-set xs i x = refill-same_length xs (slice_set xs i x) (length-set xs i x)
 
   -- the places from a up to e are written
   module _ (xs ys : List T) (a e : ℕ) (order : a ≤ e) (bounds : e ≤ length xs) (same : length ys ≡ length (take (e - a) (drop a xs))) where
@@ -27,11 +27,11 @@ module _ {T : Type 0} where
 
     pub take-refill-before : take a (refill (length xs) xs (put_mid a (e - a) xs ys)) ≡ take a xs
     take-refill-before =
-        rw (refill_same xs (put_mid a (e - a) xs ys) length-written) (take-put_mid_below a (e - a) xs ys a (omega arith) (omega arith))
+        rw (refill-same_length xs (put_mid a (e - a) xs ys) length-written) (take-put_mid_below a (e - a) xs ys a (omega arith) (omega arith))
 
     pub take-refill-behind : take e (refill (length xs) xs (put_mid a (e - a) xs ys)) ≡ take a xs ++ ys
     take-refill-behind =
-        rw (refill_same xs (put_mid a (e - a) xs ys) length-written) (take-put_mid a (e - a) xs ys e (omega (arith, length-part)) (omega arith))
+        rw (refill-same_length xs (put_mid a (e - a) xs ys) length-written) (take-put_mid a (e - a) xs ys e (omega (arith, length-part)) (omega arith))
 
     -- the written places are clones, where it is done
     pub AppendsClones-written : {E : Type 0} (clones : T → T → Type 0) (items : List T) (r : Result (Unit {0}) E) → OnOk r (AllZip clones items ys)

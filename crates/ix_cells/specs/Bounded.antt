@@ -1,5 +1,6 @@
 -- A bounded list: items in order, and a capacity that their number does not pass.
-use Rattle.std.specs.Prelude.{◌≡◌, ℕ, ◌≤◌, nat_lt, Bool, List, [], length, refl}
+use Rattle.std.specs.Prelude.{◌≡◌, ℕ, ◌≤◌, nat_lt, Bool, List, [], length, if◌then◌else◌, refl}
+use Rattle.std.specs.List.{push}
 use Rattle.std.specs.Coded.{Coded, code_by, coded×, coded_ℕ, coded_list}
 
 pub record Bounded (T : Type 0) : Type 0 where
@@ -24,10 +25,14 @@ module _ {T : Type 0} where
   abbrev pub has_room : Bounded T → Bool
   has_room b = nat_lt (length b.items) b.capacity
 
-  -- no item yet
-  abbrev pub empty_of : ℕ → Bounded T
-  empty_of capacity = record { items = []; capacity = capacity }
+  -- no item, and this capacity
+  abbrev pub bounded_new : ℕ → Bounded T
+  bounded_new capacity = record { items = []; capacity = capacity }
 
-  -- other items under the same capacity
+  -- these items, and the capacity of b
   abbrev pub with_items : Bounded T → List T → Bounded T
   with_items b items = record { items = items; capacity = b.capacity }
+
+  -- x appended, if there is room
+  abbrev pub bounded_push : Bounded T → T → Bounded T
+  bounded_push b x = if has_room b then with_items b (push b.items x) else b

@@ -4,7 +4,7 @@ use Rattle.ix_cells.specs.declared.vector.modification_error.VectorModificationE
 use Rattle.ix_cells.specs.declared.vector.modification_error.VectorModificationError.TheVariants.{OutOfBounds, InsertWouldExceedCapacity, OutOfMemory}
 
 -- the name of the type, and that of the variant
-abbrev pub modification_text : VectorModificationError → List ℕ
-modification_text OutOfBounds = codes "VectorModificationError::OutOfBounds"
-modification_text InsertWouldExceedCapacity = codes "VectorModificationError::InsertWouldExceedCapacity"
-modification_text OutOfMemory = codes "VectorModificationError::OutOfMemory"
+abbrev pub vec_error_text : VectorModificationError → List ℕ
+vec_error_text OutOfBounds = codes "VectorModificationError::OutOfBounds"
+vec_error_text InsertWouldExceedCapacity = codes "VectorModificationError::InsertWouldExceedCapacity"
+vec_error_text OutOfMemory = codes "VectorModificationError::OutOfMemory"

@@ -1,21 +1,21 @@
--- What a table or a vector is once a `&mut` into it ends.
+-- What a table or a vector is once a `&mut` into it ends: as it was, with the last value behind the reference r.
 use Rattle.std.specs.Prelude.{ℕ, List, Option, Some}
 use Rattle.std.specs.contracts.option.Option as option
 use Rattle.std.specs.Borrow.{Fml, RattleType, MutBor, Lends, Array}
 use Rattle.ix_cells.specs.contracts.cells.counted.Counted as counted
 
--- the table is as it was, with the last value behind r at place i
-abbrev pub lends_place : (S T : RattleType) → (S.Denot → ℕ → T.Denot → S.Denot) → MutBor S.Denot → ℕ → MutBor T.Denot → Fml
-lends_place S T with_item s i r = Lends S T s r (with_item s.now i)
+-- at place i
+abbrev pub table_lends : (S T : RattleType) → (S.Denot → ℕ → T.Denot → S.Denot) → MutBor S.Denot → ℕ → MutBor T.Denot → Fml
+table_lends S T with_item s i r = Lends S T s r (with_item s.now i)
 
--- the counted table is as it was, with the last value behind r at place i
-abbrev pub lends_counted_place : (S T : RattleType) → (S.Denot → ℕ → T.Denot → S.Denot) → MutBor S.Denot → ℕ → MutBor T.Denot → Fml
-lends_counted_place S T with_item s i r = Lends (counted.the_row S) T s r (with_item s.now i)
+-- at place i of the table
+abbrev pub counted_lends : (S T : RattleType) → (S.Denot → ℕ → T.Denot → S.Denot) → MutBor S.Denot → ℕ → MutBor T.Denot → Fml
+counted_lends S T with_item s i r = Lends (counted.the_row S) T s r (with_item s.now i)
 
--- the place holds the last value behind r
-abbrev pub lends_item : (T : RattleType) → MutBor (Option T.Denot) → MutBor T.Denot → Fml
-lends_item T s r = Lends (option.the_row T) T s r Some
+-- as the item
+abbrev pub option_lends : (T : RattleType) → MutBor (Option T.Denot) → MutBor T.Denot → Fml
+option_lends T s r = Lends (option.the_row T) T s r Some
 
--- the vector is as it was, with the last values behind r in the places of its items
-abbrev pub lends_items : (V T : RattleType) → (V.Denot → List T.Denot → V.Denot) → MutBor V.Denot → MutBor (List T.Denot) → Fml
-lends_items V T rewritten v r = Lends V (Array T 0) v r (rewritten v.now)
+-- as the items
+abbrev pub vec_lends : (V T : RattleType) → (V.Denot → List T.Denot → V.Denot) → MutBor V.Denot → MutBor (List T.Denot) → Fml
+vec_lends V T with_slice v r = Lends V (Array T 0) v r (with_slice v.now)

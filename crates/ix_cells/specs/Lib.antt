@@ -5,6 +5,5 @@ pub mod Conversions
 pub mod ErrorTexts
 pub mod Lending
 pub mod Places
-pub mod Rewriting
 pub mod Rows
 pub mod VectorSteps

@@ -1,22 +1,22 @@
--- The places of a row, and what a row is once a `&mut` into it ends.
+-- The places of a full `ArrayVec`, and what it is once a `&mut` into it ends.
 use Rattle.std.specs.Prelude.{ℕ, ◌≡◌, ◌≤◌, List, length, slice_set}
 use Rattle.std.specs.Borrow.{Fml, RattleType, MutBor, Lends, Array, unit}
 use Rattle.arrayvec.specs.ArrayVec.{ArrayVec, with_item, with_items}
 use Rattle.arrayvec.specs.contracts.array_vec.ArrayVec.{the_row}
 
--- len of the row's places come first
+-- len of the places come first
 pub record IsFront {T : Type 0} (capacity : ℕ) (places : List T) (len : ℕ) : Type 0 where
   pub within : len ≤ capacity
   pub whole : length places ≡ capacity
 
 -- the row begins with the last values behind r, which are all or the first of its places, and goes on as it was
-abbrev pub lends_front : (T CAP : RattleType) → MutBor (ArrayVec T.Denot) → MutBor (List T.Denot) → Fml
-lends_front T CAP row r = Lends (the_row T CAP unit) (Array T 0) row r (with_items row.now)
+abbrev pub array_vec_lends_front : (T CAP : RattleType) → MutBor (ArrayVec T.Denot) → MutBor (List T.Denot) → Fml
+array_vec_lends_front T CAP row r = Lends (the_row T CAP unit) (Array T 0) row r (with_items row.now)
 
 -- the row is as it was, with the last value behind r as its place i
-abbrev pub lends_place : (T CAP : RattleType) → MutBor (ArrayVec T.Denot) → ℕ → MutBor T.Denot → Fml
-lends_place T CAP row i r = Lends (the_row T CAP unit) T row r (with_item row.now i)
+abbrev pub array_vec_lends_place : (T CAP : RattleType) → MutBor (ArrayVec T.Denot) → ℕ → MutBor T.Denot → Fml
+array_vec_lends_place T CAP row i r = Lends (the_row T CAP unit) T row r (with_item row.now i)
 
 -- the places are as they were, with the last value behind r as place i
-abbrev pub lends_place_of : (T : RattleType) → MutBor (List T.Denot) → ℕ → MutBor T.Denot → Fml
-lends_place_of T places i r = Lends (Array T 0) T places r (slice_set places.now i)
+abbrev pub slice_lends_place : (T : RattleType) → MutBor (List T.Denot) → ℕ → MutBor T.Denot → Fml
+slice_lends_place T places i r = Lends (Array T 0) T places r (slice_set places.now i)

@@ -1,68 +1,62 @@
--- The steps of a vector: what each call answers, and the bounded list that it leaves.
-use Rattle.std.specs.Prelude.{ℕ, ◌+◌, ◌-◌, ◌<◌, ◌≤◌, List, [], ◌∷◌, ◌++◌, length, take, drop, replicate, slice_get, nat_le, if◌then◌else◌, Option, Result, Ok, Err}
+-- The steps of a vector: the bounded list after each call, and the result of each call that may be refused.
+use Rattle.std.specs.Prelude.{ℕ, ◌+◌, ◌-◌, ◌<◌, ◌≤◌, List, ◌++◌, length, take, insert, remove, replicate, slice_get, nat_le, if◌then◌else◌, Option, Result, Ok, Err}
+use Rattle.std.specs.List.{refill}
 use Rattle.ix_cells.specs.Bounded.{Bounded, has_room, with_items}
 use Rattle.ix_cells.specs.declared.vector.modification_error.VectorModificationError.{VectorModificationError}
 use Rattle.ix_cells.specs.declared.vector.modification_error.VectorModificationError.TheVariants.{OutOfBounds, InsertWouldExceedCapacity}
 
--- what a call answers that changes a vector or refuses to
-abbrev pub Answer : Type 0
-Answer = Result (Unit {0}) VectorModificationError
+abbrev pub VecResult : Type 0
+VecResult = Result (Unit {0}) VectorModificationError
 
 module _ {T : Type 0} where
-  -- there is room for so many more items
-  abbrev pub IsRoomFor : ℕ → Bounded T → Type 0
-  IsRoomFor more vector = length vector.items + more ≤ vector.capacity
+  -- n more items do not exceed the capacity
+  abbrev pub HasRoomFor : ℕ → Bounded T → Type 0
+  HasRoomFor n vec = length vec.items + n ≤ vec.capacity
 
-  -- there is none for so many
-  abbrev pub IsNoRoomFor : ℕ → Bounded T → Type 0
-  IsNoRoomFor more vector = vector.capacity < length vector.items + more
+  -- n more items exceed the capacity
+  abbrev pub LacksRoomFor : ℕ → Bounded T → Type 0
+  LacksRoomFor n vec = vec.capacity < length vec.items + n
 
-  -- push: x goes behind the others where there is room
-  abbrev pub pushed : Bounded T → T → Bounded T
-  pushed vector x = if has_room vector then with_items vector (vector.items ++ x ∷ []) else vector
+  abbrev pub vec_push_result : Bounded T → VecResult
+  vec_push_result vec = if has_room vec then Ok tt else Err InsertWouldExceedCapacity
 
-  -- it is refused where there is none
-  abbrev pub push_answer : Bounded T → Answer
-  push_answer vector = if has_room vector then Ok tt else Err InsertWouldExceedCapacity
+  -- x inserted at i, if there is room and i is at most the length
+  abbrev pub vec_insert : Bounded T → ℕ → T → Bounded T
+  vec_insert vec i x =
+      if has_room vec then (if nat_le i (length vec.items) then with_items vec (insert vec.items i x) else vec) else vec
 
-  -- insert: x goes between the first i items and the others, where there is room and there are i items
-  abbrev pub inserted : Bounded T → ℕ → T → Bounded T
-  inserted vector i x =
-      if has_room vector then (if nat_le i (length vector.items) then with_items vector (take i vector.items ++ x ∷ drop i vector.items) else vector) else vector
+  -- a full vector is refused before an index out of bounds
+  abbrev pub vec_insert_result : Bounded T → ℕ → VecResult
+  vec_insert_result vec i =
+      if has_room vec then (if nat_le i (length vec.items) then Ok tt else Err OutOfBounds) else Err InsertWouldExceedCapacity
 
-  -- want of room is told before a place that is not there
-  abbrev pub insert_answer : Bounded T → ℕ → Answer
-  insert_answer vector i =
-      if has_room vector then (if nat_le i (length vector.items) then Ok tt else Err OutOfBounds) else Err InsertWouldExceedCapacity
+  -- item i removed; the same list past the end
+  abbrev pub vec_remove : Bounded T → ℕ → Bounded T
+  vec_remove vec i = with_items vec (remove vec.items i)
 
-  -- remove: item i leaves, and the others stay in their order
-  abbrev pub removed : Bounded T → ℕ → Bounded T
-  removed vector i = with_items vector (take i vector.items ++ drop (i + 1) vector.items)
+  -- the last item
+  abbrev pub vec_last : Bounded T → Option T
+  vec_last vec = slice_get vec.items (length vec.items - 1)
 
-  -- the item that leaves then
-  abbrev pub removed_item : Bounded T → ℕ → Option T
-  removed_item vector i = slice_get vector.items i
+  -- the last item removed
+  abbrev pub vec_pop : Bounded T → Bounded T
+  vec_pop vec = with_items vec (take (length vec.items - 1) vec.items)
 
-  -- pop: the last item leaves
-  abbrev pub popped : Bounded T → Bounded T
-  popped vector = with_items vector (take (length vector.items - 1) vector.items)
+  -- the first n items kept
+  abbrev pub vec_truncate : Bounded T → ℕ → Bounded T
+  vec_truncate vec n = with_items vec (take n vec.items)
 
-  -- the item that leaves then
-  abbrev pub last_of : Bounded T → Option T
-  last_of vector = slice_get vector.items (length vector.items - 1)
+  -- xs appended
+  abbrev pub vec_extend : Bounded T → List T → Bounded T
+  vec_extend vec xs = with_items vec (vec.items ++ xs)
 
-  -- truncate: the first n items stay
-  abbrev pub truncated : Bounded T → ℕ → Bounded T
-  truncated vector n = with_items vector (take n vector.items)
+  -- the first n items kept, and copies of x appended up to length n
+  abbrev pub vec_resize : Bounded T → ℕ → T → Bounded T
+  vec_resize vec n x = with_items vec (take n vec.items ++ replicate (n - length vec.items) x)
 
-  -- extend: the items of xs go behind the others
-  abbrev pub extended : Bounded T → List T → Bounded T
-  extended vector xs = with_items vector (vector.items ++ xs)
+  abbrev pub vec_resize_result : Bounded T → ℕ → VecResult
+  vec_resize_result vec n = if nat_le n vec.capacity then Ok tt else Err InsertWouldExceedCapacity
 
-  -- resize: the first n items stay, and copies of x follow up to length n
-  abbrev pub resized : Bounded T → ℕ → T → Bounded T
-  resized vector n x = with_items vector (take n vector.items ++ replicate (n - length vector.items) x)
-
-  -- it is refused where n is past the capacity
-  abbrev pub resize_answer : Bounded T → ℕ → Answer
-  resize_answer vector n = if nat_le n vector.capacity then Ok tt else Err InsertWouldExceedCapacity
+  -- the items overwritten by xs, one by one
+  abbrev pub vec_refill : Bounded T → List T → Bounded T
+  vec_refill vec xs = with_items vec (refill (length vec.items) vec.items xs)

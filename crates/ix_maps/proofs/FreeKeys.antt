@@ -5,7 +5,7 @@ use Rattle.std.specs.List.{range_with_len}
 use Rattle.std.proofs.lemmas.Bool.{cases_eq}
 use Rattle.std.proofs.lemmas.Bool.Decides.{nat_tests}
 use Rattle.ix_maps.specs.SlotState.{times}
-use Rattle.ix_maps.specs.SlotSteps.{without}
+use Rattle.ix_maps.specs.SlotSteps.{keys_without}
 use Rattle.ix_maps.specs.FreeList.{first_or, last_or}
 
 -- 1 where the two keys are one
@@ -31,7 +31,7 @@ pub record Split (key : ℕ) (keys : List ℕ) : Type 0 where
   pub front : List ℕ
   pub back : List ℕ
   pub is : keys ≡ front ++ key ∷ back
-  pub rest : without key keys ≡ front ++ back
+  pub rest : keys_without key keys ≡ front ++ back
   pub not_before : times key front ≡ 0
 
 pub split : (key : ℕ) (keys : List ℕ) → 0 < times key keys → Split key keys
@@ -41,7 +41,7 @@ split key (other ∷ keys) some = elim (cases_eq key other) [
     front = [];
     back = keys;
     is = ap (λ k. k ∷ keys) (sym here);
-    rest = let yes : nat_eq key other ≡ true = grind (arith, nat_tests) in ap (λ b. if b then keys else (other ∷ without key keys)) yes;
+    rest = let yes : nat_eq key other ≡ true = grind (arith, nat_tests) in ap (λ b. if b then keys else (other ∷ keys_without key keys)) yes;
     not_before = refl;
   }
   | inr there ↦
@@ -50,18 +50,18 @@ split key (other ∷ keys) some = elim (cases_eq key other) [
         front = other ∷ later.front;
         back = later.back;
         is = ap (λ ks. other ∷ ks) later.is;
-        rest = let no : nat_eq key other ≡ false = grind (arith, nat_tests) in ap (λ b. if b then keys else (other ∷ without key keys)) no ∙ ap (λ ks. other ∷ ks) later.rest;
+        rest = let no : nat_eq key other ≡ false = grind (arith, nat_tests) in ap (λ b. if b then keys else (other ∷ keys_without key keys)) no ∙ ap (λ ks. other ∷ ks) later.rest;
         not_before = omega (arith, later.not_before);
       }
 ]
 
 -- to take a key out that is not there changes nothing
-pub without_none : (key : ℕ) (keys : List ℕ) → times key keys ≡ 0 → without key keys ≡ keys
+pub without_none : (key : ℕ) (keys : List ℕ) → times key keys ≡ 0 → keys_without key keys ≡ keys
 without_none key [] none = refl
 without_none key (other ∷ keys) none =
     let apart = apart_from_first key other keys none in
     let no : nat_eq key other ≡ false = grind (arith, nat_tests) in
-    ap (λ b. if b then keys else (other ∷ without key keys)) no ∙ ap (λ ks. other ∷ ks) (without_none key keys (omega arith))
+    ap (λ b. if b then keys else (other ∷ keys_without key keys)) no ∙ ap (λ ks. other ∷ ks) (without_none key keys (omega arith))
 
 -- the first of some keys is one of them
 pub first_stands : (key : ℕ) (keys : List ℕ) → 0 < times key (key ∷ keys)

@@ -5,7 +5,7 @@ use Rattle.std.proofs.lemmas.List.{length-append}
 use Rattle.ix_cells.specs.Places.{place_at, IsEmptyAt, IsHeldAt, IsVacant}
 use Rattle.ix_maps.specs.declared.slotmap.link.Link.{Link}
 use Rattle.ix_maps.specs.SlotState.{SlotState, times, value_at, IsHeld, IsWellFormed}
-use Rattle.ix_maps.specs.SlotSteps.{without}
+use Rattle.ix_maps.specs.SlotSteps.{keys_without}
 use Rattle.ix_maps.specs.FreeList.{no_key, held_link, free_link, first_or, last_or, reached, IsChain, IsLinkTable, IsKeyOrNone, IsLinkWithin, slots_of, IsToldByLink, IsToldBy, Represents}
 use Rattle.ix_maps.proofs.FreeKeys.{hit, hit_same, times-append, split, not_last, not_first}
 use Rattle.ix_maps.proofs.Chains.{within_row, chain_parts, chain_at, chain_reached}
@@ -113,7 +113,7 @@ module _ {T : Type 0} where
     pub record Placed (key : ℕ) : Type 0 where
       pub front : List ℕ
       pub back : List ℕ
-      pub rest : without key s.free ≡ front ++ back
+      pub rest : keys_without key s.free ≡ front ++ back
       pub counts : (other : ℕ) → times other s.free ≡ times other front + (hit other key + times other back)
       pub lengths : length s.free ≡ length front + (1 + length back)
       pub not_in_front : times key front ≡ 0
@@ -235,5 +235,5 @@ module _ {T : Type 0} where
       pub beside_of : 0 < times key s.free → IsLinkWithin (place_at links key) links
       beside_of some = link_within s links first len known.0 key some
 
-      pub empty_of : 0 < times key s.free → IsEmptyAt values key
-      empty_of some = subst (λ vs. IsEmptyAt vs key) (sym known.1) (known.0.formed.free_is_empty key some)
+      pub bounded_new : 0 < times key s.free → IsEmptyAt values key
+      bounded_new some = subst (λ vs. IsEmptyAt vs key) (sym known.1) (known.0.formed.free_is_empty key some)

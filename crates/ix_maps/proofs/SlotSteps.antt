@@ -10,8 +10,8 @@ use Rattle.std.proofs.lemmas.List.Folds.{sum_by-replicate}
 use Rattle.std.proofs.lemmas.List.FromFn.{length-range_with_len}
 use Rattle.ix_cells.specs.Places.{place_at}
 use Rattle.ix_maps.specs.declared.slotmap.link.Link.{Link}
-use Rattle.ix_maps.specs.SlotState.{SlotState, times, value_at, IsHeld, empty_slots}
-use Rattle.ix_maps.specs.SlotSteps.{without, filled, emptied, head_filled, inserted}
+use Rattle.ix_maps.specs.SlotState.{SlotState, times, value_at, IsHeld, slot_new}
+use Rattle.ix_maps.specs.SlotSteps.{keys_without, slot_fill, slot_vacate, head_filled, slot_insert}
 use Rattle.ix_maps.specs.FreeList.{no_key, held_link, free_link, first_or, last_or, IsChain, with_next, with_previous, unlinked, linked_first, first_without, IsRisingList, Represents}
 use Rattle.ix_maps.proofs.FreeKeys.{hit_same, hit_other, times-append, without_none, not_last, not_first, times_past, times_within}
 use Rattle.ix_maps.proofs.Chains.{within_row, chain_joined, chain_kept, chain_led_on, chain_led_from}
@@ -50,7 +50,7 @@ module _ {T : Type 0} where
 
   module _ (s : SlotState T) (links : List (Option Link)) (first len : ℕ) (r : Represents s links first len) where
     -- a free key left the list, and has a value
-    represents_filled : (key : ℕ) (value : T) (link : Link) → 0 < times key s.free → place_at links key ≡ Some link → Represents (filled s key value) (unlinked links key link) (first_without first link) (len + 1)
+    represents_filled : (key : ℕ) (value : T) (link : Link) → 0 < times key s.free → place_at links key ≡ Some link → Represents (slot_fill s key value) (unlinked links key link) (first_without first link) (len + 1)
     represents_filled key value link some at_link =
         let at = placed s links first len r key some in
         let empty = r.formed.free_is_empty key some in
@@ -78,7 +78,7 @@ module _ {T : Type 0} where
         let front_all = chain_kept led behind _ no_key at.front behind (λ other stands. not_behind other (let most = one other in let counts = at.counts other in omega arith) (known other (let counts = at.counts other in omega arith))) front_led in
         let links_len : length all ≡ length links = length-set led behind _ ∙ length-set held before _ ∙ length-set links key _ in
         let values_len = length-set s.values key (Some value) in
-        let made : Represents (filled s key value) all (first_without first (free_link before behind)) (len + 1) = record {
+        let made : Represents (slot_fill s key value) all (first_without first (free_link before behind)) (len + 1) = record {
           lengths = links_len ∙ lengths ∙ sym values_len;
           below = omega arith;
           chain = subst (λ keys. IsChain all no_key keys no_key) (sym at.rest) (chain_joined all no_key at.front at.back no_key front_all back_all);
@@ -110,10 +110,10 @@ module _ {T : Type 0} where
           held = let was = r.held in let more = held_more s.values key value empty.0 empty.1 in omega arith;
           counted = let was = r.counted in let keys = at.lengths in let left = ap length at.rest ∙ length-append at.front at.back in omega arith;
         } in
-        subst (λ (l : Link). Represents (filled s key value) (unlinked links key l) (first_without first l) (len + 1)) (sym is) made
+        subst (λ (l : Link). Represents (slot_fill s key value) (unlinked links key l) (first_without first l) (len + 1)) (sym is) made
 
     -- a held key has another value
-    represents_replaced : (key : ℕ) (value : T) → IsHeld s key → Represents (filled s key value) links first len
+    represents_replaced : (key : ℕ) (value : T) → IsHeld s key → Represents (slot_fill s key value) links first len
     represents_replaced key value held =
         let was = held_is (value_at s key) held in
         let below = within_row s.values key was.0 was.1 in
@@ -140,7 +140,7 @@ module _ {T : Type 0} where
         })
 
     -- a held key lost its value, and is the first that is free
-    represents_emptied : (key : ℕ) → IsHeld s key → Represents (emptied s key) (linked_first links key first) key (len - 1)
+    represents_emptied : (key : ℕ) → IsHeld s key → Represents (slot_vacate s key) (linked_first links key first) key (len - 1)
     represents_emptied key held =
         let was = held_is (value_at s key) held in
         let below = within_row s.values key was.0 was.1 in
@@ -187,12 +187,12 @@ module _ {T : Type 0} where
         }
 
   -- the same, as a call sees it
-  pub filled_shows : (s : SlotState T) (values values' : List (Option T)) (links links' : List (Option Link)) (first first' len key : ℕ) (value : T) (link : Link) → Shows s values links first len → 0 < times key s.free → place_at links key ≡ Some link → links' ≡ unlinked links key link → first' ≡ first_without first link → values' ≡ set values key (Some value) → Shows (filled s key value) values' links' first' (len + 1)
+  pub filled_shows : (s : SlotState T) (values values' : List (Option T)) (links links' : List (Option Link)) (first first' len key : ℕ) (value : T) (link : Link) → Shows s values links first len → 0 < times key s.free → place_at links key ≡ Some link → links' ≡ unlinked links key link → first' ≡ first_without first link → values' ≡ set values key (Some value) → Shows (slot_fill s key value) values' links' first' (len + 1)
   filled_shows s values values' links links' first first' len key value link shown some at links_are first_is values_are =
       let known = of s values links first len shown in
-      shows (filled s key value) links' first' (len + 1)
-      (subst (λ f. Represents (filled s key value) links' f (len + 1)) (sym first_is)
-      (subst (λ ls. Represents (filled s key value) ls (first_without first link) (len + 1)) (sym links_are)
+      shows (slot_fill s key value) links' first' (len + 1)
+      (subst (λ f. Represents (slot_fill s key value) links' f (len + 1)) (sym first_is)
+      (subst (λ ls. Represents (slot_fill s key value) ls (first_without first link) (len + 1)) (sym links_are)
       (represents_filled s links first len known.0 key value link some at)))
       values' (values_are ∙ ap (λ vs. set vs key (Some value)) known.1)
 
@@ -200,7 +200,7 @@ module _ {T : Type 0} where
   pub record Head (s : SlotState T) (links : List (Option Link)) (first : ℕ) (value : T) : Type 0 where
     pub stands : 0 < times first s.free
     pub link : (next : ℕ) × (place_at links first ≡ Some (free_link no_key next))
-    pub step : filled s first value ≡ inserted s value
+    pub step : slot_fill s first value ≡ slot_insert s value
 
   head_of : (s : SlotState T) (links : List (Option Link)) (first len : ℕ) (value : T) (keys : List ℕ) → keys ≡ s.free → IsChain links no_key keys no_key → first ≡ first_or keys no_key → keys ≢ [] → Head s links first value
   head_of s links first len value [] is chain head some = absurd (some refl)
@@ -209,13 +209,13 @@ module _ {T : Type 0} where
     link = (first_or keys no_key, ap (place_at links) head ∙ chain.0);
     step =
         let yes : nat_eq first key ≡ true = grind (arith, nat_tests) in
-        subst (λ k. (let t : SlotState T = record { values = set s.values first (Some value); free = without first k } in t) ≡ head_filled s.values k value) is
-        (ap (λ b. (let t : SlotState T = record { values = set s.values first (Some value); free = if b then keys else (key ∷ without first keys) } in t)) yes
+        subst (λ k. (let t : SlotState T = record { values = set s.values first (Some value); free = keys_without first k } in t) ≡ head_filled s.values k value) is
+        (ap (λ b. (let t : SlotState T = record { values = set s.values first (Some value); free = if b then keys else (key ∷ keys_without first keys) } in t)) yes
         ∙ ap (λ k. (let t : SlotState T = record { values = set s.values k (Some value); free = keys } in t)) head);
   }
 
   -- the first free key left the list, and has a value
-  pub first_filled : (s : SlotState T) (values values' : List (Option T)) (links links' : List (Option Link)) (first len : ℕ) (value : T) (link as_first : Link) → Shows s values links first len → s.free ≢ [] → place_at links first ≡ Some link → as_first ≡ free_link no_key link.next → links' ≡ unlinked links first as_first → values' ≡ set values first (Some value) → Shows (inserted s value) values' links' link.next (len + 1)
+  pub first_filled : (s : SlotState T) (values values' : List (Option T)) (links links' : List (Option Link)) (first len : ℕ) (value : T) (link as_first : Link) → Shows s values links first len → s.free ≢ [] → place_at links first ≡ Some link → as_first ≡ free_link no_key link.next → links' ≡ unlinked links first as_first → values' ≡ set values first (Some value) → Shows (slot_insert s value) values' links' link.next (len + 1)
   first_filled s values values' links links' first len value link as_first shown some at as_first_is links_are values_are =
       let known = (of s values links first len shown).0 in
       let front = head_of s links first len value s.free refl known.chain known.head some in
@@ -227,19 +227,19 @@ module _ {T : Type 0} where
       (filled_shows s values values' links links' first link.next len first value link shown front.stands at
       (links_are ∙ ap (unlinked links first) (as_first_is ∙ own)) next values_are)
 
-  pub replaced : (s : SlotState T) (values values' : List (Option T)) (links : List (Option Link)) (first len key : ℕ) (value : T) → Shows s values links first len → IsHeld s key → values' ≡ set values key (Some value) → Shows (filled s key value) values' links first len
+  pub replaced : (s : SlotState T) (values values' : List (Option T)) (links : List (Option Link)) (first len key : ℕ) (value : T) → Shows s values links first len → IsHeld s key → values' ≡ set values key (Some value) → Shows (slot_fill s key value) values' links first len
   replaced s values values' links first len key value shown held values_are =
       let known = of s values links first len shown in
-      shows (filled s key value) links first len (represents_replaced s links first len known.0 key value held)
+      shows (slot_fill s key value) links first len (represents_replaced s links first len known.0 key value held)
       values' (values_are ∙ ap (λ vs. set vs key (Some value)) known.1)
 
-  pub emptied_shows : (s : SlotState T) (values values' : List (Option T)) (links links' : List (Option Link)) (first first' len len' key : ℕ) → Shows s values links first len → IsHeld s key → links' ≡ linked_first links key first → first' ≡ key → len' ≡ len - 1 → values' ≡ set values key None → Shows (emptied s key) values' links' first' len'
+  pub emptied_shows : (s : SlotState T) (values values' : List (Option T)) (links links' : List (Option Link)) (first first' len len' key : ℕ) → Shows s values links first len → IsHeld s key → links' ≡ linked_first links key first → first' ≡ key → len' ≡ len - 1 → values' ≡ set values key None → Shows (slot_vacate s key) values' links' first' len'
   emptied_shows s values values' links links' first first' len len' key shown held links_are first_is len_is values_are =
       let known = of s values links first len shown in
-      shows (emptied s key) links' first' len'
-      (subst (λ n. Represents (emptied s key) links' first' n) (sym len_is)
-      (subst (λ f. Represents (emptied s key) links' f (len - 1)) (sym first_is)
-      (subst (λ ls. Represents (emptied s key) ls key (len - 1)) (sym links_are)
+      shows (slot_vacate s key) links' first' len'
+      (subst (λ n. Represents (slot_vacate s key) links' first' n) (sym len_is)
+      (subst (λ f. Represents (slot_vacate s key) links' f (len - 1)) (sym first_is)
+      (subst (λ ls. Represents (slot_vacate s key) ls key (len - 1)) (sym links_are)
       (represents_emptied s links first len known.0 key held))))
       values' (values_are ∙ ap (λ vs. set vs key None) known.1)
 
@@ -260,7 +260,7 @@ rising_chain links capacity rising key (suc count) all =
 
 module _ {T : Type 0} where
   -- two fresh tables stand for an empty map
-  represents_fresh : (links : List (Option Link)) (first capacity : ℕ) → IsRisingList capacity links → first ≡ first_or (range_with_len 0 capacity) no_key → capacity ≤ no_key → Represents (empty_slots {T = T} capacity) links first 0
+  represents_fresh : (links : List (Option Link)) (first capacity : ℕ) → IsRisingList capacity links → first ≡ first_or (range_with_len 0 capacity) no_key → capacity ≤ no_key → Represents (slot_new {T = T} capacity) links first 0
   represents_fresh links first capacity rising first_is fits =
       let values_len = length-replicate capacity (let none : Option T = None in none) in
       let keys_len = length-range_with_len 0 capacity in
@@ -282,6 +282,6 @@ module _ {T : Type 0} where
         counted = omega arith;
       }
 
-  pub fresh : (values : List (Option T)) (links : List (Option Link)) (first capacity : ℕ) → values ≡ replicate capacity None → IsRisingList capacity links → first ≡ first_or (range_with_len 0 capacity) no_key → capacity ≤ no_key → Shows (empty_slots capacity) values links first 0
+  pub fresh : (values : List (Option T)) (links : List (Option Link)) (first capacity : ℕ) → values ≡ replicate capacity None → IsRisingList capacity links → first ≡ first_or (range_with_len 0 capacity) no_key → capacity ≤ no_key → Shows (slot_new capacity) values links first 0
   fresh values links first capacity values_are rising first_is fits =
-      shows (empty_slots capacity) links first 0 (represents_fresh links first capacity rising first_is fits) values values_are
+      shows (slot_new capacity) links first 0 (represents_fresh links first capacity rising first_is fits) values values_are

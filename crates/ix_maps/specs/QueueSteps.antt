@@ -1,38 +1,30 @@
--- The steps of a queue: what each call answers, and the bounded list that it leaves. The head is the oldest item.
-use Rattle.std.specs.Prelude.{ℕ, List, [], ◌∷◌, ◌++◌, length, drop, slice_get, slice_set, nat_lt, if◌then◌else◌, Bool, Option, None}
-use Rattle.ix_cells.specs.Bounded.{Bounded, has_room, with_items}
+-- The steps of a queue: the bounded list after each call, and the item that each call returns. The front item is the
+-- oldest.
+use Rattle.std.specs.Prelude.{ℕ, List, length, drop, slice_get, slice_set, nat_lt, if◌then◌else◌, Bool, Option, None}
+use Rattle.std.specs.List.{push}
+use Rattle.ix_cells.specs.Bounded.{Bounded, with_items}
 
 module _ {T : Type 0} where
-  -- the items with x behind them
-  abbrev pub appended : List T → T → List T
-  appended items x = items ++ x ∷ []
-
-  -- push: x goes behind where there is room; a full queue stays as it is
-  abbrev pub pushed : Bounded T → T → Bounded T
-  pushed queue x = if has_room queue then with_items queue (appended queue.items x) else queue
-
   -- more items than the capacity
   abbrev pub is_too_long : ℕ → List T → Bool
   is_too_long capacity items = nat_lt capacity (length items)
 
-  -- push_with_overflow: x goes behind, and the head leaves where the list is then too long
-  abbrev pub overflowed : Bounded T → T → Bounded T
-  overflowed queue x =
-      with_items queue (if is_too_long queue.capacity (appended queue.items x) then drop 1 (appended queue.items x) else appended queue.items x)
+  -- x appended, and the front item removed if the list is then too long
+  abbrev pub queue_overflow : Bounded T → T → Bounded T
+  queue_overflow queue x =
+      with_items queue (if is_too_long queue.capacity (push queue.items x) then drop 1 (push queue.items x) else push queue.items x)
 
-  -- the head that leaves then
-  abbrev pub overflow_of : Bounded T → T → Option T
-  overflow_of queue x =
-      if is_too_long queue.capacity (appended queue.items x) then slice_get (appended queue.items x) 0 else None
+  -- the item that is then removed
+  abbrev pub queue_overflow_item : Bounded T → T → Option T
+  queue_overflow_item queue x = if is_too_long queue.capacity (push queue.items x) then slice_get (push queue.items x) 0 else None
 
-  -- the oldest item
-  abbrev pub oldest_of : Bounded T → Option T
-  oldest_of queue = slice_get queue.items 0
+  abbrev pub queue_front : Bounded T → Option T
+  queue_front queue = slice_get queue.items 0
 
-  -- pop: the head leaves
-  abbrev pub popped : Bounded T → Bounded T
-  popped queue = with_items queue (drop 1 queue.items)
+  -- the front item removed
+  abbrev pub queue_pop : Bounded T → Bounded T
+  queue_pop queue = with_items queue (drop 1 queue.items)
 
-  -- another head, where there is one
-  abbrev pub with_oldest : Bounded T → T → Bounded T
-  with_oldest queue x = with_items queue (slice_set queue.items 0 x)
+  -- the front item replaced by x, if there is one
+  abbrev pub queue_set_front : Bounded T → T → Bounded T
+  queue_set_front queue x = with_items queue (slice_set queue.items 0 x)

@@ -47,8 +47,8 @@ module _ {T : Type 0} where
     pub empty_is_free : (key : ℕ) → IsEmptyAt s.values key → times key s.free ≡ 1
 
   -- no key has a value, and the free keys are 0, 1 and so on
-  abbrev pub empty_slots : ℕ → SlotState T
-  empty_slots capacity = record { values = replicate capacity None; free = range_with_len 0 capacity }
+  abbrev pub slot_new : ℕ → SlotState T
+  slot_new capacity = record { values = replicate capacity None; free = range_with_len 0 capacity }
 
   -- the number of keys with a value
   abbrev pub held_count : SlotState T → ℕ

@@ -6,7 +6,7 @@ use Rattle.std.proofs.lemmas.Bool.{eqb-true}
 use Rattle.std.proofs.lemmas.Fmt.{length-decimal-le}
 use Rattle.std.proofs.lemmas.Grind.{common_steps}
 use Rattle.std.proofs.lemmas.List.Elements.{All-cons, All-nil}
-use Rattle.ix_cells.specs.Bounded.{Bounded, empty_of}
+use Rattle.ix_cells.specs.Bounded.{Bounded, bounded_new}
 use Rattle.ix_run.specs.Lines.{line_feed, IsOneLine, ended, all_ended, lines_of, onto_first, readable}
 use Rattle.ix_run.specs.QueueRun.{reply_of, replies_of, queue_after}
 use Rattle.ix_run.specs.Reading.{IsInRange, command_text, header_text, capacity_of, queue_line_of}
@@ -126,7 +126,7 @@ header_lacks Eight = search rules
 
 -- the reply to a header, and the replies to what comes behind it
 header_told : (capacity : FixedCapacity) (lines : List (List ℕ))
-    → replies_from None (header_text capacity ∷ lines) ≡ ended (codes "ready") ++ replies_from (Some (empty_of (capacity_of capacity))) lines
+    → replies_from None (header_text capacity ∷ lines) ≡ ended (codes "ready") ++ replies_from (Some (bounded_new (capacity_of capacity))) lines
 header_told Zero lines = refl
 header_told One lines = refl
 header_told Three lines = refl
@@ -134,10 +134,10 @@ header_told Eight lines = refl
 
 pub script_runs : (capacity : FixedCapacity) (commands : List (QueueCommand ℕ)) → All IsInRange commands
     → replies_to (all_ended (header_text capacity ∷ map command_text commands))
-    ≡ all_ended (codes "ready" ∷ map reply_text (replies_of (empty_of (capacity_of capacity)) commands))
+    ≡ all_ended (codes "ready" ∷ map reply_text (replies_of (bounded_new (capacity_of capacity)) commands))
 unfolding replies_to
 script_runs capacity commands h =
     let lines = All-cons IsOneLine (header_text capacity) (map command_text commands) (one_line (header_text capacity) (header_lacks capacity)) (command_lines commands h) in
     ap (replies_from None) (lines_ended (header_text capacity ∷ map command_text commands) lines)
     ∙ header_told capacity (map command_text commands)
-    ∙ ap (λ l. ended (codes "ready") ++ l) (run_told (empty_of (capacity_of capacity)) commands h)
+    ∙ ap (λ l. ended (codes "ready") ++ l) (run_told (bounded_new (capacity_of capacity)) commands h)

@@ -1,7 +1,7 @@
 -- The run of a queue: what each of a list of commands answers in turn, and the queue that they leave.
 use Rattle.std.specs.Prelude.{List, [], ◌∷◌, Option, None, Some}
-use Rattle.ix_cells.specs.Bounded.{Bounded, has_room}
-use Rattle.ix_maps.specs.QueueSteps.{pushed, overflowed, overflow_of, oldest_of, popped}
+use Rattle.ix_cells.specs.Bounded.{Bounded, has_room, bounded_push}
+use Rattle.ix_maps.specs.QueueSteps.{queue_overflow, queue_overflow_item, queue_front, queue_pop}
 use Rattle.ix_run.specs.declared.run.command.QueueCommand.{QueueCommand}
 use Rattle.ix_run.specs.declared.run.command.QueueCommand.TheVariants.{Push, Over, Pop}
 use Rattle.ix_run.specs.declared.run.command.Reply.{Reply}
@@ -16,14 +16,14 @@ module _ {X : Type 0} where
   -- what a command answers
   abbrev pub reply_of : Bounded X → QueueCommand X → Reply X
   reply_of queue (Push x) = reply.Bool (has_room queue)
-  reply_of queue (Over x) = optional_reply (overflow_of queue x)
-  reply_of queue Pop = optional_reply (oldest_of queue)
+  reply_of queue (Over x) = optional_reply (queue_overflow_item queue x)
+  reply_of queue Pop = optional_reply (queue_front queue)
 
   -- the queue that it leaves
   abbrev pub queue_after : Bounded X → QueueCommand X → Bounded X
-  queue_after queue (Push x) = pushed queue x
-  queue_after queue (Over x) = overflowed queue x
-  queue_after queue Pop = popped queue
+  queue_after queue (Push x) = bounded_push queue x
+  queue_after queue (Over x) = queue_overflow queue x
+  queue_after queue Pop = queue_pop queue
 
   -- the replies to a list of commands, in order
   abbrev pub replies_of : Bounded X → List (QueueCommand X) → List (Reply X)

@@ -1,6 +1,6 @@
 -- The replies to a script: one reply line for each line, in order.
 use Rattle.std.specs.Prelude.{ℕ, List, [], ◌∷◌, ◌++◌, true, false, Option, None, Some, option_map, codes, decimal}
-use Rattle.ix_cells.specs.Bounded.{Bounded, empty_of}
+use Rattle.ix_cells.specs.Bounded.{Bounded, bounded_new}
 use Rattle.ix_run.specs.Lines.{Readable, readable, lines_of, ended}
 use Rattle.ix_run.specs.QueueRun.{reply_of, queue_after}
 use Rattle.ix_run.specs.Reading.{queue_line_of, header_of, capacity_of}
@@ -57,7 +57,7 @@ line_reply (Some queue) (Some line) = queue_reply queue (queue_line_of line)
 -- what stands after it
 abbrev pub state_after : State → Readable → State
 state_after state None = state
-state_after None (Some line) = option_map (λ capacity. empty_of (capacity_of capacity)) (header_of line)
+state_after None (Some line) = option_map (λ capacity. bounded_new (capacity_of capacity)) (header_of line)
 state_after (Some queue) (Some line) = Some (queue_left queue (queue_line_of line))
 
 -- the reply lines to lines

@@ -4,7 +4,7 @@ use Rattle.std.specs.Prelude.{nat_eq, nat_lt, if◌then◌else◌, not, cond}
 use Rattle.std.specs.List.{range_with_len, remove, position, position_or_len}
 use Rattle.std.proofs.lemmas.Bool.{cases_lt}
 use Rattle.std.proofs.lemmas.Bool.Decides.{nat_tests}
-use Rattle.ix_maps.specs.SlotSteps.{without}
+use Rattle.ix_maps.specs.SlotSteps.{keys_without}
 
 -- the keys without the one at a place, if there is a place
 abbrev pub left_of : List ℕ → Option ℕ → List ℕ
@@ -19,9 +19,9 @@ one_more false other keys rest n is =
     ap (λ ks. other ∷ ks) is ∙ ap (remove (other ∷ keys)) more
 
 -- a key leaves some keys at its first place
-without_first : (key : ℕ) (keys : List ℕ) → without key keys ≡ remove keys (position_or_len (λ other. nat_eq key other) keys)
+without_first : (key : ℕ) (keys : List ℕ) → keys_without key keys ≡ remove keys (position_or_len (λ other. nat_eq key other) keys)
 without_first key [] = refl
-without_first key (other ∷ keys) = one_more (nat_eq key other) other keys (without key keys) _ (without_first key keys)
+without_first key (other ∷ keys) = one_more (nat_eq key other) other keys (keys_without key keys) _ (without_first key keys)
 
 -- nothing leaves past the last key
 remove_past : (keys : List ℕ) (n : ℕ) → length keys ≤ n → remove keys n ≡ keys
@@ -31,7 +31,7 @@ remove_past (key ∷ keys) zero past = absurd (omega arith)
 remove_past (key ∷ keys) (suc n) past = ap (λ ks. key ∷ ks) (remove_past keys n (omega arith))
 
 -- a key leaves some keys at the place that a search for it found, if any
-pub without_found : (key : ℕ) (keys : List ℕ) (found : Option ℕ) → found ≡ position (λ other. nat_eq key other) keys → without key keys ≡ left_of keys found
+pub without_found : (key : ℕ) (keys : List ℕ) (found : Option ℕ) → found ≡ position (λ other. nat_eq key other) keys → keys_without key keys ≡ left_of keys found
 without_found key keys found is =
     let n : ℕ = position_or_len (λ other. nat_eq key other) keys in
     without_first key keys ∙ elim (cases_lt n (length keys)) [

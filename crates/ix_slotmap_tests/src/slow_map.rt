@@ -1,8 +1,8 @@
 //! A plain slow map, which tests hold against slot maps. Its contracts are the definition of the steps.
 ghost use Rattle.std.specs.Prelude.{◌≡◌, IfOk, OnOk, OnErr, IsTrue, ◌↔◌, nat_eq, slice_set};
 ghost use Rattle.std.specs.List.{position, range_with_len};
-ghost use Rattle.ix_maps.specs.SlotState.{first_of, value_at, IsKey, empty_slots, held_count};
-ghost use Rattle.ix_maps.specs.SlotSteps.{without, inserted, inserted_at, removed};
+ghost use Rattle.ix_maps.specs.SlotState.{first_of, value_at, IsKey, slot_new, held_count};
+ghost use Rattle.ix_maps.specs.SlotSteps.{keys_without, slot_insert, slot_insert_at, slot_remove};
 
 use std::alloc::{AllocError, Global};
 use std::marker::Model;
@@ -38,7 +38,7 @@ fn place_of(keys: &[usize], key: usize) -> Option<usize>
 
 /// Takes `key` out of some keys, where it stands first.
 fn take_out(keys: &mut Vec<usize>, key: usize)
-    ensures { keys.new.items ≡ without key keys.old.items }
+    ensures { keys.new.items ≡ keys_without key keys.old.items }
 {
     if let Some(place) = place_of(keys, key) {
         keys.remove(place);
@@ -69,7 +69,7 @@ impl SlowMap {
     /// An empty map.
     pub fn new(alloc: Global, capacity: usize) -> Result<SlowMap, AllocError>
         // No key has a value, and the free keys are 0, 1 and so on.
-        ensures { IfOk result (λ map. map ≡ empty_slots capacity) }
+        ensures { IfOk result (λ map. map ≡ slot_new capacity) }
     {
         let values = vec![in alloc; None; capacity]?;
         let free = rising_keys(alloc, capacity)?;
@@ -102,7 +102,7 @@ impl SlowMap {
         // It answers the first free key.
         ensures key { result ≡ first_of self.old.free }
         // That key has the value, and left the free list.
-        ensures map { self.new ≡ inserted self.old value }
+        ensures map { self.new ≡ slot_insert self.old value }
     {
         if self.free.is_empty() {
             return None;
@@ -115,9 +115,9 @@ impl SlowMap {
     /// Puts `value` under `key`, or answers false where `key` is out of range.
     pub fn insert_at(&mut self, key: usize, value: u64) -> bool
         // It answers whether the key is one of the map's.
-        ensures answer { IsTrue result ↔ IsKey self.old key }
+        ensures value { IsTrue result ↔ IsKey self.old key }
         // The key has the value, and is not free.
-        ensures map { self.new ≡ inserted_at self.old key value }
+        ensures map { self.new ≡ slot_insert_at self.old key value }
     {
         if key >= self.values.len() {
             return false;
@@ -132,7 +132,7 @@ impl SlowMap {
         // It answers the value that the key had, if any.
         ensures value { IfOk result (λ value. value ≡ value_at self.old key) }
         // The key has none, and stands in front of the free keys, if it had one.
-        ensures map { OnOk result (self.new ≡ removed self.old key) }
+        ensures map { OnOk result (self.new ≡ slot_remove self.old key) }
         // Without memory the map is as it was.
         ensures refused { OnErr result (self.new ≡ self.old) }
     {

@@ -5,7 +5,7 @@ use Rattle.std.proofs.lemmas.Bool.{cases_lt}
 use Rattle.std.proofs.lemmas.List.{take_more, take_at, length-take-le, take-take, take-append-drop, take-append-le, drop_all, drop-append-le, drop_at, get_or-drop}
 use Rattle.std.proofs.lemmas.Grind.{common_steps}
 use Rattle.ix_cells.specs.Bounded.{Bounded, with_items}
-use Rattle.ix_cells.specs.VectorSteps.{extended}
+use Rattle.ix_cells.specs.VectorSteps.{vec_extend}
 
 module _ {X : Type 0} where
   -- a range that is one item longer
@@ -18,9 +18,9 @@ module _ {X : Type 0} where
       ap (λ (k : ℕ). take k (drop a xs)) longer ∙ take_more (drop a xs) (i - a) d counted ∙ ap (λ (y : X). slice_range xs a i ++ y ∷ []) read
 
   -- one more of the own items goes behind the others
-  pub extended-more : (old held : Bounded X) (a i : ℕ) (y d : X) → a ≤ i → i < length old.items → held ≡ extended old (slice_range old.items a i) → y ≡ get_or old.items i d
-      → with_items held (held.items ++ y ∷ []) ≡ extended old (slice_range old.items a (i + 1))
-  extended-more old held a i y d order lt is read =
+  pub vec_extend-more : (old held : Bounded X) (a i : ℕ) (y d : X) → a ≤ i → i < length old.items → held ≡ vec_extend old (slice_range old.items a i) → y ≡ get_or old.items i d
+      → with_items held (held.items ++ y ∷ []) ≡ vec_extend old (slice_range old.items a (i + 1))
+  vec_extend-more old held a i y d order lt is read =
       let part = slice_range old.items a i in
       let longer : part ++ y ∷ [] ≡ slice_range old.items a (i + 1) = rw read (sym (slice_range-more old.items a i d order lt)) in
       ap (λ (h : Bounded X). with_items h (h.items ++ y ∷ [])) is ∙ ap (with_items old) (append_assoc old.items part (y ∷ []) ∙ ap (λ (r : List X). old.items ++ r) longer)

@@ -7,12 +7,12 @@ use Rattle.std.proofs.lemmas.List.{take-append-drop, take_at, drop_at}
 use Rattle.std.proofs.lemmas.Grind.{common_steps}
 use Rattle.memchr.specs.Find.{OccursAt, FindsNeedle, FindsLastNeedle}
 use Rattle.memchr.proofs.lemmas.MatchLemmas.{OccursAt-split, OccursAt-from_part}
-use Rattle.ix_string.specs.Text.{StandsAt, IsFirstPlace, IsLastPlace, EndsIn}
+use Rattle.ix_string.specs.Text.{MatchesAt, IsFirstMatch, IsLastMatch, EndsWith}
 use Rattle.std.specs.List.{starts_with, ends_with}
 
 -- what is read at a place stands there
-pub StandsAt-OccursAt : (text needle : List ℕ) (i : ℕ) → OccursAt text needle i → StandsAt text needle i
-StandsAt-OccursAt text needle i occurs =
+pub MatchesAt-OccursAt : (text needle : List ℕ) (i : ℕ) → OccursAt text needle i → MatchesAt text needle i
+MatchesAt-OccursAt text needle i occurs =
     let fits = occurs.fits in
     let split : drop i text ≡ needle ++ drop (i + length needle) text = OccursAt-split text needle i occurs in
     record {
@@ -23,8 +23,8 @@ StandsAt-OccursAt text needle i occurs =
     }
 
 -- and the other way round
-pub OccursAt-StandsAt : (text needle : List ℕ) (i : ℕ) → StandsAt text needle i → OccursAt text needle i
-OccursAt-StandsAt text needle i stands =
+pub OccursAt-MatchesAt : (text needle : List ℕ) (i : ℕ) → MatchesAt text needle i → OccursAt text needle i
+OccursAt-MatchesAt text needle i stands =
     let counted = ap length stands.parts ∙ length-append stands.front (needle ++ stands.rest) in
     let both = length-append needle stands.rest in
     let behind : drop i text ≡ needle ++ stands.rest = rw stands.parts (drop_at stands.front (needle ++ stands.rest) i stands.place) in
@@ -33,31 +33,31 @@ OccursAt-StandsAt text needle i stands =
     OccursAt-from_part text needle i (omega arith) here
 
 -- a search from the front
-pub IsFirstPlace-FindsNeedle : (text needle : List ℕ) (found : Option ℕ) → FindsNeedle text needle 0 found → IsFirstPlace text needle found
-IsFirstPlace-FindsNeedle text needle (Some i) finds =
-    let least : (j : ℕ) → StandsAt text needle j → i ≤ j = λ j stands. by_contra i j (λ lt. finds.0.before j (omega arith) lt (OccursAt-StandsAt text needle j stands)) in
-    (StandsAt-OccursAt text needle i finds.1, least)
-IsFirstPlace-FindsNeedle text needle None finds = λ j stands.
-    let occurs = OccursAt-StandsAt text needle j stands in
+pub IsFirstMatch-FindsNeedle : (text needle : List ℕ) (found : Option ℕ) → FindsNeedle text needle 0 found → IsFirstMatch text needle found
+IsFirstMatch-FindsNeedle text needle (Some i) finds =
+    let least : (j : ℕ) → MatchesAt text needle j → i ≤ j = λ j stands. by_contra i j (λ lt. finds.0.before j (omega arith) lt (OccursAt-MatchesAt text needle j stands)) in
+    (MatchesAt-OccursAt text needle i finds.1, least)
+IsFirstMatch-FindsNeedle text needle None finds = λ j stands.
+    let occurs = OccursAt-MatchesAt text needle j stands in
     let fits = occurs.fits in
     finds j (omega arith) (omega arith) occurs
 
 -- a search from the end
-pub IsLastPlace-FindsLastNeedle : (text needle : List ℕ) (found : Option ℕ) → FindsLastNeedle text needle found → IsLastPlace text needle found
-IsLastPlace-FindsLastNeedle text needle (Some i) finds =
-    let greatest : (j : ℕ) → StandsAt text needle j → j ≤ i = λ j stands.
-    let occurs = OccursAt-StandsAt text needle j stands in
+pub IsLastMatch-FindsLastNeedle : (text needle : List ℕ) (found : Option ℕ) → FindsLastNeedle text needle found → IsLastMatch text needle found
+IsLastMatch-FindsLastNeedle text needle (Some i) finds =
+    let greatest : (j : ℕ) → MatchesAt text needle j → j ≤ i = λ j stands.
+    let occurs = OccursAt-MatchesAt text needle j stands in
     let fits = occurs.fits in
     by_contra j i (λ lt. finds.0.after j (omega arith) (omega arith) occurs) in
-    (StandsAt-OccursAt text needle i finds.1, greatest)
-IsLastPlace-FindsLastNeedle text needle None finds = λ j stands.
-    let occurs = OccursAt-StandsAt text needle j stands in
+    (MatchesAt-OccursAt text needle i finds.1, greatest)
+IsLastMatch-FindsLastNeedle text needle None finds = λ j stands.
+    let occurs = OccursAt-MatchesAt text needle j stands in
     let fits = occurs.fits in
     finds j (omega arith) (omega arith) occurs
 
 -- the test for a front
-pub starts_with-StandsAt : (text needle : List ℕ) → starts_with ◌==◌ text needle ≡ true ↔ StandsAt text needle 0
-starts_with-StandsAt text needle = (
+pub starts_with-MatchesAt : (text needle : List ℕ) → starts_with ◌==◌ text needle ≡ true ↔ MatchesAt text needle 0
+starts_with-MatchesAt text needle = (
   λ yes.
       let same : needle ≡ take (length needle) text = same_text needle (take (length needle) text) (sym yes) in
       record {
@@ -74,8 +74,8 @@ starts_with-StandsAt text needle = (
 )
 
 -- the test for an ending
-pub ends_with-EndsIn : (text ending : List ℕ) → ends_with ◌==◌ text ending ≡ true ↔ EndsIn text ending
-ends_with-EndsIn text ending = (
+pub ends_with-EndsWith : (text ending : List ℕ) → ends_with ◌==◌ text ending ≡ true ↔ EndsWith text ending
+ends_with-EndsWith text ending = (
   λ yes.
       let n = length text - length ending in
       let same : ending ≡ drop n text = same_text ending (drop n text) (sym yes) in

@@ -4,16 +4,16 @@ use Rattle.std.specs.Prelude.{reverse, if◌then◌else◌}
 use Rattle.std.specs.List.{All}
 use Rattle.std.proofs.lemmas.List.{reverse-append, take-take, get_or-take, drop-set, drop_more}
 use Rattle.std.proofs.lemmas.List.Elements.{All-nil, All-cons, All-drop}
-use Rattle.ix_string.specs.Retain.{AnswersAt, items_where_false, retained, Retains}
+use Rattle.ix_string.specs.Retain.{ResultsAt, items_where_false, retained_items, Retains}
 
 module _ {F X : Type 0} (step : F → X → Bool → F → Type 0) where
   -- one more call
-  pub AnswersAt-push : (f : F) (xs : List X) (answers : List Bool) (g : F) (x : X) (b : Bool) (h : F)
-      → AnswersAt step f xs answers g → step g x b h → AnswersAt step f (xs ++ x ∷ []) (answers ++ b ∷ []) h
-  AnswersAt-push f [] [] g x b h same called = (h, subst (λ (p : F). step p x b h) (sym same) called, refl)
-  AnswersAt-push f [] (c ∷ cs) g x b h same called = absurd same
-  AnswersAt-push f (y ∷ ys) [] g x b h same called = absurd same
-  AnswersAt-push f (y ∷ ys) (c ∷ cs) g x b h (next, answered, rest) called = (next, answered, AnswersAt-push next ys cs g x b h rest called)
+  pub ResultsAt-push : (f : F) (xs : List X) (answers : List Bool) (g : F) (x : X) (b : Bool) (h : F)
+      → ResultsAt step f xs answers g → step g x b h → ResultsAt step f (xs ++ x ∷ []) (answers ++ b ∷ []) h
+  ResultsAt-push f [] [] g x b h same called = (h, subst (λ (p : F). step p x b h) (sym same) called, refl)
+  ResultsAt-push f [] (c ∷ cs) g x b h same called = absurd same
+  ResultsAt-push f (y ∷ ys) [] g x b h same called = absurd same
+  ResultsAt-push f (y ∷ ys) (c ∷ cs) g x b h (next, answered, rest) called = (next, answered, ResultsAt-push next ys cs g x b h rest called)
 
   -- the item before others
   items_where_false-more : (b : Bool) (x : X) (xs kept : List X) (answers : List Bool) → kept ≡ items_where_false answers xs
@@ -23,13 +23,13 @@ module _ {F X : Type 0} (step : F → X → Bool → F → Type 0) where
 
   -- the item before those that were asked about is asked about
   pub Retains-more : (f : F) (x : X) (xs kept : List X) (answers : List Bool) (g : F) (b : Bool) (h : F)
-      → AnswersAt step f (reverse xs) answers g → kept ≡ retained answers xs → step g x b h
-      → (more : List Bool) × AnswersAt step f (reverse (x ∷ xs)) more h × ((if b then kept else x ∷ kept) ≡ retained more (x ∷ xs))
+      → ResultsAt step f (reverse xs) answers g → kept ≡ retained_items answers xs → step g x b h
+      → (more : List Bool) × ResultsAt step f (reverse (x ∷ xs)) more h × ((if b then kept else x ∷ kept) ≡ retained_items more (x ∷ xs))
   Retains-more f x xs kept answers g b h asked is called =
-      let pushed = AnswersAt-push f (reverse xs) answers g x b h asked called in
+      let pushed = ResultsAt-push f (reverse xs) answers g x b h asked called in
       let order : reverse (x ∷ xs) ≡ reverse xs ++ x ∷ [] = reverse-append (x ∷ []) xs in
       let turned : reverse (answers ++ b ∷ []) ≡ b ∷ reverse answers = reverse-append answers (b ∷ []) in
-      let asked_again : AnswersAt step f (reverse (x ∷ xs)) (answers ++ b ∷ []) h = rw order pushed in
+      let asked_again : ResultsAt step f (reverse (x ∷ xs)) (answers ++ b ∷ []) h = rw order pushed in
       (answers ++ b ∷ [], asked_again, rw turned (items_where_false-more b x xs kept (reverse answers) is))
 
 module _ {X : Type 0} where

@@ -10,7 +10,7 @@ use Rattle.std.specs.Str.{IsAscii, IsUtf8}
 use Rattle.std.proofs.lemmas.Str.{IsUtf8-from_ascii}
 use Rattle.std.proofs.lemmas.List.Sums.{list_all-from_AllPass}
 use Rattle.std.specs.Prelude.{Result, Ok, Err, IsOk, ◌↔◌, true, false}
-use Rattle.ix_string.specs.Text.{IsText, IsTextByte, IsPadded, padded, is_text, is_text_byte}
+use Rattle.ix_string.specs.Text.{IsText, IsTextByte, IsPadded, padded_text, is_text, is_text_byte}
 use Rattle.ix_string.specs.TextSteps.{StringFromBytes}
 use Rattle.ix_string.specs.declared.string.modification_error.StringModificationError.{StringModificationError}
 use Rattle.ix_string.specs.declared.string.modification_error.StringModificationError.TheVariants.{InvalidCharacter, InsertWouldExceedCapacity}
@@ -36,19 +36,19 @@ IsText-remove_range text i j is =
     All-append P (take i text) (drop j text) (All-take P i text is) (All-drop P j text is)
 
 -- what stands behind a text from a later place on
-drop-padded : (capacity count : ℕ) (text : List ℕ) (n : ℕ) → length text ≡ count → drop (count + n) (padded capacity text) ≡ replicate (capacity - (count + n)) 0
-drop-padded capacity count text n counted =
+drop-padded_text : (capacity count : ℕ) (text : List ℕ) (n : ℕ) → length text ≡ count → drop (count + n) (padded_text capacity text) ≡ replicate (capacity - (count + n)) 0
+drop-padded_text capacity count text n counted =
     let behind = drop-append-add text (replicate (capacity - length text) 0) n in
     let left = drop-replicate n (capacity - length text) 0 in
     let fewer : (capacity - length text) - n ≡ capacity - (count + n) = omega arith in
-    ap (λ (k : ℕ). drop (k + n) (padded capacity text)) (sym counted) ∙ behind ∙ left ∙ ap (λ (k : ℕ). replicate k 0) fewer
+    ap (λ (k : ℕ). drop (k + n) (padded_text capacity text)) (sym counted) ∙ behind ∙ left ∙ ap (λ (k : ℕ). replicate k 0) fewer
 
 -- what stands in a padded row from a place behind the text on
 pub drop-IsPadded : (capacity count : ℕ) (cells : List ℕ) (n : ℕ) → IsPadded capacity count cells → drop (count + n) cells ≡ replicate (capacity - (count + n)) 0
 drop-IsPadded capacity count cells n is =
     let within = is.within in
     let counted : length (take count cells) ≡ count = grind (arith, common_steps, is.whole) in
-    ap (drop (count + n)) is.zeros ∙ drop-padded capacity count (take count cells) n counted
+    ap (drop (count + n)) is.zeros ∙ drop-padded_text capacity count (take count cells) n counted
 
 -- a text and zeros up to the capacity
 pub IsPadded-from_text : (capacity count : ℕ) (text cells : List ℕ) → cells ≡ text ++ replicate (capacity - count) 0 → length text ≡ count → count ≤ capacity → IsText text → IsPadded capacity count cells

@@ -4,6 +4,6 @@ use Rattle.ix_string.specs.declared.string.modification_error.StringModification
 use Rattle.ix_string.specs.declared.string.modification_error.StringModificationError.TheVariants.{InvalidCharacter, InsertWouldExceedCapacity}
 
 -- the name of the type, and that of the variant
-abbrev pub modification_text : StringModificationError → List ℕ
-modification_text InvalidCharacter = codes "StringModificationError::InvalidCharacter"
-modification_text InsertWouldExceedCapacity = codes "StringModificationError::InsertWouldExceedCapacity"
+abbrev pub string_error_text : StringModificationError → List ℕ
+string_error_text InvalidCharacter = codes "StringModificationError::InvalidCharacter"
+string_error_text InsertWouldExceedCapacity = codes "StringModificationError::InsertWouldExceedCapacity"

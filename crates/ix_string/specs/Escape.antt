@@ -15,5 +15,5 @@ escaped_byte b =
     else codes "\\x" ++ hex_digit (b / 16) ∷ hex_digit (b % 16) ∷ [])))
 
 -- the bytes' images, one after the other
-abbrev pub escaped : List ℕ → List ℕ
-escaped = flat_map escaped_byte
+abbrev pub escaped_text : List ℕ → List ℕ
+escaped_text = flat_map escaped_byte

@@ -19,41 +19,41 @@ abbrev pub is_text : List ℕ → Bool
 is_text = list_all is_text_byte
 
 -- the text, and zeros behind it up to the capacity
-abbrev pub padded : ℕ → List ℕ → List ℕ
-padded capacity text = text ++ replicate (capacity - length text) 0
+abbrev pub padded_text : ℕ → List ℕ → List ℕ
+padded_text capacity text = text ++ replicate (capacity - length text) 0
 
 -- a row as long as the capacity holds a text of count bytes, and zeros behind it
 pub record IsPadded (capacity count : ℕ) (cells : List ℕ) : Type 0 where
   pub within : count ≤ capacity
   pub whole : length cells ≡ capacity
   pub text : IsText (take count cells)
-  pub zeros : cells ≡ padded capacity (take count cells)
+  pub zeros : cells ≡ padded_text capacity (take count cells)
 
 -- the place of the first zero, or the length where there is none
-abbrev pub nul_place : List ℕ → ℕ
-nul_place bytes = position_or_len (λ b. b == 0) bytes
+abbrev pub nul_position : List ℕ → ℕ
+nul_position bytes = position_or_len (λ b. b == 0) bytes
 
 -- the bytes before the first zero
 abbrev pub before_nul : List ℕ → List ℕ
-before_nul bytes = take (nul_place bytes) bytes
+before_nul bytes = take (nul_position bytes) bytes
 
 -- the text is a front of i bytes, then the needle, then a rest
-pub record StandsAt (text needle : List ℕ) (i : ℕ) : Type 0 where
+pub record MatchesAt (text needle : List ℕ) (i : ℕ) : Type 0 where
   pub front : List ℕ
   pub rest : List ℕ
   pub parts : text ≡ front ++ (needle ++ rest)
   pub place : length front ≡ i
 
 -- the least place where the needle stands, or None where it stands nowhere
-abbrev pub IsFirstPlace : List ℕ → List ℕ → Option ℕ → Type 0
-IsFirstPlace text needle (Some i) = StandsAt text needle i × ((j : ℕ) → StandsAt text needle j → i ≤ j)
-IsFirstPlace text needle None = (j : ℕ) → ¬ StandsAt text needle j
+abbrev pub IsFirstMatch : List ℕ → List ℕ → Option ℕ → Type 0
+IsFirstMatch text needle (Some i) = MatchesAt text needle i × ((j : ℕ) → MatchesAt text needle j → i ≤ j)
+IsFirstMatch text needle None = (j : ℕ) → ¬ MatchesAt text needle j
 
 -- the greatest place where the needle stands, or None where it stands nowhere
-abbrev pub IsLastPlace : List ℕ → List ℕ → Option ℕ → Type 0
-IsLastPlace text needle (Some i) = StandsAt text needle i × ((j : ℕ) → StandsAt text needle j → j ≤ i)
-IsLastPlace text needle None = (j : ℕ) → ¬ StandsAt text needle j
+abbrev pub IsLastMatch : List ℕ → List ℕ → Option ℕ → Type 0
+IsLastMatch text needle (Some i) = MatchesAt text needle i × ((j : ℕ) → MatchesAt text needle j → j ≤ i)
+IsLastMatch text needle None = (j : ℕ) → ¬ MatchesAt text needle j
 
 -- the text is a front and then the ending
-abbrev pub EndsIn : List ℕ → List ℕ → Type 0
-EndsIn text ending = (front : List ℕ) × (text ≡ front ++ ending)
+abbrev pub EndsWith : List ℕ → List ℕ → Type 0
+EndsWith text ending = (front : List ℕ) × (text ≡ front ++ ending)

@@ -15,16 +15,16 @@ abbrev pub has_room_for : Bounded ℕ → List ℕ → Bool
 has_room_for text bytes = nat_le (length text.items + length bytes) text.capacity
 
 -- the bytes stand between the first i ones and the others
-abbrev pub with_inserted : Bounded ℕ → ℕ → List ℕ → Bounded ℕ
-with_inserted text i bytes = with_items text (insert_slice text.items i bytes)
+abbrev pub text_insert_slice : Bounded ℕ → ℕ → List ℕ → Bounded ℕ
+text_insert_slice text i bytes = with_items text (insert_slice text.items i bytes)
 
 -- insert: the bytes go to place i where there is room for them and they are text
-abbrev pub inserted : Bounded ℕ → ℕ → List ℕ → Bounded ℕ
-inserted text i bytes = if has_room_for text bytes then (if is_text bytes then with_inserted text i bytes else text) else text
+abbrev pub text_insert : Bounded ℕ → ℕ → List ℕ → Bounded ℕ
+text_insert text i bytes = if has_room_for text bytes then (if is_text bytes then text_insert_slice text i bytes else text) else text
 
 -- want of room is told before a byte that is none of a text
-abbrev pub insert_answer : Bounded ℕ → List ℕ → Answer
-insert_answer text bytes =
+abbrev pub text_insert_result : Bounded ℕ → List ℕ → Answer
+text_insert_result text bytes =
     if has_room_for text bytes then (if is_text bytes then Ok tt else Err InvalidCharacter) else Err InsertWouldExceedCapacity
 
 -- there are n bytes from place i on
@@ -32,8 +32,8 @@ abbrev pub IsRangeOf : Bounded ℕ → ℕ → ℕ → Type 0
 IsRangeOf text i n = i + n ≤ length text.items
 
 -- remove_range: n bytes from place i on leave, and the others stay in their order
-abbrev pub range_removed : Bounded ℕ → ℕ → ℕ → Bounded ℕ
-range_removed text i n = with_items text (remove_range text.items i (i + n))
+abbrev pub text_remove_range : Bounded ℕ → ℕ → ℕ → Bounded ℕ
+text_remove_range text i n = with_items text (remove_range text.items i (i + n))
 
 -- what making a string of these bytes gives: too many of them first, then one that is none of a text
 abbrev pub StringFromBytes : ℕ → List ℕ → Result (List ℕ) StringModificationError → Type 0

@@ -1,7 +1,7 @@
 //! A plain slow queue, which tests hold against the ring. It meets the ring's clauses by another way.
 ghost use Rattle.std.specs.Prelude.{◌≡◌, ◌≤◌, length};
-ghost use Rattle.ix_cells.specs.Bounded.{has_room, empty_of};
-ghost use Rattle.ix_maps.specs.QueueSteps.{pushed, overflowed, overflow_of, oldest_of, popped};
+ghost use Rattle.ix_cells.specs.Bounded.{has_room, bounded_new, bounded_push};
+ghost use Rattle.ix_maps.specs.QueueSteps.{queue_overflow, queue_overflow_item, queue_front, queue_pop};
 ghost use Rattle.ix_run.specs.QueueRun.{optional_reply, reply_of, queue_after};
 
 use arrayvec::ArrayVec;
@@ -36,7 +36,7 @@ impl<T: Default + Drop> SlowQueue<T> {
     /// An empty queue.
     pub fn new(capacity: usize) -> SlowQueue<T>
         requires { capacity ≤ 8 }
-        ensures { result ≡ empty_of capacity }
+        ensures { result ≡ bounded_new capacity }
     {
         SlowQueue {
             items: ArrayVec::new(),
@@ -60,8 +60,8 @@ impl<T: Default + Drop> SlowQueue<T> {
 
     /// Adds `item` at the back and answers true, or drops it and answers false where the queue is full.
     pub fn push(&mut self, item: T) -> bool
-        ensures answer { result ≡ has_room self.old }
-        ensures queue { self.new ≡ pushed self.old item }
+        ensures value { result ≡ has_room self.old }
+        ensures queue { self.new ≡ bounded_push self.old item }
     {
         let has_room = self.items.len() < self.capacity;
         if has_room {
@@ -72,8 +72,8 @@ impl<T: Default + Drop> SlowQueue<T> {
 
     /// Adds `item` at the back. Where that is too long, the oldest item leaves and is handed back.
     pub fn push_with_overflow(&mut self, item: T) -> Option<T>
-        ensures answer { result ≡ overflow_of self.old item }
-        ensures queue { self.new ≡ overflowed self.old item }
+        ensures value { result ≡ queue_overflow_item self.old item }
+        ensures queue { self.new ≡ queue_overflow self.old item }
     {
         if self.items.len() < self.capacity {
             self.items.push(item);
@@ -89,8 +89,8 @@ impl<T: Default + Drop> SlowQueue<T> {
 
     /// Takes the oldest item, or answers None where there is none.
     pub fn pop(&mut self) -> Option<T>
-        ensures answer { result ≡ oldest_of self.old }
-        ensures queue { self.new ≡ popped self.old }
+        ensures value { result ≡ queue_front self.old }
+        ensures queue { self.new ≡ queue_pop self.old }
     {
         self.items.pop_at(0)
     }

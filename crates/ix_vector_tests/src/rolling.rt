@@ -1,7 +1,7 @@
 //! Functions over any vector, proved from the contracts of its trait alone.
 ghost use Rattle.std.specs.Prelude.{◌≡◌, ◌<◌, ◌↔◌, Some, None, length, IsOk, IfOk, IfErr, OnOk, OnErr, if◌then◌else◌, slice_get, slice_set};
-ghost use Rattle.ix_cells.specs.Bounded.{has_room, with_items};
-ghost use Rattle.ix_cells.specs.VectorSteps.{pushed, removed, removed_item};
+ghost use Rattle.ix_cells.specs.Bounded.{has_room, with_items, bounded_push};
+ghost use Rattle.ix_cells.specs.VectorSteps.{vec_remove};
 
 use ix_cells::Vector;
 use std::mem;
@@ -10,9 +10,9 @@ use std::mem;
 /// of capacity 0 drops `item`.
 pub fn push_over<T: Drop, V: Vector<T>>(vector: &mut V, item: T) -> Option<T>
     // It answers the first item where there was no room.
-    ensures answer { result ≡ (if has_room (V.bounded vector.old) then None else removed_item (V.bounded vector.old) 0) }
+    ensures value { result ≡ (if has_room (V.bounded vector.old) then None else slice_get (V.bounded vector.old).items 0) }
     // The item stands behind the others, or behind all of them but the first one.
-    ensures vector { V.bounded vector.new ≡ pushed (if has_room (V.bounded vector.old) then V.bounded vector.old else removed (V.bounded vector.old) 0) item }
+    ensures vector { V.bounded vector.new ≡ bounded_push (if has_room (V.bounded vector.old) then V.bounded vector.old else vec_remove (V.bounded vector.old) 0) item }
 {
     if vector.len() < vector.capacity() {
         vector.push_unchecked(item);
@@ -28,7 +28,7 @@ pub fn replace_at<T: Drop, V: Vector<T>>(vector: &mut V, index: usize, item: T) 
     // It is done exactly where there is such an item.
     ensures found { IsOk result ↔ (index < length (V.bounded vector.old).items) }
     // It answers the item that stood there.
-    ensures answer { IfOk result (λ held. slice_get (V.bounded vector.old).items index ≡ Some held) }
+    ensures value { IfOk result (λ held. slice_get (V.bounded vector.old).items index ≡ Some held) }
     // Every other item is as it was, and so is the capacity.
     ensures vector { OnOk result (V.bounded vector.new
         ≡ with_items (V.bounded vector.old) (slice_set (V.bounded vector.old).items index item)) }

@@ -23,7 +23,7 @@ impl<S> Model for Counted<S> {
 }
 
 impl<S> Counted<S> {
-    ghost use Rattle.ix_cells.specs.Lending.{lends_counted_place};
+    ghost use Rattle.ix_cells.specs.Lending.{counted_lends};
 
     /// The table, whose calls are counted from here on. O(1).
     #[inline]
@@ -98,7 +98,7 @@ impl<S> Counted<S> {
         // The place holds an item.
         requires { IsHeldAt (S.places self.old) i }
         // What is written comes back to that place, and every other place is as it was.
-        ensures* writes_back { sem 𝓛 (lends_counted_place S.row T.row S.with_item self.entry i result) }
+        ensures* writes_back { sem 𝓛 (counted_lends S.row T.row S.with_item self.entry i result) }
         // The result is that item.
         ensures value { place_at (S.places self.old) i ≡ Some result.now }
         ensures touches { touches.new.count ≡ touches.old.count + 2 }

@@ -44,7 +44,7 @@ impl<T: Drop, A: Allocator> Table<T> for HeapTable<T, A> {
 
     ghost with_item = { λ table i x. slice_set table i (Some x) };
 
-    ghost writes = { λ table i x. refl };
+    ghost places_with_item = { λ table i x. refl };
 
     #[inline]
     fn len(&self) -> usize {

@@ -46,7 +46,7 @@ impl<T: Drop, const CAP: usize> Table<T> for InlineTable<T, CAP> {
 
     ghost with_item = { λ table i x. slice_set table i (Some x) };
 
-    ghost writes = { λ table i x. refl };
+    ghost places_with_item = { λ table i x. refl };
 
     #[inline]
     fn len(&self) -> usize {

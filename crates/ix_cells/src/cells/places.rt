@@ -1,7 +1,7 @@
 //! The item of one place of a row.
 ghost use Rattle.std.specs.Prelude.{◌≡◌, Some, IsSome};
 ghost use Rattle.std.specs.Borrow.{sem};
-ghost use Rattle.ix_cells.specs.Lending.{lends_item};
+ghost use Rattle.ix_cells.specs.Lending.{option_lends};
 
 /// The item of a place that holds one.
 #[inline]
@@ -19,7 +19,7 @@ pub(crate) fn item<T>(place: &Option<T>) -> &T
 #[inline]
 pub(crate) fn item_mut<T>(place: &mut Option<T>) -> &mut T
     requires { IsSome place.old }
-    ensures* writes_back { sem 𝓛 (lends_item T.row place.entry result) }
+    ensures* writes_back { sem 𝓛 (option_lends T.row place.entry result) }
     ensures value { place.old ≡ Some result.now }
 {
     match place {

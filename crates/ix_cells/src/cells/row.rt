@@ -7,7 +7,7 @@ ghost use Rattle.std.specs.List.{AllZip, AppendsClones};
 ghost use Rattle.std.specs.Borrow.{sem};
 ghost use Rattle.arrayvec.specs.ArrayVec.{array_vec_len};
 ghost use Rattle.ix_cells.specs.Cloning.{AreInfallible};
-ghost use Rattle.ix_cells.specs.Rows.{lends_front, lends_place, lends_place_of};
+ghost use Rattle.ix_cells.specs.Rows.{array_vec_lends_front, array_vec_lends_place, slice_lends_place};
 
 use arrayvec::ArrayVec;
 use std::alloc::AllocError;
@@ -71,7 +71,7 @@ pub(crate) fn put_clones<T: Default + Clone + Drop, const CAP: usize>(
     // The places before are as they were.
     ensures front { take start row.new.items ≡ take start row.old.items }
     // The clones follow them.
-    ensures done { OnOk result (AppendsClones T.is_clone (take start row.old.items) (take (start + length items.now) row.new.items) items.now) }
+    ensures row { OnOk result (AppendsClones T.is_clone (take start row.old.items) (take (start + length items.now) row.new.items) items.now) }
     // It is done where no clone of these items can fail.
     ensures memory { AreInfallible T.is_infallible items.now → IsOk result }
 {
@@ -100,7 +100,7 @@ fn fill_with_clones<T: Default + Clone + Drop>(
     requires { length places.old ≡ length items.now }
     ensures len { length places.new ≡ length places.old }
     // The places hold the clones.
-    ensures done { OnOk result (AllZip T.is_clone items.now places.new) }
+    ensures places { OnOk result (AllZip T.is_clone items.now places.new) }
     // It is done where no clone of these items can fail.
     ensures memory { AreInfallible T.is_infallible items.now → IsOk result }
 {
@@ -121,7 +121,7 @@ fn fill_with_clones<T: Default + Clone + Drop>(
 pub(crate) fn place_mut<T, const CAP: usize>(row: &mut ArrayVec<T, CAP>, i: usize) -> &mut T
     requires { i < array_vec_len row.old }
     // What is written comes back to that place, and every other place is as it was.
-    ensures* writes_back { sem 𝓛 (lends_place T.row CAP.row row.entry i result) }
+    ensures* writes_back { sem 𝓛 (array_vec_lends_place T.row CAP.row row.entry i result) }
     ensures value { result.now ≡ slice_index_or row.old.items i result.now }
 {
     place_of(all_mut(row), i)
@@ -132,7 +132,7 @@ pub(crate) fn place_mut<T, const CAP: usize>(row: &mut ArrayVec<T, CAP>, i: usiz
 pub(crate) fn front_mut<T, const CAP: usize>(row: &mut ArrayVec<T, CAP>, len: usize) -> &mut [T]
     requires { len ≤ array_vec_len row.old }
     // What is written comes back to these places, and every other place is as it was.
-    ensures* writes_back { sem 𝓛 (lends_front T.row CAP.row row.entry result) }
+    ensures* writes_back { sem 𝓛 (array_vec_lends_front T.row CAP.row row.entry result) }
     ensures value { result.now ≡ take len row.old.items }
 {
     let all = all_mut(row);
@@ -143,7 +143,7 @@ pub(crate) fn front_mut<T, const CAP: usize>(row: &mut ArrayVec<T, CAP>, len: us
 #[inline]
 fn all_mut<T, const CAP: usize>(row: &mut ArrayVec<T, CAP>) -> &mut [T]
     // What is written comes back to the places.
-    ensures* writes_back { sem 𝓛 (lends_front T.row CAP.row row.entry result) }
+    ensures* writes_back { sem 𝓛 (array_vec_lends_front T.row CAP.row row.entry result) }
     ensures value { result.now ≡ row.old.items }
 {
     row.as_mut_slice()
@@ -155,7 +155,7 @@ fn all_mut<T, const CAP: usize>(row: &mut ArrayVec<T, CAP>) -> &mut [T]
 fn place_of<T>(places: &mut [T], i: usize) -> &mut T
     requires { i < length places.old }
     // What is written comes back to that place.
-    ensures* writes_back { sem 𝓛 (lends_place_of T.row places.entry i result) }
+    ensures* writes_back { sem 𝓛 (slice_lends_place T.row places.entry i result) }
     ensures value { result.now ≡ slice_index_or places.old i result.now }
 {
     &mut places[i]

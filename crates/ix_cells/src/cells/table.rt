@@ -1,7 +1,7 @@
 //! The trait of all tables.
 ghost use Rattle.std.specs.Prelude.{◌≡◌, ℕ, List, length, Option, Some, None, slice_set};
 ghost use Rattle.std.specs.Borrow.{sem};
-ghost use Rattle.ix_cells.specs.Lending.{lends_place};
+ghost use Rattle.ix_cells.specs.Lending.{table_lends};
 ghost use Rattle.ix_cells.specs.Places.{place_at, IsEmptyAt, IsHeldAt, IsVacant};
 
 /// The greatest capacity of a fixed kind, in items.
@@ -52,7 +52,7 @@ pub trait Table<T>: Sized {
         // The place holds an item.
         requires { IsHeldAt (places self.old) i }
         // What is written comes back to that place, and every other place is as it was.
-        ensures* writes_back { sem 𝓛 (lends_place Self.row T.row with_item self.entry i result) }
+        ensures* writes_back { sem 𝓛 (table_lends Self.row T.row with_item self.entry i result) }
         // The result is that item.
         ensures value { place_at (places self.old) i ≡ Some result.now };
 
@@ -62,5 +62,5 @@ pub trait Table<T>: Sized {
         requires { IsVacant (places self) };
 
     /// Another item at a place changes that place alone.
-    ghost writes: { (s : Self) (i : ℕ) (x : T) → places (with_item s i x) ≡ slice_set (places s) i (Some x) };
+    ghost places_with_item: { (s : Self) (i : ℕ) (x : T) → places (with_item s i x) ≡ slice_set (places s) i (Some x) };
 }

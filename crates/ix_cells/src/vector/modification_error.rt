@@ -17,9 +17,9 @@ pub enum VectorModificationError {
 }
 
 impl fmt::Display for VectorModificationError {
-    ghost use Rattle.ix_cells.specs.ErrorTexts.{modification_text};
+    ghost use Rattle.ix_cells.specs.ErrorTexts.{vec_error_text};
 
-    ghost output = { λ error. Some (modification_text error) };
+    ghost output = { λ error. Some (vec_error_text error) };
 
     fn fmt<W: fmt::Write>(&self, f: &mut fmt::Formatter<W>) -> fmt::Result {
         f.write_str(match self {

@@ -2,10 +2,12 @@
 ghost use Rattle.std.specs.Prelude.{◌≡◌, ◌≤◌, length, IsOk, IfOk};
 ghost use Rattle.std.specs.Cmp.{on_per, on_equiv};
 ghost use Rattle.std.specs.Cmp.Lexicographic.{pointwise, lists_per, lists_equiv};
-ghost use Rattle.ix_cells.specs.Bounded.{empty_of, IsFull};
-ghost use Rattle.ix_cells.specs.Calls.{AnswersFrom};
+ghost use Rattle.ix_cells.specs.Bounded.{bounded_new, with_items, IsFull};
+ghost use Rattle.ix_cells.specs.Calls.{ResultsFrom};
 ghost use Rattle.ix_cells.specs.Cloning.{AreEqualClones};
-ghost use Rattle.ix_cells.specs.Rewriting.{refilled, refilled_is};
+ghost use Rattle.ix_cells.specs.VectorSteps.{vec_refill};
+ghost use Rattle.std.proofs.Common.{arith, ap};
+ghost use Rattle.std.proofs.lemmas.Grind.{common_steps};
 
 use crate::vector::Vector;
 use std::alloc::{AllocError, Allocator, Global};
@@ -41,7 +43,7 @@ impl<T: Drop, A: Allocator> PolymorphicVec<T, A> {
     /// items would take more than `isize::MAX` bytes; nothing stays taken then.
     pub fn new(alloc: A, capacity: usize) -> Result<Self, AllocError>
         // It has no item, and this capacity.
-        ensures vector { IfOk result (λ vector. vector ≡ empty_of capacity) }
+        ensures vector { IfOk result (λ vector. vector ≡ bounded_new capacity) }
         // A capacity of 0 needs no memory.
         ensures memory { capacity ≡ 0 → IsOk result }
     {
@@ -67,7 +69,7 @@ impl<T: Drop, A: Allocator> PolymorphicVec<T, A> {
         // It has as many items.
         ensures full { IfOk result (λ vector. IsFull vector) }
         // They are the answers of calls at 0, 1 and so on.
-        ensures items { IfOk result (λ vector. (last : F) × AnswersFrom F.step 0 f vector.items last) }
+        ensures items { IfOk result (λ vector. (last : F) × ResultsFrom F.step 0 f vector.items last) }
         // A capacity of 0 needs no memory.
         ensures memory { capacity ≡ 0 → IsOk result }
     {
@@ -101,7 +103,7 @@ impl<T: Clone, A: Allocator + Copy> PolymorphicVec<T, A> {
 impl<T: Drop, A: Allocator> Vector<T> for PolymorphicVec<T, A> {
     ghost bounded = { λ vector. vector };
 
-    ghost rewritten = { refilled };
+    ghost with_slice = { vec_refill };
 
     #[inline]
     fn as_slice(&self) -> &[T] {
@@ -133,7 +135,7 @@ impl<T: Drop, A: Allocator> Vector<T> for PolymorphicVec<T, A> {
         self.items.pop()
     }
 
-    ghost rewrites = { refilled_is };
+    ghost bounded_with_slice = { λ vector xs same. ap (with_items vector) (Prim.search (arith, common_steps)) };
 }
 
 /// The items are dropped, the last one first.

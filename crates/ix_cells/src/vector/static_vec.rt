@@ -3,7 +3,8 @@ ghost use Rattle.std.specs.Prelude.{◌≡◌, ◌+◌, ◌<◌, ◌≤◌, [], 
 ghost use Rattle.std.specs.List.{AllZip, AppendsClones, refill};
 ghost use Rattle.std.specs.Cmp.Lexicographic.{pointwise, lists_per, lists_equiv};
 ghost use Rattle.ix_cells.specs.Cloning.{AreInfallible};
-ghost use Rattle.ix_cells.specs.Rewriting.{refilled_is};
+ghost use Rattle.std.proofs.Common.{arith, ap};
+ghost use Rattle.std.proofs.lemmas.Grind.{common_steps};
 
 use crate::cells::MAX_FIXED_CAPACITY;
 use crate::cells::row::{front_mut, put, put_clones, put_defaults, replace};
@@ -93,7 +94,7 @@ impl<T: Default + Clone, const CAPACITY: usize> StaticVec<T, CAPACITY> {
         // There is room for all of them.
         requires { length self.old + length items.now ≤ CAPACITY }
         // Clones of the items stand behind the others.
-        ensures done { OnOk result (AppendsClones T.is_clone self.old self.new items.now) }
+        ensures vector { OnOk result (AppendsClones T.is_clone self.old self.new items.now) }
         // A refusal leaves the items as they were.
         ensures refused { OnErr result (self.new ≡ self.old) }
         // It is done where no clone of these items can fail.
@@ -109,7 +110,7 @@ impl<T: Default + Clone, const CAPACITY: usize> StaticVec<T, CAPACITY> {
 impl<T: Default + Drop, const CAPACITY: usize> Vector<T> for StaticVec<T, CAPACITY> {
     ghost bounded = { λ vector. record { items = vector; capacity = CAPACITY } };
 
-    ghost rewritten = { λ vector xs. refill (length vector) vector xs };
+    ghost with_slice = { λ vector xs. refill (length vector) vector xs };
 
     #[inline]
     fn as_slice(&self) -> &[T] {
@@ -165,7 +166,7 @@ impl<T: Default + Drop, const CAPACITY: usize> Vector<T> for StaticVec<T, CAPACI
         self.put_clones_behind(other)
     }
 
-    ghost rewrites = { λ vector. refilled_is (record { items = vector; capacity = CAPACITY }) };
+    ghost bounded_with_slice = { λ vector xs same. ap (λ items. record { items = items; capacity = CAPACITY }) (Prim.search (arith, common_steps)) };
 }
 
 /// The items are dropped, the last one first.

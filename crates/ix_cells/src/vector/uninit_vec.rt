@@ -1,6 +1,6 @@
 //! The vector that has no memory yet.
 ghost use Rattle.std.specs.Prelude.{◌≡◌};
-ghost use Rattle.ix_cells.specs.Bounded.{empty_of};
+ghost use Rattle.ix_cells.specs.Bounded.{bounded_new};
 
 use crate::cells::{ContainerFamily, Uninit};
 use crate::vector::{PolymorphicVec, RelocatableVec};
@@ -16,7 +16,7 @@ pub struct VecFamily<T> {
 impl<T: Drop, A: Allocator> ContainerFamily<A> for VecFamily<T> {
     type Container = RelocatableVec<T, A>;
 
-    ghost is_empty_with = { λ capacity vector. vector ≡ empty_of capacity };
+    ghost is_empty_with = { λ capacity vector. vector ≡ bounded_new capacity };
 
     /// O(1), and one request of memory at most.
     #[inline]

@@ -1,11 +1,11 @@
 //! The trait of all vectors.
-ghost use Rattle.std.specs.Prelude.{◌≡◌, ◌+◌, ◌<◌, ◌≤◌, ◌↔◌, List, [], ◌∷◌, ◌++◌, length, take, drop, Ok, Err, IsTrue, IsOk, IsOkUnless, OnOk, OnErr, slice_range};
+ghost use Rattle.std.specs.Prelude.{◌≡◌, ◌+◌, ◌<◌, ◌≤◌, ◌↔◌, List, [], ◌∷◌, ◌++◌, length, take, drop, Ok, Err, IsTrue, IsOk, IsOkUnless, OnOk, OnErr, slice_get, slice_range};
 ghost use Rattle.std.specs.List.{AppendsResults, remove_range};
 ghost use Rattle.std.specs.Borrow.{sem};
-ghost use Rattle.ix_cells.specs.Bounded.{Bounded, IsWithin, IsFull, with_items};
+ghost use Rattle.ix_cells.specs.Bounded.{Bounded, IsWithin, IsFull, with_items, bounded_push};
 ghost use Rattle.ix_cells.specs.Cloning.{AreEqualClones, AreInfallible};
-ghost use Rattle.ix_cells.specs.Lending.{lends_items};
-ghost use Rattle.ix_cells.specs.VectorSteps.{IsRoomFor, IsNoRoomFor, pushed, push_answer, inserted, insert_answer, removed, removed_item, popped, last_of, truncated, extended, resized, resize_answer};
+ghost use Rattle.ix_cells.specs.Lending.{vec_lends};
+ghost use Rattle.ix_cells.specs.VectorSteps.{HasRoomFor, LacksRoomFor, vec_push_result, vec_insert, vec_insert_result, vec_remove, vec_pop, vec_last, vec_truncate, vec_extend, vec_resize, vec_resize_result};
 ghost use Rattle.ix_cells.specs.declared.vector.modification_error.VectorModificationError.TheVariants.{InsertWouldExceedCapacity, OutOfMemory};
 
 use crate::vector::VectorModificationError;
@@ -22,7 +22,7 @@ pub trait Vector<T: Drop> {
     ghost bounded: { Self → Bounded T };
 
     /// The vector with other items in the places of its own.
-    ghost rewritten: { Self → List T → Self };
+    ghost with_slice: { Self → List T → Self };
 
     /// The items, the first one first. O(1).
     fn as_slice(&self) -> &[T]
@@ -31,7 +31,7 @@ pub trait Vector<T: Drop> {
     /// The items for writing, the first one first. O(1).
     fn as_mut_slice(&mut self) -> &mut [T]
         // What is written comes back to the places of the items.
-        ensures* writes_back { sem 𝓛 (lends_items Self.row T.row rewritten self.entry result) }
+        ensures* writes_back { sem 𝓛 (vec_lends Self.row T.row with_slice self.entry result) }
         // The slice holds the items.
         ensures value { result.now ≡ (bounded self.old).items };
 
@@ -72,9 +72,9 @@ pub trait Vector<T: Drop> {
     /// Takes the last item, or answers None where there is none. O(1).
     fn pop(&mut self) -> Option<T>
         // It answers the last item.
-        ensures answer { result ≡ last_of (bounded self.old) }
+        ensures value { result ≡ vec_last (bounded self.old) }
         // The last item left.
-        ensures vector { bounded self.new ≡ popped (bounded self.old) };
+        ensures vector { bounded self.new ≡ vec_pop (bounded self.old) };
 
     /// Puts `item` behind the others. O(1).
     ///
@@ -82,9 +82,9 @@ pub trait Vector<T: Drop> {
     #[inline]
     final fn push(&mut self, item: T) -> Result<(), VectorModificationError>
         // It is refused exactly where there is no room.
-        ensures answer { result ≡ push_answer (bounded self.old) }
+        ensures value { result ≡ vec_push_result (bounded self.old) }
         // The item stands behind the others where there was room.
-        ensures vector { bounded self.new ≡ pushed (bounded self.old) item }
+        ensures vector { bounded self.new ≡ bounded_push (bounded self.old) item }
         // A refusal changes nothing.
         ensures refused { OnErr result (self.new ≡ self.old) }
     {
@@ -101,9 +101,9 @@ pub trait Vector<T: Drop> {
     /// length is answered by [`VectorModificationError::OutOfBounds`].
     final fn insert(&mut self, index: usize, item: T) -> Result<(), VectorModificationError>
         // It is refused exactly where there is no room, or no such place.
-        ensures answer { result ≡ insert_answer (bounded self.old) index }
+        ensures value { result ≡ vec_insert_result (bounded self.old) index }
         // The item stands between the first ones and the others where it is not refused.
-        ensures vector { bounded self.new ≡ inserted (bounded self.old) index item }
+        ensures vector { bounded self.new ≡ vec_insert (bounded self.old) index item }
         // A refusal changes nothing.
         ensures refused { OnErr result (self.new ≡ self.old) }
     {
@@ -122,9 +122,9 @@ pub trait Vector<T: Drop> {
     /// such item. O(`len - index`).
     final fn remove(&mut self, index: usize) -> Option<T>
         // It answers the item of that place.
-        ensures answer { result ≡ removed_item (bounded self.old) index }
+        ensures value { result ≡ slice_get (bounded self.old).items index }
         // That item left, and the others stay in their order.
-        ensures vector { bounded self.new ≡ removed (bounded self.old) index }
+        ensures vector { bounded self.new ≡ vec_remove (bounded self.old) index }
         // Where there is no such item, nothing changes.
         ensures refused { length (bounded self.old).items ≤ index → self.new ≡ self.old }
     {
@@ -138,7 +138,7 @@ pub trait Vector<T: Drop> {
     /// Keeps the first `n` items, and drops the others, the last one first. It changes nothing where there are no
     /// more than `n` items. O(`len - n`).
     fn truncate(&mut self, n: usize)
-        ensures { bounded self.new ≡ truncated (bounded self.old) n }
+        ensures { bounded self.new ≡ vec_truncate (bounded self.old) n }
     {
         while n < self.len() {
             drop(self.pop());
@@ -160,9 +160,9 @@ pub trait Vector<T: Drop> {
         // Clones of the items equal them.
         requires clones { AreEqualClones T.is_clone }
         // There is room for all of them.
-        requires room { IsRoomFor (length other.now) (bounded self.old) }
+        requires room { HasRoomFor (length other.now) (bounded self.old) }
         // The items of the slice stand behind the others.
-        ensures done { OnOk result (bounded self.new ≡ extended (bounded self.old) other.now) }
+        ensures vector { OnOk result (bounded self.new ≡ vec_extend (bounded self.old) other.now) }
         // A refusal leaves items and capacity as they were.
         ensures refused { OnErr result (bounded self.new ≡ bounded self.old) }
         // It is done where no clone of these items can fail.
@@ -192,16 +192,16 @@ pub trait Vector<T: Drop> {
         // Clones of the items equal them.
         requires clones { AreEqualClones T.is_clone }
         // Where they do not fit, that is the answer.
-        ensures full { IsNoRoomFor (length other.now) (bounded self.old)
+        ensures full { LacksRoomFor (length other.now) (bounded self.old)
             → result ≡ Err InsertWouldExceedCapacity }
         // Where they fit, want of memory is the only refusal.
-        ensures fits { IsRoomFor (length other.now) (bounded self.old) → IsOkUnless result OutOfMemory }
+        ensures fits { HasRoomFor (length other.now) (bounded self.old) → IsOkUnless result OutOfMemory }
         // The items of the slice stand behind the others.
-        ensures done { OnOk result (bounded self.new ≡ extended (bounded self.old) other.now) }
+        ensures vector { OnOk result (bounded self.new ≡ vec_extend (bounded self.old) other.now) }
         // A refusal leaves items and capacity as they were.
         ensures refused { OnErr result (bounded self.new ≡ bounded self.old) }
         // It is done where they fit and no clone of these items can fail.
-        ensures memory { IsRoomFor (length other.now) (bounded self.old)
+        ensures memory { HasRoomFor (length other.now) (bounded self.old)
             → AreInfallible T.is_infallible other.now → IsOk result }
     {
         if other.len() > self.capacity() - self.len() {
@@ -228,7 +228,7 @@ pub trait Vector<T: Drop> {
         // Where the length fits, want of memory is the only refusal.
         ensures fits { n ≤ (bounded self.old).capacity → IsOkUnless result OutOfMemory }
         // There are n items: the first ones, or all and then copies of the item.
-        ensures done { OnOk result (bounded self.new ≡ resized (bounded self.old) n item) }
+        ensures vector { OnOk result (bounded self.new ≡ vec_resize (bounded self.old) n item) }
         // A refusal leaves items and capacity as they were.
         ensures refused { OnErr result (bounded self.new ≡ bounded self.old) }
         // A cut is always done.
@@ -269,11 +269,11 @@ pub trait Vector<T: Drop> {
         // The closure can be called again and again.
         requires { F.IsAlwaysCallable f }
         // It is refused exactly where the length is past the capacity.
-        ensures answer { result ≡ resize_answer (bounded self.old) n }
+        ensures value { result ≡ vec_resize_result (bounded self.old) n }
         // There are n items.
         ensures len { OnOk result (length (bounded self.new).items ≡ n) }
         // They are the first ones, or all and then the answers of the closure, in the order of its calls.
-        ensures done { OnOk result (AppendsResults F.step (take n (bounded self.old).items)
+        ensures vector { OnOk result (AppendsResults F.step (take n (bounded self.old).items)
             (bounded self.new).items f) }
         // The capacity stays.
         ensures capacity { (bounded self.new).capacity ≡ (bounded self.old).capacity }
@@ -295,8 +295,8 @@ pub trait Vector<T: Drop> {
     }
 
     /// Another list of as many items changes the items alone.
-    ghost rewrites: { (vector : Self) (xs : List T) → length xs ≡ length (bounded vector).items
-        → bounded (rewritten vector xs) ≡ with_items (bounded vector) xs };
+    ghost bounded_with_slice: { (vector : Self) (xs : List T) → length xs ≡ length (bounded vector).items
+        → bounded (with_slice vector xs) ≡ with_items (bounded vector) xs };
 }
 
 /// Moves the last item to `index`, and each item from there on one place up.

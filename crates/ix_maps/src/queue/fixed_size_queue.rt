@@ -1,6 +1,6 @@
 //! The queue in the value itself.
 ghost use Rattle.std.specs.Prelude.{◌≡◌, ◌≤◌};
-ghost use Rattle.ix_cells.specs.Bounded.{empty_of};
+ghost use Rattle.ix_cells.specs.Bounded.{bounded_new};
 
 use crate::queue::MetaQueue;
 use ix_cells::{InlineTable, MAX_FIXED_CAPACITY};
@@ -29,7 +29,7 @@ impl<T: Drop, const CAPACITY: usize> FixedSizeQueue<T, CAPACITY> {
         // The capacity is one that fixed kinds have.
         requires { CAPACITY ≤ MAX_FIXED_CAPACITY }
         // It has no item, and this capacity.
-        ensures { result ≡ empty_of CAPACITY }
+        ensures { result ≡ bounded_new CAPACITY }
     {
         MetaQueue::over(InlineTable::new())
     }

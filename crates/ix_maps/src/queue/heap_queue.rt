@@ -1,6 +1,6 @@
 //! The queues in memory of an allocator.
 ghost use Rattle.std.specs.Prelude.{◌≡◌, IsOk, IfOk};
-ghost use Rattle.ix_cells.specs.Bounded.{empty_of};
+ghost use Rattle.ix_cells.specs.Bounded.{bounded_new};
 
 use crate::queue::{MetaQueue, UninitQueue};
 use ix_cells::HeapTable;
@@ -44,7 +44,7 @@ impl<T: Drop, A: Allocator> Queue<T, A> {
     /// This is `Queue::new` of iceoryx2-bb-container.
     pub fn new(alloc: A, capacity: usize) -> Result<Self, AllocError>
         // It has no item, and this capacity.
-        ensures queue { IfOk result (λ queue. queue ≡ empty_of capacity) }
+        ensures queue { IfOk result (λ queue. queue ≡ bounded_new capacity) }
         // A capacity of 0 needs no memory.
         ensures memory { capacity ≡ 0 → IsOk result }
     {

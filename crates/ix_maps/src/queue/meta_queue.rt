@@ -1,14 +1,15 @@
 //! The queue over any table.
 ghost use Rattle.std.specs.Prelude.{◌≡◌, ◌<◌, ◌≤◌, ◌↔◌, [], Some, IsTrue, IsSome, IsNone, length, option_copied, slice_get};
+ghost use Rattle.std.specs.List.{push};
 ghost use Rattle.std.specs.Bool.{OnFalse};
 ghost use Rattle.std.specs.Borrow.{sem, Lends, LendsIf};
 ghost use Rattle.std.specs.Cmp.{on_per, on_equiv};
 ghost use Rattle.std.specs.Cmp.Lexicographic.{pointwise, lists_per, lists_equiv};
 ghost use Rattle.std.specs.Option.{option_copied_mut};
-ghost use Rattle.ix_cells.specs.Bounded.{IsWithin, IsFull, has_room, empty_of, with_items};
+ghost use Rattle.ix_cells.specs.Bounded.{IsWithin, IsFull, has_room, bounded_new, bounded_push, with_items};
 ghost use Rattle.ix_cells.specs.Places.{IsVacant};
-ghost use Rattle.ix_maps.specs.QueueSteps.{appended, pushed, overflowed, overflow_of, oldest_of, popped, with_oldest};
-ghost use Rattle.ix_maps.specs.Ring.{place_behind, next_place};
+ghost use Rattle.ix_maps.specs.QueueSteps.{queue_overflow, queue_overflow_item, queue_front, queue_pop, queue_set_front};
+ghost use Rattle.ix_maps.specs.Ring.{ring_place, ring_next};
 
 use ix_cells::Table;
 use std::marker::{Model, PhantomData};
@@ -29,14 +30,14 @@ pub struct MetaQueue<T, S: Table<T>> {
 impl<T, S: Table<T>> Model for MetaQueue<T, S> {
     ghost use Rattle.std.specs.Prelude.{length};
     ghost use Rattle.ix_cells.specs.Bounded.{Bounded, bounded_code};
-    ghost use Rattle.ix_maps.specs.Ring.{turned, held_items, IsRing};
+    ghost use Rattle.ix_maps.specs.Ring.{row_from, held_items, IsRing};
 
     ghost Value = { Bounded T };
 
     ghost coded = { bounded_code T.code };
 
     ghost view = { λ queue. record {
-      items = held_items (turned (S.places queue.table) queue.start);
+      items = held_items (row_from (S.places queue.table) queue.start);
       capacity = length (S.places queue.table);
     } };
 
@@ -48,7 +49,7 @@ impl<T, S: Table<T>> Model for MetaQueue<T, S> {
 fn place_after(start: usize, i: usize, capacity: usize) -> usize
     requires start { start ≤ capacity }
     requires i { i < capacity }
-    ensures { result ≡ place_behind start i capacity }
+    ensures { result ≡ ring_place start i capacity }
 {
     let places_to_the_end = capacity - start;
     if i < places_to_the_end {
@@ -62,7 +63,7 @@ fn place_after(start: usize, i: usize, capacity: usize) -> usize
 #[inline]
 fn next_after(place: usize, capacity: usize) -> usize
     requires { place < capacity }
-    ensures { result ≡ next_place place capacity }
+    ensures { result ≡ ring_next place capacity }
 {
     if place + 1 == capacity { 0 } else { place + 1 }
 }
@@ -74,7 +75,7 @@ impl<T, S: Table<T>> MetaQueue<T, S> {
     #[inline]
     pub(crate) fn over(table: S) -> Self
         requires { IsVacant (S.places table) }
-        ensures { result ≡ empty_of (length (S.places table)) }
+        ensures { result ≡ bounded_new (length (S.places table)) }
     {
         MetaQueue {
             table,
@@ -135,9 +136,9 @@ impl<T, S: Table<T>> MetaQueue<T, S> {
     where
         T: Drop,
         // It answers whether there was room.
-        ensures answer { result ≡ has_room self.old }
+        ensures value { result ≡ has_room self.old }
         // The item stands behind the others where there was room.
-        ensures queue { self.new ≡ pushed self.old value }
+        ensures queue { self.new ≡ bounded_push self.old value }
         // It is refused only where the queue is full.
         ensures full { OnFalse result (IsFull self.old) }
         // A refusal changes nothing.
@@ -163,9 +164,9 @@ impl<T, S: Table<T>> MetaQueue<T, S> {
     #[inline]
     pub fn push_with_overflow(&mut self, value: T) -> Option<T>
         // It answers the item that leaves, if one does.
-        ensures answer { result ≡ overflow_of self.old value }
+        ensures value { result ≡ queue_overflow_item self.old value }
         // The item stands behind the others, and the head left where that was too long.
-        ensures queue { self.new ≡ overflowed self.old value }
+        ensures queue { self.new ≡ queue_overflow self.old value }
         // An item leaves exactly if the queue was full.
         ensures full { IsSome result ↔ IsFull self.old }
     {
@@ -190,9 +191,9 @@ impl<T, S: Table<T>> MetaQueue<T, S> {
     #[inline]
     pub fn pop(&mut self) -> Option<T>
         // It answers the head.
-        ensures answer { result ≡ oldest_of self.old }
+        ensures value { result ≡ queue_front self.old }
         // The head left.
-        ensures queue { self.new ≡ popped self.old }
+        ensures queue { self.new ≡ queue_pop self.old }
         // There was no item exactly if it answers None.
         ensures empty { IsNone result ↔ (self.old.items ≡ []) }
     {
@@ -214,7 +215,7 @@ impl<T, S: Table<T>> MetaQueue<T, S> {
     where
         T: Drop,
         // It has no item, and the same capacity.
-        ensures { self.new ≡ empty_of self.old.capacity }
+        ensures { self.new ≡ bounded_new self.old.capacity }
     {
         while let Some(item) = self.pop() {
             drop(item);
@@ -227,7 +228,7 @@ impl<T, S: Table<T>> MetaQueue<T, S> {
     #[inline]
     pub fn peek(&self) -> Option<&T>
         // It answers the head.
-        ensures answer { option_copied result ≡ oldest_of self.now }
+        ensures value { option_copied result ≡ queue_front self.now }
         // There is no item exactly if it answers None.
         ensures empty { IsNone result ↔ (self.now.items ≡ []) }
     {
@@ -250,9 +251,9 @@ impl<T, S: Table<T>> MetaQueue<T, S> {
     #[inline]
     pub fn peek_mut(&mut self) -> Option<&mut T>
         // What is written comes back as the head, and every other item is as it was.
-        ensures* writes_back { sem 𝓛 (LendsIf (the_row T.row S.row S.Table) T.row self.entry result (with_oldest self.old) self.old) }
+        ensures* writes_back { sem 𝓛 (LendsIf (the_row T.row S.row S.Table) T.row self.entry result (queue_set_front self.old) self.old) }
         // It answers the head.
-        ensures answer { option_copied_mut result ≡ oldest_of self.old }
+        ensures value { option_copied_mut result ≡ queue_front self.old }
         // There is no item exactly if it answers None.
         ensures empty { IsNone result ↔ (self.old.items ≡ []) }
     {
@@ -307,8 +308,8 @@ impl<T, S: Table<T>> MetaQueue<T, S> {
     #[inline]
     fn oldest_mut(&mut self) -> &mut T
         requires { 0 < length self.old.items }
-        ensures* writes_back { sem 𝓛 (Lends (the_row T.row S.row S.Table) T.row self.entry result (with_oldest self.old)) }
-        ensures value { oldest_of self.old ≡ Some result.now }
+        ensures* writes_back { sem 𝓛 (Lends (the_row T.row S.row S.Table) T.row self.entry result (queue_set_front self.old)) }
+        ensures value { queue_front self.old ≡ Some result.now }
     {
         self.table.get_mut(self.start)
     }
@@ -317,7 +318,7 @@ impl<T, S: Table<T>> MetaQueue<T, S> {
     #[inline]
     fn append(&mut self, value: T)
         requires { length self.old.items < self.old.capacity }
-        ensures { self.new ≡ with_items self.old (appended self.old.items value) }
+        ensures { self.new ≡ with_items self.old (push self.old.items value) }
     {
         let len = self.len;
         let place = place_after(self.start, len, self.table.len());

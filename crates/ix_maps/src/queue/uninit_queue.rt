@@ -1,6 +1,6 @@
 //! The queue that has no memory yet.
 ghost use Rattle.std.specs.Prelude.{◌≡◌};
-ghost use Rattle.ix_cells.specs.Bounded.{empty_of};
+ghost use Rattle.ix_cells.specs.Bounded.{bounded_new};
 
 use crate::queue::{Queue, RelocatableQueue};
 use ix_cells::{ContainerFamily, Uninit};
@@ -16,7 +16,7 @@ pub struct QueueFamily<T> {
 impl<T: Drop, A: Allocator> ContainerFamily<A> for QueueFamily<T> {
     type Container = RelocatableQueue<T, A>;
 
-    ghost is_empty_with = { λ capacity queue. queue ≡ empty_of capacity };
+    ghost is_empty_with = { λ capacity queue. queue ≡ bounded_new capacity };
 
     /// O(`capacity`), and one request of memory at most.
     #[inline]

@@ -2,7 +2,7 @@
 ghost use Rattle.std.specs.Prelude.{◌≡◌, ◌≢◌, ℕ, ◌+◌, ◌<◌, ◌≤◌, ◌↔◌, [], Some, None, IsNone, IsTrue};
 ghost use Rattle.std.specs.Bool.{OnFalse};
 ghost use Rattle.ix_maps.specs.SlotState.{times, first_of, value_at, IsHeld, IsKey, IsWellFormed};
-ghost use Rattle.ix_maps.specs.SlotSteps.{filled, emptied, inserted, inserted_at, removed};
+ghost use Rattle.ix_maps.specs.SlotSteps.{slot_fill, slot_vacate, slot_insert, slot_insert_at, slot_remove};
 
 use crate::slotmap::free_list::{first_left, link_first, unlink};
 use crate::slotmap::link::NO_KEY;
@@ -18,7 +18,7 @@ impl<T, S: Table<T>, L: Table<Link>> MetaSlotMap<T, S, L> {
         // It answers the first free key.
         ensures key { result ≡ first_of self.old.free }
         // That key has the value, and left the free list.
-        ensures map { self.new ≡ inserted self.old value }
+        ensures map { self.new ≡ slot_insert self.old value }
         // There is none exactly if no key is free.
         ensures full { IsNone result ↔ (self.old.free ≡ []) }
         // A refusal changes nothing.
@@ -38,9 +38,9 @@ impl<T, S: Table<T>, L: Table<Link>> MetaSlotMap<T, S, L> {
     where
         T: Drop,
         // It answers whether the key is one of the map's.
-        ensures answer { IsTrue result ↔ IsKey self.old key }
+        ensures value { IsTrue result ↔ IsKey self.old key }
         // The key has the value, and is not free.
-        ensures map { self.new ≡ inserted_at self.old key value }
+        ensures map { self.new ≡ slot_insert_at self.old key value }
         // A refusal changes nothing.
         ensures refused { OnFalse result (self.new ≡ self.old) }
         // Every other key keeps its value.
@@ -58,7 +58,7 @@ impl<T, S: Table<T>, L: Table<Link>> MetaSlotMap<T, S, L> {
         // It answers the value that the key had, if any.
         ensures value { result ≡ value_at self.old key }
         // The key has none, and stands in front of the free keys, if it had one.
-        ensures map { self.new ≡ removed self.old key }
+        ensures map { self.new ≡ slot_remove self.old key }
         // A refusal changes nothing.
         ensures refused { IsNone result → self.new ≡ self.old }
         // Every other key keeps its value.
@@ -77,7 +77,7 @@ impl<T, S: Table<T>, L: Table<Link>> MetaSlotMap<T, S, L> {
         // It answers the first free key.
         ensures key { result ≡ first_of self.old.free }
         // That key has the value, and left the free list.
-        ensures map { self.new ≡ inserted self.old value }
+        ensures map { self.new ≡ slot_insert self.old value }
         // There is none exactly if no key is free.
         ensures full { IsNone result ↔ (self.old.free ≡ []) }
         // A refusal changes nothing.
@@ -105,9 +105,9 @@ impl<T, S: Table<T>, L: Table<Link>> MetaSlotMap<T, S, L> {
     where
         T: Drop,
         // It answers whether the key is one of the map's.
-        ensures answer { IsTrue result ↔ IsKey self.old key }
+        ensures value { IsTrue result ↔ IsKey self.old key }
         // The key has the value, and is not free.
-        ensures map { self.new ≡ inserted_at self.old key value }
+        ensures map { self.new ≡ slot_insert_at self.old key value }
         // A refusal changes nothing.
         ensures refused { OnFalse result (self.new ≡ self.old) }
         // Every other key keeps its value.
@@ -137,7 +137,7 @@ impl<T, S: Table<T>, L: Table<Link>> MetaSlotMap<T, S, L> {
         // It answers the value that the key had, if any.
         ensures value { result ≡ value_at self.old key }
         // The key has none, and stands in front of the free keys, if it had one.
-        ensures map { self.new ≡ removed self.old key }
+        ensures map { self.new ≡ slot_remove self.old key }
         // A refusal changes nothing.
         ensures refused { IsNone result → self.new ≡ self.old }
         // Every other key keeps its value.
@@ -163,7 +163,7 @@ impl<T, S: Table<T>, L: Table<Link>> MetaSlotMap<T, S, L> {
     #[inline]
     fn fill(&mut self, key: usize, value: T, touches: &mut Touches)
         requires { 0 < times key self.old.free }
-        ensures map { self.new ≡ filled self.old key value }
+        ensures map { self.new ≡ slot_fill self.old key value }
         ensures formed { IsWellFormed self.new }
         ensures touches { touches.new.count ≤ touches.old.count + 8 }
         ensures counts_on { touches.old.count ≤ touches.new.count }
@@ -180,7 +180,7 @@ impl<T, S: Table<T>, L: Table<Link>> MetaSlotMap<T, S, L> {
     #[inline]
     fn fill_first(&mut self, value: T, touches: &mut Touches)
         requires { self.old.free ≢ [] }
-        ensures map { self.new ≡ inserted self.old value }
+        ensures map { self.new ≡ slot_insert self.old value }
         ensures formed { IsWellFormed self.new }
         ensures touches { touches.new.count ≤ touches.old.count + 8 }
         ensures counts_on { touches.old.count ≤ touches.new.count }
@@ -199,7 +199,7 @@ impl<T, S: Table<T>, L: Table<Link>> MetaSlotMap<T, S, L> {
     where
         T: Drop,
         requires { IsHeld self.old key }
-        ensures map { self.new ≡ filled self.old key value }
+        ensures map { self.new ≡ slot_fill self.old key value }
         ensures formed { IsWellFormed self.new }
         ensures touches { touches.new.count ≡ touches.old.count + 2 }
     {
@@ -211,7 +211,7 @@ impl<T, S: Table<T>, L: Table<Link>> MetaSlotMap<T, S, L> {
     fn vacate(&mut self, key: usize, touches: &mut Touches) -> T
         requires { IsHeld self.old key }
         ensures value { value_at self.old key ≡ Some result }
-        ensures map { self.new ≡ emptied self.old key }
+        ensures map { self.new ≡ slot_vacate self.old key }
         ensures formed { IsWellFormed self.new }
         ensures touches { touches.new.count ≤ touches.old.count + 5 }
         ensures counts_on { touches.old.count ≤ touches.new.count }

@@ -1,6 +1,6 @@
 //! Slot maps in the value itself.
 ghost use Rattle.std.specs.Prelude.{◌≡◌, ◌≤◌};
-ghost use Rattle.ix_maps.specs.SlotState.{IsWellFormed, empty_slots};
+ghost use Rattle.ix_maps.specs.SlotState.{IsWellFormed, slot_new};
 
 use crate::slotmap::{Link, MetaSlotMap};
 use ix_cells::{InlineTable, MAX_FIXED_CAPACITY};
@@ -31,7 +31,7 @@ impl<T: Drop, const CAPACITY: usize> FixedSizeSlotMap<T, CAPACITY> {
         // The capacity is one that fixed kinds have.
         requires { CAPACITY ≤ MAX_FIXED_CAPACITY }
         // No key has a value, and the free keys are 0, 1 and so on.
-        ensures map { result ≡ empty_slots CAPACITY }
+        ensures map { result ≡ slot_new CAPACITY }
         // The free keys are exactly those with no value.
         ensures formed { IsWellFormed result }
     {

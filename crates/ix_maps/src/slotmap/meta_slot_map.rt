@@ -5,7 +5,7 @@ ghost use Rattle.std.specs.Map.{keys_of, lookup};
 ghost use Rattle.std.specs.Borrow.{sem, Lends, LendsIf};
 ghost use Rattle.std.specs.Option.{option_copied_mut};
 ghost use Rattle.ix_cells.specs.Places.{IsVacant};
-ghost use Rattle.ix_maps.specs.SlotState.{SlotState, times, first_of, value_at, IsHeld, IsKey, IsWellFormed, empty_slots, held_count, entries, entries_from};
+ghost use Rattle.ix_maps.specs.SlotState.{SlotState, times, first_of, value_at, IsHeld, IsKey, IsWellFormed, slot_new, held_count, entries, entries_from};
 ghost use Rattle.ix_maps.specs.SlotSteps.{with_value};
 ghost use Rattle.ix_maps.specs.FreeList.{no_key};
 
@@ -59,7 +59,7 @@ impl<T, S: Table<T>, L: Table<Link>> MetaSlotMap<T, S, L> {
         // No place holds a link, and there are as many places.
         requires links { L.places links ≡ replicate (length (S.places values)) None }
         // No key has a value, and the free keys are 0, 1 and so on.
-        ensures map { result ≡ empty_slots (length (S.places values)) }
+        ensures map { result ≡ slot_new (length (S.places values)) }
         // The free keys are exactly those with no value.
         ensures formed { IsWellFormed result }
     {

@@ -1,6 +1,6 @@
 //! Slot maps in memory of an allocator.
 ghost use Rattle.std.specs.Prelude.{◌≡◌, IfOk, IsOk};
-ghost use Rattle.ix_maps.specs.SlotState.{IsWellFormed, empty_slots};
+ghost use Rattle.ix_maps.specs.SlotState.{IsWellFormed, slot_new};
 
 use crate::slotmap::{Link, MetaSlotMap};
 use ix_cells::{HeapTable, Table};
@@ -18,7 +18,7 @@ impl<T: Drop, A: Allocator + Copy> SlotMap<T, A> {
     /// taken then.
     pub fn new(alloc: A, capacity: usize) -> Result<Self, AllocError>
         // No key has a value, and the free keys are 0, 1 and so on.
-        ensures map { IfOk result (λ map. map ≡ empty_slots capacity) }
+        ensures map { IfOk result (λ map. map ≡ slot_new capacity) }
         // The free keys are exactly those with no value.
         ensures formed { IfOk result (λ map. IsWellFormed map) }
         // No key needs no memory.

@@ -1,6 +1,6 @@
 //! The slot map that has no memory yet.
 ghost use Rattle.std.specs.Prelude.{◌≡◌};
-ghost use Rattle.ix_maps.specs.SlotState.{empty_slots};
+ghost use Rattle.ix_maps.specs.SlotState.{slot_new};
 
 use crate::slotmap::{RelocatableSlotMap, SlotMap};
 use ix_cells::{ContainerFamily, Uninit};
@@ -16,7 +16,7 @@ pub struct SlotMapFamily<T> {
 impl<T: Drop, A: Allocator + Copy> ContainerFamily<A> for SlotMapFamily<T> {
     type Container = RelocatableSlotMap<T, A>;
 
-    ghost is_empty_with = { λ capacity map. map ≡ empty_slots capacity };
+    ghost is_empty_with = { λ capacity map. map ≡ slot_new capacity };
 
     /// O(`capacity`), and two requests of memory at most.
     #[inline]

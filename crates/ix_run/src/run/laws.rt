@@ -1,6 +1,6 @@
 //! What the definitions of scripts say, in their users' words. These functions do nothing: their contracts are the laws.
 ghost use Rattle.std.specs.Prelude.{ℕ, ◌≡◌, ◌≢◌, ◌++◌, ◌∷◌, ◌⊎◌, List, [], All, map, codes};
-ghost use Rattle.ix_cells.specs.Bounded.{empty_of};
+ghost use Rattle.ix_cells.specs.Bounded.{bounded_new};
 ghost use Rattle.ix_run.specs.Lines.{IsOneLine, ended, all_ended, lines_of};
 ghost use Rattle.ix_run.specs.QueueRun.{replies_of};
 ghost use Rattle.ix_run.specs.Reading.{IsInRange, command_text, header_text, capacity_of};
@@ -24,5 +24,5 @@ pub fn line_law()
 pub fn script_law()
     ensures { (capacity : FixedCapacity) (commands : List (QueueCommand ℕ)) → All IsInRange commands →
         replies_to (all_ended (header_text capacity ∷ map command_text commands))
-        ≡ all_ended (codes "ready" ∷ map reply_text (replies_of (empty_of (capacity_of capacity)) commands)) }
+        ≡ all_ended (codes "ready" ∷ map reply_text (replies_of (bounded_new (capacity_of capacity)) commands)) }
 {}

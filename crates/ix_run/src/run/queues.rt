@@ -1,6 +1,6 @@
 //! The queue that a script works on.
 ghost use Rattle.std.specs.Prelude.{◌≡◌, Some, None};
-ghost use Rattle.ix_cells.specs.Bounded.{empty_of};
+ghost use Rattle.ix_cells.specs.Bounded.{bounded_new};
 ghost use Rattle.ix_run.specs.Lines.{ended};
 ghost use Rattle.ix_run.specs.QueueRun.{optional_reply, reply_of, queue_after};
 ghost use Rattle.ix_run.specs.Reading.{capacity_of};
@@ -57,7 +57,7 @@ pub enum FixedQueue {
 
 impl FixedQueue {
     fn new(capacity: FixedCapacity) -> FixedQueue
-        ensures { held_by result ≡ empty_of (capacity_of capacity) }
+        ensures { held_by result ≡ bounded_new (capacity_of capacity) }
     {
         match capacity {
             FixedCapacity::Zero => FixedQueue::Zero(FixedSizeQueue::new()),

@@ -1,6 +1,6 @@
 //! Escaped text: how the bytes of a string are shown.
 ghost use Rattle.std.specs.Prelude.{◌≡◌, ◌<◌, Some, IfOk, string_bytes};
-ghost use Rattle.ix_string.specs.Escape.{hex_digit, escaped_byte, escaped};
+ghost use Rattle.ix_string.specs.Escape.{hex_digit, escaped_byte, escaped_text};
 
 use std::alloc::{AllocError, Global};
 use std::fmt;
@@ -44,7 +44,7 @@ impl fmt::Display for EscapedByte {
 pub(crate) struct Escaped<'a>(pub(crate) &'a [u8]);
 
 impl fmt::Display for Escaped<'_> {
-    ghost output = { λ shown. Some (escaped shown.0.now) };
+    ghost output = { λ shown. Some (escaped_text shown.0.now) };
 
     fn fmt<W: fmt::Write>(&self, f: &mut fmt::Formatter<W>) -> fmt::Result {
         for byte in self.0 {
@@ -62,7 +62,7 @@ impl fmt::Display for Escaped<'_> {
 /// This is `as_escaped_string` of iceoryx2-bb-container.
 pub fn as_escaped_string(alloc: Global, bytes: &[u8]) -> Result<std::string::String, AllocError>
     // It is the bytes' images, one after the other.
-    ensures { IfOk result (λ text. string_bytes text ≡ escaped bytes.now) }
+    ensures { IfOk result (λ text. string_bytes text ≡ escaped_text bytes.now) }
 {
     format!(in alloc; "{}", Escaped(bytes))
 }

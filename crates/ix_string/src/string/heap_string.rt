@@ -5,7 +5,7 @@ ghost use Rattle.std.specs.Cmp.Rules.{comparing, hashing};
 ghost use Rattle.std.specs.Cmp.{partial_order_from_own_ties};
 ghost use Rattle.std.specs.Ordering.{nat_cmp, as_partial_cmp};
 ghost use Rattle.std.proofs.Common.{rules};
-ghost use Rattle.ix_string.specs.Escape.{escaped};
+ghost use Rattle.ix_string.specs.Escape.{escaped_text};
 
 use crate::string::String;
 use crate::string::escape::Escaped;
@@ -156,7 +156,7 @@ impl<K, A: Allocator> Hash for HeapString<K, A> {
 
 /// The bytes are shown escaped.
 impl<K, A: Allocator> fmt::Display for HeapString<K, A> {
-    ghost output = { λ string. Some (escaped string.items) };
+    ghost output = { λ string. Some (escaped_text string.items) };
 
     fn fmt<W: fmt::Write>(&self, f: &mut fmt::Formatter<W>) -> fmt::Result {
         Escaped(self.as_bytes()).fmt(f)

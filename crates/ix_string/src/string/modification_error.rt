@@ -15,9 +15,9 @@ pub enum StringModificationError {
 }
 
 impl fmt::Display for StringModificationError {
-    ghost use Rattle.ix_string.specs.ErrorTexts.{modification_text};
+    ghost use Rattle.ix_string.specs.ErrorTexts.{string_error_text};
 
-    ghost output = { λ error. Some (modification_text error) };
+    ghost output = { λ error. Some (string_error_text error) };
 
     fn fmt<W: fmt::Write>(&self, f: &mut fmt::Formatter<W>) -> fmt::Result {
         f.write_str(match self {

@@ -1,6 +1,6 @@
 //! The string whose memory is taken where it is made.
 ghost use Rattle.std.specs.Prelude.{◌≡◌, IsOk, IfOk, codes};
-ghost use Rattle.ix_cells.specs.Bounded.{empty_of};
+ghost use Rattle.ix_cells.specs.Bounded.{bounded_new};
 
 use crate::string::heap_string::{HeapString, HeapStringKind};
 use ix_cells::PolymorphicVec;
@@ -31,7 +31,7 @@ impl<A: Allocator> PolymorphicString<A> {
     /// O(1), and one request of memory at most. `AllocError` tells that there was no memory, which is so too where
     /// `capacity` is above `isize::MAX`; nothing stays taken then.
     pub fn new(alloc: A, capacity: usize) -> Result<Self, AllocError>
-        ensures string { IfOk result (λ string. string ≡ empty_of capacity) }
+        ensures string { IfOk result (λ string. string ≡ bounded_new capacity) }
         // A capacity of 0 needs no memory.
         ensures memory { capacity ≡ 0 → IsOk result }
     {

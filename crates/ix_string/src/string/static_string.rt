@@ -31,7 +31,7 @@ pub struct StaticString<const CAPACITY: usize> {
 impl<const CAPACITY: usize> Model for StaticString<CAPACITY> {
     ghost use Rattle.std.specs.Prelude.{ℕ, List, length, take};
     ghost use Rattle.std.proofs.Common.{sym};
-    ghost use Rattle.ix_string.specs.Text.{IsPadded, padded};
+    ghost use Rattle.ix_string.specs.Text.{IsPadded, padded_text};
     ghost use Rattle.ix_string.specs.Undoing.{count_back};
 
     ghost Value = { List ℕ };
@@ -40,7 +40,7 @@ impl<const CAPACITY: usize> Model for StaticString<CAPACITY> {
 
     ghost invariant = { λ string. IsPadded CAPACITY string.count string.cells };
 
-    ghost inverse = { λ text. record { cells = padded CAPACITY text; count = length text } };
+    ghost inverse = { λ text. record { cells = padded_text CAPACITY text; count = length text } };
 
     ghost inverse_ok = { λ string is i. record { cells = sym is.zeros i; count = count_back CAPACITY string.cells string.count is.within is.whole i } };
 }
@@ -115,7 +115,7 @@ impl<const CAPACITY: usize> StaticString<CAPACITY> {
     /// not looked at.
     pub fn from_bytes_truncated(bytes: &[u8]) -> Result<Self, StringModificationError>
         // It is made exactly where these bytes are text.
-        ensures answer { IsOk result ↔ IsText (take CAPACITY bytes.now) }
+        ensures value { IsOk result ↔ IsText (take CAPACITY bytes.now) }
         // It holds them.
         ensures ok { IfOk result (λ string. string ≡ take CAPACITY bytes.now) }
         // No other refusal is told.
@@ -130,7 +130,7 @@ impl<const CAPACITY: usize> StaticString<CAPACITY> {
     /// It refuses as [`StaticString::from_bytes_truncated`] does.
     pub fn from_str_truncated(text: &str) -> Result<Self, StringModificationError>
         // It is made exactly where these bytes are text.
-        ensures answer { IsOk result ↔ IsText (take CAPACITY text.now) }
+        ensures value { IsOk result ↔ IsText (take CAPACITY text.now) }
         // It holds them.
         ensures ok { IfOk result (λ string. string ≡ take CAPACITY text.now) }
         // No other refusal is told.

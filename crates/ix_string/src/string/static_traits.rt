@@ -5,7 +5,7 @@ ghost use Rattle.std.specs.Cmp.Lexicographic.{pointwise, slice_cmp};
 ghost use Rattle.std.specs.Cmp.Rules.{comparing, hashing};
 ghost use Rattle.std.specs.Ordering.{nat_cmp, as_partial_cmp};
 ghost use Rattle.std.proofs.Common.{rules};
-ghost use Rattle.ix_string.specs.Escape.{escaped};
+ghost use Rattle.ix_string.specs.Escape.{escaped_text};
 ghost use Rattle.ix_string.specs.TextSteps.{StringFromBytes};
 
 use crate::string::escape::Escaped;
@@ -121,7 +121,7 @@ impl<const CAPACITY: usize> Hash for StaticString<CAPACITY> {
 
 /// The bytes are shown escaped.
 impl<const CAPACITY: usize> fmt::Display for StaticString<CAPACITY> {
-    ghost output = { λ string. Some (escaped string) };
+    ghost output = { λ string. Some (escaped_text string) };
 
     fn fmt<W: fmt::Write>(&self, f: &mut fmt::Formatter<W>) -> fmt::Result {
         Escaped(self.as_bytes()).fmt(f)

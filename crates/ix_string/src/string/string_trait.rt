@@ -1,13 +1,13 @@
 //! The trait of all strings.
-ghost use Rattle.std.specs.Prelude.{ℕ, ◌≡◌, ◌+◌, ◌-◌, ◌<◌, ◌≤◌, ◌↔◌, ◌==◌, [], ◌∷◌, ◌++◌, length, drop, IsTrue, IsSome, IfSome, IfNone, OnSome, OnErr};
+ghost use Rattle.std.specs.Prelude.{ℕ, ◌≡◌, ◌+◌, ◌-◌, ◌<◌, ◌≤◌, ◌↔◌, ◌==◌, [], ◌∷◌, ◌++◌, length, drop, IsTrue, IsSome, IfSome, IfNone, OnSome, OnErr, slice_get};
 ghost use Rattle.std.specs.Bool.{OnTrue, OnFalse};
 ghost use Rattle.std.specs.Cmp.Lexicographic.{slice_cmp};
 ghost use Rattle.std.specs.Ordering.{nat_cmp};
 ghost use Rattle.ix_cells.specs.Bounded.{Bounded, IsWithin, IsFull, with_items};
-ghost use Rattle.ix_cells.specs.VectorSteps.{IsRoomFor, removed, removed_item, popped, last_of, truncated};
-ghost use Rattle.ix_string.specs.Text.{IsText, StandsAt, IsFirstPlace, IsLastPlace, EndsIn};
+ghost use Rattle.ix_cells.specs.VectorSteps.{HasRoomFor, vec_remove, vec_pop, vec_last, vec_truncate};
+ghost use Rattle.ix_string.specs.Text.{IsText, MatchesAt, IsFirstMatch, IsLastMatch, EndsWith};
 ghost use Rattle.ix_string.specs.Retain.{Retains};
-ghost use Rattle.ix_string.specs.TextSteps.{with_inserted, inserted, insert_answer, IsRangeOf, range_removed};
+ghost use Rattle.ix_string.specs.TextSteps.{text_insert_slice, text_insert, text_insert_result, IsRangeOf, text_remove_range};
 
 use crate::string::StringModificationError;
 use crate::string::gaps::is_text;
@@ -48,19 +48,19 @@ pub trait String {
         // The place is one of the string, or the one behind its last byte.
         requires place { idx ≤ length (bounded self.old).items }
         // There is room for all of them.
-        requires room { IsRoomFor (length bytes.now) (bounded self.old) }
+        requires room { HasRoomFor (length bytes.now) (bounded self.old) }
         // Each is from 1 to 127.
         requires text { IsText bytes.now }
         // They stand between the first ones and the others.
-        ensures { bounded self.new ≡ with_inserted (bounded self.old) idx bytes.now };
+        ensures { bounded self.new ≡ text_insert_slice (bounded self.old) idx bytes.now };
 
     /// Takes `n` bytes out from place `idx` on, moves the later ones down and answers true; or answers false where
     /// there are not so many bytes from there on. O(`len - idx`).
     fn remove_range(&mut self, idx: usize, n: usize) -> bool
         // It is done exactly where there are such bytes.
-        ensures answer { IsTrue result ↔ IsRangeOf (bounded self.old) idx n }
+        ensures value { IsTrue result ↔ IsRangeOf (bounded self.old) idx n }
         // The bytes of the range left, and the others stay in their order.
-        ensures done { OnTrue result (bounded self.new ≡ range_removed (bounded self.old) idx n) }
+        ensures string { OnTrue result (bounded self.new ≡ text_remove_range (bounded self.old) idx n) }
         // A refusal changes nothing.
         ensures refused { OnFalse result (self.new ≡ self.old) };
 
@@ -102,9 +102,9 @@ pub trait String {
         // The place is one of the string, or the one behind its last byte.
         requires { idx ≤ length (bounded self.old).items }
         // It is refused exactly where there is no room, or a byte that is none of a text.
-        ensures answer { result ≡ insert_answer (bounded self.old) bytes.now }
+        ensures value { result ≡ text_insert_result (bounded self.old) bytes.now }
         // The bytes stand between the first ones and the others where it is not refused.
-        ensures string { bounded self.new ≡ inserted (bounded self.old) idx bytes.now }
+        ensures string { bounded self.new ≡ text_insert (bounded self.old) idx bytes.now }
         // A refusal changes nothing.
         ensures refused { OnErr result (self.new ≡ self.old) }
     {
@@ -128,9 +128,9 @@ pub trait String {
         // The place is one of the string, or the one behind its last byte.
         requires { idx ≤ length (bounded self.old).items }
         // It is refused exactly where there is no room, or the byte is none of a text.
-        ensures answer { result ≡ insert_answer (bounded self.old) (byte ∷ []) }
+        ensures value { result ≡ text_insert_result (bounded self.old) (byte ∷ []) }
         // The byte stands between the first ones and the others where it is not refused.
-        ensures string { bounded self.new ≡ inserted (bounded self.old) idx (byte ∷ []) }
+        ensures string { bounded self.new ≡ text_insert (bounded self.old) idx (byte ∷ []) }
         // A refusal changes nothing.
         ensures refused { OnErr result (self.new ≡ self.old) }
     {
@@ -143,9 +143,9 @@ pub trait String {
     #[inline]
     final fn push_bytes(&mut self, bytes: &[u8]) -> Result<(), StringModificationError>
         // It is refused exactly where there is no room, or a byte that is none of a text.
-        ensures answer { result ≡ insert_answer (bounded self.old) bytes.now }
+        ensures value { result ≡ text_insert_result (bounded self.old) bytes.now }
         // The bytes stand behind the others where it is not refused.
-        ensures string { bounded self.new ≡ inserted (bounded self.old) (length (bounded self.old).items) bytes.now }
+        ensures string { bounded self.new ≡ text_insert (bounded self.old) (length (bounded self.old).items) bytes.now }
         // A refusal changes nothing.
         ensures refused { OnErr result (self.new ≡ self.old) }
     {
@@ -158,9 +158,9 @@ pub trait String {
     #[inline]
     final fn push(&mut self, byte: u8) -> Result<(), StringModificationError>
         // It is refused exactly where there is no room, or the byte is none of a text.
-        ensures answer { result ≡ insert_answer (bounded self.old) (byte ∷ []) }
+        ensures value { result ≡ text_insert_result (bounded self.old) (byte ∷ []) }
         // The byte stands behind the others where it is not refused.
-        ensures string { bounded self.new ≡ inserted (bounded self.old) (length (bounded self.old).items) (byte ∷ []) }
+        ensures string { bounded self.new ≡ text_insert (bounded self.old) (length (bounded self.old).items) (byte ∷ []) }
         // A refusal changes nothing.
         ensures refused { OnErr result (self.new ≡ self.old) }
     {
@@ -171,9 +171,9 @@ pub trait String {
     /// such byte. O(`len - idx`).
     final fn remove(&mut self, idx: usize) -> Option<u8>
         // It answers the byte of that place.
-        ensures answer { result ≡ removed_item (bounded self.old) idx }
+        ensures value { result ≡ slice_get (bounded self.old).items idx }
         // That byte left, and the others stay in their order.
-        ensures string { bounded self.new ≡ removed (bounded self.old) idx }
+        ensures string { bounded self.new ≡ vec_remove (bounded self.old) idx }
         // Where there is no such byte, nothing changes.
         ensures refused { length (bounded self.old).items ≤ idx → self.new ≡ self.old }
     {
@@ -188,9 +188,9 @@ pub trait String {
     /// Takes the last byte, or answers None where there is none. O(1).
     final fn pop(&mut self) -> Option<u8>
         // It answers the last byte.
-        ensures answer { result ≡ last_of (bounded self.old) }
+        ensures value { result ≡ vec_last (bounded self.old) }
         // The last byte left.
-        ensures string { bounded self.new ≡ popped (bounded self.old) }
+        ensures string { bounded self.new ≡ vec_pop (bounded self.old) }
     {
         let len = self.len();
         if len == 0 {
@@ -202,7 +202,7 @@ pub trait String {
     /// Keeps the first `n` bytes. It changes nothing where there are no more than `n` bytes. O(`len - n`).
     final fn truncate(&mut self, n: usize)
         // The first bytes stay.
-        ensures string { bounded self.new ≡ truncated (bounded self.old) n }
+        ensures string { bounded self.new ≡ vec_truncate (bounded self.old) n }
         // Where there are no more, nothing changes.
         ensures kept { length (bounded self.old).items ≤ n → self.new ≡ self.old }
     {
@@ -221,14 +221,14 @@ pub trait String {
 
     /// The least place where `needle` stands, or None where it stands nowhere. An empty one stands at 0.
     final fn find(&self, needle: &[u8]) -> Option<usize>
-        ensures { IsFirstPlace (bounded self.now).items needle.now result }
+        ensures { IsFirstMatch (bounded self.now).items needle.now result }
     {
         memmem::find(self.as_bytes(), needle)
     }
 
     /// The greatest place where `needle` stands, or None where it stands nowhere. An empty one stands at `len`.
     final fn rfind(&self, needle: &[u8]) -> Option<usize>
-        ensures { IsLastPlace (bounded self.now).items needle.now result }
+        ensures { IsLastMatch (bounded self.now).items needle.now result }
     {
         memmem::rfind(self.as_bytes(), needle)
     }
@@ -236,9 +236,9 @@ pub trait String {
     /// Takes `bytes` out and answers true where the string begins with them; or answers false. O(`len`).
     final fn strip_prefix(&mut self, bytes: &[u8]) -> bool
         // It is done exactly where they stand in front.
-        ensures answer { IsTrue result ↔ StandsAt (bounded self.old).items bytes.now 0 }
+        ensures value { IsTrue result ↔ MatchesAt (bounded self.old).items bytes.now 0 }
         // They left, and the others stay in their order.
-        ensures done { OnTrue result (bounded self.new ≡ range_removed (bounded self.old) 0 (length bytes.now)) }
+        ensures string { OnTrue result (bounded self.new ≡ text_remove_range (bounded self.old) 0 (length bytes.now)) }
         // A refusal changes nothing.
         ensures refused { OnFalse result (self.new ≡ self.old) }
     {
@@ -251,10 +251,10 @@ pub trait String {
     /// Takes `bytes` out and answers true where the string ends with them; or answers false. O(`bytes.len()`).
     final fn strip_suffix(&mut self, bytes: &[u8]) -> bool
         // It is done exactly where they are the ending.
-        ensures answer { IsTrue result ↔ EndsIn (bounded self.old).items bytes.now }
+        ensures value { IsTrue result ↔ EndsWith (bounded self.old).items bytes.now }
         // They left, and the others stay.
-        ensures done { OnTrue result (bounded self.new
-            ≡ truncated (bounded self.old) (length (bounded self.old).items - length bytes.now)) }
+        ensures string { OnTrue result (bounded self.new
+            ≡ vec_truncate (bounded self.old) (length (bounded self.old).items - length bytes.now)) }
         // A refusal changes nothing.
         ensures refused { OnFalse result (self.new ≡ self.old) }
     {

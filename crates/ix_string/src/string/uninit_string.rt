@@ -1,6 +1,6 @@
 //! The string that has no memory yet.
 ghost use Rattle.std.specs.Prelude.{◌≡◌};
-ghost use Rattle.ix_cells.specs.Bounded.{empty_of};
+ghost use Rattle.ix_cells.specs.Bounded.{bounded_new};
 
 use crate::string::RelocatableString;
 use crate::string::heap_string::HeapString;
@@ -14,7 +14,7 @@ pub struct StringFamily;
 impl<A: Allocator> ContainerFamily<A> for StringFamily {
     type Container = RelocatableString<A>;
 
-    ghost is_empty_with = { λ capacity string. string ≡ empty_of capacity };
+    ghost is_empty_with = { λ capacity string. string ≡ bounded_new capacity };
 
     /// O(1), and one request of memory at most.
     #[inline]

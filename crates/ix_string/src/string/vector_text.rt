@@ -1,8 +1,8 @@
 //! The changes of a text that lies in a vector of bytes.
 ghost use Rattle.std.specs.Prelude.{◌≡◌, ◌+◌, ◌≤◌, ◌-◌, length, slice_range};
-ghost use Rattle.ix_cells.specs.VectorSteps.{IsRoomFor, extended};
+ghost use Rattle.ix_cells.specs.VectorSteps.{HasRoomFor, vec_extend};
 ghost use Rattle.ix_string.specs.Retain.{Retains};
-ghost use Rattle.ix_string.specs.TextSteps.{with_inserted, range_removed};
+ghost use Rattle.ix_string.specs.TextSteps.{text_insert_slice, text_remove_range};
 
 use crate::string::gaps::{close_gap, open_gap};
 use crate::string::retaining::move_kept_back;
@@ -11,9 +11,9 @@ use ix_cells::Vector;
 /// Puts `bytes` at place `idx`, and moves each byte from there on up. Each byte is written once.
 pub(crate) fn insert_into<V: Vector<u8>>(vector: &mut V, idx: usize, bytes: &[u8])
     requires place { idx ≤ length (V.bounded vector.old).items }
-    requires room { IsRoomFor (length bytes.now) (V.bounded vector.old) }
+    requires room { HasRoomFor (length bytes.now) (V.bounded vector.old) }
     // They stand between the first ones and the others.
-    ensures { V.bounded vector.new ≡ with_inserted (V.bounded vector.old) idx bytes.now }
+    ensures { V.bounded vector.new ≡ text_insert_slice (V.bounded vector.old) idx bytes.now }
 {
     let len = vector.len();
     // A vector grows by pushes alone: what comes to stand past its old end goes there first.
@@ -36,9 +36,9 @@ pub(crate) fn insert_into<V: Vector<u8>>(vector: &mut V, idx: usize, bytes: &[u8
 fn push_again<V: Vector<u8>>(vector: &mut V, start: usize, end: usize)
     requires order { start ≤ end }
     requires bounds { end ≤ length (V.bounded vector.old).items }
-    requires room { IsRoomFor (end - start) (V.bounded vector.old) }
+    requires room { HasRoomFor (end - start) (V.bounded vector.old) }
     // They stand behind all others too.
-    ensures { V.bounded vector.new ≡ extended (V.bounded vector.old) (slice_range (V.bounded vector.old).items start end) }
+    ensures { V.bounded vector.new ≡ vec_extend (V.bounded vector.old) (slice_range (V.bounded vector.old).items start end) }
 {
     for idx in start..end {
         let byte = vector.as_slice()[idx];
@@ -50,7 +50,7 @@ fn push_again<V: Vector<u8>>(vector: &mut V, start: usize, end: usize)
 pub(crate) fn remove_from<V: Vector<u8>>(vector: &mut V, idx: usize, n: usize)
     requires { idx + n ≤ length (V.bounded vector.old).items }
     // They left, and the others stay in their order.
-    ensures { V.bounded vector.new ≡ range_removed (V.bounded vector.old) idx n }
+    ensures { V.bounded vector.new ≡ text_remove_range (V.bounded vector.old) idx n }
 {
     let len = vector.len();
     close_gap(vector.as_mut_slice(), idx, n, len);

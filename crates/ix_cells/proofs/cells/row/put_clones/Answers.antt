@@ -13,6 +13,6 @@ returns g c =
     rw c.as_mut_slice-places.ensures.value (record {
       len = length-refill-written xs ys a e order c.requires same;
       front = take-refill-before xs ys a e order c.requires same;
-      done = AppendsClones-written xs ys a e order c.requires same g.T.Clone.is_clone c.args.items.now c.fill_with_clones.result c.fill_with_clones.ensures.done;
+      row = AppendsClones-written xs ys a e order c.requires same g.T.Clone.is_clone c.args.items.now c.fill_with_clones.result c.fill_with_clones.ensures.places;
       memory = c.fill_with_clones.ensures.memory;
     })

@@ -1,6 +1,6 @@
 use Rattle.std.proofs.Common.{of_calls, ℕ, ◌≡◌, ◌+◌, ◌-◌, ◌∷◌, ◌∙◌, List, true, false, refl, ap, drop, get_or, set, arith}
 use Rattle.std.proofs.lemmas.List.{take-set-le}
-use Rattle.ix_string.specs.Retain.{retained}
+use Rattle.ix_string.specs.Retain.{retained_items}
 use Rattle.ix_string.proofs.Retaining.{Retains-more, drop-last, get_or-front, take-front, drop-put}
 use Rattle.ix_string.proofs.string.retaining.move_kept_back.Goals as goal
 
@@ -18,7 +18,7 @@ loop-idx-preserved-then-not-f g c =
     let next : n ≡ i + 1 = omega arith in
     let x = get_or old i 0 in
     let answers = at.asked.0 in
-    let kept = retained answers (drop n old) in
+    let kept = retained_items answers (drop n old) in
     let behind : drop i old ≡ x ∷ drop n old = drop-last old i n 0 next (omega arith) in
     let read : get_or row i 0 ≡ x = get_or-front row old i n 0 (omega arith) at.front in
     let called : goal.F-step g c.loop-idx.f x false c.f.new.self = rw (← read, ← c.if-not-f.true) (search of_calls) in
@@ -47,7 +47,7 @@ loop-idx-preserved g c =
     let next : n ≡ i + 1 = omega arith in
     let x = get_or old i 0 in
     let answers = at.asked.0 in
-    let kept = retained answers (drop n old) in
+    let kept = retained_items answers (drop n old) in
     let behind : drop i old ≡ x ∷ drop n old = drop-last old i n 0 next (omega arith) in
     let read : get_or row i 0 ≡ x = get_or-front row old i n 0 (omega arith) at.front in
     let called : goal.F-step g c.loop-idx.f x true c.f.new.self = rw (← read, ← c.if-not-f.false) (search of_calls) in

@@ -1,6 +1,6 @@
 use Rattle.std.proofs.Common.{◌≡◌, ◌≤◌, List, Bool, length, take, drop}
 use Rattle.std.specs.Prelude.{reverse}
-use Rattle.ix_string.specs.Retain.{AnswersAt, retained}
+use Rattle.ix_string.specs.Retain.{ResultsAt, retained_items}
 use Rattle.ix_string.proofs.string.retaining.move_kept_back.Given as goal
 
 abbrev pub invariant-loop-idx : goal.invariant-loop-idx
@@ -11,6 +11,6 @@ invariant-loop-idx g l =
       order : l.idx ≤ l.start;
       within : l.start ≤ length old;
       front : take l.idx l.row ≡ take l.idx old;
-      asked : (answers : List Bool) × AnswersAt (λ p x b q. goal.F-step g p x b q) l.initial.f (reverse (drop l.idx old)) answers l.f
-          × (drop l.start l.row ≡ retained answers (drop l.idx old));
+      asked : (answers : List Bool) × ResultsAt (λ p x b q. goal.F-step g p x b q) l.initial.f (reverse (drop l.idx old)) answers l.f
+          × (drop l.start l.row ≡ retained_items answers (drop l.idx old));
     }

@@ -1,5 +1,5 @@
 use Rattle.std.proofs.Common.{of_calls, arith, ap, [], ◌∷◌, ◌++◌, ◌≡◌, length, length-append}
-use Rattle.ix_cells.proofs.Calls.{AnswersFrom-push}
+use Rattle.ix_cells.proofs.Calls.{ResultsFrom-push}
 use Rattle.ix_cells.proofs.vector.polymorphic_vec.PolymorphicVec.from_fn.Goals as goal
 
 pub loop-n-preserved : goal.loop-n-preserved
@@ -14,5 +14,5 @@ loop-n-preserved g c =
       callable = search of_calls;
       capacity = rw kept at.capacity;
       len = omega (arith, ap length items, length-append vector.items (x ∷ []), at.len);
-      answers = rw items (AnswersFrom-push _ 0 c.loop-n.n _ vector.items _ x _ (omega (arith, at.len)) at.answers (search of_calls));
+      answers = rw items (ResultsFrom-push _ 0 c.loop-n.n _ vector.items _ x _ (omega (arith, at.len)) at.answers (search of_calls));
     }

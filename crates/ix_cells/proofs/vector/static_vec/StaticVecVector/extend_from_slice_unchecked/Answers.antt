@@ -2,11 +2,11 @@ use Rattle.std.proofs.lemmas.List.Elements.{same_from_all_zip}
 use Rattle.std.proofs.lemmas.Result.{on_ok_weaker, on_err_weaker}
 use Rattle.ix_cells.proofs.vector.static_vec.StaticVecVector.extend_from_slice_unchecked.Goals as goal
 
-pub returns-clause-done : goal.returns-clause-done
-returns-clause-done g c =
+pub returns-clause-vector : goal.returns-clause-vector
+returns-clause-vector g c =
     let put = c.put_clones_behind in
     on_ok_weaker put.result
-    (λ h. let same = same_from_all_zip _ _ _ h.2 c.requires.clones in let is = h.1 in cc) put.ensures.done
+    (λ h. let same = same_from_all_zip _ _ _ h.2 c.requires.clones in let is = h.1 in cc) put.ensures.vector
 
 pub returns-clause-refused : goal.returns-clause-refused
 returns-clause-refused g c = on_err_weaker c.put_clones_behind.result (λ is. cc) c.put_clones_behind.ensures.refused

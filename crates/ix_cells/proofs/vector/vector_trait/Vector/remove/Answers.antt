@@ -4,19 +4,19 @@ use Rattle.std.proofs.lemmas.Option.{slice_get_past}
 use Rattle.ix_cells.proofs.Lists.{slice_get-moved}
 use Rattle.ix_cells.proofs.vector.vector_trait.Vector.remove.Goals as goal
 
-pub returns-then-index-len-clause-answer : goal.returns-then-index-len-clause-answer
-returns-then-index-len-clause-answer g c =
+pub returns-then-index-len-clause-value : goal.returns-then-index-len-clause-value
+returns-then-index-len-clause-value g c =
     let items = (g.Self.Vector.bounded c.args.self.now).items in
     let i = c.args.index in
     let within = c.if-index-len.true in
     let one : suc i - i ≡ 1 = omega arith in
     let moved = rw c.as_mut_slice.ensures.value at c.put_behind_others.ensures in
     let same : length c.put_behind_others.new.items ≡ length items = search rules in
-    let law = g.met.Self.Vector.rewrites c.args.self.now c.put_behind_others.new.items same in
-    rw (c.pop.ensures.answer, law, same, moved, add-one, one) (slice_get-moved items i (omega arith))
+    let law = g.met.Self.Vector.bounded_with_slice c.args.self.now c.put_behind_others.new.items same in
+    rw (c.pop.ensures.value, law, same, moved, add-one, one) (slice_get-moved items i (omega arith))
 
-pub returns-clause-answer : goal.returns-clause-answer
-returns-clause-answer g c =
+pub returns-clause-value : goal.returns-clause-value
+returns-clause-value g c =
     let items = (g.Self.Vector.bounded c.args.self.now).items in
     let past = c.if-index-len.false in
     let none : slice_get items c.args.index ≡ None = slice_get_past items c.args.index (omega arith) in

@@ -1,6 +1,6 @@
 use Rattle.std.proofs.Common.{of_calls, arith, ◌≡◌, ◌+◌, ◌-◌, [], ◌∷◌, ◌++◌, append_assoc, length-append, length}
 use Rattle.std.proofs.lemmas.Fn.{FoldsTo-push}
-use Rattle.ix_cells.specs.VectorSteps.{extended}
+use Rattle.ix_cells.specs.VectorSteps.{vec_extend}
 use Rattle.ix_cells.proofs.vector.vector_trait.Vector.resize_with.Goals as goal
 
 pub loop-i-preserved : goal.loop-i-preserved
@@ -12,9 +12,9 @@ loop-i-preserved g c =
     let from = c.loop-i.auto._i in
     let counted = at.grown.1 in
     let longer : length (ys ++ x ∷ []) ≡ c.loop-i._i + 1 - c.len-old_len.result = omega (arith, length-append ys (x ∷ [])) in
-    let pushed : g.Self.Vector.bounded c.push_unchecked.new.self ≡ extended old (ys ++ x ∷ []) =
+    let bounded_push : g.Self.Vector.bounded c.push_unchecked.new.self ≡ vec_extend old (ys ++ x ∷ []) =
     rw (c.push_unchecked.ensures, at.grown.2, append_assoc) in
     record {
       callable = search of_calls;
-      grown = (ys ++ x ∷ [], longer, pushed, FoldsTo-push _ _ ys _ _ _ at.grown.3 (search of_calls));
+      grown = (ys ++ x ∷ [], longer, bounded_push, FoldsTo-push _ _ ys _ _ _ at.grown.3 (search of_calls));
     }

@@ -1,11 +1,11 @@
 use Rattle.std.proofs.Common.{◌≡◌, ◌-◌, List, length}
 use Rattle.std.specs.List.{FoldsTo}
-use Rattle.ix_cells.specs.VectorSteps.{extended}
+use Rattle.ix_cells.specs.VectorSteps.{vec_extend}
 use Rattle.ix_cells.proofs.vector.vector_trait.Vector.resize_with.Given as goal
 
 abbrev pub invariant-loop-i : goal.invariant-loop-i
 invariant-loop-i g l = record {
   callable : goal.F-IsAlwaysCallable g l.f;
-  grown : (ys : List g.row.T.Denot) × (length ys ≡ l._i - l.old_len) × (g.Self.Vector.bounded l.self ≡ extended (g.Self.Vector.bounded l.initial.self) ys)
+  grown : (ys : List g.row.T.Denot) × (length ys ≡ l._i - l.old_len) × (g.Self.Vector.bounded l.self ≡ vec_extend (g.Self.Vector.bounded l.initial.self) ys)
       × FoldsTo (λ p y q. goal.F-step g p y q) l.initial.f ys l.f;
 }

@@ -7,4 +7,4 @@ get_mut-requires g c =
 
 pub invariant_of-self-lent : goal.invariant_of-self-lent
 invariant_of-self-lent g c w =
-    (ring_written _ _ _ _ _ w (record { sound = c.self.invariant; is = c.self.view_is }) c.requires (g.met.S.Table.writes c.self.inside.table c.self.inside.start w)).sound
+    (ring_written _ _ _ _ _ w (record { sound = c.self.invariant; is = c.self.view_is }) c.requires (g.met.S.Table.places_with_item c.self.inside.table c.self.inside.start w)).sound

@@ -1,6 +1,6 @@
 use Rattle.std.proofs.Common.{subst}
 use Rattle.ix_maps.specs.FreeList.{IsLinkWithin}
-use Rattle.ix_maps.proofs.SlotMaps.{links_of, key_of, beside_of, empty_of}
+use Rattle.ix_maps.proofs.SlotMaps.{links_of, key_of, beside_of, bounded_new}
 use Rattle.ix_maps.proofs.SlotSteps.{filled_shows}
 use Rattle.ix_maps.proofs.slotmap.meta_slot_map.MetaSlotMap.fill.Goals as goal
 
@@ -19,7 +19,7 @@ unlink-requires-clause-beside g c =
     subst (λ link. IsLinkWithin link (g.L.Table.places c.self.inside.links)) c.get-link.ensures.value (beside_of _ _ _ _ _ c.args.key (record { sound = c.self.invariant; is = c.self.view_is }) c.requires)
 
 pub put-requires : goal.put-requires
-put-requires g c = empty_of _ _ _ _ _ c.args.key (record { sound = c.self.invariant; is = c.self.view_is }) c.requires
+put-requires g c = bounded_new _ _ _ _ _ c.args.key (record { sound = c.self.invariant; is = c.self.view_is }) c.requires
 
 pub invariant_of-self : goal.invariant_of-self
 invariant_of-self g c =

@@ -1,6 +1,6 @@
 use Rattle.std.proofs.Common.{length, None, sym, ap, ◌∙◌, arith}
 use Rattle.std.specs.Prelude.{replicate}
-use Rattle.ix_maps.specs.SlotState.{empty_slots}
+use Rattle.ix_maps.specs.SlotState.{slot_new}
 use Rattle.ix_maps.proofs.SlotSteps.{fresh}
 use Rattle.ix_maps.proofs.slotmap.meta_slot_map.MetaSlotMap.from_tables.Goals as goal
 
@@ -17,7 +17,7 @@ returns-clause-map g c =
     let len = c.len.ensures ∙ ap length same in
     let bound = c.len.type_inv in
     (fresh _ _ _ _ (same ∙ c.requires.values ∙ ap (λ n. replicate n None) (sym len)) c.link_all-first.ensures.links c.link_all-first.ensures.first (omega arith)).is
-    ∙ ap empty_slots len
+    ∙ ap slot_new len
 
 pub returns-clause-formed : goal.returns-clause-formed
 returns-clause-formed g c = (invariant_of-result g c).formed

@@ -4,8 +4,8 @@ use Rattle.std.proofs.lemmas.List.{take_min}
 use Rattle.ix_string.proofs.Texts.{IsOk-StringFromBytes}
 use Rattle.ix_string.proofs.string.static_string.StaticString.from_bytes_truncated.Goals as goal
 
-pub returns-clause-answer : goal.returns-clause-answer
-returns-clause-answer g c =
+pub returns-clause-value : goal.returns-clause-value
+returns-clause-value g c =
     let bytes = c.args.bytes.now in
     let n = c.min-n.result in
     let cut : take n bytes ≡ take g.row.CAPACITY bytes = grind (arith, common_steps, take_min) in

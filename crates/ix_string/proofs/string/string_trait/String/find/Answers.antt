@@ -1,5 +1,5 @@
-use Rattle.ix_string.proofs.Places.{IsFirstPlace-FindsNeedle}
+use Rattle.ix_string.proofs.Places.{IsFirstMatch-FindsNeedle}
 use Rattle.ix_string.proofs.string.string_trait.String.find.Goals as goal
 
 pub returns : goal.returns
-returns g c = rw c.as_bytes.ensures.value at (IsFirstPlace-FindsNeedle c.as_bytes.result.now c.args.needle.now c.find.result c.find.ensures)
+returns g c = rw c.as_bytes.ensures.value at (IsFirstMatch-FindsNeedle c.as_bytes.result.now c.args.needle.now c.find.result c.find.ensures)
