@@ -1,4 +1,4 @@
--- A new counter is the struct with no bytes, and its number is 0. Assumes `Logic`.
+-- Zero is the struct with no bytes. Assumes `Logic`.
 use Rattle.std.proofs.Common.{[], ◌∷◌, refl}
 use Rattle.std.proofs.raw_atomic.Walks.{proved}
 use types.Kit.{raw, ◌$◌, ◌∵◌, !, qed, drop, suffices, done}
@@ -8,16 +8,16 @@ use types.ByLocal.{alloc_all, pass_all, free_all, look_at, sets}
 use denote.Steps.{nothing}
 use denote.Triple.Entry.{on_entry}
 use denote.Triple.Walked.{Stays, says, walk_of, ends_at}
-use Rattle.ix_cells.proofs.Touching.{no_bytes, counter_made}
-use Rattle.ix_cells.specs.contracts.cells.touches.Touches.new as f
-use Rattle.ix_cells.proofs.cells.touches.Touches.new.Statement.{statement}
-use Rattle.ix_cells.proofs.cells.touches.Touches.new.Code as code
+use Rattle.ix_cells.proofs.Counts.{no_bytes, count_made}
+use Rattle.ix_cells.specs.contracts.cells.counted.Count.zero as f
+use Rattle.ix_cells.proofs.cells.counted.Count.zero.Statement.{statement}
+use Rattle.ix_cells.proofs.cells.counted.Count.zero.Code as code
 
 abbrev stayed : Stays f.ended.signature.params f.ended.kept
 stayed = tt
 
-pub new_spec : {M : Type 1} → statement M
-new_spec 𝓤 𝓛 𝓜 𝓡 wired =
+pub zero_spec : {M : Type 1} → statement M
+zero_spec 𝓤 𝓛 𝓜 𝓡 wired =
     let c = f.clauses 𝓛 𝓜.mem 𝓡.returns in let W = walk_of 𝓛 f.ended stayed c in
     proved 𝓛 f.ended stayed c 𝓜 𝓡 tt f.Key.name code.function (code.unfolded 𝓤 𝓛.H 𝓜 𝓡 wired)
     (λ κs. tt) (λ κs. tt) (λ κs qs bounds a _ are.
@@ -26,5 +26,5 @@ new_spec 𝓤 𝓛 𝓜 𝓡 wired =
     enter ! _ _ _ _ _ $ alloc_all ! (λ l. pass_all ! refl tt $
     sets ! (agg ! (no_more !)) refl (tt, tt) $
     returns ! (look_at ! 0 refl) $ free_all ! refl $
-    suffices ! _ (ends_at 𝓛 f.ended stayed c y no_bytes (record { count = 0 }) tt tt) $ says ! refl $
-    counter_made ! 0 $ nothing ! $ nothing ! $ done !))
+    suffices ! _ (ends_at 𝓛 f.ended stayed c y no_bytes (record { number = 0 }) tt tt) $ says ! refl $
+    count_made ! 0 $ nothing ! $ nothing ! $ done !))
