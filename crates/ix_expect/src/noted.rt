@@ -32,6 +32,11 @@ impl Notes {
         self.drops.replace(0)
     }
 
+    /// Returns how many more clones succeed.
+    pub fn clones_left(&self) -> u64 {
+        self.clones_left.get()
+    }
+
     /// Lets so many more clones succeed.
     pub fn allow_clones(&self, clones_left: u64) {
         self.clones_left.set(clones_left);
