@@ -120,6 +120,10 @@ fn capacities_that_cannot_be_allocated(rt: HostRuntime) -> Result<(), Fail> {
         let refused = is_table_refused(alloc, *len);
         findings.expect(refused, "a table is refused");
     }
+    let most = PolymorphicVec::<(), Global>::new(alloc, isize::MAX as usize);
+    findings.expect(most.is_ok(), "items of size zero");
+    let more = PolymorphicVec::<(), Global>::new(alloc, isize::MAX as usize + 1);
+    findings.expect(more.is_err(), "items of size zero");
     findings.verdict()
 }
 

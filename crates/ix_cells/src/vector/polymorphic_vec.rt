@@ -49,7 +49,7 @@ impl<T: Drop, A: Allocator> PolymorphicVec<T, A> {
     /// Creates an empty vector with capacity for `capacity` items.
     ///
     /// O(1), with at most one allocation. Returns `AllocError` if that fails, as it does if the items would take more
-    /// than `isize::MAX` bytes.
+    /// than `isize::MAX` bytes or, at size zero, be more than `isize::MAX`.
     pub fn new(alloc: A, capacity: usize) -> Result<Self, AllocError>
         ensures value { IfOk result (λ vector. vector ≡ bounded_new capacity) }
         ensures memory { capacity ≡ 0 → IsOk result }
