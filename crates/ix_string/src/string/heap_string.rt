@@ -1,10 +1,12 @@
 //! The string in memory of an allocator.
-ghost use Rattle.std.specs.Prelude.{◌≡◌, ◌==◌, ℕ, List, ◌∷◌, [], Some};
+ghost use Rattle.std.specs.Prelude.{◌≡◌, ◌==◌, ℕ, List, ◌∷◌, [], refl, Some};
 ghost use Rattle.std.specs.Cmp.Lexicographic.{pointwise, slice_cmp};
 ghost use Rattle.std.specs.Cmp.Rules.{comparing, hashing};
 ghost use Rattle.std.specs.Cmp.{partial_order_from_own_ties};
+ghost use Rattle.std.specs.Fmt.{WritesOnOk};
 ghost use Rattle.std.specs.Ordering.{nat_cmp, as_partial_cmp};
 ghost use Rattle.std.proofs.Common.{rules};
+ghost use Rattle.ix_string.specs.Debug.{heap_debug_text};
 ghost use Rattle.ix_string.specs.Escape.{escaped_text};
 
 use crate::string::String;
@@ -67,8 +69,16 @@ impl<K, A: Allocator> HeapString<K, A> {
     }
 }
 
-impl<K, A: Allocator> String for HeapString<K, A> {
+impl<K: HeapStringKind, A: Allocator> String for HeapString<K, A> {
     ghost bounded = { λ string. string };
+
+    ghost eq_by_bytes = { λ _ _. refl };
+
+    ghost cmp_by_bytes = { λ _ _. refl };
+
+    ghost hash_input_by_bytes = { λ _. refl };
+
+    ghost output_by_bytes = { λ _. refl };
 
     #[inline]
     fn as_bytes(&self) -> &[u8] {
@@ -110,7 +120,7 @@ impl<K, A: Allocator> PartialEq for HeapString<K, A> {
     ghost laws = { Prim.search (comparing, rules) };
 
     fn eq(&self, other: &Self) -> bool {
-        self.as_bytes() == other.as_bytes()
+        self.bytes.as_slice() == other.bytes.as_slice()
     }
 }
 
@@ -129,7 +139,7 @@ impl<K, A: Allocator> Ord for HeapString<K, A> {
     ghost matches_eq = { Prim.search (comparing, rules) };
 
     fn cmp(&self, other: &Self) -> Ordering {
-        self.as_bytes().cmp(&other.as_bytes())
+        self.bytes.as_slice().cmp(&other.bytes.as_slice())
     }
 }
 
@@ -150,7 +160,7 @@ impl<K, A: Allocator> Hash for HeapString<K, A> {
     ghost respects_eq = { Prim.search (hashing, rules) };
 
     fn hash<H: Hasher>(&self, state: &mut H) {
-        state.write(self.as_bytes());
+        state.write(self.bytes.as_slice());
     }
 }
 
@@ -159,21 +169,39 @@ impl<K, A: Allocator> fmt::Display for HeapString<K, A> {
     ghost output = { λ string. Some (escaped_text string.items) };
 
     fn fmt<W: fmt::Write>(&self, f: &mut fmt::Formatter<W>) -> fmt::Result {
-        Escaped(self.as_bytes()).fmt(f)
+        Escaped(self.bytes.as_slice()).fmt(f)
     }
 }
 
 /// The kind, the capacity, the length and the escaped bytes are shown, as
 /// `RelocatableString { capacity: 5, len: 2, data: "ab" }`.
 impl<K: HeapStringKind, A: Allocator> fmt::Debug for HeapString<K, A> {
+    ghost debug_output = { λ string. Some (heap_debug_text K.text string) };
+
     fn fmt<W: fmt::Write>(&self, f: &mut fmt::Formatter<W>) -> fmt::Result {
-        write!(
+        write_debug(
             f,
-            "{} {{ capacity: {}, len: {}, data: \"{}\" }}",
             K::name(),
-            self.capacity(),
-            self.len(),
-            Escaped(self.as_bytes())
+            self.bytes.capacity(),
+            self.bytes.as_slice(),
         )
     }
+}
+
+/// Writes the `Debug` text of a string of this kind, capacity and bytes.
+fn write_debug<W: fmt::Write>(
+    f: &mut fmt::Formatter<W>,
+    kind: &str,
+    capacity: usize,
+    bytes: &[u8],
+) -> fmt::Result
+    ensures { WritesOnOk W.write_str_gives f.old result
+        (heap_debug_text kind.now (record { items = bytes.now; capacity = capacity })) f.new }
+{
+    write!(
+        f,
+        "{kind} {{ capacity: {capacity}, len: {}, data: \"{}\" }}",
+        bytes.len(),
+        Escaped(bytes)
+    )
 }

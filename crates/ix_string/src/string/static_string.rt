@@ -1,5 +1,5 @@
 //! The string in the value itself.
-ghost use Rattle.std.specs.Prelude.{◌≡◌, ◌≤◌, ◌↔◌, [], length, take, IsOk, IfOk, IfErr};
+ghost use Rattle.std.specs.Prelude.{◌≡◌, ◌≤◌, ◌↔◌, [], length, take, refl, IsOk, IfOk, IfErr};
 ghost use Rattle.ix_string.specs.Text.{IsText, before_nul};
 ghost use Rattle.ix_string.specs.TextSteps.{StringFromBytes};
 ghost use Rattle.ix_string.specs.declared.string.modification_error.StringModificationError.TheVariants.{InvalidCharacter};
@@ -30,9 +30,8 @@ pub struct StaticString<const CAPACITY: usize> {
 
 impl<const CAPACITY: usize> Model for StaticString<CAPACITY> {
     ghost use Rattle.std.specs.Prelude.{ℕ, List, length, take};
-    ghost use Rattle.std.proofs.Common.{sym};
+    ghost use Rattle.std.proofs.Common.{sym, arith, length-take-le};
     ghost use Rattle.ix_string.specs.Text.{IsPadded, padded_text};
-    ghost use Rattle.ix_string.specs.Undoing.{count_back};
 
     ghost Value = { List ℕ };
 
@@ -42,7 +41,10 @@ impl<const CAPACITY: usize> Model for StaticString<CAPACITY> {
 
     ghost inverse = { λ text. record { cells = padded_text CAPACITY text; count = length text } };
 
-    ghost inverse_ok = { λ string is i. record { cells = sym is.zeros i; count = count_back CAPACITY string.cells string.count is.within is.whole i } };
+    ghost inverse_ok = { λ string is i. record {
+      cells = sym is.zeros i;
+      count = length-take-le string.count string.cells (omega (arith, is.within, is.whole)) i;
+    } };
 }
 
 impl<const CAPACITY: usize> StaticString<CAPACITY> {
@@ -162,6 +164,14 @@ impl<const CAPACITY: usize> StaticString<CAPACITY> {
 
 impl<const CAPACITY: usize> String for StaticString<CAPACITY> {
     ghost bounded = { λ string. record { items = string; capacity = CAPACITY } };
+
+    ghost eq_by_bytes = { λ _ _. refl };
+
+    ghost cmp_by_bytes = { λ _ _. refl };
+
+    ghost hash_input_by_bytes = { λ _. refl };
+
+    ghost output_by_bytes = { λ _. refl };
 
     #[inline]
     fn as_bytes(&self) -> &[u8] {
