@@ -19,7 +19,7 @@ use std::fmt;
 use std::hash::{Hash, Hasher};
 use std::marker::{Model, PhantomData};
 
-/// The kind of a [`HeapString`], which its `Debug` text begins with.
+/// The kind of a [`HeapString`], whose name its `Debug` text begins with.
 pub trait HeapStringKind {
     /// The name of the kind's type.
     ghost text: { List ℕ };
@@ -29,11 +29,17 @@ pub trait HeapStringKind {
         ensures { result.now ≡ text };
 }
 
-/// A string whose memory is taken of the allocator `A` once, where it is made, and given back at its end. Contracts see
-/// it as a bounded list.
+/// A string in memory of the allocator `A`. It is allocated once, when the string is made, and deallocated when the string
+/// is dropped. Contracts see the string as a bounded list.
 ///
-/// `A` is an allocator whose value can be copied. The kinds `K` are [`PolymorphicString`](crate::PolymorphicString) and
-/// [`RelocatableString`](crate::RelocatableString).
+/// The two kinds `K` have names of their own, [`PolymorphicString`](crate::PolymorphicString) and
+/// [`RelocatableString`](crate::RelocatableString). `A` is an allocator whose value can be copied.
+///
+/// ```text
+/// let mut string = PolymorphicString::new(alloc, 4)?;
+/// string.push_bytes(b"ab")?;
+/// // {:?} prints PolymorphicString { capacity: 4, len: 2, data: "ab" }
+/// ```
 #[derive(Drop)]
 pub struct HeapString<K, A: Allocator = Global> {
     pub(crate) bytes: PolymorphicVec<u8, A>,
@@ -56,7 +62,7 @@ impl<K, A: Allocator> Model for HeapString<K, A> {
 }
 
 impl<K, A: Allocator> HeapString<K, A> {
-    /// The empty string in an empty vector.
+    /// Returns the empty string in an empty vector.
     #[inline]
     pub(crate) fn in_vector(bytes: PolymorphicVec<u8, A>) -> Self
         requires { bytes.items ≡ [] }
@@ -113,7 +119,7 @@ impl<K: HeapStringKind, A: Allocator> String for HeapString<K, A> {
     }
 }
 
-/// Strings are equal if their bytes are, whatever the capacities.
+/// Strings are equal if their bytes are, whatever their capacities.
 impl<K, A: Allocator> PartialEq for HeapString<K, A> {
     ghost eq = { λ string other. pointwise ◌==◌ string.items other.items };
 
@@ -128,7 +134,7 @@ impl<K, A: Allocator> Eq for HeapString<K, A> {
     ghost laws = { Prim.search (comparing, rules) };
 }
 
-/// The order by the first byte where the strings differ, and else the shorter one is less, whatever the capacities.
+/// Strings are compared by the first byte that differs, and otherwise the shorter one is less, whatever their capacities.
 impl<K, A: Allocator> Ord for HeapString<K, A> {
     ghost cmp = { λ string other. slice_cmp nat_cmp string.items other.items };
 
@@ -164,7 +170,7 @@ impl<K, A: Allocator> Hash for HeapString<K, A> {
     }
 }
 
-/// The bytes are shown escaped.
+/// Prints the bytes escaped.
 impl<K, A: Allocator> fmt::Display for HeapString<K, A> {
     ghost output = { λ string. Some (escaped_text string.items) };
 
@@ -173,18 +179,13 @@ impl<K, A: Allocator> fmt::Display for HeapString<K, A> {
     }
 }
 
-/// The kind, the capacity, the length and the escaped bytes are shown, as
+/// Prints the kind, the capacity, the length and the escaped bytes, as
 /// `RelocatableString { capacity: 5, len: 2, data: "ab" }`.
 impl<K: HeapStringKind, A: Allocator> fmt::Debug for HeapString<K, A> {
     ghost debug_output = { λ string. Some (heap_debug_text K.text string) };
 
     fn fmt<W: fmt::Write>(&self, f: &mut fmt::Formatter<W>) -> fmt::Result {
-        write_debug(
-            f,
-            K::name(),
-            self.bytes.capacity(),
-            self.bytes.as_slice(),
-        )
+        write_debug(f, K::name(), self.bytes.capacity(), self.bytes.as_slice())
     }
 }
 

@@ -1,4 +1,4 @@
-//! Conversions into fixed strings, and how these are compared and shown.
+//! Conversions into fixed strings, and how these are compared, hashed and printed.
 ghost use Rattle.std.specs.Prelude.{◌≡◌, ◌==◌, ◌∷◌, [], Some};
 ghost use Rattle.std.specs.Cmp.{partial_order_from_own_ties};
 ghost use Rattle.std.specs.Cmp.Lexicographic.{pointwise, slice_cmp};
@@ -16,7 +16,7 @@ use std::fmt;
 use std::hash::{Hash, Hasher};
 use std::str::FromStr;
 
-/// An empty string.
+/// The default is the empty string.
 impl<const CAPACITY: usize> Default for StaticString<CAPACITY> {
     ghost is_default = { λ string. string ≡ [] };
 
@@ -30,7 +30,7 @@ impl<const CAPACITY: usize> FromStr for StaticString<CAPACITY> {
 
     ghost from_str_gives = { StringFromBytes CAPACITY };
 
-    /// As [`StaticString::from_bytes`] of the text's bytes.
+    /// As [`StaticString::from_bytes`], of the bytes of `text`.
     fn from_str(text: &str) -> Result<Self, StringModificationError> {
         StaticString::from_bytes(text.as_bytes())
     }
@@ -41,7 +41,7 @@ impl<const CAPACITY: usize> TryFrom<&str> for StaticString<CAPACITY> {
 
     ghost try_from_gives = { λ text result. StringFromBytes CAPACITY text.now result };
 
-    /// As [`StaticString::from_bytes`] of the text's bytes.
+    /// As [`StaticString::from_bytes`], of the bytes of `text`.
     fn try_from(text: &str) -> Result<Self, StringModificationError> {
         StaticString::from_bytes(text.as_bytes())
     }
@@ -84,7 +84,7 @@ impl<const CAPACITY: usize> Eq for StaticString<CAPACITY> {
     ghost laws = { Prim.search (comparing, rules) };
 }
 
-/// The order by the first byte where the strings differ, and else the shorter one is less.
+/// Strings are compared by the first byte that differs, and otherwise the shorter one is less.
 impl<const CAPACITY: usize> Ord for StaticString<CAPACITY> {
     ghost cmp = { slice_cmp nat_cmp };
 
@@ -120,7 +120,7 @@ impl<const CAPACITY: usize> Hash for StaticString<CAPACITY> {
     }
 }
 
-/// The bytes are shown escaped.
+/// Prints the bytes escaped.
 impl<const CAPACITY: usize> fmt::Display for StaticString<CAPACITY> {
     ghost output = { λ string. Some (escaped_text string) };
 
@@ -129,7 +129,7 @@ impl<const CAPACITY: usize> fmt::Display for StaticString<CAPACITY> {
     }
 }
 
-/// The capacity, the length and the escaped bytes are shown, as `StaticString<5> { len: 2, data: "ab" }`.
+/// Prints the capacity, the length and the escaped bytes, as `StaticString<5> { len: 2, data: "ab" }`.
 impl<const CAPACITY: usize> fmt::Debug for StaticString<CAPACITY> {
     ghost debug_output = { λ string. Some (static_debug_text CAPACITY string) };
 

@@ -1,4 +1,4 @@
--- Lemmas on the places where one text stands in another.
+-- Lemmas on the indexes at which one text occurs in another.
 use Rattle.std.proofs.Common.{ℕ, ◌≡◌, ◌+◌, ◌-◌, ◌≤◌, List, [], ◌++◌, length, take, drop, length-append, refl, sym, ap, ◌∙◌, arith}
 use native.Mathlib.Omega.{by_contra}
 use Rattle.std.specs.Prelude.{Option, Some, None, true, ◌==◌, ◌↔◌}
@@ -10,7 +10,6 @@ use Rattle.memchr.proofs.lemmas.MatchLemmas.{OccursAt-split, OccursAt-from_part}
 use Rattle.ix_string.specs.Text.{MatchesAt, IsFirstMatch, IsLastMatch, EndsWith}
 use Rattle.std.specs.List.{starts_with, ends_with}
 
--- what is read at a place stands there
 pub MatchesAt-OccursAt : (text needle : List ℕ) (i : ℕ) → OccursAt text needle i → MatchesAt text needle i
 MatchesAt-OccursAt text needle i occurs =
     let fits = occurs.fits in
@@ -22,7 +21,6 @@ MatchesAt-OccursAt text needle i occurs =
       place = grind (arith, common_steps);
     }
 
--- and the other way round
 pub OccursAt-MatchesAt : (text needle : List ℕ) (i : ℕ) → MatchesAt text needle i → OccursAt text needle i
 OccursAt-MatchesAt text needle i stands =
     let counted = ap length stands.parts ∙ length-append stands.front (needle ++ stands.rest) in
