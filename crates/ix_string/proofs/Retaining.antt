@@ -25,15 +25,15 @@ module _ {F X : Type 0} (step : F → X → Bool → F → Type 0) where
   pub Retains-more : (f : F) (x : X) (xs kept : List X) (results : List Bool) (g : F) (b : Bool) (h : F)
       → ResultsAt step f (reverse xs) results g → kept ≡ retained_items results xs → step g x b h
       → (more : List Bool) × ResultsAt step f (reverse (x ∷ xs)) more h × ((if b then kept else x ∷ kept) ≡ retained_items more (x ∷ xs))
-  Retains-more f x xs kept results g b h asked is called =
-      let pushed = ResultsAt-push f (reverse xs) results g x b h asked called in
+  Retains-more f x xs kept results g b h calls is called =
+      let pushed = ResultsAt-push f (reverse xs) results g x b h calls called in
       let order : reverse (x ∷ xs) ≡ reverse xs ++ x ∷ [] = reverse-append (x ∷ []) xs in
       let turned : reverse (results ++ b ∷ []) ≡ b ∷ reverse results = reverse-append results (b ∷ []) in
-      let asked_again : ResultsAt step f (reverse (x ∷ xs)) (results ++ b ∷ []) h = rw order pushed in
-      (results ++ b ∷ [], asked_again, rw turned (items_where_true-cons b x xs kept (reverse results) is))
+      let called_again : ResultsAt step f (reverse (x ∷ xs)) (results ++ b ∷ []) h = rw order pushed in
+      (results ++ b ∷ [], called_again, rw turned (items_where_true-cons b x xs kept (reverse results) is))
 
 module _ {X : Type 0} where
-  -- the items from the last one that was asked about on
+  -- the items from index i on are item i and those after it
   pub drop-last : (xs : List X) (i n : ℕ) (d : X) → n ≡ i + 1 → n ≤ length xs → drop i xs ≡ get_or xs i d ∷ drop n xs
   drop-last xs i n d next le = rw next (drop_more xs i d (omega arith))
 
@@ -58,4 +58,4 @@ module _ {X : Type 0} where
       All-cons P x (items_where_true (map not bs) xs) (all 0 x (omega arith)) (All-items_where_true P bs xs (All-drop P 1 (x ∷ xs) all))
 
   pub All-Retains : {F : Type 0} (P : X → Type 0) (step : F → X → Bool → F → Type 0) (f : F) (xs kept : List X) → Retains step f xs kept → All P xs → All P kept
-  All-Retains P step f xs kept (results, last, asked, is) all = rw is (All-items_where_true P (reverse results) xs all)
+  All-Retains P step f xs kept (results, last, calls, is) all = rw is (All-items_where_true P (reverse results) xs all)

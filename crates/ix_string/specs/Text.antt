@@ -41,7 +41,7 @@ pub record MatchesAt (text needle : List ℕ) (i : ℕ) : Type 0 where
   pub front : List ℕ
   pub rest : List ℕ
   pub parts : text ≡ front ++ (needle ++ rest)
-  pub place : length front ≡ i
+  pub index : length front ≡ i
 
 -- the result is the least index at which the needle occurs, or None if it does not occur
 abbrev pub IsFirstMatch : List ℕ → List ℕ → Option ℕ → Type 0

@@ -17,7 +17,7 @@ pub(crate) fn is_text(bytes: &[u8]) -> bool
 
 /// Inserts `bytes` at index `idx` of the first `len` bytes, shifting the later ones of those to the right.
 pub(crate) fn open_gap(row: &mut [u8], idx: usize, len: usize, bytes: &[u8])
-    requires place { idx ≤ len }
+    requires index { idx ≤ len }
     requires room { len + length bytes.now ≤ length row.old }
     ensures { row.new
         ≡ insert_slice (take len row.old) idx bytes.now ++ drop (len + length bytes.now) row.old }
@@ -29,7 +29,7 @@ pub(crate) fn open_gap(row: &mut [u8], idx: usize, len: usize, bytes: &[u8])
 
 /// Shifts the bytes of the range `idx + n..len` to the left, to index `idx`.
 pub(crate) fn close_gap(row: &mut [u8], idx: usize, n: usize, len: usize)
-    requires place { idx + n ≤ len }
+    requires range { idx + n ≤ len }
     requires room { len ≤ length row.old }
     ensures { row.new ≡ remove_range (take len row.old) idx (idx + n) ++ drop (len - n) row.old }
 {
@@ -38,7 +38,7 @@ pub(crate) fn close_gap(row: &mut [u8], idx: usize, n: usize, len: usize)
 
 /// Shifts the bytes of the range `idx + n..len` to the left, to index `idx`, and writes zeros after them up to `len`.
 pub(crate) fn close_gap_with_zeros(row: &mut [u8], idx: usize, n: usize, len: usize)
-    requires place { idx + n ≤ len }
+    requires range { idx + n ≤ len }
     requires room { len ≤ length row.old }
     ensures { row.new
         ≡ remove_range (take len row.old) idx (idx + n) ++ (replicate n 0 ++ drop len row.old) }

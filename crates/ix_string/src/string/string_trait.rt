@@ -55,7 +55,7 @@ pub trait String: Debug + Display + Eq + Ord + Hash {
     /// Inserts `bytes` at index `idx`, shifting all later bytes to the right, without checking that they fit and are from 1
     /// to 127. O(`len - idx + bytes.len()`).
     fn insert_bytes_unchecked(&mut self, idx: usize, bytes: &[u8])
-        requires place { idx ≤ length (bounded self.old).items }
+        requires index { idx ≤ length (bounded self.old).items }
         requires room { HasRoomFor (length bytes.now) (bounded self.old) }
         requires text { IsText bytes.now }
         ensures { bounded self.new ≡ text_insert_slice (bounded self.old) idx bytes.now };

@@ -10,7 +10,7 @@ use ix_cells::Vector;
 
 /// Inserts `bytes` at index `idx`, shifting all later bytes to the right. Writes each byte once.
 pub(crate) fn insert_into<V: Vector<u8>>(vector: &mut V, idx: usize, bytes: &[u8])
-    requires place { idx ≤ length (V.bounded vector.old).items }
+    requires index { idx ≤ length (V.bounded vector.old).items }
     requires room { HasRoomFor (length bytes.now) (V.bounded vector.old) }
     ensures { V.bounded vector.new ≡ text_insert_slice (V.bounded vector.old) idx bytes.now }
 {
