@@ -1,4 +1,4 @@
--- Lemmas on the places where one text stands in another.
+-- Lemmas on the indexes at which one text occurs in another.
 use Rattle.std.proofs.Common.{ℕ, ◌≡◌, ◌+◌, ◌-◌, ◌≤◌, List, [], ◌++◌, length, take, drop, length-append, refl, sym, ap, ◌∙◌, arith}
 use native.Mathlib.Omega.{by_contra}
 use Rattle.std.specs.Prelude.{Option, Some, None, true, ◌==◌, ◌↔◌}
@@ -10,7 +10,6 @@ use Rattle.memchr.proofs.lemmas.MatchLemmas.{OccursAt-split, OccursAt-from_part}
 use Rattle.ix_string.specs.Text.{MatchesAt, IsFirstMatch, IsLastMatch, EndsWith}
 use Rattle.std.specs.List.{starts_with, ends_with}
 
--- what is read at a place stands there
 pub MatchesAt-OccursAt : (text needle : List ℕ) (i : ℕ) → OccursAt text needle i → MatchesAt text needle i
 MatchesAt-OccursAt text needle i occurs =
     let fits = occurs.fits in
@@ -19,39 +18,38 @@ MatchesAt-OccursAt text needle i occurs =
       front = take i text;
       rest = drop (i + length needle) text;
       parts = sym (take-append-drop i text) ∙ ap (λ (r : List ℕ). take i text ++ r) split;
-      place = grind (arith, common_steps);
+      index = grind (arith, common_steps);
     }
 
--- and the other way round
 pub OccursAt-MatchesAt : (text needle : List ℕ) (i : ℕ) → MatchesAt text needle i → OccursAt text needle i
-OccursAt-MatchesAt text needle i stands =
-    let counted = ap length stands.parts ∙ length-append stands.front (needle ++ stands.rest) in
-    let both = length-append needle stands.rest in
-    let behind : drop i text ≡ needle ++ stands.rest = rw stands.parts (drop_at stands.front (needle ++ stands.rest) i stands.place) in
-    let here : take (length needle) (drop i text) ≡ needle = rw behind (take_at needle stands.rest (length needle) refl) in
-    let place = stands.place in
+OccursAt-MatchesAt text needle i found =
+    let counted = ap length found.parts ∙ length-append found.front (needle ++ found.rest) in
+    let both = length-append needle found.rest in
+    let behind : drop i text ≡ needle ++ found.rest = rw found.parts (drop_at found.front (needle ++ found.rest) i found.index) in
+    let here : take (length needle) (drop i text) ≡ needle = rw behind (take_at needle found.rest (length needle) refl) in
+    let index = found.index in
     OccursAt-from_part text needle i (omega arith) here
 
 -- a search from the front
 pub IsFirstMatch-FindsNeedle : (text needle : List ℕ) (found : Option ℕ) → FindsNeedle text needle 0 found → IsFirstMatch text needle found
 IsFirstMatch-FindsNeedle text needle (Some i) finds =
-    let least : (j : ℕ) → MatchesAt text needle j → i ≤ j = λ j stands. by_contra i j (λ lt. finds.0.before j (omega arith) lt (OccursAt-MatchesAt text needle j stands)) in
+    let least : (j : ℕ) → MatchesAt text needle j → i ≤ j = λ j found. by_contra i j (λ lt. finds.0.before j (omega arith) lt (OccursAt-MatchesAt text needle j found)) in
     (MatchesAt-OccursAt text needle i finds.1, least)
-IsFirstMatch-FindsNeedle text needle None finds = λ j stands.
-    let occurs = OccursAt-MatchesAt text needle j stands in
+IsFirstMatch-FindsNeedle text needle None finds = λ j found.
+    let occurs = OccursAt-MatchesAt text needle j found in
     let fits = occurs.fits in
     finds j (omega arith) (omega arith) occurs
 
 -- a search from the end
 pub IsLastMatch-FindsLastNeedle : (text needle : List ℕ) (found : Option ℕ) → FindsLastNeedle text needle found → IsLastMatch text needle found
 IsLastMatch-FindsLastNeedle text needle (Some i) finds =
-    let greatest : (j : ℕ) → MatchesAt text needle j → j ≤ i = λ j stands.
-    let occurs = OccursAt-MatchesAt text needle j stands in
+    let greatest : (j : ℕ) → MatchesAt text needle j → j ≤ i = λ j found.
+    let occurs = OccursAt-MatchesAt text needle j found in
     let fits = occurs.fits in
     by_contra j i (λ lt. finds.0.after j (omega arith) (omega arith) occurs) in
     (MatchesAt-OccursAt text needle i finds.1, greatest)
-IsLastMatch-FindsLastNeedle text needle None finds = λ j stands.
-    let occurs = OccursAt-MatchesAt text needle j stands in
+IsLastMatch-FindsLastNeedle text needle None finds = λ j found.
+    let occurs = OccursAt-MatchesAt text needle j found in
     let fits = occurs.fits in
     finds j (omega arith) (omega arith) occurs
 
@@ -64,12 +62,12 @@ starts_with-MatchesAt text needle = (
         front = [];
         rest = drop (length needle) text;
         parts = sym (take-append-drop (length needle) text) ∙ ap (λ (r : List ℕ). r ++ drop (length needle) text) (sym same);
-        place = refl;
+        index = refl;
       },
-  λ stands.
-      let none : stands.front ≡ [] = grind (arith, common_steps, stands.place) in
-      let parts : text ≡ needle ++ stands.rest = rw none at stands.parts in
-      let front : take (length needle) text ≡ needle = rw parts (take_at needle stands.rest (length needle) refl) in
+  λ found.
+      let none : found.front ≡ [] = grind (arith, common_steps, found.index) in
+      let parts : text ≡ needle ++ found.rest = rw none at found.parts in
+      let front : take (length needle) text ≡ needle = rw parts (take_at needle found.rest (length needle) refl) in
       rw front (nat_list_eq_equiv.refl needle),
 )
 
