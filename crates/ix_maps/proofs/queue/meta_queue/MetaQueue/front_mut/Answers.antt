@@ -1,5 +1,5 @@
 use Rattle.ix_maps.proofs.Rings.{ring_first, ring_some, ring_written}
-use Rattle.ix_maps.proofs.queue.meta_queue.MetaQueue.oldest_mut.Goals as goal
+use Rattle.ix_maps.proofs.queue.meta_queue.MetaQueue.front_mut.Goals as goal
 
 pub get_mut-requires : goal.get_mut-requires
 get_mut-requires g c =
