@@ -6,10 +6,12 @@ use Rattle.std.proofs.lemmas.Bool.{eqb-true}
 use Rattle.std.proofs.lemmas.Fmt.{length-decimal-le}
 use Rattle.std.proofs.lemmas.Grind.{common_steps}
 use Rattle.std.proofs.lemmas.List.Elements.{All-cons, All-nil}
+use Rattle.std.specs.List.{onto_first}
 use Rattle.ix_cells.specs.Bounded.{Bounded, bounded_new}
-use Rattle.ix_run.specs.Lines.{line_feed, IsOneLine, ended, all_ended, lines_of, onto_first, readable}
+use Rattle.ix_run.specs.Lines.{line_feed, IsOneLine, with_line_feed, text_of_lines, lines_of, limited_line}
 use Rattle.ix_run.specs.QueueRun.{reply_of, replies_of, queue_after}
 use Rattle.ix_run.specs.Reading.{IsInRange, command_text, header_text, capacity_of, queue_line_of}
+use Rattle.ix_run.specs.declared.run.limits.TheConstants.{MAX_LINE_LEN}
 use Rattle.ix_run.specs.Script.{replies_to, replies_from, reply_text}
 use Rattle.ix_run.specs.declared.run.command.FixedCapacity.{FixedCapacity}
 use Rattle.ix_run.specs.declared.run.command.FixedCapacity.TheVariants.{Zero, One, Three, Eight}
@@ -26,7 +28,7 @@ all_first : {X : Type 0} (P : X → Type 0) (x : X) (xs : List X) → All P (x �
 all_first P x xs h = h 0 x (omega arith)
 
 -- a line that ends in front of others
-first_line : (line rest : List ℕ) → Lacks line → lines_of (ended line ++ rest) ≡ line ∷ lines_of rest
+first_line : (line rest : List ℕ) → Lacks line → lines_of (with_line_feed line ++ rest) ≡ line ∷ lines_of rest
 first_line [] rest n = refl
 first_line (b ∷ line) rest (n, m) = rw n (ap (onto_first b) (first_line line rest m))
 
@@ -39,23 +41,23 @@ last_line : (last : List ℕ) → IsOneLine last → last ≢ [] → lines_of la
 last_line [] h some = absurd (some refl)
 last_line (b ∷ line) h some = only_line b line (lacks_of (b ∷ line) h)
 
-pub lines_unended : (lines : List (List ℕ)) (last : List ℕ) → All IsOneLine lines → IsOneLine last → last ≢ [] → lines_of (all_ended lines ++ last) ≡ lines ++ last ∷ []
+pub lines_unended : (lines : List (List ℕ)) (last : List ℕ) → All IsOneLine lines → IsOneLine last → last ≢ [] → lines_of (text_of_lines lines ++ last) ≡ lines ++ last ∷ []
 lines_unended [] last h one some = last_line last one some
 lines_unended (line ∷ lines) last h one some =
-    ap lines_of (append_assoc (ended line) (all_ended lines) last)
-    ∙ first_line line (all_ended lines ++ last) (lacks_of line (all_first IsOneLine line lines h))
+    ap lines_of (append_assoc (with_line_feed line) (text_of_lines lines) last)
+    ∙ first_line line (text_of_lines lines ++ last) (lacks_of line (all_first IsOneLine line lines h))
     ∙ ap (λ ls. line ∷ ls) (lines_unended lines last (all_rest IsOneLine line lines h) one some)
 
-pub lines_ended : (lines : List (List ℕ)) → All IsOneLine lines → lines_of (all_ended lines) ≡ lines
+pub lines_ended : (lines : List (List ℕ)) → All IsOneLine lines → lines_of (text_of_lines lines) ≡ lines
 lines_ended [] h = refl
 lines_ended (line ∷ lines) h =
-    first_line line (all_ended lines) (lacks_of line (all_first IsOneLine line lines h)) ∙ ap (λ ls. line ∷ ls) (lines_ended lines (all_rest IsOneLine line lines h))
+    first_line line (text_of_lines lines) (lacks_of line (all_first IsOneLine line lines h)) ∙ ap (λ ls. line ∷ ls) (lines_ended lines (all_rest IsOneLine line lines h))
 
 abbrev IsWhole : List ℕ → List (List ℕ) → Type 0
-IsWhole input lines = (input ≡ all_ended lines) ⊎ (ended input ≡ all_ended lines)
+IsWhole input lines = (input ≡ text_of_lines lines) ⊎ (with_line_feed input ≡ text_of_lines lines)
 
 onto_whole : (b : ℕ) (bytes : List ℕ) (lines : List (List ℕ)) → IsWhole bytes lines → IsWhole (b ∷ bytes) (onto_first b lines)
-onto_whole b bytes [] (inl e) = inr (ap (λ l. b ∷ ended l) e)
+onto_whole b bytes [] (inl e) = inr (ap (λ l. b ∷ with_line_feed l) e)
 onto_whole b [] [] (inr e) = absurd (cc)
 onto_whole b (c ∷ bytes) [] (inr e) = absurd (cc)
 onto_whole b bytes (line ∷ lines) (inl e) = inl (ap (λ l. b ∷ l) e)
@@ -63,7 +65,7 @@ onto_whole b bytes (line ∷ lines) (inr e) = inr (ap (λ l. b ∷ l) e)
 
 whole_by : (b : ℕ) (bytes : List ℕ) (t : Bool) → nat_eq b line_feed ≡ t → IsWhole bytes (lines_of bytes) → IsWhole (b ∷ bytes) (cond t ([] ∷ lines_of bytes) (onto_first b (lines_of bytes)))
 whole_by b bytes true e (inl w) = inl (ap (λ c. c ∷ bytes) (eqb-true b line_feed e) ∙ ap (λ l. line_feed ∷ l) w)
-whole_by b bytes true e (inr w) = inr (ap (λ c. c ∷ ended bytes) (eqb-true b line_feed e) ∙ ap (λ l. line_feed ∷ l) w)
+whole_by b bytes true e (inr w) = inr (ap (λ c. c ∷ with_line_feed bytes) (eqb-true b line_feed e) ∙ ap (λ l. line_feed ∷ l) w)
 whole_by b bytes false e w = onto_whole b bytes (lines_of bytes) w
 
 pub nothing_lost : (input : List ℕ) → IsWhole input (lines_of input)
@@ -80,8 +82,8 @@ digits_lack (c ∷ digits) h =
 decimal_lacks : (n : ℕ) → n < 2 ^ 64 → Lacks (decimal n)
 decimal_lacks n h = digits_lack (decimal n) (numeral_of (decimal n) n h refl).digits
 
-readable_short : (line : List ℕ) → length line ≤ 200 → readable line ≡ Some line
-readable_short line short = let t : nat_le (length line) 200 ≡ true = grind (arith, common_steps) in rw t refl
+readable_short : (line : List ℕ) → length line ≤ MAX_LINE_LEN → limited_line line ≡ Some line
+readable_short line short = let t : nat_le (length line) MAX_LINE_LEN ≡ true = grind (arith, common_steps) in rw t refl
 
 -- the text of a command is one line, short enough to be read
 command_lacks : (command : QueueCommand ℕ) → IsInRange command → Lacks (command_text command)
@@ -89,7 +91,7 @@ command_lacks (Push n) h = (refl, (refl, (refl, (refl, (refl, decimal_lacks n h)
 command_lacks (Over n) h = (refl, (refl, (refl, (refl, (refl, decimal_lacks n h)))))
 command_lacks Pop h = (refl, (refl, (refl, tt)))
 
-command_short : (command : QueueCommand ℕ) → IsInRange command → readable (command_text command) ≡ Some (command_text command)
+command_short : (command : QueueCommand ℕ) → IsInRange command → limited_line (command_text command) ≡ Some (command_text command)
 command_short (Push n) h = let short = length-decimal-le 20 n (omega arith) (omega arith) h in readable_short (command_text (Push n)) (omega (arith, short))
 command_short (Over n) h = let short = length-decimal-le 20 n (omega arith) (omega arith) h in readable_short (command_text (Over n)) (omega (arith, short))
 command_short Pop h = refl
@@ -101,12 +103,12 @@ command_asks Pop h = refl
 
 -- the replies to the texts of commands
 run_told : (queue : Bounded ℕ) (commands : List (QueueCommand ℕ)) → All IsInRange commands
-    → replies_from (Some queue) (map command_text commands) ≡ all_ended (map reply_text (replies_of queue commands))
+    → replies_from (Some queue) (map command_text commands) ≡ text_of_lines (map reply_text (replies_of queue commands))
 run_told queue [] h = refl
 run_told queue (command ∷ commands) h =
     let range = all_first IsInRange command commands h in
     rw (command_short command range, command_asks command range)
-    (ap (λ l. ended (reply_text (reply_of queue command)) ++ l) (run_told (queue_after queue command) commands (all_rest IsInRange command commands h)))
+    (ap (λ l. with_line_feed (reply_text (reply_of queue command)) ++ l) (run_told (queue_after queue command) commands (all_rest IsInRange command commands h)))
 
 one_line : (bytes : List ℕ) → Lacks bytes → IsOneLine bytes
 one_line [] h = All-nil (λ b. b ≢ line_feed)
@@ -126,18 +128,18 @@ header_lacks Eight = search rules
 
 -- the reply to a header, and the replies to what comes behind it
 header_told : (capacity : FixedCapacity) (lines : List (List ℕ))
-    → replies_from None (header_text capacity ∷ lines) ≡ ended (codes "ready") ++ replies_from (Some (bounded_new (capacity_of capacity))) lines
+    → replies_from None (header_text capacity ∷ lines) ≡ with_line_feed (codes "ready") ++ replies_from (Some (bounded_new (capacity_of capacity))) lines
 header_told Zero lines = refl
 header_told One lines = refl
 header_told Three lines = refl
 header_told Eight lines = refl
 
 pub script_runs : (capacity : FixedCapacity) (commands : List (QueueCommand ℕ)) → All IsInRange commands
-    → replies_to (all_ended (header_text capacity ∷ map command_text commands))
-    ≡ all_ended (codes "ready" ∷ map reply_text (replies_of (bounded_new (capacity_of capacity)) commands))
+    → replies_to (text_of_lines (header_text capacity ∷ map command_text commands))
+    ≡ text_of_lines (codes "ready" ∷ map reply_text (replies_of (bounded_new (capacity_of capacity)) commands))
 unfolding replies_to
 script_runs capacity commands h =
     let lines = All-cons IsOneLine (header_text capacity) (map command_text commands) (one_line (header_text capacity) (header_lacks capacity)) (command_lines commands h) in
     ap (replies_from None) (lines_ended (header_text capacity ∷ map command_text commands) lines)
     ∙ header_told capacity (map command_text commands)
-    ∙ ap (λ l. ended (codes "ready") ++ l) (run_told (bounded_new (capacity_of capacity)) commands h)
+    ∙ ap (λ l. with_line_feed (codes "ready") ++ l) (run_told (bounded_new (capacity_of capacity)) commands h)

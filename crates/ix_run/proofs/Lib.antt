@@ -1,7 +1,7 @@
-pub mod Known
+pub mod KnownBytes
 pub mod Laws
 pub mod Numbers
 pub mod Pieces
-pub mod Turning
-pub mod Writes
+pub mod Progress
 mod WorkedScripts
+pub mod Writing

@@ -5,7 +5,7 @@ use Rattle.std.proofs.lemmas.Grind.{common_steps}
 use Rattle.std.proofs.lemmas.Str.Parse.{IsNumeralModel, numerals_by_fold}
 use Rattle.std.proofs.lemmas.Fmt.{digits_decimal, digits_value-decimal, decimal-digits_value, decimal_nonempty, first_decimal, decimal_digit}
 use Rattle.std.proofs.lemmas.Slice.Eq.{bytes_eq-Decides}
-use Rattle.ix_run.specs.Reading.{value_after, number_of, queue_line_of, header_of, header_text, command_text, Spells, IsInRange}
+use Rattle.ix_run.specs.Reading.{digits_value_from, number_of, queue_line_of, header_of, header_text, command_text, Spells, IsInRange}
 use Rattle.ix_run.specs.declared.run.command.FixedCapacity.{FixedCapacity}
 use Rattle.ix_run.specs.declared.run.command.FixedCapacity.TheVariants.{Zero, One, Three, Eight}
 use Rattle.ix_run.specs.declared.run.command.QueueCommand.{QueueCommand}
@@ -14,21 +14,21 @@ use Rattle.ix_run.specs.declared.run.command.QueueLine.{QueueLine}
 use Rattle.ix_run.specs.declared.run.command.QueueLine.TheVariants.{Command, Show}
 
 -- our value of digits is that of std's numerals
-own : IsNumeralModel (λ digits. all_ascii_digits digits ≡ true) (value_after 0)
-own = numerals_by_fold _ (search rules) value_after (search rules)
+own : IsNumeralModel (λ digits. all_ascii_digits digits ≡ true) (digits_value_from 0)
+own = numerals_by_fold _ (search rules) digits_value_from (search rules)
 
 -- a number does not fall as digits come
-pub value_grows : (n : ℕ) (digits : List ℕ) → n ≤ value_after n digits
+pub value_grows : (n : ℕ) (digits : List ℕ) → n ≤ digits_value_from n digits
 value_grows n [] = omega arith
 value_grows n (c ∷ cs) = let up = value_grows (n * 10 + (c - 48)) cs in omega (arith, up)
 
-value_from : (n : ℕ) (xs : List ℕ) (i : ℕ) → i < length xs → value_after n (drop i xs) ≡ value_after (n * 10 + (get_or xs i 0 - 48)) (drop (suc i) xs)
+value_from : (n : ℕ) (xs : List ℕ) (i : ℕ) → i < length xs → digits_value_from n (drop i xs) ≡ digits_value_from (n * 10 + (get_or xs i 0 - 48)) (drop (suc i) xs)
 value_from n [] i h = absurd (omega (arith, h))
 value_from n (x ∷ xs) zero h = refl
 value_from n (x ∷ xs) (suc i) h = value_from n xs i (omega (arith, h))
 
 -- one digit more
-pub value_step : (n : ℕ) (xs : List ℕ) (i : ℕ) → i < length xs → value_after n (drop i xs) ≡ value_after (n * 10 + (get_or xs i 0 - 48)) (drop (i + 1) xs)
+pub value_step : (n : ℕ) (xs : List ℕ) (i : ℕ) → i < length xs → digits_value_from n (drop i xs) ≡ digits_value_from (n * 10 + (get_or xs i 0 - 48)) (drop (i + 1) xs)
 value_step n xs i h =
     let e : i + 1 ≡ suc i = omega arith in
     rw e (value_from n xs i h)
@@ -42,7 +42,7 @@ pub record IsNumeral (word : List ℕ) (n : ℕ) : Type 0 where
   pub some : 0 < length word
   pub front : get_or word 0 0 ≡ 48 → length word ≡ 1
   pub digits : all_ascii_digits word ≡ true
-  pub value : value_after 0 word ≡ n
+  pub value : digits_value_from 0 word ≡ n
 
 pub numeral_of : (word : List ℕ) (n : ℕ) → n < 2 ^ 64 → word ≡ decimal n → IsNumeral word n
 numeral_of word n h e =
@@ -54,12 +54,12 @@ numeral_of word n h e =
     })
 
 -- a word of digits with no zero in front is a number
-pub number_is : (word : List ℕ) → 0 < length word → (get_or word 0 0 ≡ 48 → length word ≡ 1) → all_ascii_digits word ≡ true → value_after 0 word < 2 ^ 64
-    → number_of word ≡ Some (value_after 0 word)
+pub number_is : (word : List ℕ) → 0 < length word → (get_or word 0 0 ≡ 48 → length word ≡ 1) → all_ascii_digits word ≡ true → digits_value_from 0 word < 2 ^ 64
+    → number_of word ≡ Some (digits_value_from 0 word)
 number_is word some front digits small =
-    let e : decimal (value_after 0 word) ≡ word = decimal-digits_value own word digits some front small in
-    let t : nat_lt (value_after 0 word) (2 ^ 64) ≡ true = grind (arith, common_steps) in
-    let u : bytes_eq (decimal (value_after 0 word)) word ≡ true = (bytes_eq-Decides (decimal (value_after 0 word)) word).1 e in
+    let e : decimal (digits_value_from 0 word) ≡ word = decimal-digits_value own word digits some front small in
+    let t : nat_lt (digits_value_from 0 word) (2 ^ 64) ≡ true = grind (arith, common_steps) in
+    let u : bytes_eq (decimal (digits_value_from 0 word)) word ≡ true = (bytes_eq-Decides (decimal (digits_value_from 0 word)) word).1 e in
     rw (t, u) refl
 
 pub and_parts : (a b : Bool) → (a && b) ≡ true → (a ≡ true) × (b ≡ true)
@@ -67,18 +67,18 @@ and_parts true b e = (refl, e)
 and_parts false b e = absurd (cc)
 
 abbrev is_number : List ℕ → Bool
-is_number word = nat_lt (value_after 0 word) (2 ^ 64) && bytes_eq (decimal (value_after 0 word)) word
+is_number word = nat_lt (digits_value_from 0 word) (2 ^ 64) && bytes_eq (decimal (digits_value_from 0 word)) word
 
 -- such a word is the text of its value
-text_of_value : (word : List ℕ) → is_number word ≡ true → (word ≡ decimal (value_after 0 word)) × (value_after 0 word < 2 ^ 64)
+text_of_value : (word : List ℕ) → is_number word ≡ true → (word ≡ decimal (digits_value_from 0 word)) × (digits_value_from 0 word < 2 ^ 64)
 text_of_value word e =
-    let p = and_parts (nat_lt (value_after 0 word) (2 ^ 64)) (bytes_eq (decimal (value_after 0 word)) word) e in
-    let q : nat_lt (value_after 0 word) (2 ^ 64) ≡ true = p.0 in
-    let small : value_after 0 word < 2 ^ 64 = grind (arith, common_steps) in
-    (sym ((bytes_eq-Decides (decimal (value_after 0 word)) word).0 p.1), small)
+    let p = and_parts (nat_lt (digits_value_from 0 word) (2 ^ 64)) (bytes_eq (decimal (digits_value_from 0 word)) word) e in
+    let q : nat_lt (digits_value_from 0 word) (2 ^ 64) ≡ true = p.0 in
+    let small : digits_value_from 0 word < 2 ^ 64 = grind (arith, common_steps) in
+    (sym ((bytes_eq-Decides (decimal (digits_value_from 0 word)) word).0 p.1), small)
 
-none_at : (word : List ℕ) (t : Bool) → is_number word ≡ t → ((n : ℕ) → n < 2 ^ 64 → word ≡ decimal n → ⊥) → cond t (Some (value_after 0 word)) None ≡ None
-none_at word true e not_one = let p = text_of_value word e in absurd (not_one (value_after 0 word) p.1 p.0)
+none_at : (word : List ℕ) (t : Bool) → is_number word ≡ t → ((n : ℕ) → n < 2 ^ 64 → word ≡ decimal n → ⊥) → cond t (Some (digits_value_from 0 word)) None ≡ None
+none_at word true e not_one = let p = text_of_value word e in absurd (not_one (digits_value_from 0 word) p.1 p.0)
 none_at word false e not_one = refl
 
 -- a word that is no number's text
@@ -91,7 +91,7 @@ number_read word n h e =
     let w = numeral_of word n h e in
     number_is word w.some w.front w.digits (rw w.value h) ∙ ap (λ k. Some k) w.value
 
-spelled_at : (word : List ℕ) (t : Bool) → is_number word ≡ t → IfSome (cond t (Some (value_after 0 word)) None) (λ n. (word ≡ decimal n) × (n < 2 ^ 64))
+spelled_at : (word : List ℕ) (t : Bool) → is_number word ≡ t → IfSome (cond t (Some (digits_value_from 0 word)) None) (λ n. (word ≡ decimal n) × (n < 2 ^ 64))
 spelled_at word true e = text_of_value word e
 spelled_at word false e = tt
 
@@ -107,7 +107,7 @@ pub number_spelled : (word : List ℕ) → IfSome (number_of word) (λ n. word �
 number_spelled word = number_text word (number_of word) (number_in_range word)
 
 -- what the digits give
-pub digits_read : (word : List ℕ) (r : Option ℕ) → SomeIff r ((all_ascii_digits word ≡ true) × (value_after 0 word < 2 ^ 64)) (value_after 0 word)
+pub digits_read : (word : List ℕ) (r : Option ℕ) → SomeIff r ((all_ascii_digits word ≡ true) × (digits_value_from 0 word < 2 ^ 64)) (digits_value_from 0 word)
     → 0 < length word → (get_or word 0 0 ≡ 48 → length word ≡ 1) → r ≡ number_of word
 digits_read word (Some x) ((d, s), e) some front = ap (λ k. Some k) e ∙ sym (number_is word some front d s)
 digits_read word None h some front = sym (number_none word (λ n l e. let w = numeral_of word n l e in h (w.digits, rw w.value l)))

@@ -1,3 +1,4 @@
+pub mod FixedQueues
 pub mod Input
 pub mod Lines
 pub mod Outcome
@@ -5,5 +6,4 @@ pub mod Progress
 pub mod QueueRun
 pub mod Reading
 pub mod Script
-pub mod Standing
 pub mod Writing

@@ -1,46 +1,41 @@
 -- The lines of an input.
-use Rattle.std.specs.Prelude.{ℕ, ◌≢◌, List, [], ◌∷◌, ◌++◌, length, take, nat_le, nat_eq, if◌then◌else◌, Option, None, Some, All}
-use Rattle.std.specs.List.{flat_map}
+use Rattle.std.specs.Prelude.{ℕ, ◌+◌, ◌≢◌, List, [], ◌∷◌, ◌++◌, length, take, nat_le, nat_eq, if◌then◌else◌, Option, None, Some, All}
+use Rattle.std.specs.List.{flat_map, onto_first}
+use Rattle.ix_run.specs.declared.run.limits.TheConstants.{MAX_LINE_LEN}
 
 -- the byte that ends a line
 abbrev pub line_feed : ℕ
 line_feed = 10
 
--- no byte ends a line
+-- no byte is a line feed
 abbrev pub IsOneLine : List ℕ → Type 0
 IsOneLine bytes = All (λ b. b ≢ line_feed) bytes
 
--- the line with its end
-abbrev pub ended : List ℕ → List ℕ
-ended line = line ++ line_feed ∷ []
+abbrev pub with_line_feed : List ℕ → List ℕ
+with_line_feed line = line ++ line_feed ∷ []
 
--- the lines, each with its end
-abbrev pub all_ended : List (List ℕ) → List ℕ
-all_ended lines = flat_map ended lines
+-- the lines one after the other, each with its line feed
+abbrev pub text_of_lines : List (List ℕ) → List ℕ
+text_of_lines lines = flat_map with_line_feed lines
 
--- the byte in front of the first line
-abbrev pub onto_first : ℕ → List (List ℕ) → List (List ℕ)
-onto_first b [] = (b ∷ []) ∷ []
-onto_first b (line ∷ lines) = (b ∷ line) ∷ lines
-
--- the lines of an input, cut at each line feed; no line begins behind the last byte
+-- the lines of an input, cut at each line feed; there is no line after the last byte
 abbrev pub lines_of : List ℕ → List (List ℕ)
 lines_of [] = []
 lines_of (b ∷ bytes) = if nat_eq b line_feed then [] ∷ lines_of bytes else onto_first b (lines_of bytes)
 
--- a line of at most 200 bytes, or None for one that is too long to be read
-abbrev pub Readable : Type 0
-Readable = Option (List ℕ)
+-- a line of at most MAX_LINE_LEN bytes, or None for a longer one, which no command is
+abbrev pub LimitedLine : Type 0
+LimitedLine = Option (List ℕ)
 
-abbrev pub readable : List ℕ → Readable
-readable line = if nat_le (length line) 200 then Some line else None
+abbrev pub limited_line : List ℕ → LimitedLine
+limited_line line = if nat_le (length line) MAX_LINE_LEN then Some line else None
 
--- the first bytes of a buffer of 200, or None where the count says that more came
-abbrev pub readable_so_far : List ℕ → ℕ → Readable
-readable_so_far buffer count = if nat_le count 200 then Some (take count buffer) else None
+-- the first count bytes of a buffer, or None if the line has more bytes than the buffer
+abbrev pub buffered_line : List ℕ → ℕ → LimitedLine
+buffered_line buffer count = if nat_le count MAX_LINE_LEN then Some (take count buffer) else None
 
--- the line with bytes behind it
-abbrev pub joined : Readable → List ℕ → Readable
-joined None bytes = None
-joined (Some line) [] = Some line
-joined (Some line) (b ∷ bytes) = readable (line ++ b ∷ bytes)
+-- the line with bytes appended
+abbrev pub limited_line_append : LimitedLine → List ℕ → LimitedLine
+limited_line_append None bytes = None
+limited_line_append (Some line) [] = Some line
+limited_line_append (Some line) (b ∷ bytes) = limited_line (line ++ b ∷ bytes)

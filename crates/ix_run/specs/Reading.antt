@@ -1,4 +1,4 @@
--- What a line spells. Each header and each command has one text, and a line that is not such a text spells nothing.
+-- What a line asks. Each header and each command has exactly one text, and any other line asks nothing.
 use Rattle.std.specs.Prelude.{ℕ, ◌≡◌, ◌<◌, ◌^◌, ◌*◌, ◌+◌, ◌-◌, List, [], ◌∷◌, ◌++◌, take, drop, nat_lt, if◌then◌else◌, ◌&&◌, Option, None, Some, codes, decimal, bytes_eq, option_map, ⊤}
 use Rattle.ix_run.specs.declared.run.command.FixedCapacity.{FixedCapacity}
 use Rattle.ix_run.specs.declared.run.command.FixedCapacity.TheVariants.{Zero, One, Three, Eight}
@@ -13,18 +13,17 @@ command_text (Push x) = codes "push " ++ decimal x
 command_text (Over x) = codes "over " ++ decimal x
 command_text Pop = codes "pop"
 
--- its number has 64 bits
+-- its number is below 2^64
 abbrev pub IsInRange : QueueCommand ℕ → Type 0
 IsInRange (Push x) = x < 2 ^ 64
 IsInRange (Over x) = x < 2 ^ 64
 IsInRange Pop = ⊤
 
--- the line is the text of what is asked
+-- the line is the text of this command, or of `show`
 abbrev pub Spells : List ℕ → QueueLine → Type 0
 Spells line (Command command) = (line ≡ command_text command) × IsInRange command
 Spells line Show = line ≡ codes "show"
 
--- the capacity as a number
 abbrev pub capacity_of : FixedCapacity → ℕ
 capacity_of Zero = 0
 capacity_of One = 1
@@ -38,17 +37,17 @@ header_text One = codes "queue fixed 1"
 header_text Three = codes "queue fixed 3"
 header_text Eight = codes "queue fixed 8"
 
--- the number of digits that stand behind those of the number n
-abbrev pub value_after : ℕ → List ℕ → ℕ
-value_after n [] = n
-value_after n (digit ∷ digits) = value_after (n * 10 + (digit - 48)) digits
+-- the value of decimal digits that follow those of n
+abbrev pub digits_value_from : ℕ → List ℕ → ℕ
+digits_value_from n [] = n
+digits_value_from n (digit ∷ digits) = digits_value_from (n * 10 + (digit - 48)) digits
 
--- the number of 64 bits whose decimal text the word is
+-- the number below 2^64 whose decimal text the word is
 abbrev pub number_of : List ℕ → Option ℕ
 number_of word =
-    if nat_lt (value_after 0 word) (2 ^ 64) && bytes_eq (decimal (value_after 0 word)) word then Some (value_after 0 word) else None
+    if nat_lt (digits_value_from 0 word) (2 ^ 64) && bytes_eq (decimal (digits_value_from 0 word)) word then Some (digits_value_from 0 word) else None
 
--- what the line asks of a queue
+-- what a line asks of a queue, if anything
 abbrev pub queue_line_of : List ℕ → Option QueueLine
 queue_line_of line =
     if bytes_eq line (codes "pop") then Some (Command Pop)
@@ -57,7 +56,7 @@ queue_line_of line =
     else if bytes_eq (take 5 line) (codes "over ") then option_map (λ x. Command (Over x)) (number_of (drop 5 line))
     else None
 
--- the capacity that the line names as a header
+-- the capacity of the header that a line is, if it is one
 abbrev pub header_of : List ℕ → Option FixedCapacity
 header_of line =
     if bytes_eq line (header_text Zero) then Some Zero

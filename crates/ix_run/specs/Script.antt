@@ -1,7 +1,7 @@
--- The replies to a script: one reply line for each line, in order.
+-- The replies to a script: one line for each line, in order.
 use Rattle.std.specs.Prelude.{ℕ, List, [], ◌∷◌, ◌++◌, true, false, Option, None, Some, option_map, codes, decimal}
 use Rattle.ix_cells.specs.Bounded.{Bounded, bounded_new}
-use Rattle.ix_run.specs.Lines.{Readable, readable, lines_of, ended}
+use Rattle.ix_run.specs.Lines.{LimitedLine, limited_line, lines_of, with_line_feed}
 use Rattle.ix_run.specs.QueueRun.{reply_of, queue_after}
 use Rattle.ix_run.specs.Reading.{queue_line_of, header_of, capacity_of}
 use Rattle.ix_run.specs.declared.run.command.FixedCapacity.{FixedCapacity}
@@ -17,55 +17,55 @@ reply_text (reply.Bool false) = codes "false"
 reply_text reply.None = codes "none"
 reply_text (reply.Value x) = codes "some " ++ decimal x
 
--- items, each behind a space
-abbrev pub spaced : List ℕ → List ℕ
-spaced [] = []
-spaced (x ∷ items) = codes " " ++ decimal x ++ spaced items
+-- items, each after a space
+abbrev pub more_items_text : List ℕ → List ℕ
+more_items_text [] = []
+more_items_text (x ∷ items) = codes " " ++ decimal x ++ more_items_text items
 
--- items with one space between two, or a dash for none
-abbrev pub shown : List ℕ → List ℕ
-shown [] = codes "-"
-shown (x ∷ items) = decimal x ++ spaced items
+-- items separated by single spaces, or a dash if there are none
+abbrev pub items_text : List ℕ → List ℕ
+items_text [] = codes "-"
+items_text (x ∷ items) = decimal x ++ more_items_text items
 
--- what stands: nothing yet, or a queue
+-- the queue of a script, or None before a header was read
 abbrev pub State : Type 0
 State = Option (Bounded ℕ)
 
--- the reply of a queue to what a line asks; a question mark where it asks nothing
-abbrev pub queue_reply : Bounded ℕ → Option QueueLine → List ℕ
-queue_reply queue None = codes "?"
-queue_reply queue (Some (Command command)) = reply_text (reply_of queue command)
-queue_reply queue (Some Show) = shown queue.items
+-- the reply to what a line asks of a queue; a question mark if it asks nothing
+abbrev pub queue_line_reply : Bounded ℕ → Option QueueLine → List ℕ
+queue_line_reply queue None = codes "?"
+queue_line_reply queue (Some (Command command)) = reply_text (reply_of queue command)
+queue_line_reply queue (Some Show) = items_text queue.items
 
--- the queue that it leaves
-abbrev pub queue_left : Bounded ℕ → Option QueueLine → Bounded ℕ
-queue_left queue None = queue
-queue_left queue (Some (Command command)) = queue_after queue command
-queue_left queue (Some Show) = queue
+-- the queue after it
+abbrev pub queue_after_line : Bounded ℕ → Option QueueLine → Bounded ℕ
+queue_after_line queue None = queue
+queue_after_line queue (Some (Command command)) = queue_after queue command
+queue_after_line queue (Some Show) = queue
 
--- the reply to a header; a question mark where the line is none
+-- the reply to a header; a question mark for any other line
 abbrev pub header_reply : Option FixedCapacity → List ℕ
 header_reply None = codes "?"
 header_reply (Some capacity) = codes "ready"
 
--- the reply to a line: until a queue stands, only a header is read
-abbrev pub line_reply : State → Readable → List ℕ
+-- the reply to a line: before there is a queue, only a header is read
+abbrev pub line_reply : State → LimitedLine → List ℕ
 line_reply state None = codes "?"
 line_reply None (Some line) = header_reply (header_of line)
-line_reply (Some queue) (Some line) = queue_reply queue (queue_line_of line)
+line_reply (Some queue) (Some line) = queue_line_reply queue (queue_line_of line)
 
--- what stands after it
-abbrev pub state_after : State → Readable → State
+-- the state after it
+abbrev pub state_after : State → LimitedLine → State
 state_after state None = state
 state_after None (Some line) = option_map (λ capacity. bounded_new (capacity_of capacity)) (header_of line)
-state_after (Some queue) (Some line) = Some (queue_left queue (queue_line_of line))
+state_after (Some queue) (Some line) = Some (queue_after_line queue (queue_line_of line))
 
--- the reply lines to lines
+-- the replies to lines, each with its line feed
 abbrev pub replies_from : State → List (List ℕ) → List ℕ
 replies_from state [] = []
 replies_from state (line ∷ lines) =
-    ended (line_reply state (readable line)) ++ replies_from (state_after state (readable line)) lines
+    with_line_feed (line_reply state (limited_line line)) ++ replies_from (state_after state (limited_line line)) lines
 
--- the reply lines to an input
+-- the replies to an input
 unfoldable pub replies_to : List ℕ → List ℕ
 replies_to input = replies_from None (lines_of input)

@@ -1,18 +1,20 @@
--- Bytes on their way to a writer: what it holds, and what a buffer still owes it.
+-- Bytes on their way to a writer. Its contents are what was written; pending bytes are in a buffer and are written next.
 use Rattle.std.specs.Prelude.{ℕ, ◌≡◌, List, ◌++◌, Option, Result, Ok, Err}
 use Rattle.std.specs.Io.KnownBytes.{Appends}
 use Rattle.ix_run.specs.declared.run.fault.ScriptFault.{ScriptFault}
 use Rattle.ix_run.specs.declared.run.fault.ScriptFault.TheVariants as fault
 
--- bytes were put behind those that were owed; a beginning of all was written, and the rest is owed
-abbrev pub Puts : Option (List ℕ) → List ℕ → List ℕ → Option (List ℕ) → List ℕ → Type 0
-Puts held owed bytes held' owed' = (written : List ℕ) × Appends held held' written × (owed ++ bytes ≡ written ++ owed')
+-- bytes were appended to the pending ones; a first part of all these was written, and the rest is pending
+abbrev pub Writes : Option (List ℕ) → List ℕ → List ℕ → Option (List ℕ) → List ℕ → Type 0
+Writes contents pending bytes contents' pending' =
+    (written : List ℕ) × Appends contents contents' written × (pending ++ bytes ≡ written ++ pending')
 
--- a beginning of all was written
-abbrev pub Begins : Option (List ℕ) → List ℕ → List ℕ → Option (List ℕ) → Type 0
-Begins held owed bytes held' = (written rest : List ℕ) × Appends held held' written × (owed ++ bytes ≡ written ++ rest)
+-- a first part of the pending bytes and these was written
+abbrev pub WritesPart : Option (List ℕ) → List ℕ → List ℕ → Option (List ℕ) → Type 0
+WritesPart contents pending bytes contents' =
+    (written rest : List ℕ) × Appends contents contents' written × (pending ++ bytes ≡ written ++ rest)
 
--- all bytes were put, or the writer failed at some beginning
-abbrev pub Wrote : Option (List ℕ) → List ℕ → List ℕ → Option (List ℕ) → List ℕ → Result (Unit {0}) ScriptFault → Type 0
-Wrote held owed bytes held' owed' (Ok u) = Puts held owed bytes held' owed'
-Wrote held owed bytes held' owed' (Err e) = (e ≡ fault.Write) × Begins held owed bytes held'
+-- on Ok all bytes are written or pending; on Err the writer failed after a first part
+abbrev pub WriteResult : Option (List ℕ) → List ℕ → List ℕ → Option (List ℕ) → List ℕ → Result (Unit {0}) ScriptFault → Type 0
+WriteResult contents pending bytes contents' pending' (Ok u) = Writes contents pending bytes contents' pending'
+WriteResult contents pending bytes contents' pending' (Err e) = (e ≡ fault.Write) × WritesPart contents pending bytes contents'

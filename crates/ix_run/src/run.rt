@@ -1,9 +1,17 @@
-//! Commands, their replies, and scripts of them.
+//! Commands, the replies to them, and scripts of them.
+//!
+//! ```text
+//! let mut queue = FixedSizeQueue::<u64, 1>::new();
+//! run_queue_command(&mut queue, QueueCommand::Push(7));    // Reply::Bool(true)
+//! run_queue_command(&mut queue, QueueCommand::Pop);        // Reply::Value(7)
+//! read_queue_line(b"pop");    // Some(QueueLine::Command(QueueCommand::Pop))
+//! ```
 
 mod command;
 mod engine;
 mod fault;
 mod laws;
+mod limits;
 mod partial_line;
 mod queues;
 mod reading;
@@ -14,6 +22,7 @@ mod scripts;
 pub use command::{FixedCapacity, QueueCommand, QueueLine, Reply};
 pub use fault::{ScriptFault, exit_status, fault_line};
 pub use laws::{line_law, script_law};
+pub use limits::MAX_LINE_LEN;
 pub use queues::run_queue_command;
 pub use reading::{read_header, read_number, read_queue_line};
 pub use scripts::script;

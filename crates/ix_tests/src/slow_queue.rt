@@ -2,7 +2,7 @@
 ghost use Rattle.std.specs.Prelude.{◌≡◌, ◌≤◌, length};
 ghost use Rattle.ix_cells.specs.Bounded.{has_room, bounded_new, bounded_push};
 ghost use Rattle.ix_maps.specs.QueueSteps.{queue_overflow, queue_overflow_item, queue_front, queue_pop};
-ghost use Rattle.ix_run.specs.QueueRun.{optional_reply, reply_of, queue_after};
+ghost use Rattle.ix_run.specs.QueueRun.{option_reply, reply_of, queue_after};
 
 use arrayvec::ArrayVec;
 use ix_run::run::{QueueCommand, Reply};
@@ -98,7 +98,7 @@ impl<T: Default + Drop> SlowQueue<T> {
 
 /// An optional item as a reply.
 fn reply_of_option<T: Copy>(item: Option<T>) -> Reply<T>
-    ensures { result ≡ optional_reply item }
+    ensures { result ≡ option_reply item }
 {
     match item {
         Some(item) => Reply::Value(item),

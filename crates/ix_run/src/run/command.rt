@@ -1,22 +1,22 @@
-//! What a line of a script may ask, and what it is answered.
+//! What a line of a script may ask, and the reply to it.
 
 /// A command of a queue of `T`.
 #[derive(Clone, Copy, PartialEq, Eq, Debug)]
 pub enum QueueCommand<T> {
-    /// `push X`: adds the item at the back, where there is room.
+    /// `push X`: appends the item, unless the queue is full.
     Push(T),
-    /// `over X`: adds the item at the back; where the queue is full, the oldest item leaves.
+    /// `over X`: appends the item, after removing the oldest one if the queue is full.
     Over(T),
-    /// `pop`: takes the oldest item.
+    /// `pop`: removes the oldest item.
     Pop,
 }
 
-/// What a line asks once a queue stands.
+/// What a line asks of the queue of a script.
 #[derive(Clone, Copy, PartialEq, Eq, Debug)]
 pub enum QueueLine {
     /// A command of the queue.
     Command(QueueCommand<u64>),
-    /// `show`: tells the items, the oldest first.
+    /// `show`: prints the items, the oldest first.
     Show,
 }
 
@@ -29,13 +29,13 @@ pub enum FixedCapacity {
     Eight,
 }
 
-/// What a command is answered.
+/// The reply to a command.
 #[derive(Clone, Copy, PartialEq, Eq, Debug)]
 pub enum Reply<X> {
-    /// Whether it was done: `true` or `false`.
+    /// `true` or `false`: whether the command was done.
     Bool(bool),
-    /// There was nothing to answer: `none`.
+    /// `none`: there is no item to return.
     None,
-    /// An item: `some X`.
+    /// `some X`: an item.
     Value(X),
 }

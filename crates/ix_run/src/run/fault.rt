@@ -1,21 +1,21 @@
-//! Why a script stops, and what the program tells of it.
+//! Why a script stops, and how the program reports it.
 ghost use Rattle.std.specs.Prelude.{◌≡◌};
-ghost use Rattle.ix_run.specs.Outcome.{status_of, fault_text};
+ghost use Rattle.ix_run.specs.Outcome.{outcome_status, fault_text};
 
 /// Why a script stopped.
 #[derive(Clone, Copy, PartialEq, Eq, Debug)]
 pub enum ScriptFault {
-    /// The reader failed, or gave no end.
+    /// A read failed, or the input has no end.
     Read,
-    /// The writer or its flush failed, or a write took no byte.
+    /// A write or the flush failed, or a write took no byte.
     Write,
-    /// There was no memory to make a container.
+    /// There was no memory for a container.
     OutOfMemory,
 }
 
-/// The exit status that tells an outcome: 0, 1 after a read or a write fault, 2 without memory.
+/// Returns the exit status of the program: 0, 1 after a read or a write fault, 2 without memory. O(1).
 pub fn exit_status(outcome: &Result<(), ScriptFault>) -> u8
-    ensures { result ≡ status_of outcome.now }
+    ensures { result ≡ outcome_status outcome.now }
 {
     match outcome {
         Ok(()) => 0,
@@ -24,7 +24,7 @@ pub fn exit_status(outcome: &Result<(), ScriptFault>) -> u8
     }
 }
 
-/// The line that tells a fault, without its end.
+/// Returns the line that names a fault on standard error, without a line feed. O(1).
 pub fn fault_line(fault: &ScriptFault) -> &'static str
     ensures { result.now ≡ fault_text fault.now }
 {

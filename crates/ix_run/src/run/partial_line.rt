@@ -1,55 +1,55 @@
 //! A line that comes in pieces.
 ghost use Rattle.std.specs.Prelude.{◌≡◌, ◌↔◌, Some, None, [], IsTrue, IsSome};
-ghost use Rattle.ix_run.specs.Lines.{Readable, joined};
+ghost use Rattle.ix_run.specs.Lines.{LimitedLine, limited_line_append};
 
+use crate::run::limits::MAX_LINE_LEN;
 use std::marker::Model;
 
-/// The most bytes of a line that is read, without its end.
-pub const MAX_LINE_LEN: usize = 200;
-
-/// The beginning of a line, or that the line is too long to be read.
+/// The bytes of the current line so far, unless there are more than [`MAX_LINE_LEN`].
 #[derive(Drop)]
 pub struct PartialLine {
-    bytes: [u8; 200],
+    bytes: [u8; MAX_LINE_LEN],
     len: usize,
 }
 
 impl Model for PartialLine {
-    ghost use Rattle.std.specs.Prelude.{◌≡◌, ◌≤◌, length};
-    ghost use Rattle.ix_run.specs.Lines.{Readable, readable_so_far};
+    ghost use Rattle.std.specs.Prelude.{◌≡◌, ◌≤◌, ◌+◌, length};
+    ghost use Rattle.ix_run.specs.Lines.{LimitedLine, buffered_line};
+    ghost use Rattle.ix_run.specs.declared.run.limits.TheConstants.{MAX_LINE_LEN};
 
-    ghost Value = { Readable };
+    ghost Value = { LimitedLine };
 
-    ghost view = { λ line. readable_so_far line.bytes line.len };
+    ghost view = { λ line. buffered_line line.bytes line.len };
 
-    ghost invariant = { λ line. (length line.bytes ≡ 200) × (line.len ≤ 201) };
+    ghost invariant = { λ line. (length line.bytes ≡ MAX_LINE_LEN) × (line.len ≤ MAX_LINE_LEN + 1) };
 }
 
 impl PartialLine {
+    /// Returns an empty line.
     pub fn new() -> PartialLine
         ensures { result ≡ Some [] }
     {
         PartialLine {
-            bytes: [0; 200],
+            bytes: [0; MAX_LINE_LEN],
             len: 0,
         }
     }
 
-    /// Whether no byte came yet.
+    /// Returns `true` if there is no byte.
     pub fn is_empty(&self) -> bool
         ensures { IsTrue result ↔ (self.now ≡ Some []) }
     {
         self.len == 0
     }
 
-    /// Whether the line is too long to be read.
+    /// Returns `true` if there are more than [`MAX_LINE_LEN`] bytes.
     pub fn is_too_long(&self) -> bool
         ensures { IsTrue result ↔ (self.now ≡ None) }
     {
         self.len > MAX_LINE_LEN
     }
 
-    /// The bytes that came.
+    /// Returns the bytes.
     pub fn as_slice(&self) -> &[u8]
         requires { IsSome self.now }
         ensures { self.now ≡ Some result.now }
@@ -57,16 +57,16 @@ impl PartialLine {
         &self.bytes[..self.len]
     }
 
-    /// Begins the next line.
+    /// Removes all bytes.
     pub fn clear(&mut self)
         ensures { self.new ≡ Some [] }
     {
         self.len = 0;
     }
 
-    /// Puts the next piece behind the bytes that came.
-    pub fn join(&mut self, piece: &[u8])
-        ensures { self.new ≡ joined self.old piece.now }
+    /// Appends the next piece.
+    pub fn append(&mut self, piece: &[u8])
+        ensures { self.new ≡ limited_line_append self.old piece.now }
     {
         if self.len > MAX_LINE_LEN {
             return;

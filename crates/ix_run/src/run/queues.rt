@@ -1,14 +1,14 @@
 //! The queue that a script works on.
 ghost use Rattle.std.specs.Prelude.{◌≡◌, Some, None};
 ghost use Rattle.ix_cells.specs.Bounded.{bounded_new};
-ghost use Rattle.ix_run.specs.Lines.{ended};
-ghost use Rattle.ix_run.specs.QueueRun.{optional_reply, reply_of, queue_after};
+ghost use Rattle.ix_run.specs.FixedQueues.{fixed_queue_list};
+ghost use Rattle.ix_run.specs.Lines.{with_line_feed};
+ghost use Rattle.ix_run.specs.QueueRun.{option_reply, reply_of, queue_after};
 ghost use Rattle.ix_run.specs.Reading.{capacity_of};
-ghost use Rattle.ix_run.specs.Script.{line_reply, state_after, queue_reply, queue_left, shown};
-ghost use Rattle.ix_run.specs.Standing.{held_by};
-ghost use Rattle.ix_run.specs.Writing.{Wrote};
+ghost use Rattle.ix_run.specs.Script.{line_reply, state_after, queue_line_reply, queue_after_line, items_text};
+ghost use Rattle.ix_run.specs.Writing.{WriteResult};
 
-use crate::run::replies::{put_reply, put_shown};
+use crate::run::replies::{append_items_line, append_reply};
 use crate::run::reply_buffer::ReplyBuffer;
 use crate::run::{
     FixedCapacity, QueueCommand, QueueLine, Reply, ScriptFault, read_header, read_queue_line,
@@ -18,9 +18,9 @@ use ix_maps::{FixedSizeQueue, MetaQueue};
 use std::io::Write;
 use std::marker::Model;
 
-/// An optional item as a reply.
+/// Returns an optional item as a reply.
 fn reply_of_option<T: Copy>(item: Option<T>) -> Reply<T>
-    ensures { result ≡ optional_reply item }
+    ensures { result ≡ option_reply item }
 {
     match item {
         Some(item) => Reply::Value(item),
@@ -28,15 +28,13 @@ fn reply_of_option<T: Copy>(item: Option<T>) -> Reply<T>
     }
 }
 
-/// Does one command on a queue of any kind. O(1), and it takes no memory.
+/// Runs one command on a queue of any kind, and returns the reply to it. O(1). Does not allocate.
 #[inline]
 pub fn run_queue_command<T: Copy, S: Table<T>>(
     queue: &mut MetaQueue<T, S>,
     command: QueueCommand<T>,
 ) -> Reply<T>
-    // The reply is that of the model.
-    ensures reply { result ≡ reply_of queue.old command }
-    // The queue is the one that the command leaves.
+    ensures value { result ≡ reply_of queue.old command }
     ensures queue { queue.new ≡ queue_after queue.old command }
 {
     match command {
@@ -56,8 +54,9 @@ pub enum FixedQueue {
 }
 
 impl FixedQueue {
+    /// Returns an empty queue.
     fn new(capacity: FixedCapacity) -> FixedQueue
-        ensures { held_by result ≡ bounded_new (capacity_of capacity) }
+        ensures { fixed_queue_list result ≡ bounded_new (capacity_of capacity) }
     {
         match capacity {
             FixedCapacity::Zero => FixedQueue::Zero(FixedSizeQueue::new()),
@@ -67,9 +66,10 @@ impl FixedQueue {
         }
     }
 
+    /// Runs one command, and returns the reply to it.
     fn run(&mut self, command: QueueCommand<u64>) -> Reply<u64>
-        ensures reply { result ≡ reply_of (held_by self.old) command }
-        ensures queue { held_by self.new ≡ queue_after (held_by self.old) command }
+        ensures value { result ≡ reply_of (fixed_queue_list self.old) command }
+        ensures queue { fixed_queue_list self.new ≡ queue_after (fixed_queue_list self.old) command }
     {
         match self {
             FixedQueue::Zero(queue) => run_queue_command(queue, command),
@@ -79,78 +79,86 @@ impl FixedQueue {
         }
     }
 
+    /// Appends the line that shows the items.
     fn show<W: Write>(&self, replies: &mut ReplyBuffer, writer: &mut W) -> Result<(), ScriptFault>
-        ensures { Wrote (W.contents writer.old) replies.old (ended (shown (held_by self.now).items)) (W.contents writer.new) replies.new result }
+        ensures { WriteResult (W.contents writer.old) replies.old
+            (with_line_feed (items_text (fixed_queue_list self.now).items))
+            (W.contents writer.new) replies.new result }
     {
         match self {
-            FixedQueue::Zero(queue) => put_shown(replies, writer, queue),
-            FixedQueue::One(queue) => put_shown(replies, writer, queue),
-            FixedQueue::Three(queue) => put_shown(replies, writer, queue),
-            FixedQueue::Eight(queue) => put_shown(replies, writer, queue),
+            FixedQueue::Zero(queue) => append_items_line(replies, writer, queue),
+            FixedQueue::One(queue) => append_items_line(replies, writer, queue),
+            FixedQueue::Three(queue) => append_items_line(replies, writer, queue),
+            FixedQueue::Eight(queue) => append_items_line(replies, writer, queue),
         }
     }
 
-    /// Does what a line asks, and puts its reply.
-    fn answer<W: Write>(
+    /// Does what a line asks, and appends the reply.
+    fn reply_to<W: Write>(
         &mut self,
         asked: Option<QueueLine>,
         replies: &mut ReplyBuffer,
         writer: &mut W,
     ) -> Result<(), ScriptFault>
-        ensures left { held_by self.new ≡ queue_left (held_by self.old) asked }
-        ensures reply { Wrote (W.contents writer.old) replies.old (ended (queue_reply (held_by self.old) asked)) (W.contents writer.new) replies.new result }
+        ensures queue { fixed_queue_list self.new ≡ queue_after_line (fixed_queue_list self.old) asked }
+        ensures reply { WriteResult (W.contents writer.old) replies.old
+            (with_line_feed (queue_line_reply (fixed_queue_list self.old) asked))
+            (W.contents writer.new) replies.new result }
     {
         match asked {
-            None => replies.put(writer, b"?\n"),
+            None => replies.append(writer, b"?\n"),
             Some(QueueLine::Command(command)) => {
                 let reply = self.run(command);
-                put_reply(replies, writer, reply)
+                append_reply(replies, writer, reply)
             }
             Some(QueueLine::Show) => self.show(replies, writer),
         }
     }
 }
 
-/// What stands in a script: nothing yet, or a queue.
+/// The queue of a script, or none before a header was read.
 #[derive(Drop)]
-pub struct Standing {
+pub struct ScriptState {
     queue: Option<FixedQueue>,
 }
 
-impl Model for Standing {
+impl Model for ScriptState {
+    ghost use Rattle.ix_run.specs.FixedQueues.{state_of_queue};
     ghost use Rattle.ix_run.specs.Script.{State};
-    ghost use Rattle.ix_run.specs.Standing.{held_by_standing};
 
     ghost Value = { State };
 
-    ghost view = { λ standing. held_by_standing standing.queue };
+    ghost view = { λ state. state_of_queue state.queue };
 }
 
-impl Standing {
-    pub fn new() -> Standing
+impl ScriptState {
+    /// Returns the state before a header was read.
+    pub fn new() -> ScriptState
         ensures { result ≡ None }
     {
-        Standing { queue: None }
+        ScriptState { queue: None }
     }
 
-    /// Does what a line of at most 200 bytes asks, and puts its reply line.
-    pub fn answer<W: Write>(
+    /// Does what a line asks, which is not too long, and appends the reply.
+    pub fn reply_to<W: Write>(
         &mut self,
         line: &[u8],
         replies: &mut ReplyBuffer,
         writer: &mut W,
     ) -> Result<(), ScriptFault>
         ensures state { self.new ≡ state_after self.old (Some line.now) }
-        ensures reply { Wrote (W.contents writer.old) replies.old (ended (line_reply self.old (Some line.now))) (W.contents writer.new) replies.new result }
+        ensures reply { WriteResult (W.contents writer.old) replies.old
+            (with_line_feed (line_reply self.old (Some line.now)))
+            (W.contents writer.new) replies.new result }
     {
         match &mut self.queue {
-            Some(queue) => queue.answer(read_queue_line(line), replies, writer),
+            Some(queue) => queue.reply_to(read_queue_line(line), replies, writer),
             None => match read_header(line) {
                 Some(capacity) => {
                     self.queue = Some(FixedQueue::new(capacity));
-                    replies.put(writer, b"ready\n")
+                    replies.append(writer, b"ready\n")
                 }
-                None => replies.put(writer, b"?\n"),
+                None => replies.append(writer, b"?\n"),
             },
         }
     }

@@ -1,18 +1,21 @@
 //! Replies on their way to a writer.
 ghost use Rattle.std.specs.Prelude.{◌≡◌, ◌<◌, ◌≤◌, ◌+◌, ◌↔◌, ◌++◌, [], length, take, decimal, IsTrue, MatchResult, OnOk};
 ghost use Rattle.std.specs.Io.KnownBytes.{Appends, Keeps};
+ghost use Rattle.ix_run.specs.Writing.{WriteResult, Writes, WritesPart};
 ghost use Rattle.ix_run.specs.declared.run.fault.ScriptFault.TheVariants as ScriptFault;
-ghost use Rattle.ix_run.specs.Writing.{Wrote, Puts, Begins};
+ghost use Rattle.ix_run.specs.declared.run.limits.TheConstants.{BUFFER_LEN};
 
 use crate::run::ScriptFault;
+use crate::run::limits::{BUFFER_LEN, MAX_DIGITS};
 use std::io::{ErrorKind, Write};
 use std::marker::Model;
 
-/// Writes some of the bytes, of which there is one at least. A write that the system interrupts is tried again.
-#[tactic(auto, using(crate::proofs::Known::keeps_same, crate::proofs::Known::keeps_then, crate::proofs::Known::keeps_appends))]
+/// Writes the first `n` of the bytes, at least one, and returns `n`. An interrupted write is tried again.
+#[tactic(auto, using(crate::proofs::KnownBytes::keeps_same, crate::proofs::KnownBytes::keeps_then, crate::proofs::KnownBytes::keeps_appends))]
 fn write_some<W: Write>(writer: &mut W, bytes: &[u8]) -> Result<usize, ScriptFault>
     ensures { MatchResult result
-        (λ n. (0 < n) × (n ≤ length bytes.now) × Appends (W.contents writer.old) (W.contents writer.new) (take n bytes.now))
+        (λ n. (0 < n) × (n ≤ length bytes.now)
+        × Appends (W.contents writer.old) (W.contents writer.new) (take n bytes.now))
         (λ e. (e ≡ ScriptFault.Write) × Keeps (W.contents writer.old) (W.contents writer.new)) }
 {
     for _ in 0..u64::MAX {
@@ -29,9 +32,9 @@ fn write_some<W: Write>(writer: &mut W, bytes: &[u8]) -> Result<usize, ScriptFau
     Err(ScriptFault::Write)
 }
 
-/// Writes all the bytes, or a beginning of them.
+/// Writes all the bytes.
 fn write_all<W: Write>(writer: &mut W, bytes: &[u8]) -> Result<(), ScriptFault>
-    ensures { Wrote (W.contents writer.old) [] bytes.now (W.contents writer.new) [] result }
+    ensures { WriteResult (W.contents writer.old) [] bytes.now (W.contents writer.new) [] result }
 {
     let mut rest = bytes;
     while !rest.is_empty() {
@@ -41,37 +44,40 @@ fn write_all<W: Write>(writer: &mut W, bytes: &[u8]) -> Result<(), ScriptFault>
     Ok(())
 }
 
-/// The bytes that are owed to a writer. They lie in a buffer of 8,192 bytes, so that a write carries many replies.
+/// The replies that are not written yet, at most [`BUFFER_LEN`] bytes, so that one write carries many of them.
 #[derive(Drop)]
 pub struct ReplyBuffer {
-    bytes: [u8; 8192],
+    bytes: [u8; BUFFER_LEN],
     len: usize,
 }
 
 impl Model for ReplyBuffer {
     ghost use Rattle.std.specs.Prelude.{ℕ, ◌≡◌, ◌≤◌, List, length, take};
+    ghost use Rattle.ix_run.specs.declared.run.limits.TheConstants.{BUFFER_LEN};
 
     ghost Value = { List ℕ };
 
     ghost view = { λ buffer. take buffer.len buffer.bytes };
 
-    ghost invariant = { λ buffer. (length buffer.bytes ≡ 8192) × (buffer.len ≤ 8192) };
+    ghost invariant = { λ buffer. (length buffer.bytes ≡ BUFFER_LEN) × (buffer.len ≤ BUFFER_LEN) };
 }
 
 impl ReplyBuffer {
+    /// Returns an empty buffer.
     pub fn new() -> ReplyBuffer
         ensures { result ≡ [] }
     {
         ReplyBuffer {
-            bytes: [0; 8192],
+            bytes: [0; BUFFER_LEN],
             len: 0,
         }
     }
 
-    /// Writes all that is owed.
-    #[tactic(auto, using(crate::proofs::Writes::puts_owed, crate::proofs::Writes::begins_owed))]
+    /// Writes all bytes of the buffer, which is then empty.
+    #[tactic(auto, using(crate::proofs::Writing::puts_owed, crate::proofs::Writing::begins_owed))]
     pub fn write_to<W: Write>(&mut self, writer: &mut W) -> Result<(), ScriptFault>
-        ensures wrote { Wrote (W.contents writer.old) self.old [] (W.contents writer.new) [] result }
+        ensures writer { WriteResult (W.contents writer.old) self.old []
+            (W.contents writer.new) [] result }
         ensures empty { OnOk result (self.new ≡ []) }
     {
         write_all(writer, &self.bytes[..self.len])?;
@@ -81,14 +87,14 @@ impl ReplyBuffer {
 
     #[inline]
     fn has_room(&self, more: usize) -> bool
-        ensures { IsTrue result ↔ (length self.now + more ≤ 8192) }
+        ensures { IsTrue result ↔ (length self.now + more ≤ BUFFER_LEN) }
     {
-        more <= 8192 - self.len
+        more <= BUFFER_LEN - self.len
     }
 
     #[inline]
-    fn append(&mut self, bytes: &[u8])
-        requires { length self.old + length bytes.now ≤ 8192 }
+    fn append_within_capacity(&mut self, bytes: &[u8])
+        requires { length self.old + length bytes.now ≤ BUFFER_LEN }
         ensures { self.new ≡ self.old ++ bytes.now }
     {
         let end = self.len + bytes.len();
@@ -96,26 +102,32 @@ impl ReplyBuffer {
         self.len = end;
     }
 
-    /// Puts at most 8,192 bytes behind those that are owed, which are written first where there is no room.
+    /// Appends at most [`BUFFER_LEN`] bytes. Writes those of the buffer first if there is no room.
     #[inline]
-    #[tactic(auto, using(crate::proofs::Writes::puts_here, crate::proofs::Writes::puts_behind_nothing, crate::proofs::Writes::begins_behind))]
-    pub fn put<W: Write>(&mut self, writer: &mut W, bytes: &[u8]) -> Result<(), ScriptFault>
-        requires { length bytes.now ≤ 8192 }
-        ensures { Wrote (W.contents writer.old) self.old bytes.now (W.contents writer.new) self.new result }
+    #[tactic(auto, using(crate::proofs::Writing::puts_here, crate::proofs::Writing::puts_behind_nothing, crate::proofs::Writing::begins_behind))]
+    pub fn append<W: Write>(&mut self, writer: &mut W, bytes: &[u8]) -> Result<(), ScriptFault>
+        requires { length bytes.now ≤ BUFFER_LEN }
+        ensures { WriteResult (W.contents writer.old) self.old bytes.now
+            (W.contents writer.new) self.new result }
     {
         if !self.has_room(bytes.len()) {
             self.write_to(writer)?;
         }
-        self.append(bytes);
+        self.append_within_capacity(bytes);
         Ok(())
     }
 
-    /// Puts the decimal text of a number.
-    pub fn put_number<W: Write>(&mut self, writer: &mut W, number: u64) -> Result<(), ScriptFault>
-        ensures { Wrote (W.contents writer.old) self.old (decimal number) (W.contents writer.new) self.new result }
+    /// Appends the decimal text of a number.
+    pub fn append_number<W: Write>(
+        &mut self,
+        writer: &mut W,
+        number: u64,
+    ) -> Result<(), ScriptFault>
+        ensures { WriteResult (W.contents writer.old) self.old (decimal number)
+            (W.contents writer.new) self.new result }
     {
-        let mut digits = [0u8; 20];
-        let start = itoa::write_digits(number, &mut digits, 20);
-        self.put(writer, &digits[start..])
+        let mut digits = [0u8; MAX_DIGITS];
+        let start = itoa::write_digits(number, &mut digits, MAX_DIGITS);
+        self.append(writer, &digits[start..])
     }
 }

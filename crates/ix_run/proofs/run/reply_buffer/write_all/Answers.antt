@@ -1,6 +1,6 @@
 use Rattle.std.proofs.Common.{◌++◌, take, arith}
 use Rattle.std.proofs.lemmas.Grind.{common_steps}
-use Rattle.ix_run.proofs.Known.{appends_then}
+use Rattle.ix_run.proofs.KnownBytes.{appends_then}
 use Rattle.ix_run.proofs.run.reply_buffer.write_all.Goals as goal
 
 pub loop-rest-preserved : goal.loop-rest-preserved

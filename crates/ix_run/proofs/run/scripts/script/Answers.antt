@@ -1,16 +1,16 @@
 use Rattle.std.proofs.Common.{ℕ, List, ◌<◌, ◌++◌, ◌∙◌, [], refl, take, length, arith}
 use Rattle.std.proofs.lemmas.Result.{err_from_is_err_and}
-use Rattle.ix_run.specs.Progress.{replies_behind}
+use Rattle.ix_run.specs.Progress.{remaining_replies}
 use Rattle.ix_run.specs.Script.{replies_to}
-use Rattle.ix_run.proofs.Known.{consumes_nothing, appends_nothing, consumes_then, consumes_none, consumes_keeps}
+use Rattle.ix_run.proofs.KnownBytes.{consumes_nothing, appends_nothing, consumes_then, consumes_none, consumes_keeps}
 use Rattle.ix_run.proofs.Pieces.{replies_from_start}
-use Rattle.ix_run.proofs.Turning.{turns_halt, fed_on, fed_stops, answered_on_ok, begins_on_err, begins_to_answer}
+use Rattle.ix_run.proofs.Progress.{turns_halt, fed_on, fed_stops, answered_on_ok, begins_on_err, begins_to_answer}
 use Rattle.ix_run.proofs.run.scripts.script.Goals.{in-None, in-Some+in_ok-feed-in-Some}
 use Rattle.ix_run.proofs.run.scripts.script.Goals as goal
 
 pub loop-init : goal.loop-init
 loop-init g c =
-    rw (c.new-engine.ensures.standing, c.new-engine.ensures.line) (
+    rw (c.new-engine.ensures.state, c.new-engine.ensures.line) (
       refl,
       c.new-engine.ensures.replies,
       [],
@@ -23,7 +23,7 @@ returns-in_err-read_once-clause-err g c =
     let p = err_from_is_err_and c.from_residual.result c.from_residual.ensures.1 in
     let at = c.loop.invariant in
     let from : List ℕ → List ℕ = λ m. replies_to (at.2 ++ m) in
-    let here : List ℕ → List ℕ = λ m. replies_behind c.loop.engine.standing c.loop.engine.line m in
+    let here : List ℕ → List ℕ = λ m. remaining_replies c.loop.engine.state c.loop.engine.line m in
     rw p.1 (begins_to_answer _ _ _ _ at.2 (consumes_keeps _ _ _ at.2 at.3 c.in_err-read_once.ensures.1) (turns_halt _ _ [] [] from here at.4))
 
 pub returns-in-Some-eq0-clause-ok : goal.returns-in-Some-eq0-clause-ok
@@ -33,14 +33,14 @@ returns-in-Some-eq0-clause-ok g c =
     let size = c.read_once.auto.buffer ∙ at.0 in
     let room : 0 < length c.read_once.new.buffer = omega (arith, size) in
     let wrote = rw at.1 at c.finish.ensures in
-    answered_on_ok _ _ _ _ _ at.2 c.loop.engine.standing c.loop.engine.line _ (consumes_none _ _ _ at.2 at.3 bytes.1) (bytes.2 refl room) at.4 wrote
+    answered_on_ok _ _ _ _ _ at.2 c.loop.engine.state c.loop.engine.line _ (consumes_none _ _ _ at.2 at.3 bytes.1) (bytes.2 refl room) at.4 wrote
 
 pub returns-in-Some-eq0-clause-err : goal.returns-in-Some-eq0-clause-err
 returns-in-Some-eq0-clause-err g c =
     let at = c.loop.invariant in
     let bytes = rw (c.in-Some-eq0.is, c.in-Some-eq0.field-0-test) at c.in_ok-read_once.ensures in
     let wrote = rw at.1 at c.finish.ensures in
-    begins_on_err _ _ _ _ _ at.2 c.loop.engine.standing c.loop.engine.line _ (consumes_none _ _ _ at.2 at.3 bytes.1) at.4 wrote
+    begins_on_err _ _ _ _ _ at.2 c.loop.engine.state c.loop.engine.line _ (consumes_none _ _ _ at.2 at.3 bytes.1) at.4 wrote
 
 pub returns-in_err-feed-in-Some-clause-err : goal.returns-in_err-feed-in-Some-clause-err
 returns-in_err-feed-in-Some-clause-err g c =
@@ -48,10 +48,10 @@ returns-in_err-feed-in-Some-clause-err g c =
     let at = c.loop.invariant in
     let piece = take c.in-Some.count c.read_once.new.buffer in
     let bytes = rw c.in-Some.is at c.in_ok-read_once.ensures in
-    let stops = rw at.1 at c.in_err-feed-in-Some.ensures.went.1 in
+    let stops = rw at.1 at c.in_err-feed-in-Some.ensures.replies.1 in
     rw p.1 (
     begins_to_answer _ _ _ _ (at.2 ++ piece) (consumes_then _ _ _ at.2 piece at.3 bytes.1)
-    (fed_stops _ _ _ [] at.2 piece c.loop.engine.standing c.loop.engine.line at.4 stops)
+    (fed_stops _ _ _ [] at.2 piece c.loop.engine.state c.loop.engine.line at.4 stops)
     )
 
 pub loop-preserved : goal.loop-preserved
@@ -64,14 +64,14 @@ loop-preserved g c =
       | in-Some+in_ok-feed-in-Some w ↦
           let piece = take w.in-Some.count c.read_once.new.buffer in
           let bytes = rw w.in-Some.is at c.in_ok-read_once.ensures in
-          let then : List ℕ → List ℕ = λ m. replies_behind w.feed.new.self.standing w.feed.new.self.line m in
-          let went = rw at.1 at w.in_ok-feed-in-Some.ensures.went in
+          let then : List ℕ → List ℕ = λ m. remaining_replies w.feed.new.self.state w.feed.new.self.line m in
+          let went = rw at.1 at w.in_ok-feed-in-Some.ensures.replies in
           rw (w.engine-is, w.writer-is) (
             c.read_once.auto.buffer ∙ at.0,
-            w.in_ok-feed-in-Some.ensures.nothing_owed,
+            w.in_ok-feed-in-Some.ensures.empty,
             at.2 ++ piece,
             consumes_then _ _ _ at.2 piece at.3 bytes.1,
-            fed_on _ _ _ [] [] at.2 piece c.loop.engine.standing c.loop.engine.line then at.4 went,
+            fed_on _ _ _ [] [] at.2 piece c.loop.engine.state c.loop.engine.line then at.4 went,
           )
     ]
 
@@ -79,5 +79,5 @@ pub returns-clause-err : goal.returns-clause-err
 returns-clause-err g c =
     let at = c.loop.invariant in
     let from : List ℕ → List ℕ = λ m. replies_to (at.2 ++ m) in
-    let here : List ℕ → List ℕ = λ m. replies_behind c.loop.engine.standing c.loop.engine.line m in
+    let here : List ℕ → List ℕ = λ m. remaining_replies c.loop.engine.state c.loop.engine.line m in
     begins_to_answer _ _ _ _ at.2 at.3 (turns_halt _ _ [] [] from here at.4)

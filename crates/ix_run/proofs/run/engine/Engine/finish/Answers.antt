@@ -1,21 +1,21 @@
 use Rattle.std.proofs.Common.{[], refl}
 use Rattle.std.proofs.lemmas.Result.{err_from_is_err_and}
 use Rattle.ix_run.specs.Progress.{last_reply}
-use Rattle.ix_run.proofs.Writes.{puts_and_written, puts_and_begins, puts_kept, puts_unflushed}
+use Rattle.ix_run.proofs.Writing.{puts_and_written, puts_and_begins, puts_kept, puts_unflushed}
 use Rattle.ix_run.proofs.run.engine.Engine.finish.Goals as goal
 
 pub returns-in_err-write_to : goal.returns-in_err-write_to
 returns-in_err-write_to g c =
     let p = err_from_is_err_and c.from_residual-in_err-write_to.result c.from_residual-in_err-write_to.ensures.1 in
-    let last = last_reply c.args.self.now.standing c.args.self.now.line in
-    rw (p.1, p.2) (c.in_err-write_to.ensures.wrote.0, puts_and_begins _ _ _ _ c.answer_last.new.self.replies last c.in_ok-answer_last.ensures c.in_err-write_to.ensures.wrote.1)
+    let last = last_reply c.args.self.now.state c.args.self.now.line in
+    rw (p.1, p.2) (c.in_err-write_to.ensures.writer.0, puts_and_begins _ _ _ _ c.reply_to_last.new.self.replies last c.in_ok-reply_to_last.ensures c.in_err-write_to.ensures.writer.1)
 
 pub returns-in-Ok : goal.returns-in-Ok
 returns-in-Ok g c =
-    let last = last_reply c.args.self.now.standing c.args.self.now.line in
-    puts_kept _ _ _ _ [] last (puts_and_written _ _ _ _ c.answer_last.new.self.replies [] last c.in_ok-answer_last.ensures c.in_ok-write_to.ensures.wrote) c.flush.ensures.bytes
+    let last = last_reply c.args.self.now.state c.args.self.now.line in
+    puts_kept _ _ _ _ [] last (puts_and_written _ _ _ _ c.reply_to_last.new.self.replies [] last c.in_ok-reply_to_last.ensures c.in_ok-write_to.ensures.writer) c.flush.ensures.bytes
 
 pub returns-in-Err : goal.returns-in-Err
 returns-in-Err g c =
-    let last = last_reply c.args.self.now.standing c.args.self.now.line in
-    (refl, puts_unflushed _ _ _ _ last (puts_and_written _ _ _ _ c.answer_last.new.self.replies [] last c.in_ok-answer_last.ensures c.in_ok-write_to.ensures.wrote) c.flush.ensures.bytes)
+    let last = last_reply c.args.self.now.state c.args.self.now.line in
+    (refl, puts_unflushed _ _ _ _ last (puts_and_written _ _ _ _ c.reply_to_last.new.self.replies [] last c.in_ok-reply_to_last.ensures c.in_ok-write_to.ensures.writer) c.flush.ensures.bytes)

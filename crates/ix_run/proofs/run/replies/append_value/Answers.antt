@@ -1,7 +1,7 @@
 use Rattle.std.proofs.Common.{◌≤◌, length, decimal, arith, rules}
 use Rattle.std.proofs.lemmas.Fmt.{length-decimal-le}
 use Rattle.std.proofs.lemmas.Grind.{common_steps}
-use Rattle.ix_run.proofs.run.replies.put_value.Goals as goal
+use Rattle.ix_run.proofs.run.replies.append_value.Goals as goal
 
 pub write_digits-digits-requires : goal.write_digits-digits-requires
 write_digits-digits-requires g c = search (rules, length-decimal-le 25)

@@ -1,0 +1,13 @@
+//! Examples of the library, each in a file of its own. The README quotes them.
+#![tactic(auto)]
+
+pub mod message;
+pub mod queues;
+pub mod registry;
+pub mod rolling_window;
+pub mod scripts;
+pub mod session_table;
+pub mod strings;
+#[cfg(test)]
+mod tests;
+pub mod vectors;

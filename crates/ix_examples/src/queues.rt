@@ -1,0 +1,48 @@
+//! A queue of each kind.
+ghost use Rattle.std.specs.Prelude.{◌≡◌, ◌∷◌, [], length, Some, IfOk, IfErr};
+ghost use Rattle.ix_cells.specs.Bounded.{bounded_new};
+
+use ix_cells::{InitError, RelocatableContainer};
+use ix_maps::{FixedSizeQueue, Queue, RelocatableQueue, UninitQueue};
+use std::alloc::{AllocError, Allocator};
+
+/// A fixed queue lies in the value itself. Returns the item that left at an overflow, and the queue.
+pub fn fixed() -> (Option<u64>, FixedSizeQueue<u64, 2>)
+    ensures overflow { result.0 ≡ Some 1 }
+    ensures queue { result.1.items ≡ 2 ∷ 3 ∷ [] }
+{
+    let mut queue = FixedSizeQueue::<u64, 2>::new();
+    queue.push(1); // true
+    queue.push(2); // true
+    queue.push(3); // false: the queue is full and stays as it is
+    let oldest = queue.push_with_overflow(3); // Some(1)
+    (oldest, queue)
+}
+
+/// An allocated queue allocates once, when it is made. Returns a queue of the items of `items`.
+pub fn allocated<A: Allocator>(alloc: A, items: &[u64]) -> Result<Queue<u64, A>, AllocError>
+    ensures queue { IfOk result (λ queue. queue.items ≡ items.now) }
+    ensures capacity { IfOk result (λ queue. queue.capacity ≡ length items.now) }
+{
+    let mut queue = Queue::new(alloc, items.len())?;
+    for item in items {
+        queue.push(*item);
+    }
+    Ok(queue)
+}
+
+/// A relocatable queue has a capacity first, and memory later. Returns an empty queue in memory of `first`, or of
+/// `second` if the first one refuses.
+pub fn relocatable<A: Allocator>(
+    first: A,
+    second: A,
+    capacity: usize,
+) -> Result<RelocatableQueue<u64, A>, InitError<UninitQueue<u64>>>
+    ensures queue { IfOk result (λ queue. queue ≡ bounded_new capacity) }
+    ensures refused { IfErr result (λ error. error ≡ capacity) }
+{
+    match UninitQueue::new_uninit(capacity).init(first) {
+        Ok(queue) => Ok(queue),
+        Err(error) => error.into_uninit().init(second),
+    }
+}

@@ -1,0 +1,44 @@
+//! A registry of services with stable handles.
+ghost use Rattle.std.specs.Prelude.{◌≡◌, ℕ, Some, IfSome, IfNone, option_map};
+ghost use Rattle.ix_maps.specs.SlotState.{value_at, IsHeld};
+
+use ix_maps::{FixedSizeSlotMap, SlotMapKey};
+use ix_string::StaticString;
+
+/// A service that a handle finds.
+#[derive(Clone, Copy, PartialEq, Eq)]
+pub struct Service {
+    pub name: StaticString<32>,
+    pub port: u16,
+}
+
+/// At most 64 services. `Registry::new()` is empty.
+pub type Registry = FixedSizeSlotMap<Service, 64>;
+
+/// Registers a service and returns its handle, or `None` if the registry is full.
+pub fn register(registry: &mut Registry, service: Service) -> Option<SlotMapKey>
+    ensures found { IfSome result (λ handle. value_at registry.new handle ≡ Some service) }
+    ensures kept { (other : ℕ) → IsHeld registry.old other
+        → value_at registry.new other ≡ value_at registry.old other }
+    ensures full { IfNone result (registry.new ≡ registry.old) }
+{
+    if registry.len() == registry.capacity() {
+        return None;
+    }
+    registry.insert(service)
+}
+
+/// Returns the port of the service with this handle, or `None` if there is no such service.
+pub fn port_of(registry: &Registry, handle: SlotMapKey) -> Option<u16>
+    ensures { result ≡ option_map (λ service. service.port) (value_at registry.now handle) }
+{
+    let service = registry.get(handle)?;
+    Some(service.port)
+}
+
+/// Removes the service with this handle and returns it, or `None` if there is no such service.
+pub fn unregister(registry: &mut Registry, handle: SlotMapKey) -> Option<Service>
+    ensures { result ≡ value_at registry.old handle }
+{
+    registry.remove(handle)
+}

@@ -1,0 +1,47 @@
+//! A table of sessions, whose numbers are used again.
+ghost use Rattle.std.specs.Prelude.{◌≡◌, ◌↔◌, ℕ, Some, IsTrue, IfSome};
+ghost use Rattle.ix_maps.specs.SlotState.{value_at, first_of, IsHeld};
+
+use ix_maps::{SlotMap, SlotMapKey};
+use std::alloc::Allocator;
+
+/// A session with a peer.
+#[derive(Clone, Copy, PartialEq, Eq, Debug)]
+pub struct Session {
+    pub peer: u32,
+    pub last_heard: u64,
+}
+
+/// Sessions by number. `SessionTable::new(alloc, 1000)?` allocates a table for 1,000 of them.
+pub type SessionTable<A> = SlotMap<Session, A>;
+
+/// Opens a session and returns its number, or `None` if the table is full.
+pub fn open<A: Allocator>(table: &mut SessionTable<A>, session: Session) -> Option<SlotMapKey>
+    ensures number { result ≡ first_of table.old.free }
+    ensures kept { (other : ℕ) → IsHeld table.old other
+        → value_at table.new other ≡ value_at table.old other }
+{
+    table.insert(session)
+}
+
+/// Notes that the peer of a session was heard at `time`. Returns `false` if no session has this number.
+pub fn note_heard<A: Allocator>(table: &mut SessionTable<A>, number: SlotMapKey, time: u64) -> bool
+    ensures value { IsTrue result ↔ IsHeld table.old number }
+    ensures table { IfSome (value_at table.new number) (λ session. session.last_heard ≡ time) }
+{
+    match table.get_mut(number) {
+        Some(session) => {
+            session.last_heard = time;
+            true
+        }
+        None => false,
+    }
+}
+
+/// Closes a session and returns it, or `None` if no session has this number. The next session gets the number.
+pub fn close<A: Allocator>(table: &mut SessionTable<A>, number: SlotMapKey) -> Option<Session>
+    ensures value { result ≡ value_at table.old number }
+    ensures free { IfSome result (λ _. first_of table.new.free ≡ Some number) }
+{
+    table.remove(number)
+}

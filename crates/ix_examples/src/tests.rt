@@ -1,0 +1,120 @@
+//! Each example once, with values worked by hand.
+use crate::message::{Message, MessageError};
+use crate::registry::{Registry, Service, port_of, register, unregister};
+use crate::rolling_window::last_samples;
+use crate::scripts::replies;
+use crate::session_table::{Session, SessionTable, close, note_heard, open};
+use crate::{queues, strings, vectors};
+use ix_cells::Vector;
+use ix_maps::SlotMapKey;
+use ix_string::{StaticString, String};
+use std::alloc::AllocError;
+
+#[test]
+fn queues_of_each_kind(rt: HostRuntime) {
+    let (oldest, mut fixed) = queues::fixed();
+    assert_eq!(rt; oldest, Some(1));
+    assert_eq!(rt; fixed.pop(), Some(2));
+    assert_eq!(rt; fixed.pop(), Some(3));
+    assert_eq!(rt; fixed.pop(), None);
+    let mut allocated = queues::allocated(rt.alloc(), &[7, 9]).expect(&rt, "there is memory");
+    assert_eq!(rt; allocated.pop(), Some(7));
+    assert_eq!(rt; allocated.pop(), Some(9));
+    assert_eq!(rt; allocated.pop(), None);
+    let relocatable = queues::relocatable(rt.alloc(), rt.alloc(), 5);
+    assert_eq!(rt; relocatable.map(|queue| queue.capacity()).ok(), Some(5));
+}
+
+#[test]
+fn vectors_of_each_kind(rt: HostRuntime) {
+    let fixed = vectors::fixed().expect(&rt, "there is room");
+    assert_eq!(rt; fixed.as_slice(), [2, 1].as_slice());
+    let squares = vectors::allocated(rt.alloc(), 5).expect(&rt, "there is memory");
+    assert_eq!(rt; squares.as_slice(), [0, 1, 4, 9, 16].as_slice());
+    let relocatable = vectors::relocatable(rt.alloc(), rt.alloc(), 5);
+    assert_eq!(rt; relocatable.map(|vector| vector.capacity()).ok(), Some(5));
+}
+
+#[test]
+fn strings_of_each_kind(rt: HostRuntime) {
+    let fixed = strings::fixed().expect(&rt, "there is room");
+    assert_eq!(rt; fixed.as_str(), "hello");
+    let path = strings::allocated(rt.alloc(), b"dev", b"shm").expect(&rt, "there is memory");
+    assert_eq!(rt; path.as_str(), "dev/shm");
+    let none = strings::allocated(rt.alloc(), b"dev", b"\x80");
+    assert!(rt; none.is_none());
+    let relocatable = strings::relocatable(rt.alloc(), rt.alloc(), 5);
+    assert_eq!(rt; relocatable.map(|string| string.capacity()).ok(), Some(5));
+}
+
+#[test]
+fn handles_stay(rt: HostRuntime) {
+    let name = StaticString::from_bytes(b"camera").expect(&rt, "it fits");
+    let mut registry = Registry::new();
+    let camera = register(&mut registry, Service { name, port: 80 });
+    let radar = register(&mut registry, Service { name, port: 81 });
+    let camera = camera.expect(&rt, "there is room");
+    let radar = radar.expect(&rt, "there is room");
+    assert_eq!(rt; port_of(&registry, camera), Some(80));
+    assert!(rt; unregister(&mut registry, camera).is_some());
+    assert_eq!(rt; port_of(&registry, camera), None);
+    assert_eq!(rt; port_of(&registry, radar), Some(81));
+    for port in 0..63 {
+        assert!(rt; register(&mut registry, Service { name, port }).is_some());
+    }
+    assert!(rt; register(&mut registry, Service { name, port: 1 }).is_none());
+}
+
+#[test]
+fn numbers_are_used_again(rt: HostRuntime) {
+    let mut table = SessionTable::new(rt.alloc(), 2).expect(&rt, "there is memory");
+    let session = |peer| Session {
+        peer,
+        last_heard: 0,
+    };
+    assert_eq!(rt; open(&mut table, session(70)), Some(SlotMapKey::new(0)));
+    assert_eq!(rt; open(&mut table, session(71)), Some(SlotMapKey::new(1)));
+    assert_eq!(rt; open(&mut table, session(72)), None);
+    assert!(rt; note_heard(&mut table, SlotMapKey::new(0), 9));
+    let closed = Session {
+        peer: 70,
+        last_heard: 9,
+    };
+    assert_eq!(rt; close(&mut table, SlotMapKey::new(0)), Some(closed));
+    assert!(rt; !note_heard(&mut table, SlotMapKey::new(0), 10));
+    assert_eq!(rt; close(&mut table, SlotMapKey::new(0)), None);
+    assert_eq!(rt; open(&mut table, session(72)), Some(SlotMapKey::new(0)));
+}
+
+#[test]
+fn messages(rt: HostRuntime) {
+    let message = Message::new("temperature", &[20, 21]);
+    assert!(rt; message == Message::new("temperature", &[20, 21]));
+    assert!(rt; message != Message::new("temperature", &[20]));
+    assert!(rt; Message::new("", &[0; 9]) == Err(MessageError::Values));
+    assert!(rt; Message::new("\u{e9}", &[]) == Err(MessageError::Topic));
+    let message = message.ok().expect(&rt, "it fits");
+    assert_eq!(rt; message.topic.as_str(), "temperature");
+    assert_eq!(rt; message.values.as_slice(), [20, 21].as_slice());
+}
+
+#[test]
+fn windows(rt: HostRuntime) {
+    let mut window = last_samples::<3>(&[1, 2, 3, 4, 5]);
+    assert_eq!(rt; window.pop(), Some(3));
+    assert_eq!(rt; window.pop(), Some(4));
+    assert_eq!(rt; window.pop(), Some(5));
+    assert_eq!(rt; window.pop(), None);
+    assert_eq!(rt; last_samples::<3>(&[1, 2]).len(), 2);
+    assert!(rt; last_samples::<0>(&[1, 2]).is_empty());
+}
+
+#[test]
+fn scripts_in_memory(rt: HostRuntime) {
+    let output = replies(
+        rt.alloc(),
+        b"queue fixed 1\npush 123\npush 5\nover 456\npop\npop",
+    );
+    let wanted = b"ready\ntrue\nfalse\nsome 123\nsome 456\nnone\n".as_slice();
+    assert_eq!(rt; output.expect(&rt, "there is memory").as_slice(), wanted);
+}

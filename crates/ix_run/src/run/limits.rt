@@ -1,0 +1,10 @@
+//! The limits of scripts.
+
+/// The maximum number of bytes of a line that is read as a command, without its line feed.
+pub const MAX_LINE_LEN: usize = 200;
+
+/// The number of bytes of the buffer of input, and of that of replies.
+pub const BUFFER_LEN: usize = 8192;
+
+/// The maximum number of digits of a `u64`.
+pub const MAX_DIGITS: usize = 20;
