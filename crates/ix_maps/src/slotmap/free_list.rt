@@ -13,7 +13,7 @@ use ix_cells::{Counted, Table, Touches};
 fn set_link<L: Table<Link>>(links: &mut Counted<L>, key: usize, link: Link, touches: &mut Touches)
     requires { IsHeldAt (L.places links.old) key }
     ensures links { L.places links.new ≡ slice_set (L.places links.old) key (Some link) }
-    ensures touches { touches.new.count ≡ touches.old.count + 2 }
+    ensures touches { touches.new ≡ touches.old + 2 }
 {
     // Field by field, so that the bytes between the fields are not written.
     let place = links.get_mut(key, touches);
@@ -28,8 +28,8 @@ fn set_next<L: Table<Link>>(links: &mut Counted<L>, key: usize, to: usize, touch
     requires links { IsLinkTable (L.places links.old) }
     requires key { IsKeyOrNone key (L.places links.old) }
     ensures links { L.places links.new ≡ links_set_next (L.places links.old) key to }
-    ensures touches { touches.new.count ≤ touches.old.count + 2 }
-    ensures counts_on { touches.old.count ≤ touches.new.count }
+    ensures touches { touches.new ≤ touches.old + 2 }
+    ensures counts_on { touches.old ≤ touches.new }
 {
     if key != NO_KEY {
         links.get_mut(key, touches).next = to;
@@ -47,8 +47,8 @@ fn set_previous<L: Table<Link>>(
     requires links { IsLinkTable (L.places links.old) }
     requires key { IsKeyOrNone key (L.places links.old) }
     ensures links { L.places links.new ≡ links_set_previous (L.places links.old) key to }
-    ensures touches { touches.new.count ≤ touches.old.count + 2 }
-    ensures counts_on { touches.old.count ≤ touches.new.count }
+    ensures touches { touches.new ≤ touches.old + 2 }
+    ensures counts_on { touches.old ≤ touches.new }
 {
     if key != NO_KEY {
         links.get_mut(key, touches).previous = to;
@@ -67,8 +67,8 @@ pub(crate) fn remove<L: Table<Link>>(
     requires key { key < length (L.places links.old) }
     requires link { IsLinkWithin (Some link) (L.places links.old) }
     ensures links { L.places links.new ≡ links_remove (L.places links.old) key link }
-    ensures touches { touches.new.count ≤ touches.old.count + 6 }
-    ensures counts_on { touches.old.count ≤ touches.new.count }
+    ensures touches { touches.new ≤ touches.old + 6 }
+    ensures counts_on { touches.old ≤ touches.new }
 {
     set_link(links, key, Link::HELD, touches);
     set_next(links, link.previous, link.next, touches);
@@ -87,8 +87,8 @@ pub(crate) fn remove_first<L: Table<Link>>(
     requires key { key < length (L.places links.old) }
     requires next { IsKeyOrNone next (L.places links.old) }
     ensures links { L.places links.new ≡ links_remove_first (L.places links.old) key next }
-    ensures touches { touches.new.count ≤ touches.old.count + 4 }
-    ensures counts_on { touches.old.count ≤ touches.new.count }
+    ensures touches { touches.new ≤ touches.old + 4 }
+    ensures counts_on { touches.old ≤ touches.new }
 {
     set_link(links, key, Link::HELD, touches);
     set_previous(links, next, NO_KEY, touches);
@@ -106,8 +106,8 @@ pub(crate) fn insert_first<L: Table<Link>>(
     requires key { key < length (L.places links.old) }
     requires first { IsKeyOrNone first (L.places links.old) }
     ensures links { L.places links.new ≡ links_insert_first (L.places links.old) key first }
-    ensures touches { touches.new.count ≤ touches.old.count + 4 }
-    ensures counts_on { touches.old.count ≤ touches.new.count }
+    ensures touches { touches.new ≤ touches.old + 4 }
+    ensures counts_on { touches.old ≤ touches.new }
 {
     let link = Link {
         is_free: true,

@@ -225,8 +225,8 @@ impl<T, S: Table<T>, L: Table<Link>> MetaSlotMap<T, S, L> {
     where
         T: Drop,
         ensures step { SlotInsert self.old value self.new result }
-        ensures touches { touches.new.count ≤ touches.old.count + 16 }
-        ensures counts_on { touches.old.count ≤ touches.new.count }
+        ensures touches { touches.new ≤ touches.old + 16 }
+        ensures counts_on { touches.old ≤ touches.new }
     {
         if self.first == NO_KEY {
             return None;
@@ -242,8 +242,8 @@ impl<T, S: Table<T>, L: Table<Link>> MetaSlotMap<T, S, L> {
     where
         T: Drop,
         ensures step { SlotInsertAt self.old key value self.new result }
-        ensures touches { touches.new.count ≤ touches.old.count + 16 }
-        ensures counts_on { touches.old.count ≤ touches.new.count }
+        ensures touches { touches.new ≤ touches.old + 16 }
+        ensures counts_on { touches.old ≤ touches.new }
     {
         let key = key.value();
         if key >= self.capacity() {
@@ -261,8 +261,8 @@ impl<T, S: Table<T>, L: Table<Link>> MetaSlotMap<T, S, L> {
     #[inline]
     pub fn remove_counted(&mut self, key: SlotMapKey, touches: &mut Touches) -> Option<T>
         ensures step { SlotRemove self.old key self.new result }
-        ensures touches { touches.new.count ≤ touches.old.count + 16 }
-        ensures counts_on { touches.old.count ≤ touches.new.count }
+        ensures touches { touches.new ≤ touches.old + 16 }
+        ensures counts_on { touches.old ≤ touches.new }
     {
         let key = key.value();
         if key >= self.capacity() {
@@ -280,7 +280,7 @@ impl<T, S: Table<T>, L: Table<Link>> MetaSlotMap<T, S, L> {
         requires { IsKey self.now key }
         ensures free { result ≡ true → IsFree self.now key }
         ensures held { result ≡ false → IsHeld self.now key }
-        ensures touches { touches.new.count ≡ touches.old.count + 1 }
+        ensures touches { touches.new ≡ touches.old + 1 }
     {
         self.links.get(key, touches).is_free
     }
@@ -343,8 +343,8 @@ impl<T, S: Table<T>, L: Table<Link>> MetaSlotMap<T, S, L> {
     fn fill(&mut self, key: usize, value: T, touches: &mut Touches)
         requires { IsFree self.old key }
         ensures map { self.new ≡ slot_fill self.old key value }
-        ensures touches { touches.new.count ≤ touches.old.count + 8 }
-        ensures counts_on { touches.old.count ≤ touches.new.count }
+        ensures touches { touches.new ≤ touches.old + 8 }
+        ensures counts_on { touches.old ≤ touches.new }
     {
         let link = *self.links.get(key, touches);
         remove(&mut self.links, key, link, touches);
@@ -359,8 +359,8 @@ impl<T, S: Table<T>, L: Table<Link>> MetaSlotMap<T, S, L> {
     fn fill_first(&mut self, value: T, touches: &mut Touches)
         requires { self.old.free ≢ [] }
         ensures map { self.new ≡ slot_insert self.old value }
-        ensures touches { touches.new.count ≤ touches.old.count + 8 }
-        ensures counts_on { touches.old.count ≤ touches.new.count }
+        ensures touches { touches.new ≤ touches.old + 8 }
+        ensures counts_on { touches.old ≤ touches.new }
     {
         let key = self.first;
         let next = self.links.get(key, touches).next;
@@ -377,7 +377,7 @@ impl<T, S: Table<T>, L: Table<Link>> MetaSlotMap<T, S, L> {
         T: Drop,
         requires { IsHeld self.old key }
         ensures map { self.new ≡ slot_fill self.old key value }
-        ensures touches { touches.new.count ≡ touches.old.count + 2 }
+        ensures touches { touches.new ≡ touches.old + 2 }
     {
         *self.values.get_mut(key, touches) = value;
     }
@@ -388,8 +388,8 @@ impl<T, S: Table<T>, L: Table<Link>> MetaSlotMap<T, S, L> {
         requires { IsHeld self.old key }
         ensures value { value_at self.old key ≡ Some result }
         ensures map { self.new ≡ slot_vacate self.old key }
-        ensures touches { touches.new.count ≤ touches.old.count + 5 }
-        ensures counts_on { touches.old.count ≤ touches.new.count }
+        ensures touches { touches.new ≤ touches.old + 5 }
+        ensures counts_on { touches.old ≤ touches.new }
     {
         // First the link, which was looked at just now.
         insert_first(&mut self.links, key, self.first, touches);
