@@ -10,7 +10,5 @@ fn main(rt: HostRuntime) {
             let _ = println!(rt; "{oldest} made room for {number}");
         }
     }
-    while let Some(number) = latest.pop() {
-        let _ = println!(rt; "{number}");
-    }
+    let _ = println!(rt; "latest: {latest:?}");
 }
