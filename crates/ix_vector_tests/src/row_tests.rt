@@ -4,13 +4,14 @@ use crate::calls::Call::{
 };
 use crate::calls::{Row, check_kinds};
 use crate::items::with_one_and_two;
+use bumpalo::Bump;
 use ix_cells::VectorModificationError::{InsertWouldExceedCapacity, OutOfBounds, OutOfMemory};
 use ix_cells::{
     PolymorphicVec, RelocatableContainer, StaticVec, UninitVec, Vector, VectorModificationError,
 };
 use ix_expect::Findings;
 use linked_list_allocator::LocalHeap;
-use std::alloc::{AllocError, Global};
+use std::alloc::{AllocError, Allocator, Global};
 use std::test::Fail;
 
 /// Calls of a vector of capacity 2.
@@ -91,7 +92,10 @@ fn static_copies() -> Result<(), Fail> {
 }
 
 /// `vector` holds 1 and 2 and is full.
-fn check_polymorphic_clone(findings: &Findings, vector: &PolymorphicVec<u64, Global>) {
+fn check_polymorphic_clone<A: Allocator + Copy>(
+    findings: &Findings,
+    vector: &PolymorphicVec<u64, A>,
+) {
     match vector.try_clone() {
         Ok(copy) => {
             findings.expect_same(copy.as_slice(), &[1, 2], "a polymorphic clone");
@@ -102,20 +106,25 @@ fn check_polymorphic_clone(findings: &Findings, vector: &PolymorphicVec<u64, Glo
     }
 }
 
-#[test]
-fn polymorphic_copies(rt: HostRuntime) -> Result<(), Fail> {
-    let findings = Findings::new();
-    match PolymorphicVec::new(rt.alloc(), 2) {
-        Ok(vector) => check_polymorphic_clone(&findings, &with_one_and_two(vector)),
+fn check_polymorphic_copies<A: Allocator + Copy>(findings: &Findings, alloc: A) {
+    match PolymorphicVec::new(alloc, 2) {
+        Ok(vector) => check_polymorphic_clone(findings, &with_one_and_two(vector)),
         Err(AllocError) => findings.miss("there is memory"),
     }
-    match PolymorphicVec::from_fn(rt.alloc(), 3, |n: usize| n.wrapping_mul(n)) {
+    match PolymorphicVec::from_fn(alloc, 3, |n: usize| n.wrapping_mul(n)) {
         Ok(squares) => {
             findings.expect_same(squares.as_slice(), &[0, 1, 4], "squares");
             findings.expect(squares.is_full(), "squares");
         }
         Err(AllocError) => findings.miss("squares"),
     }
+}
+
+#[test]
+fn polymorphic_copies(rt: HostRuntime) -> Result<(), Fail> {
+    let findings = Findings::new();
+    check_polymorphic_copies(&findings, rt.alloc());
+    check_polymorphic_copies(&findings, &Bump::new(rt.alloc()));
     findings.verdict()
 }
 
