@@ -18,13 +18,14 @@ use std::fmt::{Debug, Display};
 use std::hash::Hash;
 use std::str;
 
-/// A list of bytes from 1 to 127, with a capacity that their number does not exceed. Contracts see it as a bounded list.
+/// A list of bytes from 1 to 127, with a capacity that their number does not exceed. Contracts see it as a bounded
+/// list.
 ///
-/// The memory for `capacity` bytes is allocated when the string is made: no call of this trait allocates. A call that is
-/// refused leaves the string unchanged. Lengths and indexes are counted in bytes, and indexes start at 0.
+/// The memory for `capacity` bytes is allocated when the string is made: no call of this trait allocates. A call that
+/// is refused leaves the string unchanged. Lengths and indexes are counted in bytes, and indexes start at 0.
 ///
-/// Strings are compared and hashed by their bytes, whatever their capacities, and `Display` prints the bytes escaped, as
-/// [`as_escaped_string`](crate::as_escaped_string) does.
+/// Strings are compared and hashed by their bytes, whatever their capacities, and `Display` prints the bytes escaped,
+/// as [`as_escaped_string`](crate::as_escaped_string) does.
 ///
 /// ```text
 /// fn append_line<S: String>(string: &mut S, line: &[u8]) -> Result<(), StringModificationError> {
@@ -52,16 +53,16 @@ pub trait String: Debug + Display + Eq + Ord + Hash {
         ensures value { result ≡ length (bounded self.now).items }
         ensures within { IsWithin (bounded self.now) };
 
-    /// Inserts `bytes` at index `idx`, shifting all later bytes to the right, without checking that they fit and are from 1
-    /// to 127. O(`len - idx + bytes.len()`).
+    /// Inserts `bytes` at index `idx`, shifting all later bytes to the right, without checking that they fit and are
+    /// from 1 to 127. O(`len - idx + bytes.len()`).
     fn insert_bytes_unchecked(&mut self, idx: usize, bytes: &[u8])
         requires index { idx ≤ length (bounded self.old).items }
         requires room { HasRoomFor (length bytes.now) (bounded self.old) }
         requires text { IsText bytes.now }
         ensures { bounded self.new ≡ text_insert_slice (bounded self.old) idx bytes.now };
 
-    /// Removes the `n` bytes from index `idx` on, shifting all later bytes to the left, and returns `true`. Returns `false`
-    /// if there are fewer than `n` bytes from `idx` on, or if `idx` is greater than the length. O(`len - idx`).
+    /// Removes the `n` bytes from index `idx` on, shifting all later bytes to the left, and returns `true`. Returns
+    /// `false` if there are fewer than `n` bytes from `idx` on, or if `idx` is greater than the length. O(`len - idx`).
     fn remove_range(&mut self, idx: usize, n: usize) -> bool
         ensures value { IsTrue result ↔ IsRangeOf (bounded self.old) idx n }
         ensures string { OnTrue result (bounded self.new ≡ text_remove_range (bounded self.old) idx n) }
@@ -118,7 +119,8 @@ pub trait String: Debug + Display + Eq + Ord + Hash {
         Ok(())
     }
 
-    /// Inserts `byte` at index `idx`, which is at most the length, shifting all later bytes to the right. O(`len - idx`).
+    /// Inserts `byte` at index `idx`, which is at most the length, shifting all later bytes to the right.
+    /// O(`len - idx`).
     ///
     /// Returns [`StringModificationError::InsertWouldExceedCapacity`] if the string is full, and otherwise
     /// [`StringModificationError::InvalidCharacter`] if the byte is 0 or above 127.
@@ -158,8 +160,8 @@ pub trait String: Debug + Display + Eq + Ord + Hash {
         self.insert_bytes(self.len(), &[byte])
     }
 
-    /// Removes the byte at index `idx`, shifting all later bytes to the left, and returns it, or `None` if `idx` is out of
-    /// bounds. O(`len - idx`).
+    /// Removes the byte at index `idx`, shifting all later bytes to the left, and returns it, or `None` if `idx` is out
+    /// of bounds. O(`len - idx`).
     final fn remove(&mut self, idx: usize) -> Option<u8>
         ensures value { result ≡ slice_get (bounded self.old).items idx }
         ensures string { bounded self.new ≡ vec_remove (bounded self.old) idx }
@@ -207,6 +209,7 @@ pub trait String: Debug + Display + Eq + Ord + Hash {
     }
 
     /// Returns the least index at which `needle` occurs, or `None` if it does not occur. An empty `needle` occurs at 0.
+    /// O(`len + needle.len()`).
     final fn find(&self, needle: &[u8]) -> Option<usize>
         ensures { IsFirstMatch (bounded self.now).items needle.now result }
     {
@@ -214,15 +217,15 @@ pub trait String: Debug + Display + Eq + Ord + Hash {
     }
 
     /// Returns the greatest index at which `needle` occurs, or `None` if it does not occur. An empty `needle` occurs at
-    /// `len`.
+    /// `len`. O(`len + needle.len()`).
     final fn rfind(&self, needle: &[u8]) -> Option<usize>
         ensures { IsLastMatch (bounded self.now).items needle.now result }
     {
         memmem::rfind(self.as_bytes(), needle)
     }
 
-    /// Removes `bytes` from the start of the string and returns `true`. Returns `false` if the string does not start with
-    /// them. O(`len`).
+    /// Removes `bytes` from the start of the string and returns `true`. Returns `false` if the string does not start
+    /// with them. O(`len`).
     final fn strip_prefix(&mut self, bytes: &[u8]) -> bool
         ensures value { IsTrue result ↔ MatchesAt (bounded self.old).items bytes.now 0 }
         ensures string { OnTrue result
@@ -252,8 +255,8 @@ pub trait String: Debug + Display + Eq + Ord + Hash {
         false
     }
 
-    /// Removes each byte for which `f` returns `true`, keeping the order of the others. `f` is called once for each byte,
-    /// from the last to the first. O(`len`).
+    /// Removes each byte for which `f` returns `true`, keeping the order of the others. `f` is called once for each
+    /// byte, from the last to the first. O(`len`).
     ///
     /// The `retain` of std keeps those bytes instead.
     fn retain<F: FnMut(u8) -> bool>(&mut self, f: F)
@@ -297,7 +300,8 @@ pub trait String: Debug + Display + Eq + Ord + Hash {
         self.eq_bytes(other.as_bytes())
     }
 
-    /// Compares the bytes with `other`: by the first byte that differs, and otherwise the shorter one is less. O(`len`).
+    /// Compares the bytes with `other`: by the first byte that differs, and otherwise the shorter one is less.
+    /// O(`len`).
     #[inline]
     final fn cmp_bytes(&self, other: &[u8]) -> Ordering
         ensures { result ≡ slice_cmp nat_cmp (bounded self.now).items other.now }
