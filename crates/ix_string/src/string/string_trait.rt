@@ -65,7 +65,8 @@ pub trait String: Debug + Display + Eq + Ord + Hash {
     /// `false` if there are fewer than `n` bytes from `idx` on, or if `idx` is greater than the length. O(`len - idx`).
     fn remove_range(&mut self, idx: usize, n: usize) -> bool
         ensures value { IsTrue result ↔ IsRangeOf (bounded self.old) idx n }
-        ensures string { OnTrue result (bounded self.new ≡ text_remove_range (bounded self.old) idx n) }
+        ensures string { OnTrue result
+            (bounded self.new ≡ text_remove_range (bounded self.old) idx n) }
         ensures refused { OnFalse result (self.new ≡ self.old) }
         ensures no_bytes { n ≡ 0 → self.new ≡ self.old };
 
@@ -243,8 +244,8 @@ pub trait String: Debug + Display + Eq + Ord + Hash {
     /// them. O(`bytes.len()`).
     final fn strip_suffix(&mut self, bytes: &[u8]) -> bool
         ensures value { IsTrue result ↔ EndsWith (bounded self.old).items bytes.now }
-        ensures string { OnTrue result (bounded self.new
-            ≡ vec_truncate (bounded self.old) (length (bounded self.old).items - length bytes.now)) }
+        ensures string { OnTrue result (bounded self.new ≡ vec_truncate (bounded self.old)
+            (length (bounded self.old).items - length bytes.now)) }
         ensures refused { OnFalse result (self.new ≡ self.old) }
         ensures no_bytes { bytes.now ≡ [] → self.new ≡ self.old }
     {
@@ -263,15 +264,16 @@ pub trait String: Debug + Display + Eq + Ord + Hash {
         requires { F.IsAlwaysCallable f }
         ensures string { Retains F.step f (bounded self.old).items (bounded self.new).items }
         ensures capacity { (bounded self.new).capacity ≡ (bounded self.old).capacity }
-        ensures refused { (bounded self.new).items ≡ (bounded self.old).items → self.new ≡ self.old };
+        ensures refused { (bounded self.new).items ≡ (bounded self.old).items
+            → self.new ≡ self.old };
 
     /// Copies the bytes and then a zero to the start of `out`, and returns how many bytes that is, `len + 1`. Returns
     /// `None`, and leaves `out` unchanged, if `out` is shorter. The rest of `out` is left unchanged. O(`len`).
     final fn copy_with_nul(&self, out: &mut [u8]) -> Option<usize>
         ensures variant { IsSome result ↔ (length (bounded self.now).items < length out.old) }
         ensures value { IfSome result (λ n. n ≡ length (bounded self.now).items + 1) }
-        ensures copy { OnSome result (out.new
-            ≡ ((bounded self.now).items ++ 0 ∷ []) ++ drop (length (bounded self.now).items + 1) out.old) }
+        ensures copy { OnSome result (out.new ≡ ((bounded self.now).items ++ 0 ∷ [])
+            ++ drop (length (bounded self.now).items + 1) out.old) }
         ensures refused { IfNone result (out.new ≡ out.old) }
     {
         let bytes = self.as_bytes();
@@ -310,14 +312,17 @@ pub trait String: Debug + Display + Eq + Ord + Hash {
     }
 
     /// Strings are equal if their bytes are.
-    ghost eq_by_bytes: { (a b : Self) → Self.PartialEq.eq a b ≡ pointwise ◌==◌ (bounded a).items (bounded b).items };
+    ghost eq_by_bytes: { (a b : Self)
+        → Self.PartialEq.eq a b ≡ pointwise ◌==◌ (bounded a).items (bounded b).items };
 
     /// Strings are ordered as their bytes are.
-    ghost cmp_by_bytes: { (a b : Self) → Self.Ord.cmp a b ≡ slice_cmp nat_cmp (bounded a).items (bounded b).items };
+    ghost cmp_by_bytes: { (a b : Self)
+        → Self.Ord.cmp a b ≡ slice_cmp nat_cmp (bounded a).items (bounded b).items };
 
     /// The bytes are fed to a hasher in one write.
     ghost hash_input_by_bytes: { (a : Self) → Self.Hash.hash_input a ≡ (bounded a).items ∷ [] };
 
     /// `Display` prints the bytes escaped.
-    ghost output_by_bytes: { (a : Self) → Self.Display.output a ≡ Some (escaped_text (bounded a).items) };
+    ghost output_by_bytes: { (a : Self)
+        → Self.Display.output a ≡ Some (escaped_text (bounded a).items) };
 }
