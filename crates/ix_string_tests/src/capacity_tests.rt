@@ -1,9 +1,9 @@
-//! Empty and full strings of the least capacities and of a larger one.
-use crate::calls::Answer::{Bool, Byte, Changed, Copied, Done, Number, Order, Places};
+//! Empty and full strings of capacities 0, 1, 2 and 127.
 use crate::calls::Call::{
     Clear, Compare, CopyTo, Find, InsertBytes, IsEmpty, Len, Pop, Remove, RemoveRange, RetainEach,
     StripPrefix, StripSuffix, Truncate,
 };
+use crate::calls::Returned::{Bool, Byte, Changed, Copied, Done, Found, Number, Order};
 use crate::calls::Start::Then;
 use crate::calls::{Row, check_rows};
 use bumpalo::Bump;
@@ -27,7 +27,7 @@ const OF_EMPTY: &[Row] = &[
     (Then, RemoveRange(1, 0), Bool(false), ""),
     (Then, StripPrefix(""), Bool(true), ""),
     (Then, StripSuffix(""), Bool(true), ""),
-    (Then, Find(""), Places(Some(0), Some(0)), ""),
+    (Then, Find(""), Found(Some(0), Some(0)), ""),
     (Then, Truncate(0), Done, ""),
     (Then, Clear, Done, ""),
     (Then, RetainEach(true), Done, ""),
@@ -48,18 +48,18 @@ const REFUSED: Result<(), StringModificationError> = Err(InsertWouldExceedCapaci
 fn check_full<S: String>(findings: &Findings, string: &mut S, capacity: usize) {
     findings.expect_same((string.is_full(), string.len()), (true, capacity), "full");
     for byte in &[97, 0, 255] {
-        let answers = (string.push(*byte), string.insert(0, *byte));
-        findings.expect_same(answers, (REFUSED, REFUSED), "no room");
+        let results = (string.push(*byte), string.insert(0, *byte));
+        findings.expect_same(results, (REFUSED, REFUSED), "no room");
     }
     findings.expect_same(string.push_bytes(&[]), Ok(()), "push nothing");
     string.retain(|_: u8| false);
-    findings.expect(string.is_full(), "nothing is taken out");
+    findings.expect(string.is_full(), "nothing is removed");
     let mut out = [9u8; 200];
     let copied = string.copy_with_nul(&mut out);
     findings.expect_same(copied, capacity.checked_add(1), "a copy");
 }
 
-/// Fills the empty string, and empties it again. There was memory for it.
+/// Fills the empty string, and empties it again.
 fn check_made<S: String + Drop, E: Drop>(findings: &Findings, made: Result<S, E>, capacity: usize) {
     let Ok(mut string) = made else {
         return findings.miss("there is memory");
@@ -88,10 +88,10 @@ fn check_in<A: Allocator + Copy>(findings: &Findings, alloc: A) {
     }
 }
 
-/// As above. All of the memory comes back.
+/// As above. All memory is deallocated.
 fn check_heap(findings: &Findings, heap: &LocalHeap) {
     check_in(findings, heap);
-    findings.expect_same(heap.used(), 0, "the heap has all of its memory back");
+    findings.expect_same(heap.used(), 0, "all memory is deallocated");
 }
 
 fn check_fixed(findings: &Findings) {

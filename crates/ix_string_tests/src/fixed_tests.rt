@@ -1,4 +1,4 @@
-//! Conversions into fixed strings, and the length of bytes that a zero ends.
+//! Conversions into fixed strings, and the length of a text that ends with a zero.
 use crate::strings::holding;
 use ix_expect::Findings;
 use ix_string::StringModificationError::{InsertWouldExceedCapacity, InvalidCharacter};
@@ -6,10 +6,10 @@ use ix_string::{StaticString, String, StringModificationError, strnlen};
 use std::str::FromStr;
 use std::test::Fail;
 
-/// Bytes, and the text that is made of them or the refusal.
+/// Bytes, and the text that is made of them or the error.
 type Made = (&'static [u8], Result<&'static str, StringModificationError>);
 
-/// What a conversion answers: the text, or the refusal.
+/// Compares what a conversion returns: the text, or the error.
 fn check_made<const CAPACITY: usize>(
     findings: &Findings,
     made: Result<StaticString<CAPACITY>, StringModificationError>,
@@ -129,7 +129,7 @@ const ENDED_BY_ZERO: &[Made] = &[
     (&[97, 98, 200, 0], Err(InsertWouldExceedCapacity)),
 ];
 
-/// Bytes, how many may be looked at, and how many stand before the first zero of those.
+/// Bytes, how many are searched, and how many of these are before the first zero.
 const LENGTHS: &[(&[u8], usize, usize)] = &[
     (&[97, 0, 98], 5, 1),
     (&[97, 0, 98], 1, 1),
@@ -171,7 +171,7 @@ fn other_makings() -> Result<(), Fail> {
     let copy = string;
     string.clear();
     findings.expect_same(copy.as_str(), "hello", "after the other's change");
-    findings.expect_same(string.as_str(), "", "cleared after its copy");
+    findings.expect_same(string.as_str(), "", "cleared after it was copied");
     findings.expect(string == StaticString::<5>::default(), "the default");
     findings.expect(string == StaticString::<5>::new(), "a new one");
     check_unchecked_makings(&findings);

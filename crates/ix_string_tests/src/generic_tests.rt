@@ -12,8 +12,7 @@ use ix_expect::Findings;
 use ix_string::{PolymorphicString, StaticString, String, UninitString};
 use std::alloc::{AllocError, Global};
 use std::cmp::Ordering;
-use std::hash::DefaultHasher;
-use std::hash::{Hash, Hasher};
+use std::hash::{DefaultHasher, Hash, Hasher};
 use std::test::Fail;
 
 /// Returns what `{}` prints.
@@ -48,4 +47,54 @@ fn hash_of<S: String>(string: &S) -> u64
     let mut state = DefaultHasher::new();
     string.hash(&mut state);
     state.finish()
+}
+
+/// What the functions above return of two strings that hold "a\tb" and "ab". The hashes are those of Rust's own
+/// `DefaultHasher` that is fed the bytes in one write.
+fn check_pair<S: String>(findings: &Findings, alloc: Global, tabbed: &S, plain: &S, kind: &str) {
+    match displayed(alloc, tabbed) {
+        Ok(text) => findings.expect_same(text.as_str(), "a\\tb", kind),
+        Err(AllocError) => findings.miss(kind),
+    }
+    let orders = (order_of(tabbed, plain), order_of(plain, tabbed));
+    findings.expect_same(orders, (Ordering::Less, Ordering::Greater), kind);
+    let same = (is_same(tabbed, plain), is_same(plain, plain));
+    findings.expect_same(same, (false, true), kind);
+    let less = (is_less(tabbed, plain), is_less(plain, plain));
+    findings.expect_same(less, (true, false), kind);
+    let hashes = (hash_of(tabbed), hash_of(plain));
+    let wanted = (6_261_151_546_290_972_062, 6_148_830_537_548_944_441);
+    findings.expect_same(hashes, wanted, kind);
+}
+
+/// Fills the two strings, if there is memory for them.
+fn check_made<S: String + Drop, E: Drop>(
+    findings: &Findings,
+    alloc: Global,
+    one: Result<S, E>,
+    other: Result<S, E>,
+    kind: &str,
+) {
+    if let Ok(one) = one {
+        if let Ok(other) = other {
+            let (tabbed, plain) = (holding(one, "a\tb"), holding(other, "ab"));
+            return check_pair(findings, alloc, &tabbed, &plain, kind);
+        }
+    }
+    findings.miss(kind);
+}
+
+#[test]
+fn generic_code(rt: HostRuntime) -> Result<(), Fail> {
+    let findings = Findings::new();
+    let alloc = rt.alloc();
+    let one = Ok::<_, AllocError>(StaticString::<4>::new());
+    check_made(&findings, alloc, one, Ok(StaticString::new()), "fixed");
+    let one = UninitString::new_uninit(4).init(alloc);
+    let other = UninitString::new_uninit(9).init(alloc);
+    check_made(&findings, alloc, one, other, "relocatable");
+    let one = PolymorphicString::new(alloc, 9);
+    let other = PolymorphicString::new(alloc, 4);
+    check_made(&findings, alloc, one, other, "polymorphic");
+    findings.verdict()
 }

@@ -1,4 +1,4 @@
-//! The examples and the refusals at each kind of string and in each kind of memory.
+//! The examples and the refusals at each kind of string, in each kind of memory.
 use crate::calls::{Row, check_tables};
 use crate::refusals::{REFUSED_BY_FULL, REFUSED_BYTE, check_refused_bytes};
 use crate::rows::{
@@ -32,7 +32,7 @@ const OF_MORE: &[&[Row]] = &[
 /// Examples of a string with room for two bytes.
 const OF_TWO: &[&[Row]] = &[COPIES, COMPARISONS, REFUSED_BY_FULL];
 
-/// The bytes are asked for from the last one to the first, as the digits of `asked` tell, three for each.
+/// `retain` calls its closure from the last byte to the first: the digits of `asked` are the bytes, three for each.
 fn check_retaining<S: String>(findings: &Findings, string: &mut S, place: &str) {
     refill(string, "abc");
     let (asked, first) = (Cell::new(0u64), Cell::new(true));
@@ -44,7 +44,33 @@ fn check_retaining<S: String>(findings: &Findings, string: &mut S, place: &str) 
     findings.expect_same(asked.get(), 99_098_097, place);
 }
 
-/// The examples for a string, whose capacity is six, two or more.
+/// A text, what the closure of `retain` returns for each byte, the bytes that are left, how often it is called, and at
+/// which bytes: three digits for each.
+const RETAIN_CALLS: &[(&str, bool, &str, u64, u64)] = &[
+    ("", true, "", 0, 0),
+    ("", false, "", 0, 0),
+    ("abc", false, "abc", 3, 99_098_097),
+    ("abc", true, "", 3, 99_098_097),
+    ("a", true, "", 1, 97),
+    ("a", false, "a", 1, 97),
+];
+
+/// `retain` calls its closure once for each byte, in an empty string and where all bytes are kept or all are removed.
+fn check_retain_calls<S: String>(findings: &Findings, string: &mut S, place: &str) {
+    for (row, (text, result, left, number, digits)) in RETAIN_CALLS.iter().enumerate() {
+        refill(string, text);
+        let (calls, asked) = (Cell::new(0u64), Cell::new(0u64));
+        string.retain(|byte: u8| {
+            calls.set(calls.get().wrapping_add(1));
+            asked.set(asked.get().wrapping_mul(1000).wrapping_add(byte as u64));
+            *result
+        });
+        findings.expect_same_at(string.as_str(), *left, row, place);
+        findings.expect_same_at((calls.get(), asked.get()), (*number, *digits), row, place);
+    }
+}
+
+/// Makes the examples for a string of capacity two, six or more.
 fn check_string<S: String>(findings: &Findings, string: &mut S, place: &str) {
     if string.capacity() == 2 {
         check_tables(findings, string, OF_TWO, place);
@@ -52,12 +78,13 @@ fn check_string<S: String>(findings: &Findings, string: &mut S, place: &str) {
     }
     check_tables(findings, string, OF_MORE, place);
     check_retaining(findings, string, place);
+    check_retain_calls(findings, string, place);
     if string.capacity() == 6 {
         check_refused_bytes(findings, string, place);
     }
 }
 
-/// There was memory for the string.
+/// Makes the examples for the string, if there is memory for it.
 fn check_made<S: String + Drop, E: Drop>(
     findings: &Findings,
     made: Result<S, E>,
@@ -85,7 +112,7 @@ fn fixed_kinds() -> Result<(), Fail> {
     findings.verdict()
 }
 
-/// Makes the calls on a string of each kind in memory of `alloc`.
+/// Makes the examples for a string of each kind in memory of `alloc`.
 fn check_kinds<A: Allocator + Copy>(findings: &Findings, alloc: A, capacity: usize, memory: &str) {
     let relocatable = UninitString::new_uninit(capacity).init(alloc);
     check_made(findings, relocatable, capacity, memory);
@@ -98,10 +125,10 @@ fn check_kinds_in<A: Allocator + Copy>(findings: &Findings, alloc: A, memory: &s
     check_kinds(findings, alloc, 2, memory);
 }
 
-/// As above. All of the memory comes back.
+/// As above. All memory is deallocated.
 fn check_heap(findings: &Findings, heap: &LocalHeap) {
     check_kinds_in(findings, heap, "a heap");
-    findings.expect_same(heap.used(), 0, "the heap has all of its memory back");
+    findings.expect_same(heap.used(), 0, "all memory is deallocated");
 }
 
 #[test]

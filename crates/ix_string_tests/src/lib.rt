@@ -1,5 +1,5 @@
 //! Tests of strings beside their contracts: worked examples at each kind and in each memory, every function once, each
-//! refusal by name, the printed texts, and how comparisons and hashes agree.
+//! error by name, the printed texts, how comparisons and hashes agree, and code over any string.
 #![tactic(auto)]
 
 #[cfg(test)]

@@ -1,4 +1,4 @@
-//! Strings whose memory is refused: nothing stays taken.
+//! Strings for which there is no memory: nothing stays allocated.
 use crate::strings::holding;
 use ix_cells::{InitError, RelocatableContainer};
 use ix_expect::Findings;
@@ -7,7 +7,7 @@ use linked_list_allocator::LocalHeap;
 use std::alloc::{AllocError, Global};
 use std::test::Fail;
 
-/// The heap had memory for an empty string of `capacity` bytes if `found`, and `used` of it were used before.
+/// The heap, of which `used` bytes were used before, had memory for an empty string of `capacity` bytes if `found`.
 fn check_made<S: String + Drop, E: Drop>(
     findings: &Findings,
     heap: &LocalHeap,
@@ -20,14 +20,17 @@ fn check_made<S: String + Drop, E: Drop>(
             findings.expect(found, "memory is refused");
             let sizes = (string.capacity(), string.len());
             findings.expect_same(sizes, (capacity, 0), "in the heap");
-            findings.expect((heap.used() > used) == (capacity > 0), "memory is taken");
+            findings.expect(
+                (heap.used() > used) == (capacity > 0),
+                "memory is allocated",
+            );
         }
         Err(_) => findings.expect(!found, "memory is found"),
     }
-    findings.expect_same(heap.used(), used, "nothing stays taken");
+    findings.expect_same(heap.used(), used, "nothing stays allocated");
 }
 
-/// A refusal hands back what finds memory in `ample` then.
+/// What a refusal returns is initialised in `ample`, which has memory.
 fn check_again(
     findings: &Findings,
     refused: Option<InitError<UninitString>>,
@@ -45,7 +48,7 @@ fn check_again(
     }
 }
 
-/// The heap has a free block for `capacity` bytes if `found`. `ample` finds memory.
+/// The heap has a free block for `capacity` bytes if `found`. `ample` has memory.
 fn check_heap(findings: &Findings, heap: &LocalHeap, ample: Global, capacity: usize, found: bool) {
     let used = heap.used();
     let wanted = (capacity, found);
@@ -55,11 +58,11 @@ fn check_heap(findings: &Findings, heap: &LocalHeap, ample: Global, capacity: us
     check_made(findings, heap, used, made, wanted);
     let refused = UninitString::new_uninit(capacity).init(heap).err();
     findings.expect_same(refused.is_none(), found, "in two steps");
-    findings.expect_same(heap.used(), used, "nothing stays taken by a refusal");
+    findings.expect_same(heap.used(), used, "nothing stays allocated by a refusal");
     check_again(findings, refused, ample, capacity);
 }
 
-/// The clone of a string without room needs no memory.
+/// The clone of a string of capacity 0 needs no memory.
 fn check_empty_clone(findings: &Findings, heap: &LocalHeap) {
     if let Ok(empty) = PolymorphicString::new(heap, 0) {
         let used = heap.used();
@@ -67,7 +70,7 @@ fn check_empty_clone(findings: &Findings, heap: &LocalHeap) {
     }
 }
 
-/// A block of the heap is taken, and of the others each one is room for five bytes.
+/// The heap has one block in use and `blocks` free ones, each with room for five bytes.
 fn check_blocks(findings: &Findings, heap: &LocalHeap, ample: Global, blocks: usize) {
     let held = Box::new(heap, 0u64);
     findings.expect(held.is_ok(), "a block");
@@ -88,7 +91,7 @@ fn makings_refused(rt: HostRuntime) -> Result<(), Fail> {
     findings.verdict()
 }
 
-/// `copy` is the clone of a string that holds "ab" and has room for four bytes.
+/// `copy` is the clone of a string of capacity four that holds "ab".
 fn check_copy<'a>(
     findings: &Findings,
     string: &PolymorphicString<&'a LocalHeap>,
@@ -100,7 +103,7 @@ fn check_copy<'a>(
     findings.expect_same(copy.push(99), Ok(()), "a push onto a clone");
 }
 
-/// The heap, of `blocks` blocks, holds the string alone.
+/// The heap has `blocks` blocks, one of which holds the string.
 fn check_clone(
     findings: &Findings,
     heap: &LocalHeap,
@@ -111,7 +114,7 @@ fn check_clone(
     match string.try_clone() {
         Ok(copy) => {
             findings.expect(blocks > 1, "a clone is refused");
-            findings.expect(heap.used() > used, "memory is taken");
+            findings.expect(heap.used() > used, "memory is allocated");
             check_copy(findings, string, copy);
         }
         Err(AllocError) => findings.expect(blocks == 1, "a clone is made"),
@@ -120,7 +123,7 @@ fn check_clone(
     findings.expect_same(string.as_str(), "ab", "after the clone");
 }
 
-/// The heap, of `blocks` blocks, is empty.
+/// The heap has `blocks` blocks, all free.
 fn check_clones(findings: &Findings, heap: &LocalHeap, blocks: usize) {
     match PolymorphicString::new(heap, 4) {
         Ok(string) => check_clone(findings, heap, &holding(string, "ab"), blocks),
@@ -140,7 +143,7 @@ fn clones_refused(rt: HostRuntime) -> Result<(), Fail> {
     findings.verdict()
 }
 
-/// No memory holds `capacity` bytes.
+/// No allocator has memory for `capacity` bytes.
 fn check_past_all_memory(findings: &Findings, alloc: Global, capacity: usize) {
     let refused = PolymorphicString::<Global>::new(alloc, capacity).err();
     findings.expect_same(refused, Some(AllocError), "`new` refuses");
@@ -148,7 +151,7 @@ fn check_past_all_memory(findings: &Findings, alloc: Global, capacity: usize) {
         Ok(_string) => findings.miss("`init` refuses"),
         Err(error) => {
             let again = error.into_uninit().init(alloc);
-            findings.expect(again.is_err(), "the capacity came back");
+            findings.expect(again.is_err(), "the capacity is returned");
         }
     }
 }

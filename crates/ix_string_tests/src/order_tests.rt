@@ -6,7 +6,6 @@ use ix_expect::Findings;
 use ix_string::{PolymorphicString, StaticString, String, UninitString};
 use std::alloc::{AllocError, Global};
 use std::cmp::Ordering;
-use std::hash::Hash;
 use std::test::Fail;
 
 /// Texts from the least to the greatest, and what one write of each feeds to the recorder.
@@ -19,13 +18,7 @@ const RISING: &[(&str, u64)] = &[
     ("b\u{7f}", 0x627fff),
 ];
 
-fn check_pair<S: String + Ord + Hash>(
-    findings: &Findings,
-    left: &S,
-    right: &S,
-    order: Ordering,
-    kind: &str,
-) {
+fn check_pair<S: String>(findings: &Findings, left: &S, right: &S, order: Ordering, kind: &str) {
     let same = order == Ordering::Equal;
     let bytes = right.as_bytes();
     let orders = (
@@ -43,8 +36,8 @@ fn check_pair<S: String + Ord + Hash>(
     findings.expect_same(left < right, order == Ordering::Less, kind);
 }
 
-/// Compares each text with each, in two strings for which there was memory, and what each feeds to a hasher.
-fn check_made<S: String + Ord + Hash + Drop, E: Drop>(
+/// Compares each text with each, in two strings, and what each feeds to a hasher.
+fn check_made<S: String + Drop, E: Drop>(
     findings: &Findings,
     one: Result<S, E>,
     other: Result<S, E>,
@@ -59,12 +52,7 @@ fn check_made<S: String + Ord + Hash + Drop, E: Drop>(
 }
 
 /// As above.
-fn check_texts<S: String + Ord + Hash>(
-    findings: &Findings,
-    left: &mut S,
-    right: &mut S,
-    kind: &str,
-) {
+fn check_texts<S: String>(findings: &Findings, left: &mut S, right: &mut S, kind: &str) {
     for (i, (text, fed)) in RISING.iter().enumerate() {
         refill(left, text);
         findings.expect_same_at(fed_by(&*left), *fed, i, kind);
@@ -75,7 +63,7 @@ fn check_texts<S: String + Ord + Hash>(
     }
 }
 
-/// Those that have a capacity of their own have different ones.
+/// The strings in memory of an allocator have different capacities.
 fn check_kinds(findings: &Findings, alloc: Global) {
     let one = Ok::<_, AllocError>(StaticString::<4>::new());
     check_made(findings, one, Ok(StaticString::new()), "fixed");

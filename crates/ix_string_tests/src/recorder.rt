@@ -1,8 +1,8 @@
-//! A hasher that tells what it was fed.
+//! A hasher that records what it was fed.
 use std::cell::Cell;
 use std::hash::{Hash, Hasher};
 
-/// It notes the bytes of each write and then 255, as digits to the base 256. Contracts do not see the note.
+/// Records the bytes of each write and then 255, as digits to the base 256. Contracts do not see the record.
 #[derive(Drop)]
 struct Recorder<'a> {
     digits: &'a Cell<u64>,
@@ -26,7 +26,7 @@ impl Hasher for Recorder<'_> {
     }
 }
 
-/// What `value` feeds to a hasher, where that is at most eight digits.
+/// Returns what `value` feeds to a hasher, at most eight digits.
 pub fn fed_by<T: Hash>(value: &T) -> u64 {
     let digits = Cell::new(0u64);
     let mut recorder = Recorder { digits: &digits };

@@ -1,20 +1,20 @@
-//! Refusals of any string: by name, and nothing changes.
-use crate::calls::Answer::{Bool, Byte, Changed, Number};
+//! Calls that any string refuses: the errors by name, and nothing changes.
 use crate::calls::Call::{
     Capacity, Insert, InsertBytes, IsEmpty, IsFull, Push, PushBytes, Remove, RemoveRange,
     StripPrefix,
 };
+use crate::calls::Returned::{Bool, Byte, Changed, Number};
 use crate::calls::Start::{Then, With};
-use crate::calls::{Answer, Row, check_row};
+use crate::calls::{Returned, Row, check_row};
 use ix_expect::Findings;
 use ix_string::StringModificationError::{InsertWouldExceedCapacity, InvalidCharacter};
 use ix_string::{String, StringModificationError};
 
-const INVALID: Answer = Changed(Err(InvalidCharacter));
+const INVALID: Returned = Changed(Err(InvalidCharacter));
 
-const FULL: Answer = Changed(Err(InsertWouldExceedCapacity));
+const FULL: Returned = Changed(Err(InsertWouldExceedCapacity));
 
-/// Calls of a string with room for six bytes.
+/// Calls of a string of capacity six.
 pub const REFUSED_BYTE: &[Row] = &[
     (With("abcd"), Push(0), INVALID, "abcd"),
     (Then, Insert(2, 0), INVALID, "abcd"),
@@ -24,7 +24,7 @@ pub const REFUSED_BYTE: &[Row] = &[
     (Then, Insert(2, 255), INVALID, "abcd"),
 ];
 
-/// Calls of a string with room for two bytes.
+/// Calls of a string of capacity two.
 pub const REFUSED_BY_FULL: &[Row] = &[
     (With("ab"), IsFull, Bool(true), "ab"),
     (Then, IsEmpty, Bool(false), "ab"),
@@ -45,7 +45,7 @@ pub const REFUSED_BY_FULL: &[Row] = &[
     (Then, Capacity, Number(2), "ab"),
 ];
 
-/// Bytes that a string of four bytes with room for six refuses.
+/// Bytes that a string of capacity six refuses if it holds four bytes.
 const REFUSED: &[(&[u8], StringModificationError)] = &[
     (&[0], InvalidCharacter),
     (&[128], InvalidCharacter),
@@ -57,7 +57,7 @@ const REFUSED: &[(&[u8], StringModificationError)] = &[
     (&[97, 98, 200], InsertWouldExceedCapacity),
 ];
 
-/// `string` has room for six bytes. It refuses the bytes at each place.
+/// `string`, of capacity six, refuses the bytes at each index.
 pub fn check_refused_bytes<S: String>(findings: &Findings, string: &mut S, place: &str) {
     for (number, (bytes, error)) in REFUSED.iter().enumerate() {
         let row = (With("abcd"), PushBytes(bytes), Changed(Err(*error)), "abcd");

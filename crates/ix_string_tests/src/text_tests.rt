@@ -1,5 +1,4 @@
 //! Printed texts.
-use crate::strings::refill;
 use ix_cells::RelocatableContainer;
 use ix_expect::Findings;
 use ix_string::{
@@ -7,16 +6,21 @@ use ix_string::{
     as_escaped_string,
 };
 use std::alloc::{AllocError, Global};
-use std::fmt;
 use std::test::Fail;
 
-/// Bytes, and how they are shown.
+/// One byte of each form that text is escaped in: 9, 10, 13, 1, 31, 127, a backslash and a quote.
+const ALL: &[u8] = b"\t\n\r\x01\x1f\x7f\\\"";
+
+const ALL_ESCAPED: &str = "\\t\\n\\r\\x01\\x1f\u{7f}\\\"";
+
+/// Bytes, and how they are printed.
 const ESCAPED: &[(&[u8], &str)] = &[
     (&[97, 9, 1, 255, 92, 127], "a\\t\\x01\\xff\\\u{7f}"),
     (&[9, 10, 13], "\\t\\n\\r"),
     (&[0, 8, 11, 12, 14], "\\x00\\x08\\x0b\\x0c\\x0e"),
     (&[31, 32, 34, 126], "\\x1f \"~"),
     (&[128, 159, 171], "\\x80\\x9f\\xab"),
+    (ALL, ALL_ESCAPED),
     (&[], ""),
 ];
 
@@ -36,19 +40,19 @@ fn escaped_bytes(rt: HostRuntime) -> Result<(), Fail> {
     findings.verdict()
 }
 
-/// A text, and how a string that holds it is displayed and debugged.
-type Shown<'a> = (&'a str, &'a str, &'a str);
+/// Bytes, and what `Display` and `Debug` print of a string that holds them.
+type Shown<'a> = (&'a [u8], &'a str, &'a str);
 
-/// How a string is shown, for which there was memory.
-fn check_made<S: String + fmt::Display + fmt::Debug + Drop, E: Drop>(
+/// Compares what is printed of the string, if there is memory for it.
+fn check_made<S: String + Drop, E: Drop>(
     findings: &Findings,
     alloc: Global,
     made: Result<S, E>,
-    (text, displayed, debugged): &Shown,
+    (bytes, displayed, debugged): &Shown,
 ) {
     match made {
         Ok(mut string) => {
-            refill(&mut string, text);
+            findings.expect_same(string.push_bytes(bytes), Ok(()), displayed);
             check_text(findings, format!(in alloc; "{}", string), displayed);
             check_text(findings, format!(in alloc; "{:?}", string), debugged);
         }
@@ -57,35 +61,72 @@ fn check_made<S: String + fmt::Display + fmt::Debug + Drop, E: Drop>(
 }
 
 const FIXED: &[Shown] = &[
-    ("ab", "ab", "StaticString<5> { len: 2, data: \"ab\" }"),
-    ("\t", "\\t", "StaticString<5> { len: 1, data: \"\\t\" }"),
-    ("", "", "StaticString<5> { len: 0, data: \"\" }"),
+    (b"ab", "ab", "StaticString<5> { len: 2, data: \"ab\" }"),
+    (b"\t", "\\t", "StaticString<5> { len: 1, data: \"\\t\" }"),
+    (b"", "", "StaticString<5> { len: 0, data: \"\" }"),
 ];
 
-const RELOCATABLE: Shown = (
-    "ab",
-    "ab",
-    "RelocatableString { capacity: 5, len: 2, data: \"ab\" }",
+const FIXED_OF_ALL: Shown = (
+    ALL,
+    ALL_ESCAPED,
+    "StaticString<8> { len: 8, data: \"\\t\\n\\r\\x01\\x1f\u{7f}\\\"\" }",
 );
 
-const POLYMORPHIC: Shown = (
-    "a\n",
-    "a\\n",
-    "PolymorphicString { capacity: 5, len: 2, data: \"a\\n\" }",
+/// Of strings of capacity 10.
+const RELOCATABLE: &[Shown] = &[
+    (
+        b"ab",
+        "ab",
+        "RelocatableString { capacity: 10, len: 2, data: \"ab\" }",
+    ),
+    (
+        ALL,
+        ALL_ESCAPED,
+        "RelocatableString { capacity: 10, len: 8, data: \"\\t\\n\\r\\x01\\x1f\u{7f}\\\"\" }",
+    ),
+];
+
+/// Of strings of capacity 10.
+const POLYMORPHIC: &[Shown] = &[
+    (
+        b"a\n",
+        "a\\n",
+        "PolymorphicString { capacity: 10, len: 2, data: \"a\\n\" }",
+    ),
+    (
+        ALL,
+        ALL_ESCAPED,
+        "PolymorphicString { capacity: 10, len: 8, data: \"\\t\\n\\r\\x01\\x1f\u{7f}\\\"\" }",
+    ),
+];
+
+/// The capacity and the length are printed as numbers.
+const EMPTY: Shown = (
+    b"",
+    "",
+    "RelocatableString { capacity: 0, len: 0, data: \"\" }",
 );
 
 #[test]
-fn shown_strings(rt: HostRuntime) -> Result<(), Fail> {
+fn printed_strings(rt: HostRuntime) -> Result<(), Fail> {
     let findings = Findings::new();
     let alloc = rt.alloc();
     for shown in FIXED {
         let fixed = Ok::<_, AllocError>(StaticString::<5>::new());
         check_made(&findings, alloc, fixed, shown);
     }
-    let relocatable = UninitString::new_uninit(5).init(alloc);
-    check_made(&findings, alloc, relocatable, &RELOCATABLE);
-    let polymorphic = PolymorphicString::new(alloc, 5);
-    check_made(&findings, alloc, polymorphic, &POLYMORPHIC);
+    let fixed = Ok::<_, AllocError>(StaticString::<8>::new());
+    check_made(&findings, alloc, fixed, &FIXED_OF_ALL);
+    for shown in RELOCATABLE {
+        let made = UninitString::new_uninit(10).init(alloc);
+        check_made(&findings, alloc, made, shown);
+    }
+    let made = UninitString::new_uninit(0).init(alloc);
+    check_made(&findings, alloc, made, &EMPTY);
+    for shown in POLYMORPHIC {
+        let made = PolymorphicString::new(alloc, 10);
+        check_made(&findings, alloc, made, shown);
+    }
     findings.verdict()
 }
 

@@ -29,8 +29,8 @@ pub trait HeapStringKind {
         ensures { result.now ≡ text };
 }
 
-/// A string in memory of the allocator `A`. It is allocated once, when the string is made, and deallocated when the string
-/// is dropped. Contracts see the string as a bounded list.
+/// A string in memory of the allocator `A`. It is allocated once, when the string is made, and deallocated when the
+/// string is dropped. Contracts see the string as a bounded list.
 ///
 /// The two kinds `K` have names of their own, [`PolymorphicString`](crate::PolymorphicString) and
 /// [`RelocatableString`](crate::RelocatableString). `A` is an allocator whose value can be copied.
@@ -134,7 +134,8 @@ impl<K, A: Allocator> Eq for HeapString<K, A> {
     ghost laws = { Prim.search (comparing, rules) };
 }
 
-/// Strings are compared by the first byte that differs, and otherwise the shorter one is less, whatever their capacities.
+/// Strings are compared by the first byte that differs, and otherwise the shorter one is less, whatever their
+/// capacities.
 impl<K, A: Allocator> Ord for HeapString<K, A> {
     ghost cmp = { λ string other. slice_cmp nat_cmp string.items other.items };
 

@@ -34,8 +34,8 @@ impl HeapStringKind for Polymorphic {
 pub type PolymorphicString<A = Global> = HeapString<Polymorphic, A>;
 
 impl<A: Allocator> PolymorphicString<A> {
-    /// Returns an empty string that can hold `capacity` bytes. Allocates from `alloc` once, or not at all if `capacity` is
-    /// 0. O(1).
+    /// Returns an empty string that can hold `capacity` bytes. Allocates from `alloc` once, or not at all if `capacity`
+    /// is 0. O(1).
     ///
     /// Returns `AllocError` if there is no memory for `capacity` bytes, and always if `capacity` is greater than
     /// `isize::MAX`.
@@ -48,8 +48,8 @@ impl<A: Allocator> PolymorphicString<A> {
 }
 
 impl<A: Allocator + Copy> PolymorphicString<A> {
-    /// Returns a string with the same bytes and the same capacity. Allocates once from the string's allocator, or not at
-    /// all if the capacity is 0. O(`len`).
+    /// Returns a string with the same bytes and the same capacity. Allocates once from the string's allocator, or not
+    /// at all if the capacity is 0. O(`len`).
     ///
     /// Returns `AllocError` if there is no memory.
     pub fn try_clone(&self) -> Result<Self, AllocError>

@@ -9,8 +9,8 @@ use crate::string::retaining::move_kept_back;
 use crate::string::{String, StringModificationError, strnlen};
 use std::marker::Model;
 
-/// A string of at most `CAPACITY` bytes, in the value itself. It can be copied, and it does not allocate. Contracts see it
-/// as the list of its bytes.
+/// A string of at most `CAPACITY` bytes, in the value itself. It can be copied, and it does not allocate. Contracts see
+/// it as the list of its bytes.
 ///
 /// `CAPACITY` can be any number, 0 too. The unused bytes of the value are zeros.
 ///
@@ -66,8 +66,8 @@ impl<const CAPACITY: usize> StaticString<CAPACITY> {
         CAPACITY
     }
 
-    /// Returns a string of the first `n` bytes, without checking that `bytes` fits, that it has `n` bytes, and that those
-    /// are from 1 to 127. O(`CAPACITY`).
+    /// Returns a string of the first `n` bytes, without checking that `bytes` fits, that it has `n` bytes, and that
+    /// those are from 1 to 127. O(`CAPACITY`).
     pub fn from_bytes_unchecked_restricted(bytes: &[u8], n: usize) -> Self
         requires room { length bytes.now ≤ CAPACITY }
         requires kept { n ≤ length bytes.now }
@@ -90,8 +90,8 @@ impl<const CAPACITY: usize> StaticString<CAPACITY> {
 
     /// Returns a string of the bytes. O(`CAPACITY`).
     ///
-    /// Returns [`StringModificationError::InsertWouldExceedCapacity`] if there are more than `CAPACITY` bytes, and otherwise
-    /// [`StringModificationError::InvalidCharacter`] if one of them is 0 or above 127.
+    /// Returns [`StringModificationError::InsertWouldExceedCapacity`] if there are more than `CAPACITY` bytes, and
+    /// otherwise [`StringModificationError::InvalidCharacter`] if one of them is 0 or above 127.
     pub fn from_bytes(bytes: &[u8]) -> Result<Self, StringModificationError>
         ensures { StringFromBytes CAPACITY bytes.now result }
     {
@@ -106,7 +106,8 @@ impl<const CAPACITY: usize> StaticString<CAPACITY> {
 
     /// Returns a string of the first `CAPACITY` bytes, or of all bytes if there are fewer. O(`CAPACITY`).
     ///
-    /// Returns [`StringModificationError::InvalidCharacter`] if one of these is 0 or above 127. The other bytes are ignored.
+    /// Returns [`StringModificationError::InvalidCharacter`] if one of these is 0 or above 127. The other bytes are
+    /// ignored.
     pub fn from_bytes_truncated(bytes: &[u8]) -> Result<Self, StringModificationError>
         ensures value { IsOk result ↔ IsText (take CAPACITY bytes.now) }
         ensures ok { IfOk result (λ string. string ≡ take CAPACITY bytes.now) }

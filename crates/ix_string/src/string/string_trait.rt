@@ -18,13 +18,14 @@ use std::fmt::{Debug, Display};
 use std::hash::Hash;
 use std::str;
 
-/// A list of bytes from 1 to 127, with a capacity that their number does not exceed. Contracts see it as a bounded list.
+/// A list of bytes from 1 to 127, with a capacity that their number does not exceed. Contracts see it as a bounded
+/// list.
 ///
-/// The memory for `capacity` bytes is allocated when the string is made: no call of this trait allocates. A call that is
-/// refused leaves the string unchanged. Lengths and indexes are counted in bytes, and indexes start at 0.
+/// The memory for `capacity` bytes is allocated when the string is made: no call of this trait allocates. A call that
+/// is refused leaves the string unchanged. Lengths and indexes are counted in bytes, and indexes start at 0.
 ///
-/// Strings are compared and hashed by their bytes, whatever their capacities, and `Display` prints the bytes escaped, as
-/// [`as_escaped_string`](crate::as_escaped_string) does.
+/// Strings are compared and hashed by their bytes, whatever their capacities, and `Display` prints the bytes escaped,
+/// as [`as_escaped_string`](crate::as_escaped_string) does.
 ///
 /// ```text
 /// fn append_line<S: String>(string: &mut S, line: &[u8]) -> Result<(), StringModificationError> {
@@ -52,19 +53,20 @@ pub trait String: Debug + Display + Eq + Ord + Hash {
         ensures value { result ≡ length (bounded self.now).items }
         ensures within { IsWithin (bounded self.now) };
 
-    /// Inserts `bytes` at index `idx`, shifting all later bytes to the right, without checking that they fit and are from 1
-    /// to 127. O(`len - idx + bytes.len()`).
+    /// Inserts `bytes` at index `idx`, shifting all later bytes to the right, without checking that they fit and are
+    /// from 1 to 127. O(`len - idx + bytes.len()`).
     fn insert_bytes_unchecked(&mut self, idx: usize, bytes: &[u8])
         requires index { idx ≤ length (bounded self.old).items }
         requires room { HasRoomFor (length bytes.now) (bounded self.old) }
         requires text { IsText bytes.now }
         ensures { bounded self.new ≡ text_insert_slice (bounded self.old) idx bytes.now };
 
-    /// Removes the `n` bytes from index `idx` on, shifting all later bytes to the left, and returns `true`. Returns `false`
-    /// if there are fewer than `n` bytes from `idx` on, or if `idx` is greater than the length. O(`len - idx`).
+    /// Removes the `n` bytes from index `idx` on, shifting all later bytes to the left, and returns `true`. Returns
+    /// `false` if there are fewer than `n` bytes from `idx` on, or if `idx` is greater than the length. O(`len - idx`).
     fn remove_range(&mut self, idx: usize, n: usize) -> bool
         ensures value { IsTrue result ↔ IsRangeOf (bounded self.old) idx n }
-        ensures string { OnTrue result (bounded self.new ≡ text_remove_range (bounded self.old) idx n) }
+        ensures string { OnTrue result
+            (bounded self.new ≡ text_remove_range (bounded self.old) idx n) }
         ensures refused { OnFalse result (self.new ≡ self.old) }
         ensures no_bytes { n ≡ 0 → self.new ≡ self.old };
 
@@ -118,7 +120,8 @@ pub trait String: Debug + Display + Eq + Ord + Hash {
         Ok(())
     }
 
-    /// Inserts `byte` at index `idx`, which is at most the length, shifting all later bytes to the right. O(`len - idx`).
+    /// Inserts `byte` at index `idx`, which is at most the length, shifting all later bytes to the right.
+    /// O(`len - idx`).
     ///
     /// Returns [`StringModificationError::InsertWouldExceedCapacity`] if the string is full, and otherwise
     /// [`StringModificationError::InvalidCharacter`] if the byte is 0 or above 127.
@@ -158,8 +161,8 @@ pub trait String: Debug + Display + Eq + Ord + Hash {
         self.insert_bytes(self.len(), &[byte])
     }
 
-    /// Removes the byte at index `idx`, shifting all later bytes to the left, and returns it, or `None` if `idx` is out of
-    /// bounds. O(`len - idx`).
+    /// Removes the byte at index `idx`, shifting all later bytes to the left, and returns it, or `None` if `idx` is out
+    /// of bounds. O(`len - idx`).
     final fn remove(&mut self, idx: usize) -> Option<u8>
         ensures value { result ≡ slice_get (bounded self.old).items idx }
         ensures string { bounded self.new ≡ vec_remove (bounded self.old) idx }
@@ -207,6 +210,7 @@ pub trait String: Debug + Display + Eq + Ord + Hash {
     }
 
     /// Returns the least index at which `needle` occurs, or `None` if it does not occur. An empty `needle` occurs at 0.
+    /// O(`len + needle.len()`).
     final fn find(&self, needle: &[u8]) -> Option<usize>
         ensures { IsFirstMatch (bounded self.now).items needle.now result }
     {
@@ -214,15 +218,15 @@ pub trait String: Debug + Display + Eq + Ord + Hash {
     }
 
     /// Returns the greatest index at which `needle` occurs, or `None` if it does not occur. An empty `needle` occurs at
-    /// `len`.
+    /// `len`. O(`len + needle.len()`).
     final fn rfind(&self, needle: &[u8]) -> Option<usize>
         ensures { IsLastMatch (bounded self.now).items needle.now result }
     {
         memmem::rfind(self.as_bytes(), needle)
     }
 
-    /// Removes `bytes` from the start of the string and returns `true`. Returns `false` if the string does not start with
-    /// them. O(`len`).
+    /// Removes `bytes` from the start of the string and returns `true`. Returns `false` if the string does not start
+    /// with them. O(`len`).
     final fn strip_prefix(&mut self, bytes: &[u8]) -> bool
         ensures value { IsTrue result ↔ MatchesAt (bounded self.old).items bytes.now 0 }
         ensures string { OnTrue result
@@ -240,8 +244,8 @@ pub trait String: Debug + Display + Eq + Ord + Hash {
     /// them. O(`bytes.len()`).
     final fn strip_suffix(&mut self, bytes: &[u8]) -> bool
         ensures value { IsTrue result ↔ EndsWith (bounded self.old).items bytes.now }
-        ensures string { OnTrue result (bounded self.new
-            ≡ vec_truncate (bounded self.old) (length (bounded self.old).items - length bytes.now)) }
+        ensures string { OnTrue result (bounded self.new ≡ vec_truncate (bounded self.old)
+            (length (bounded self.old).items - length bytes.now)) }
         ensures refused { OnFalse result (self.new ≡ self.old) }
         ensures no_bytes { bytes.now ≡ [] → self.new ≡ self.old }
     {
@@ -252,23 +256,24 @@ pub trait String: Debug + Display + Eq + Ord + Hash {
         false
     }
 
-    /// Removes each byte for which `f` returns `true`, keeping the order of the others. `f` is called once for each byte,
-    /// from the last to the first. O(`len`).
+    /// Removes each byte for which `f` returns `true`, keeping the order of the others. `f` is called once for each
+    /// byte, from the last to the first. O(`len`).
     ///
     /// The `retain` of std keeps those bytes instead.
     fn retain<F: FnMut(u8) -> bool>(&mut self, f: F)
         requires { F.IsAlwaysCallable f }
         ensures string { Retains F.step f (bounded self.old).items (bounded self.new).items }
         ensures capacity { (bounded self.new).capacity ≡ (bounded self.old).capacity }
-        ensures refused { (bounded self.new).items ≡ (bounded self.old).items → self.new ≡ self.old };
+        ensures refused { (bounded self.new).items ≡ (bounded self.old).items
+            → self.new ≡ self.old };
 
     /// Copies the bytes and then a zero to the start of `out`, and returns how many bytes that is, `len + 1`. Returns
     /// `None`, and leaves `out` unchanged, if `out` is shorter. The rest of `out` is left unchanged. O(`len`).
     final fn copy_with_nul(&self, out: &mut [u8]) -> Option<usize>
         ensures variant { IsSome result ↔ (length (bounded self.now).items < length out.old) }
         ensures value { IfSome result (λ n. n ≡ length (bounded self.now).items + 1) }
-        ensures copy { OnSome result (out.new
-            ≡ ((bounded self.now).items ++ 0 ∷ []) ++ drop (length (bounded self.now).items + 1) out.old) }
+        ensures copy { OnSome result (out.new ≡ ((bounded self.now).items ++ 0 ∷ [])
+            ++ drop (length (bounded self.now).items + 1) out.old) }
         ensures refused { IfNone result (out.new ≡ out.old) }
     {
         let bytes = self.as_bytes();
@@ -297,7 +302,8 @@ pub trait String: Debug + Display + Eq + Ord + Hash {
         self.eq_bytes(other.as_bytes())
     }
 
-    /// Compares the bytes with `other`: by the first byte that differs, and otherwise the shorter one is less. O(`len`).
+    /// Compares the bytes with `other`: by the first byte that differs, and otherwise the shorter one is less.
+    /// O(`len`).
     #[inline]
     final fn cmp_bytes(&self, other: &[u8]) -> Ordering
         ensures { result ≡ slice_cmp nat_cmp (bounded self.now).items other.now }
@@ -306,14 +312,17 @@ pub trait String: Debug + Display + Eq + Ord + Hash {
     }
 
     /// Strings are equal if their bytes are.
-    ghost eq_by_bytes: { (a b : Self) → Self.PartialEq.eq a b ≡ pointwise ◌==◌ (bounded a).items (bounded b).items };
+    ghost eq_by_bytes: { (a b : Self)
+        → Self.PartialEq.eq a b ≡ pointwise ◌==◌ (bounded a).items (bounded b).items };
 
     /// Strings are ordered as their bytes are.
-    ghost cmp_by_bytes: { (a b : Self) → Self.Ord.cmp a b ≡ slice_cmp nat_cmp (bounded a).items (bounded b).items };
+    ghost cmp_by_bytes: { (a b : Self)
+        → Self.Ord.cmp a b ≡ slice_cmp nat_cmp (bounded a).items (bounded b).items };
 
     /// The bytes are fed to a hasher in one write.
     ghost hash_input_by_bytes: { (a : Self) → Self.Hash.hash_input a ≡ (bounded a).items ∷ [] };
 
     /// `Display` prints the bytes escaped.
-    ghost output_by_bytes: { (a : Self) → Self.Display.output a ≡ Some (escaped_text (bounded a).items) };
+    ghost output_by_bytes: { (a : Self)
+        → Self.Display.output a ≡ Some (escaped_text (bounded a).items) };
 }
