@@ -24,9 +24,9 @@ enum Miss {
 }
 
 const MISSES: &[(Miss, &str)] = &[
-    (Miss::Place, "a place: not as told"),
-    (Miss::Fact, "a place: not as told"),
-    (Miss::FactAt, "row 7, a place: not as told"),
+    (Miss::Place, "a place: not as expected"),
+    (Miss::Fact, "a place: not as expected"),
+    (Miss::FactAt, "row 7, a place: not as expected"),
     (Miss::Value, "a place: found 3, wanted 4"),
     (Miss::ValueAt, "row 7, a place: found 3, wanted 4"),
 ];
