@@ -1,5 +1,5 @@
-//! Kernels that measure the containers: each makes one, runs an operation `rounds` times and answers a checksum, so
-//! that a bench program can link them beside other libraries and compare both times and answers.
+//! Kernels that measure the containers: each makes one, runs an operation `rounds` times and returns a checksum, so that a
+//! bench program can link them beside other libraries and compare both times and results.
 #![tactic(auto)]
 
 mod generator;
@@ -40,7 +40,7 @@ pub extern "C" fn ix_bench_queue_big(rounds: u64, _param: u64) -> u64 {
     queues::large_items(rounds)
 }
 
-/// A fixed queue of 64 is made, gets an item and gives it back.
+/// Makes a fixed queue of 64, pushes an item and pops it.
 #[unsafe(no_mangle)]
 pub extern "C" fn ix_bench_queue_new(rounds: u64, _param: u64) -> u64 {
     queues::made(rounds)
@@ -64,7 +64,7 @@ pub extern "C" fn ix_bench_slot_at(alloc: Global, rounds: u64, param: u64) -> u6
     slot_maps::at_any_key(alloc, rounds, param as usize)
 }
 
-/// A walk over an allocated slot map of `param`, of which every second key is held.
+/// Iterates an allocated slot map of `param`, of which every second key is held.
 #[unsafe(no_mangle)]
 pub extern "C" fn ix_bench_slot_iter(alloc: Global, rounds: u64, param: u64) -> u64 {
     slot_maps::walk(alloc, rounds, param as usize)
@@ -76,19 +76,19 @@ pub extern "C" fn ix_bench_vec_push_pop(rounds: u64, _param: u64) -> u64 {
     vectors::push_and_pop(rounds)
 }
 
-/// Insert and remove at any place of a fixed vector that holds 32.
+/// Insert and remove at any index of a fixed vector that holds 32.
 #[unsafe(no_mangle)]
 pub extern "C" fn ix_bench_vec_ins_rem(rounds: u64, _param: u64) -> u64 {
     vectors::insert_and_remove(rounds)
 }
 
-/// Three slices of 16 go into a fixed vector of 64, which is then cleared.
+/// Extends a fixed vector of 64 by three slices of 16, and clears it.
 #[unsafe(no_mangle)]
 pub extern "C" fn ix_bench_vec_extend(rounds: u64, _param: u64) -> u64 {
     vectors::extend_and_clear(rounds)
 }
 
-/// A fixed vector of 64 is made and gets an item.
+/// Makes a fixed vector of 64 and pushes an item.
 #[unsafe(no_mangle)]
 pub extern "C" fn ix_bench_vec_new(rounds: u64, _param: u64) -> u64 {
     vectors::made(rounds)
@@ -100,37 +100,37 @@ pub extern "C" fn ix_bench_vec_refuse(rounds: u64, _param: u64) -> u64 {
     vectors::refused(rounds)
 }
 
-/// Eight bytes go behind a fixed string of 123, which is cleared at 120.
+/// Appends eight bytes to a fixed string of 123, which is cleared at 120.
 #[unsafe(no_mangle)]
 pub extern "C" fn ix_bench_str_push(rounds: u64, _param: u64) -> u64 {
     strings::push_words(rounds)
 }
 
-/// Four bytes are searched in 100.
+/// Finds four bytes in 100.
 #[unsafe(no_mangle)]
 pub extern "C" fn ix_bench_str_find(rounds: u64, _param: u64) -> u64 {
     strings::find_a_word(rounds)
 }
 
-/// Two strings of 100 bytes, the last of which may differ, are compared for equality.
+/// Compares two strings of 100 bytes, whose last bytes may differ, for equality.
 #[unsafe(no_mangle)]
 pub extern "C" fn ix_bench_str_eq(rounds: u64, _param: u64) -> u64 {
     strings::equality(rounds)
 }
 
-/// Two strings of 100 bytes, the last of which may differ, are compared for order.
+/// Compares two strings of 100 bytes, whose last bytes may differ, for order.
 #[unsafe(no_mangle)]
 pub extern "C" fn ix_bench_str_cmp(rounds: u64, _param: u64) -> u64 {
     strings::order(rounds)
 }
 
-/// A string of 100 bytes feeds a hasher.
+/// Hashes a string of 100 bytes.
 #[unsafe(no_mangle)]
 pub extern "C" fn ix_bench_str_hash(rounds: u64, _param: u64) -> u64 {
     strings::hash(rounds)
 }
 
-/// Four bytes go into a string of 100 bytes at any of the first 64 places, and out again.
+/// Inserts four bytes into a string of 100 bytes at any of the first 64 indexes, and removes them.
 #[unsafe(no_mangle)]
 pub extern "C" fn ix_bench_str_ins_rem(rounds: u64, _param: u64) -> u64 {
     strings::insert_and_remove(rounds)

@@ -35,7 +35,7 @@ pub fn allocated_overflow(alloc: Global, rounds: u64, capacity: usize) -> u64 {
     }
 }
 
-/// The numbers below `count` go in.
+/// Pushes the numbers below `count`.
 fn push_some<S: Table<u64>>(queue: &mut MetaQueue<u64, S>, count: u64) {
     for i in 0..count {
         queue.push(i);
@@ -89,7 +89,7 @@ pub fn made(rounds: u64) -> u64 {
     sum
 }
 
-/// The item in front, by a call that the optimizer does not see through.
+/// Returns the front item, by a call that the optimizer does not see through.
 #[inline(never)]
 fn first_of(queue: &mut FixedSizeQueue<u64, 64>) -> u64 {
     queue.pop().unwrap_or(1)

@@ -22,7 +22,7 @@ pub fn allocated_churn(alloc: Global, rounds: u64, capacity: usize) -> u64 {
     churn(&mut map, &mut keys, rounds)
 }
 
-/// Each place of `keys` gets the key under which its number was put.
+/// Writes the key of each inserted number to `keys`.
 fn insert_under<S: Table<u64>, L: Table<Link>>(
     map: &mut MetaSlotMap<u64, S, L>,
     keys: &mut [SlotMapKey],
@@ -34,7 +34,7 @@ fn insert_under<S: Table<u64>, L: Table<Link>>(
     }
 }
 
-/// A round removes the value under a key, inserts one, and gets a third.
+/// A round removes the value at a key, inserts one, and gets a third.
 fn churn<S: Table<u64>, L: Table<Link>>(
     map: &mut MetaSlotMap<u64, S, L>,
     keys: &mut [SlotMapKey],
@@ -101,7 +101,7 @@ pub fn walk(alloc: Global, rounds: u64, capacity: usize) -> u64 {
     sum
 }
 
-/// Every second key gets its number.
+/// Inserts a number at every second key.
 fn insert_even(map: &mut SlotMap<u64, Global>, capacity: usize) {
     for i in 0..capacity {
         if i % 2 == 0 {

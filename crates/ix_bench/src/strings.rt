@@ -1,5 +1,5 @@
 //! Kernels on strings.
-ghost use Rattle.ix_bench.specs.Fnv.{fnv_fed};
+ghost use Rattle.ix_bench.specs.Fnv.{fnv_bytes};
 
 use crate::generator::step;
 use ix_string::{StaticString, String};
@@ -21,7 +21,7 @@ fn sample() -> [u8; 100] {
     bytes
 }
 
-/// The sample as a text.
+/// Returns the sample as a string.
 fn sample_text() -> Text {
     match Text::from_bytes(&sample()) {
         Ok(text) => text,
@@ -104,7 +104,7 @@ struct Fnv {
 }
 
 impl Hasher for Fnv {
-    ghost write = { λ fnv bytes. record { state = fnv_fed fnv.state bytes } };
+    ghost write = { λ fnv bytes. record { state = fnv_bytes fnv.state bytes } };
 
     ghost finish = { λ fnv. fnv.state };
 

@@ -68,7 +68,7 @@ pub fn made(rounds: u64) -> u64 {
     sum
 }
 
-/// The first item, by a call that the optimizer does not see through.
+/// Returns the first item, by a call that the optimizer does not see through.
 #[inline(never)]
 fn first_of(vector: &StaticVec<u64, 64>) -> u64 {
     item_or_0(vector, 0)
@@ -86,7 +86,7 @@ pub fn refused(rounds: u64) -> u64 {
     sum
 }
 
-/// Whether the vector refuses an item, by a call that the optimizer does not see through.
+/// Returns `true` if the vector refuses an item, by a call that the optimizer does not see through.
 #[inline(never)]
 fn is_refused(vector: &mut StaticVec<u64, 64>, item: u64) -> bool {
     vector.push(item).is_err()

@@ -1,24 +1,21 @@
--- Lemmas on lists that lose an item, or are written anew.
+-- Lemmas on lists with an item moved to the end, and on overwritten lists.
 use Rattle.std.proofs.Common.{◌≡◌, ℕ, zero, suc, ◌-◌, ◌<◌, ◌≤◌, List, [], ◌∷◌, ◌++◌, length, take, drop, Some, refl, ap, arith}
 use native.Mathlib.Numerals.{unary_clauses}
 use Rattle.std.specs.Prelude.{slice_get}
 use Rattle.std.specs.List.{refill}
 
 module _ {T : Type 0} where
-  -- the item behind the others
-  pub slice_get-behind : (xs : List T) (x : T) → slice_get (xs ++ x ∷ []) (length xs) ≡ Some x
-  slice_get-behind [] x = refl
-  slice_get-behind (y ∷ ys) x = slice_get-behind ys x
+  pub slice_get-length : (xs : List T) (x : T) → slice_get (xs ++ x ∷ []) (length xs) ≡ Some x
+  slice_get-length [] x = refl
+  slice_get-length (y ∷ ys) x = slice_get-length ys x
 
-  -- item i that went behind the others stands last
-  pub slice_get-moved : (xs : List T) (i : ℕ) → i < length xs
+  pub slice_get-move_to_end : (xs : List T) (i : ℕ) → i < length xs
       → slice_get ((take i xs ++ drop (suc i) xs) ++ take 1 (drop i xs)) (length xs - 1) ≡ slice_get xs i
-  slice_get-moved [] i lt = absurd (omega arith)
-  slice_get-moved (x ∷ xs) zero lt = simp unary_clauses (slice_get-behind xs x)
-  slice_get-moved (x ∷ []) (suc i) lt = absurd (omega arith)
-  slice_get-moved (x ∷ (y ∷ ys)) (suc i) lt = simp unary_clauses (simp unary_clauses at (slice_get-moved (y ∷ ys) i (omega arith)))
+  slice_get-move_to_end [] i lt = absurd (omega arith)
+  slice_get-move_to_end (x ∷ xs) zero lt = simp unary_clauses (slice_get-length xs x)
+  slice_get-move_to_end (x ∷ []) (suc i) lt = absurd (omega arith)
+  slice_get-move_to_end (x ∷ (y ∷ ys)) (suc i) lt = simp unary_clauses (simp unary_clauses at (slice_get-move_to_end (y ∷ ys) i (omega arith)))
 
-  -- the first n places of a row that is refilled are its first n places refilled
   pub take-refill : (n : ℕ) (xs ws : List T) → n ≤ length xs
       → take n (refill (length xs) xs ws) ≡ refill (length (take n xs)) (take n xs) ws
   take-refill zero xs ws within = refl

@@ -1,4 +1,4 @@
--- What a conversion of a slice into a vector gives.
+-- The result of converting a slice into a fixed vector.
 use Rattle.std.specs.Prelude.{ℕ, ◌<◌, ◌≤◌, ◌⊎◌, List, length, Result, Ok, Err}
 use Rattle.std.specs.List.{AllZip}
 use Rattle.ix_cells.specs.Cloning.{AreInfallible}
@@ -7,12 +7,12 @@ use Rattle.ix_cells.specs.declared.vector.modification_error.VectorModificationE
 use Rattle.ix_cells.specs.declared.vector.modification_error.VectorModificationError.TheVariants.{OutOfBounds, InsertWouldExceedCapacity, OutOfMemory}
 
 module _ {T : Type 0} where
-  -- so many items have a place in a fixed vector of this capacity
+  -- a fixed vector may have this capacity, and the items fit
   pub record FitsFixed (capacity : ℕ) (items : List T) : Type 0 where
     pub fixed : capacity ≤ MAX_FIXED_CAPACITY
     pub room : length items ≤ capacity
 
-  -- clones of all items; or refusals: no room, or no fixed capacity; and no memory for a clone, where there is room
+  -- clones of all items; or the error that they do not fit; or, if they fit, that cloning one failed
   abbrev pub StaticVecFromSlice : ℕ → (T → T → Type 0) → (T → Type 0) → List T → Result (List T) VectorModificationError → Type 0
   StaticVecFromSlice capacity is_clone is_infallible items (Ok vector) = FitsFixed capacity items × AllZip is_clone items vector
   StaticVecFromSlice capacity is_clone is_infallible items (Err InsertWouldExceedCapacity) = (MAX_FIXED_CAPACITY < capacity) ⊎ (capacity < length items)

@@ -1,9 +1,8 @@
--- What the errors print.
+-- The texts of the error.
 use Rattle.std.specs.Prelude.{ℕ, List, codes}
 use Rattle.ix_cells.specs.declared.vector.modification_error.VectorModificationError.{VectorModificationError}
 use Rattle.ix_cells.specs.declared.vector.modification_error.VectorModificationError.TheVariants.{OutOfBounds, InsertWouldExceedCapacity, OutOfMemory}
 
--- the name of the type, and that of the variant
 abbrev pub vec_error_text : VectorModificationError → List ℕ
 vec_error_text OutOfBounds = codes "VectorModificationError::OutOfBounds"
 vec_error_text InsertWouldExceedCapacity = codes "VectorModificationError::InsertWouldExceedCapacity"

@@ -1,5 +1,12 @@
-//! Tables: fixed rows of places, each empty or holding one item; tables whose calls are counted; and containers that
-//! are made in two steps.
+//! Tables, tables that count the calls on them, and containers that are made in two steps.
+//!
+//! ```text
+//! let mut table = InlineTable::<char, 2>::new();
+//! table.put(1, 'a');
+//! table.get(1);               // &'a'
+//! table.take(1);              // 'a'
+//! table.end();
+//! ```
 
 mod counted;
 mod heap_table;
@@ -8,13 +15,11 @@ mod places;
 mod relocatable_container;
 pub(crate) mod row;
 mod table;
-mod touches;
 mod uninit;
 
-pub use counted::Counted;
+pub use counted::{Counted, Touches};
 pub use heap_table::HeapTable;
 pub use inline_table::InlineTable;
 pub use relocatable_container::{InitError, RelocatableContainer};
 pub use table::{MAX_FIXED_CAPACITY, Table};
-pub use touches::Touches;
 pub use uninit::{ContainerFamily, Uninit};

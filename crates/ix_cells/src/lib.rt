@@ -1,9 +1,19 @@
-//! Storage with a capacity that is set when it is made: tables, which are rows of places, each empty or holding one
-//! item, and vectors, which are lists.
+//! Storage with a capacity that is set when it is made: vectors, and the tables under queues and maps.
 //!
-//! A queue or a map of the crates above keeps its items in a [`Table`] and nowhere else, so one container serves
-//! every kind of storage. Contracts see a table as a row of places, and a [`Vector`] as a bounded list, whatever memory
-//! they lie in.
+//! A [`Vector`] is a list of at most [`capacity`](Vector::capacity) items: [`StaticVec`] is stored inline,
+//! [`PolymorphicVec`] and [`RelocatableVec`] allocate once, when they are made. A [`Table`] is a fixed row of places, each
+//! empty or holding one item; the queues and maps of the crates above keep their items in tables, so one container
+//! serves every kind of storage.
+//!
+//! ```text
+//! let mut vector = StaticVec::<u64, 2>::new();
+//! vector.push(1);             // Ok(())
+//! vector.push(2);             // Ok(())
+//! vector.push(3);             // Err(VectorModificationError::InsertWouldExceedCapacity)
+//! vector.as_slice();          // [1, 2]
+//! ```
+//!
+//! Contracts see a vector as a bounded list and a table as a list of optional items, whatever memory they lie in.
 #![tactic(auto)]
 
 pub mod cells;

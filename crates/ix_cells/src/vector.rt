@@ -1,4 +1,11 @@
-//! Vectors: lists of items with a capacity that is set when they are made.
+//! Vectors: contiguous lists with a capacity that is set when they are made.
+//!
+//! ```text
+//! let mut vector = PolymorphicVec::<u64>::new(alloc, 3)?;
+//! vector.extend_from_slice(&[1, 3])?;
+//! vector.insert(1, 2)?;
+//! vector.as_slice();          // [1, 2, 3]
+//! ```
 
 mod modification_error;
 mod polymorphic_vec;

@@ -34,6 +34,11 @@ impl Notes {
         self.drops.replace(0)
     }
 
+    /// Returns the number of further clones that succeed.
+    pub fn clones_left(&self) -> u64 {
+        self.clones_left.get()
+    }
+
     /// Lets the next `clones_left` clones succeed.
     pub fn allow_clones(&self, clones_left: u64) {
         self.clones_left.set(clones_left);

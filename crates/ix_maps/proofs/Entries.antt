@@ -1,4 +1,4 @@
--- The entries of a slot map: each held key once, in rising order.
+-- The entries of a slot map: each held key key_count_le_one, in rising order.
 use Rattle.std.proofs.Common.{◌≡◌, ℕ, zero, suc, ◌+◌, ◌<◌, ◌≤◌, List, [], ◌∷◌, length, get_or, true, false, Option, Some, None, refl, sym, ap, ◌∙◌, subst, arith}
 use Rattle.std.specs.Prelude.{nat_eq, if◌then◌else◌, is_some, count_by}
 use Rattle.std.specs.List.Sorted.{IsStrictlyIncreasing}

@@ -9,75 +9,75 @@ use Rattle.std.specs.List.{push}
 use Rattle.ix_cells.specs.Bounded.{Bounded, bounded_new, with_items}
 use Rattle.ix_cells.specs.Places.{place_at, IsEmptyAt, IsHeldAt, IsVacant}
 use Rattle.ix_maps.specs.QueueSteps.{is_too_long, queue_overflow, queue_pop, queue_set_front}
-use Rattle.ix_maps.specs.Ring.{ring_place, ring_next, row_from, held_items, IsRingOf, IsRing}
+use Rattle.ix_maps.specs.Ring.{ring_place, ring_next, ring_row, row_items, IsRingOf, IsRing}
 
 -- a place before the row's end
-behind_low : (start i capacity : ℕ) → i < capacity - start → ring_place start i capacity ≡ start + i
-behind_low start i capacity low = grind (arith, nat_tests)
+ring_place_low : (start i capacity : ℕ) → i < capacity - start → ring_place start i capacity ≡ start + i
+ring_place_low start i capacity low = grind (arith, nat_tests)
 
 -- a place round past the row's end
-behind_high : (start i capacity : ℕ) → capacity - start ≤ i → ring_place start i capacity ≡ i - (capacity - start)
-behind_high start i capacity high = grind (arith, nat_tests)
+ring_place_high : (start i capacity : ℕ) → capacity - start ≤ i → ring_place start i capacity ≡ i - (capacity - start)
+ring_place_high start i capacity high = grind (arith, nat_tests)
 
 -- a place behind another is one of the row
-behind_within : (start i capacity : ℕ) → start ≤ capacity → i < capacity → ring_place start i capacity < capacity
-behind_within start i capacity within below = grind (arith, nat_tests)
+ring_place_within : (start i capacity : ℕ) → start ≤ capacity → i < capacity → ring_place start i capacity < capacity
+ring_place_within start i capacity within below = grind (arith, nat_tests)
 
 -- so is the next one
-next_within : (place capacity : ℕ) → place < capacity → ring_next place capacity < capacity
-next_within place capacity below = grind (arith, nat_tests)
+ring_next_within : (place capacity : ℕ) → place < capacity → ring_next place capacity < capacity
+ring_next_within place capacity below = grind (arith, nat_tests)
 
 module _ {T : Type 0} where
   -- place i behind start holds what place i of the turned row holds
-  turned_at : (row : List (Option T)) (start i : ℕ) → start ≤ length row → i < length row → place_at row (ring_place start i (length row)) ≡ place_at (row_from row start) i
+  turned_at : (row : List (Option T)) (start i : ℕ) → start ≤ length row → i < length row → place_at row (ring_place start i (length row)) ≡ place_at (ring_row row start) i
   turned_at row start i within below =
       let len = length-drop start row in elim (cases_lt i (length row - start)) [
-        | inl low ↦ ap (place_at row) (behind_low start i _ low) ∙ sym (get_or_append_left (drop start row) _ None i (omega arith) ∙ get_or-drop start row i None)
-        | inr high ↦ ap (place_at row) (behind_high start i _ high) ∙ sym (get_or-append_right (drop start row) _ _ i None len high ∙ get_or-take start row _ None (omega arith))
+        | inl low ↦ ap (place_at row) (ring_place_low start i _ low) ∙ sym (get_or_append_left (drop start row) _ None i (omega arith) ∙ get_or-drop start row i None)
+        | inr high ↦ ap (place_at row) (ring_place_high start i _ high) ∙ sym (get_or-append_right (drop start row) _ _ i None len high ∙ get_or-take start row _ None (omega arith))
       ]
 
   -- to set the one is to set the other
-  turned_set : (row : List (Option T)) (start i : ℕ) (v : Option T) → start ≤ length row → i < length row → row_from (set row (ring_place start i (length row)) v) start ≡ set (row_from row start) i v
+  turned_set : (row : List (Option T)) (start i : ℕ) (v : Option T) → start ≤ length row → i < length row → ring_row (set row (ring_place start i (length row)) v) start ≡ set (ring_row row start) i v
   turned_set row start i v within below =
       let len = length-drop start row in elim (cases_lt i (length row - start)) [
         | inl low ↦
-            ap (λ p. row_from (set row p v) start) (behind_low start i _ low)
+            ap (λ p. ring_row (set row p v) start) (ring_place_low start i _ low)
             ∙ ap₂ ◌++◌ (drop-set-add start row i v) (take-set-le start row (start + i) v (omega arith))
             ∙ sym (set-append_left (drop start row) _ i v (omega arith))
         | inr high ↦
-            ap (λ p. row_from (set row p v) start) (behind_high start i _ high)
+            ap (λ p. ring_row (set row p v) start) (ring_place_high start i _ high)
             ∙ ap₂ ◌++◌ (drop-set-lt start row _ v (omega arith)) (take-set-lt start row _ v (omega arith))
             ∙ sym (set-append_right (drop start row) _ _ i v len high)
       ]
 
   -- a row turned to the next place
-  turned_on : (row : List (Option T)) (place : ℕ) → place < length row → row_from row (ring_next place (length row)) ≡ row_from row (place + 1)
+  turned_on : (row : List (Option T)) (place : ℕ) → place < length row → ring_row row (ring_next place (length row)) ≡ ring_row row (place + 1)
   turned_on row place below = elim (cases_eq (place + 1) (length row)) [
     | inl last ↦
         let first : ring_next place (length row) ≡ 0 = grind (arith, nat_tests) in
-        ap (row_from row) first ∙ append-nil row ∙ sym (ap₂ ◌++◌ (drop_all (place + 1) row (omega arith)) (take_all (place + 1) row (omega arith)))
+        ap (ring_row row) first ∙ append-nil row ∙ sym (ap₂ ◌++◌ (drop_all (place + 1) row (omega arith)) (take_all (place + 1) row (omega arith)))
     | inr other ↦
         let next : ring_next place (length row) ≡ place + 1 = grind (arith, nat_tests) in
-        ap (row_from row) next
+        ap (ring_row row) next
   ]
 
   -- a turned row but for its first place
-  turned_rest : (row : List (Option T)) (start : ℕ) → start < length row → drop 1 (row_from row start) ≡ drop (start + 1) row ++ take start row
+  turned_rest : (row : List (Option T)) (start : ℕ) → start < length row → drop 1 (ring_row row start) ≡ drop (start + 1) row ++ take start row
   turned_rest row start below =
       drop-append-le 1 (drop start row) _ (omega (arith, length-drop start row)) ∙ ap (λ r. r ++ take start row) (drop-drop 1 start row)
 
   -- that place is set, and goes behind the others
-  turned_next : (row : List (Option T)) (start : ℕ) (v : Option T) → start < length row → row_from (set row start v) (ring_next start (length row)) ≡ drop 1 (row_from row start) ++ v ∷ []
+  turned_next : (row : List (Option T)) (start : ℕ) (v : Option T) → start < length row → ring_row (set row start v) (ring_next start (length row)) ≡ drop 1 (ring_row row start) ++ v ∷ []
   turned_next row start v below =
       let rows = length-set row start v in
-      ap (λ capacity. row_from (set row start v) (ring_next start capacity)) (sym rows)
+      ap (λ capacity. ring_row (set row start v) (ring_next start capacity)) (sym rows)
       ∙ turned_on (set row start v) start (omega arith)
       ∙ ap₂ ◌++◌ (drop-set-lt (start + 1) row start v (omega arith)) (take_more_set row start v below)
       ∙ sym (append_assoc (drop (start + 1) row) _ _)
       ∙ ap (λ r. r ++ v ∷ []) (sym (turned_rest row start below))
 
   -- a row is empty if the turned one is
-  turned_vacant : (row : List (Option T)) (start capacity : ℕ) → start ≤ capacity → length (drop start row) ≡ capacity - start → row_from row start ≡ replicate capacity None → row ≡ replicate capacity None
+  turned_vacant : (row : List (Option T)) (start capacity : ℕ) → start ≤ capacity → length (drop start row) ≡ capacity - start → ring_row row start ≡ replicate capacity None → row ≡ replicate capacity None
   turned_vacant row start capacity within rest vacant =
       sym (take-append-drop start row)
       ∙ ap₂ ◌++◌ (sym (drop_at (drop start row) _ _ rest) ∙ ap (drop (capacity - start)) vacant) (sym (take_at _ (take start row) _ rest) ∙ ap (take (capacity - start)) vacant)
@@ -90,7 +90,7 @@ module _ {T : Type 0} where
   row_of items capacity = map Some items ++ replicate (capacity - length items) None
 
   -- the items there
-  held_filled : (items : List T) (empty : ℕ) → held_items (map Some items ++ replicate empty None) ≡ items
+  held_filled : (items : List T) (empty : ℕ) → row_items (map Some items ++ replicate empty None) ≡ items
   held_filled [] zero = refl
   held_filled [] (suc empty) = held_filled [] empty
   held_filled (x ∷ items) empty = ap (λ r. x ∷ r) (held_filled items empty)
@@ -147,7 +147,7 @@ module _ {T : Type 0} where
   -- a row that is sound as a ring, and in which contracts see this list
   pub record Shows (list : Bounded T) (row : List (Option T)) (start len : ℕ) : Type 0 where
     pub sound : IsRing row start len
-    pub is : (let seen : Bounded T = record { items = held_items (row_from row start); capacity = length row } in seen) ≡ list
+    pub is : (let seen : Bounded T = record { items = row_items (ring_row row start); capacity = length row } in seen) ≡ list
 
   -- what holds of such a row
   record Facts (list : Bounded T) (row : List (Option T)) (start len : ℕ) : Type 0 where
@@ -166,7 +166,7 @@ module _ {T : Type 0} where
   -- it is enough, also at an equal row and start
   closed : (list : Bounded T) (row row' : List (Option T)) (start start' len : ℕ) → row' ≡ row → start' ≡ start → Facts list row start len → Shows list row' start' len
   closed list row row' start start' len same_row same_start facts =
-      let held : held_items (row_from row start) ≡ list.items = ap held_items facts.ring.in_turn ∙ held_filled list.items _ in
+      let held : row_items (ring_row row start) ≡ list.items = ap row_items facts.ring.in_turn ∙ held_filled list.items _ in
       subst (λ r. Shows list r start' len) (sym same_row) (subst (λ s. Shows list row s len) (sym same_start) (record {
         sound = record {
           ring = subst (λ items. IsRingOf items row start) (sym held) facts.ring;
@@ -233,7 +233,7 @@ module _ {T : Type 0} where
       let ring = facts.ring in
       let space : length list.items < length row = let same = facts.rows in omega arith in
       let there = at ∙ ap₂ (ring_place start) facts.counted rows in (
-        subst (λ p. p < length row) (sym there) (behind_within start _ (length row) ring.within space),
+        subst (λ p. p < length row) (sym there) (ring_place_within start _ (length row) ring.within space),
         ap (place_at row) there ∙ turned_at row start _ ring.within space ∙ ap (λ r. place_at r (length list.items)) ring.in_turn ∙ free_filled list.items _ space,
       )
 
@@ -262,10 +262,10 @@ module _ {T : Type 0} where
       })
 
   -- the first place of a ring is set, and the ring starts at the next
-  IsRingOf-set_next : (items : List T) (row : List (Option T)) (start : ℕ) (v : Option T) → start < length row → length items ≤ length row → drop 1 (row_from row start) ++ v ∷ [] ≡ row_of items (length row) → IsRingOf items (set row start v) (ring_next start (length row))
+  IsRingOf-set_next : (items : List T) (row : List (Option T)) (start : ℕ) (v : Option T) → start < length row → length items ≤ length row → drop 1 (ring_row row start) ++ v ∷ [] ≡ row_of items (length row) → IsRingOf items (set row start v) (ring_next start (length row))
   IsRingOf-set_next items row start v below fits is =
       let kept = length-set row start v in
-      let next = next_within start (length row) below in record {
+      let next = ring_next_within start (length row) below in record {
         within = omega arith;
         below = λ _. omega arith;
         fits = omega arith;
@@ -331,7 +331,7 @@ module _ {T : Type 0} where
       let counted = facts.counted in
       let first : ring_place start 0 (length row) ≡ start = grind (arith, nat_tests) in
       let steps =
-      ap (λ p. row_from (set row p (Some x)) start) (sym first)
+      ap (λ p. ring_row (set row p (Some x)) start) (sym first)
       ∙ turned_set row start 0 (Some x) within (omega arith)
       ∙ ap (λ r. set r 0 (Some x)) ring.in_turn
       ∙ filled_first list.items (length row) x some in

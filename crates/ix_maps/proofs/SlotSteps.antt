@@ -1,29 +1,36 @@
 -- A slot map's steps keep what its tables stand for.
 use Rattle.std.proofs.Common.{◌≡◌, ℕ, zero, suc, ◌+◌, ◌-◌, ◌<◌, ◌≤◌, ◌≢◌, inl, inr, List, [], ◌∷◌, ◌++◌, length, set, true, false, Option, Some, None, refl, sym, ap, ◌∙◌, subst, arith}
-use Rattle.std.specs.Prelude.{replicate, nat_eq, if◌then◌else◌, is_some, count_by}
+use Rattle.std.specs.Prelude.{replicate, nat_eq, if◌then◌else◌, is_some, count_by, slice_get}
+use Rattle.std.specs.Option.{option_map_or}
 use Rattle.std.specs.List.{range_with_len}
 use Rattle.std.proofs.lemmas.Bool.{cases_eq, cases_lt}
 use Rattle.std.proofs.lemmas.Bool.Decides.{nat_tests}
-use Rattle.std.proofs.lemmas.List.{get_or-set_same, get_or-set_other, get_or-replicate, length-append, length-replicate, length-set}
+use Rattle.std.proofs.lemmas.List.{get_or-set_same, get_or-set_other, get_or-replicate, set_past, length-append, length-replicate, length-set}
 use Rattle.std.proofs.lemmas.List.Sums.{sum_by-set}
 use Rattle.std.proofs.lemmas.List.Folds.{sum_by-replicate}
 use Rattle.std.proofs.lemmas.List.FromFn.{length-range_with_len}
 use Rattle.ix_cells.specs.Places.{place_at}
 use Rattle.ix_maps.specs.declared.slotmap.link.Link.{Link}
-use Rattle.ix_maps.specs.SlotState.{SlotState, times, value_at, IsHeld, slot_new}
-use Rattle.ix_maps.specs.SlotSteps.{keys_without, slot_fill, slot_vacate, head_filled, slot_insert}
-use Rattle.ix_maps.specs.FreeList.{no_key, held_link, free_link, first_or, last_or, IsChain, with_next, with_previous, unlinked, linked_first, first_without, IsRisingList, Represents}
-use Rattle.ix_maps.proofs.FreeKeys.{hit_same, hit_other, times-append, without_none, not_last, not_first, times_past, times_within}
-use Rattle.ix_maps.proofs.Chains.{within_row, chain_joined, chain_kept, chain_led_on, chain_led_from}
-use Rattle.ix_maps.proofs.SlotMaps.{held_is, Shows, shows, of, placed, once, no_key_apart, held_apart}
+use Rattle.ix_maps.specs.SlotState.{SlotState, value_at, IsHeld, IsFree, slot_new}
+use Rattle.ix_maps.specs.SlotSteps.{slot_fill, slot_vacate, slot_insert, SlotInsert}
+use Rattle.ix_maps.specs.FreeList.{no_key, held_link, free_link, first_or, last_or, IsChain, IsKeyOrNone, IsLinkWithin, links_set_next, links_set_previous, links_remove, links_remove_first, links_insert_first, first_after_remove, IsRisingList, Represents}
+use Rattle.ix_maps.proofs.FreeKeys.{key_count, key_count-cons, hit, hit_same, hit_other, key_count-append, keys_without-absent, apart_from_last_or, apart_from_first_or, key_count-range_past, key_count-range_within}
+use Rattle.ix_maps.proofs.Chains.{within_row, IsChain-append, IsChain-set_other, IsChain-links_set_next, IsChain-links_set_previous}
+use Rattle.ix_maps.proofs.SlotMaps.{held_is, Shows, shows, of, place_of, key_count_le_one, key_count-no_key, key_count-held, nil_from_first, links_of, link_of, occurs_of}
 
--- the first key once one has left a list
-head_without : (front back : List ℕ) (key first : ℕ) → times no_key front ≡ 0 → first ≡ first_or (front ++ key ∷ back) no_key → first_without first (free_link (last_or no_key front) (first_or back no_key)) ≡ first_or (front ++ back) no_key
+-- the first key key_count_le_one one has left a list
+head_without : (front back : List ℕ) (key first : ℕ) → key_count no_key front ≡ 0 → first ≡ first_or (front ++ key ∷ back) no_key → first_after_remove first (free_link (last_or no_key front) (first_or back no_key)) ≡ first_or (front ++ back) no_key
 head_without [] back key first none is = refl
 head_without (other ∷ front) back key first none is =
-    let last_apart = not_last no_key other front (omega arith) (λ e. (let hits = hit_same no_key other e in omega arith)) in
+    let all = key_count-cons no_key other front in
+    let last_apart = apart_from_last_or no_key other front (omega arith) (λ e. (let hits = hit_same no_key other e in omega arith)) in
     let no : nat_eq (last_or other front) no_key ≡ false = grind (arith, nat_tests) in
     ap (λ b. if b then first_or back no_key else first) no ∙ is
+
+-- no key is before the first one, so that only the link of the key after it changes
+links_remove-first : (links : List (Option Link)) (key next : ℕ) → length links ≤ no_key → links_remove links key (free_link no_key next) ≡ links_remove_first links key next
+links_remove-first links key next fits =
+    ap (λ ls. links_set_previous ls next no_key) (set_past (set links key (Some held_link)) no_key _ (let same = length-set links key (Some held_link) in omega arith))
 
 module _ {T : Type 0} where
   -- 1 for a value, 0 for none
@@ -50,43 +57,43 @@ module _ {T : Type 0} where
 
   module _ (s : SlotState T) (links : List (Option Link)) (first len : ℕ) (r : Represents s links first len) where
     -- a free key left the list, and has a value
-    represents_filled : (key : ℕ) (value : T) (link : Link) → 0 < times key s.free → place_at links key ≡ Some link → Represents (slot_fill s key value) (unlinked links key link) (first_without first link) (len + 1)
-    represents_filled key value link some at_link =
-        let at = placed s links first len r key some in
-        let empty = r.formed.free_is_empty key some in
+    Represents-slot_fill : (key : ℕ) (value : T) (link : Link) → 0 < key_count key s.free → place_at links key ≡ Some link → Represents (slot_fill s key value) (links_remove links key link) (first_after_remove first link) (len + 1)
+    Represents-slot_fill key value link some at_link =
+        let at = place_of s links first len r key some in
+        let empty = r.formed.listed_is_free key some in
         let lengths = r.lengths in let low = r.below in
         let before = last_or no_key at.front in
-        let behind = first_or at.back no_key in
-        let same : Some link ≡ Some (free_link before behind) = sym at_link ∙ at.at_key in
-        let is : link ≡ free_link before behind = cc in
-        let one = once s links first len r in
-        let none = no_key_apart s links first len r in
+        let after = first_or at.back no_key in
+        let same : Some link ≡ Some (free_link before after) = sym at_link ∙ at.at_key in
+        let is : link ≡ free_link before after = cc in
+        let one = key_count_le_one s links first len r in
+        let none = key_count-no_key s links first len r in
         let none_counts = at.counts no_key in
         let held = set links key (Some held_link) in
-        let led = with_next held before behind in
-        let all = with_previous led behind before in
-        let front_once : (other : ℕ) → times other at.front ≤ 1 = λ other. (let most = one other in let counts = at.counts other in omega arith) in
-        let back_once : (other : ℕ) → times other at.back ≤ 1 = λ other. (let most = one other in let counts = at.counts other in omega arith) in
-        let front_held = chain_kept links key (Some held_link) no_key at.front key (λ other stands e. (let none_here = at.not_in_front in let moved = ap (λ k. times k at.front) e in omega arith)) at.to_key in
-        let back_held = chain_kept links key (Some held_link) key at.back no_key (λ other stands e. (let none_here = at.not_in_back in let moved = ap (λ k. times k at.back) e in omega arith)) at.from_key in
-        let not_before : (other : ℕ) → times other at.front ≡ 0 → other ≢ no_key → other ≢ before = λ other clear apart. not_last other no_key at.front clear apart in
-        let not_behind : (other : ℕ) → times other at.back ≡ 0 → other ≢ no_key → other ≢ behind = λ other clear apart. not_first other no_key at.back clear apart in
-        let front_led = chain_led_on held no_key at.front key behind front_once front_held in
-        let known : (other : ℕ) → 0 < times other s.free → other ≢ no_key = λ other stands e. (let moved = ap (λ k. times k s.free) e in omega arith) in
-        let back_led = chain_kept held before _ key at.back no_key (λ other stands. not_before other (let most = one other in let counts = at.counts other in omega arith) (known other (let counts = at.counts other in omega arith))) back_held in
-        let back_all = chain_led_from led key at.back no_key before back_once back_led in
-        let front_all = chain_kept led behind _ no_key at.front behind (λ other stands. not_behind other (let most = one other in let counts = at.counts other in omega arith) (known other (let counts = at.counts other in omega arith))) front_led in
-        let links_len : length all ≡ length links = length-set led behind _ ∙ length-set held before _ ∙ length-set links key _ in
+        let led = links_set_next held before after in
+        let all = links_set_previous led after before in
+        let front_once : (other : ℕ) → key_count other at.front ≤ 1 = λ other. (let most = one other in let counts = at.counts other in omega arith) in
+        let back_once : (other : ℕ) → key_count other at.back ≤ 1 = λ other. (let most = one other in let counts = at.counts other in omega arith) in
+        let front_held = IsChain-set_other links key (Some held_link) no_key at.front key (λ other stands e. (let none_here = at.not_in_front in let moved = ap (λ k. key_count k at.front) e in omega arith)) at.to_key in
+        let back_held = IsChain-set_other links key (Some held_link) key at.back no_key (λ other stands e. (let none_here = at.not_in_back in let moved = ap (λ k. key_count k at.back) e in omega arith)) at.from_key in
+        let not_before : (other : ℕ) → key_count other at.front ≡ 0 → other ≢ no_key → other ≢ before = λ other clear apart. apart_from_last_or other no_key at.front clear apart in
+        let not_behind : (other : ℕ) → key_count other at.back ≡ 0 → other ≢ no_key → other ≢ after = λ other clear apart. apart_from_first_or other no_key at.back clear apart in
+        let front_led = IsChain-links_set_next held no_key at.front key after front_once front_held in
+        let known : (other : ℕ) → 0 < key_count other s.free → other ≢ no_key = λ other stands e. (let moved = ap (λ k. key_count k s.free) e in omega arith) in
+        let back_led = IsChain-set_other held before _ key at.back no_key (λ other stands. not_before other (let most = one other in let counts = at.counts other in omega arith) (known other (let counts = at.counts other in omega arith))) back_held in
+        let back_all = IsChain-links_set_previous led key at.back no_key before back_once back_led in
+        let front_all = IsChain-set_other led after _ no_key at.front after (λ other stands. not_behind other (let most = one other in let counts = at.counts other in omega arith) (known other (let counts = at.counts other in omega arith))) front_led in
+        let links_len : length all ≡ length links = length-set led after _ ∙ length-set held before _ ∙ length-set links key _ in
         let values_len = length-set s.values key (Some value) in
-        let made : Represents (slot_fill s key value) all (first_without first (free_link before behind)) (len + 1) = record {
+        let made : Represents (slot_fill s key value) all (first_after_remove first (free_link before after)) (len + 1) = record {
           lengths = links_len ∙ lengths ∙ sym values_len;
           below = omega arith;
-          chain = subst (λ keys. IsChain all no_key keys no_key) (sym at.rest) (chain_joined all no_key at.front at.back no_key front_all back_all);
+          chain = subst (λ keys. IsChain all no_key keys no_key) (sym at.rest) (IsChain-append all no_key at.front at.back no_key front_all back_all);
           head = head_without at.front at.back key first (omega arith) at.head ∙ ap (λ keys. first_or keys no_key) (sym at.rest);
           others = λ other within clear.
-              let parts = ap (times other) at.rest ∙ times-append other at.front at.back in
+              let parts = ap (key_count other) at.rest ∙ key_count-append other at.front at.back in
               let in_range : other ≢ no_key = λ e. omega arith in
-              get_or-set_other led behind other _ None (not_behind other (omega arith) in_range)
+              get_or-set_other led after other _ None (not_behind other (omega arith) in_range)
               ∙ get_or-set_other held before other _ None (not_before other (omega arith) in_range)
               ∙ elim (cases_eq other key) [
                 | inl here ↦ ap (place_at held) here ∙ get_or-set_same links key (Some held_link) None (omega arith)
@@ -94,92 +101,96 @@ module _ {T : Type 0} where
                     get_or-set_other links key other (Some held_link) None there ∙ r.others other (omega arith) (omega arith)
               ];
           formed = record {
-            free_is_empty = λ other stands.
-                let parts = ap (times other) at.rest ∙ times-append other at.front at.back in
+            listed_is_free = λ other stands.
+                let parts = ap (key_count other) at.rest ∙ key_count-append other at.front at.back in
                 let counts = at.counts other in
-                let was = r.formed.free_is_empty other (omega arith) in
-                let apart : other ≢ key = λ e. (let front_none = at.not_in_front in let back_none = at.not_in_back in let as_front = ap (λ k. times k at.front) e in let as_back = ap (λ k. times k at.back) e in omega arith) in
+                let was = r.formed.listed_is_free other (omega arith) in
+                let apart : other ≢ key = λ e. (let front_none = at.not_in_front in let back_none = at.not_in_back in let as_front = ap (λ k. key_count k at.front) e in let as_back = ap (λ k. key_count k at.back) e in omega arith) in
                 (let below = was.0 in omega arith, get_or-set_other s.values key other (Some value) None apart ∙ was.1);
-            empty_is_free = λ other is_empty.
-                let parts = ap (times other) at.rest ∙ times-append other at.front at.back in
+            free_is_listed = λ other is_empty.
+                let parts = ap (key_count other) at.rest ∙ key_count-append other at.front at.back in
                 let counts = at.counts other in
                 let apart : other ≢ key = λ e. (let no : Some value ≡ None = sym (ap (place_at (set s.values key (Some value))) e ∙ get_or-set_same s.values key (Some value) None empty.0) ∙ is_empty.1 in absurd (cc)) in
                 let miss = hit_other other key apart in
-                let was = r.formed.empty_is_free other (let below = is_empty.0 in omega arith, sym (get_or-set_other s.values key other (Some value) None apart) ∙ is_empty.1) in omega arith;
+                let was = r.formed.free_is_listed other (let below = is_empty.0 in omega arith, sym (get_or-set_other s.values key other (Some value) None apart) ∙ is_empty.1) in omega arith;
           };
           held = let was = r.held in let more = held_more s.values key value empty.0 empty.1 in omega arith;
           counted = let was = r.counted in let keys = at.lengths in let left = ap length at.rest ∙ length-append at.front at.back in omega arith;
         } in
-        subst (λ (l : Link). Represents (slot_fill s key value) (unlinked links key l) (first_without first l) (len + 1)) (sym is) made
+        subst (λ (l : Link). Represents (slot_fill s key value) (links_remove links key l) (first_after_remove first l) (len + 1)) (sym is) made
 
     -- a held key has another value
-    represents_replaced : (key : ℕ) (value : T) → IsHeld s key → Represents (slot_fill s key value) links first len
-    represents_replaced key value held =
+    Represents-slot_set : (key : ℕ) (value : T) → IsHeld s key → Represents (slot_fill s key value) links first len
+    Represents-slot_set key value held =
         let was = held_is (value_at s key) held in
         let below = within_row s.values key was.0 was.1 in
-        let none = held_apart s links first len r key held in
+        let none = key_count-held s links first len r key held in
         let values_len = length-set s.values key (Some value) in
         let low = r.below in
-        subst (λ keys. let t : SlotState T = record { values = set s.values key (Some value); free = keys } in Represents t links first len) (sym (without_none key s.free none)) (record {
+        subst (λ keys. let t : SlotState T = record { values = set s.values key (Some value); free = keys } in Represents t links first len) (sym (keys_without-absent key s.free none)) (record {
           lengths = r.lengths ∙ sym values_len;
           below = omega arith;
           chain = r.chain;
           head = r.head;
           others = r.others;
           formed = record {
-            free_is_empty = λ other stands.
-                let old = r.formed.free_is_empty other stands in
-                let apart : other ≢ key = λ e. (let moved = ap (λ k. times k s.free) e in omega arith) in
+            listed_is_free = λ other stands.
+                let old = r.formed.listed_is_free other stands in
+                let apart : other ≢ key = λ e. (let moved = ap (λ k. key_count k s.free) e in omega arith) in
                 (let within = old.0 in omega arith, get_or-set_other s.values key other (Some value) None apart ∙ old.1);
-            empty_is_free = λ other is_empty.
+            free_is_listed = λ other is_empty.
                 let apart : other ≢ key = λ e. (let no : Some value ≡ None = sym (ap (place_at (set s.values key (Some value))) e ∙ get_or-set_same s.values key (Some value) None below) ∙ is_empty.1 in absurd (cc)) in
-                r.formed.empty_is_free other (let within = is_empty.0 in omega arith, sym (get_or-set_other s.values key other (Some value) None apart) ∙ is_empty.1);
+                r.formed.free_is_listed other (let within = is_empty.0 in omega arith, sym (get_or-set_other s.values key other (Some value) None apart) ∙ is_empty.1);
           };
           held = let old = r.held in let all = held_same s.values key was.0 value below was.1 in omega arith;
           counted = let old = r.counted in omega arith;
         })
 
     -- a held key lost its value, and is the first that is free
-    represents_emptied : (key : ℕ) → IsHeld s key → Represents (slot_vacate s key) (linked_first links key first) key (len - 1)
-    represents_emptied key held =
+    Represents-slot_vacate : (key : ℕ) → IsHeld s key → Represents (slot_vacate s key) (links_insert_first links key first) key (len - 1)
+    Represents-slot_vacate key held =
         let was = held_is (value_at s key) held in
         let below = within_row s.values key was.0 was.1 in
-        let none = held_apart s links first len r key held in
+        let none = key_count-held s links first len r key held in
         let lengths = r.lengths in let low = r.below in
         let put = set links key (Some (free_link no_key first)) in
-        let all = with_previous put first key in
+        let all = links_set_previous put first key in
         let less = held_less s.values key was.0 below was.1 in
         let old_held = r.held in
-        let kept = chain_kept links key (Some (free_link no_key first)) no_key s.free no_key (λ other stands e. (let moved = ap (λ k. times k s.free) e in omega arith)) r.chain in
-        let led = chain_led_from put no_key s.free no_key key (once s links first len r) kept in
-        let as_first : with_previous put (first_or s.free no_key) key ≡ all = ap (λ k. with_previous put k key) (sym r.head) in
+        let kept = IsChain-set_other links key (Some (free_link no_key first)) no_key s.free no_key (λ other stands e. (let moved = ap (λ k. key_count k s.free) e in omega arith)) r.chain in
+        let led = IsChain-links_set_previous put no_key s.free no_key key (key_count_le_one s links first len r) kept in
+        let as_first : links_set_previous put (first_or s.free no_key) key ≡ all = ap (λ k. links_set_previous put k key) (sym r.head) in
         let key_in_range : key ≢ no_key = λ e. omega arith in
-        let not_head : (other : ℕ) → times other s.free ≡ 0 → other ≢ no_key → other ≢ first = λ other clear apart e. not_first other no_key s.free clear apart (e ∙ r.head) in
+        let not_head : (other : ℕ) → key_count other s.free ≡ 0 → other ≢ no_key → other ≢ first = λ other clear apart e. apart_from_first_or other no_key s.free clear apart (e ∙ r.head) in
         let own = get_or-set_other put first key _ None (not_head key none key_in_range) ∙ get_or-set_same links key (Some (free_link no_key first)) None (omega arith) in
         let links_len : length all ≡ length links = length-set put first _ ∙ length-set links key _ in
         let values_len = length-set s.values key None in
+        let counts : (other : ℕ) → key_count other (key ∷ s.free) ≡ hit other key + key_count other s.free = λ other. key_count-cons other key s.free in
         record {
           lengths = links_len ∙ lengths ∙ sym values_len;
           below = omega arith;
           chain = (own ∙ ap (λ k. Some (free_link no_key k)) r.head, subst (λ ls. IsChain ls key s.free no_key) as_first led);
           head = refl;
           others = λ other within clear.
+              let count = counts other in
               let apart : other ≢ key = λ e. (let hits = hit_same other key e in omega arith) in
               let miss = hit_other other key apart in
               get_or-set_other put first other _ None (not_head other (omega arith) (λ e. omega arith))
               ∙ get_or-set_other links key other (Some (free_link no_key first)) None apart
               ∙ r.others other (omega arith) (omega arith);
           formed = record {
-            free_is_empty = λ other stands. elim (cases_eq other key) [
+            listed_is_free = λ other stands. elim (cases_eq other key) [
               | inl here ↦ (let is = here in omega arith, ap (place_at (set s.values key None)) here ∙ get_or-set_same s.values key None None below)
               | inr there ↦ let miss = hit_other other key there in
-                  let old = r.formed.free_is_empty other (omega arith) in
+                  let count = counts other in
+                  let old = r.formed.listed_is_free other (omega arith) in
                   (let within = old.0 in omega arith, get_or-set_other s.values key other None None there ∙ old.1)
             ];
-            empty_is_free = λ other is_empty. elim (cases_eq other key) [
-              | inl here ↦ let hits = hit_same other key here in let moved = ap (λ k. times k s.free) here in omega arith
+            free_is_listed = λ other is_empty. elim (cases_eq other key) [
+              | inl here ↦ let hits = hit_same other key here in let count = counts other in let moved = ap (λ k. key_count k s.free) here in omega arith
               | inr there ↦ let miss = hit_other other key there in
-                  let old = r.formed.empty_is_free other (let within = is_empty.0 in omega arith, sym (get_or-set_other s.values key other None None there) ∙ is_empty.1) in omega arith
+                  let count = counts other in
+                  let old = r.formed.free_is_listed other (let within = is_empty.0 in omega arith, sym (get_or-set_other s.values key other None None there) ∙ is_empty.1) in omega arith
             ];
           };
           held = omega arith;
@@ -187,63 +198,111 @@ module _ {T : Type 0} where
         }
 
   -- the same, as a call sees it
-  pub filled_shows : (s : SlotState T) (values values' : List (Option T)) (links links' : List (Option Link)) (first first' len key : ℕ) (value : T) (link : Link) → Shows s values links first len → 0 < times key s.free → place_at links key ≡ Some link → links' ≡ unlinked links key link → first' ≡ first_without first link → values' ≡ set values key (Some value) → Shows (slot_fill s key value) values' links' first' (len + 1)
-  filled_shows s values values' links links' first first' len key value link shown some at links_are first_is values_are =
+  pub Shows-slot_fill : (s : SlotState T) (values values' : List (Option T)) (links links' : List (Option Link)) (first first' len key : ℕ) (value : T) (link : Link) → Shows s values links first len → IsFree s key → place_at links key ≡ Some link → links' ≡ links_remove links key link → first' ≡ first_after_remove first link → values' ≡ set values key (Some value) → Shows (slot_fill s key value) values' links' first' (len + 1)
+  Shows-slot_fill s values values' links links' first first' len key value link shown is_free at links_are first_is values_are =
       let known = of s values links first len shown in
+      let some = occurs_of s values links first len key shown is_free in
       shows (slot_fill s key value) links' first' (len + 1)
       (subst (λ f. Represents (slot_fill s key value) links' f (len + 1)) (sym first_is)
-      (subst (λ ls. Represents (slot_fill s key value) ls (first_without first link) (len + 1)) (sym links_are)
-      (represents_filled s links first len known.0 key value link some at)))
+      (subst (λ ls. Represents (slot_fill s key value) ls (first_after_remove first link) (len + 1)) (sym links_are)
+      (Represents-slot_fill s links first len known.0 key value link some at)))
       values' (values_are ∙ ap (λ vs. set vs key (Some value)) known.1)
 
-  -- where a key is free the first one is that key, and has the link of the first
-  pub record Head (s : SlotState T) (links : List (Option Link)) (first : ℕ) (value : T) : Type 0 where
-    pub stands : 0 < times first s.free
-    pub link : (next : ℕ) × (place_at links first ≡ Some (free_link no_key next))
-    pub step : slot_fill s first value ≡ slot_insert s value
+  -- the first of the free keys: it is free, its link says that no key is before it, and `insert` fills it
+  record First (s : SlotState T) (links : List (Option Link)) (first : ℕ) (value : T) : Type 0 where
+    occurs : 0 < key_count first s.free
+    link : (next : ℕ) × (place_at links first ≡ Some (free_link no_key next))
+    key : slice_get s.free 0 ≡ Some first
+    step : slot_fill s first value ≡ slot_insert s value
 
-  head_of : (s : SlotState T) (links : List (Option Link)) (first len : ℕ) (value : T) (keys : List ℕ) → keys ≡ s.free → IsChain links no_key keys no_key → first ≡ first_or keys no_key → keys ≢ [] → Head s links first value
-  head_of s links first len value [] is chain head some = absurd (some refl)
-  head_of s links first len value (key ∷ keys) is chain head some = record {
-    stands = subst (λ k. 0 < times first k) is (let hits = hit_same first key head in omega arith);
+  first_of : (s : SlotState T) (links : List (Option Link)) (first : ℕ) (value : T) (keys : List ℕ) → keys ≡ s.free → IsChain links no_key keys no_key → first ≡ first_or keys no_key → keys ≢ [] → First s links first value
+  first_of s links first value [] is chain head some = absurd (some refl)
+  first_of s links first value (key ∷ keys) is chain head some = record {
+    occurs = subst (λ ks. 0 < key_count first ks) is (let hits = hit_same first key head in let all = key_count-cons first key keys in omega arith);
     link = (first_or keys no_key, ap (place_at links) head ∙ chain.0);
-    step =
-        let yes : nat_eq first key ≡ true = grind (arith, nat_tests) in
-        subst (λ k. (let t : SlotState T = record { values = set s.values first (Some value); free = keys_without first k } in t) ≡ head_filled s.values k value) is
-        (ap (λ b. (let t : SlotState T = record { values = set s.values first (Some value); free = if b then keys else (key ∷ keys_without first keys) } in t)) yes
-        ∙ ap (λ k. (let t : SlotState T = record { values = set s.values k (Some value); free = keys } in t)) head);
+    key = sym (ap Some head ∙ ap (λ ks. slice_get ks 0) is);
+    step = ap (λ k. option_map_or (λ free. slot_fill s free value) (Some k) s) head ∙ ap (λ ks. option_map_or (λ free. slot_fill s free value) (slice_get ks 0) s) is;
   }
 
-  -- the first free key left the list, and has a value
-  pub first_filled : (s : SlotState T) (values values' : List (Option T)) (links links' : List (Option Link)) (first len : ℕ) (value : T) (link as_first : Link) → Shows s values links first len → s.free ≢ [] → place_at links first ≡ Some link → as_first ≡ free_link no_key link.next → links' ≡ unlinked links first as_first → values' ≡ set values first (Some value) → Shows (slot_insert s value) values' links' link.next (len + 1)
-  first_filled s values values' links links' first len value link as_first shown some at as_first_is links_are values_are =
-      let known = (of s values links first len shown).0 in
-      let front = head_of s links first len value s.free refl known.chain known.head some in
+  -- what a call knows of the first free key, if one is free
+  module _ (s : SlotState T) (values : List (Option T)) (links : List (Option Link)) (first len : ℕ) (value : T) (shown : Shows s values links first len) (some : s.free ≢ []) where
+    first_shown : First s links first value
+    first_shown =
+        let known = (of s values links first len shown).0 in
+        first_of s links first value s.free refl known.chain known.head some
+
+    pub first_is_free : IsFree s first
+    first_is_free = (of s values links first len shown).0.formed.listed_is_free first first_shown.occurs
+
+    pub next_within : (link : Link) → place_at links first ≡ Some link → IsKeyOrNone link.next links
+    next_within link at = (subst (λ place. IsLinkWithin place links) at (link_of s values links first len first shown first_is_free)).1
+
+  -- the first free key is removed from the list, and has a value
+  pub Shows-slot_insert : (s : SlotState T) (values values' : List (Option T)) (links links' : List (Option Link)) (first len : ℕ) (value : T) (link : Link) → Shows s values links first len → s.free ≢ [] → place_at links first ≡ Some link → links' ≡ links_remove_first links first link.next → values' ≡ set values first (Some value) → Shows (slot_insert s value) values' links' link.next (len + 1)
+  Shows-slot_insert s values values' links links' first len value link shown some at links_are values_are =
+      let front = first_shown s values links first len value shown some in
+      let is_free = first_is_free s values links first len value shown some in
+      let table = links_of s values links first len shown in
       let same : Some link ≡ Some (free_link no_key front.link.0) = sym at ∙ front.link.1 in
       let is : link ≡ free_link no_key front.link.0 = cc in
       let own : free_link no_key link.next ≡ link = ap (λ (l : Link). free_link no_key l.next) is ∙ sym is in
-      let next : link.next ≡ first_without first link = ap (λ (l : Link). first_without first l) own in
+      let next : link.next ≡ first_after_remove first link = ap (λ (l : Link). first_after_remove first l) own in
       subst (λ t. Shows t values' links' link.next (len + 1)) front.step
-      (filled_shows s values values' links links' first link.next len first value link shown front.stands at
-      (links_are ∙ ap (unlinked links first) (as_first_is ∙ own)) next values_are)
+      (Shows-slot_fill s values values' links links' first link.next len first value link shown is_free at
+      (links_are ∙ sym (links_remove-first links first link.next table.within) ∙ ap (links_remove links first) own) next values_are)
 
-  pub replaced : (s : SlotState T) (values values' : List (Option T)) (links : List (Option Link)) (first len key : ℕ) (value : T) → Shows s values links first len → IsHeld s key → values' ≡ set values key (Some value) → Shows (slot_fill s key value) values' links first len
-  replaced s values values' links first len key value shown held values_are =
+  -- a map without free keys refuses
+  pub SlotInsert-refused : (s : SlotState T) (values : List (Option T)) (links : List (Option Link)) (first len : ℕ) (x : T) → Shows s values links first len → first ≡ no_key → SlotInsert s x s None
+  SlotInsert-refused s values links first len x shown none =
+      let known = (of s values links first len shown).0 in
+      let empty = nil_from_first s links first len known none in
+      record {
+        key = sym (ap (λ keys. slice_get keys 0) empty);
+        map = sym (ap (λ keys. option_map_or (λ key. slot_fill s key x) (slice_get keys 0) s) empty);
+        was_free = tt;
+        holds = tt;
+        full = ((λ _. empty), (λ _. refl));
+        refused = λ _. refl;
+        kept = λ _ _. refl;
+      }
+
+  -- the first free key is filled
+  pub SlotInsert-filled : (s : SlotState T) (values : List (Option T)) (links : List (Option Link)) (first len : ℕ) (x : T) (new : SlotState T) → Shows s values links first len → first ≢ no_key → new ≡ slot_insert s x → SlotInsert s x new (Some first)
+  SlotInsert-filled s values links first len x new shown apart is =
+      let known = (of s values links first len shown).0 in
+      let some : s.free ≢ [] = λ none. apart (known.head ∙ ap (λ keys. first_or keys no_key) none) in
+      let front = first_shown s values links first len x shown some in
+      let is_free = first_is_free s values links first len x shown some in
+      let filled : new ≡ slot_fill s first x = is ∙ sym front.step in
+      record {
+        key = sym front.key;
+        map = is;
+        was_free = is_free;
+        holds = ap (λ t. value_at t first) filled ∙ get_or-set_same s.values first (Some x) None is_free.0;
+        full = ((λ none. absurd (let no : true ≡ false = none in cc)), (λ none. absurd (some none)));
+        refused = λ none. absurd (let no : true ≡ false = none in cc);
+        kept = λ key held.
+            ap (λ t. value_at t key) filled
+            ∙ get_or-set_other s.values first key (Some x) None (λ e. absurd (let absent = key_count-held s links first len known key held in let occurs = ap (λ k. key_count k s.free) e in let all = front.occurs in omega arith));
+      }
+
+  pub Shows-slot_set : (s : SlotState T) (values values' : List (Option T)) (links : List (Option Link)) (first len key : ℕ) (value : T) → Shows s values links first len → IsHeld s key → values' ≡ set values key (Some value) → Shows (slot_fill s key value) values' links first len
+  Shows-slot_set s values values' links first len key value shown held values_are =
       let known = of s values links first len shown in
-      shows (slot_fill s key value) links first len (represents_replaced s links first len known.0 key value held)
+      shows (slot_fill s key value) links first len (Represents-slot_set s links first len known.0 key value held)
       values' (values_are ∙ ap (λ vs. set vs key (Some value)) known.1)
 
-  pub emptied_shows : (s : SlotState T) (values values' : List (Option T)) (links links' : List (Option Link)) (first first' len len' key : ℕ) → Shows s values links first len → IsHeld s key → links' ≡ linked_first links key first → first' ≡ key → len' ≡ len - 1 → values' ≡ set values key None → Shows (slot_vacate s key) values' links' first' len'
-  emptied_shows s values values' links links' first first' len len' key shown held links_are first_is len_is values_are =
+  pub Shows-slot_vacate : (s : SlotState T) (values values' : List (Option T)) (links links' : List (Option Link)) (first first' len len' key : ℕ) → Shows s values links first len → IsHeld s key → links' ≡ links_insert_first links key first → first' ≡ key → len' ≡ len - 1 → values' ≡ set values key None → Shows (slot_vacate s key) values' links' first' len'
+  Shows-slot_vacate s values values' links links' first first' len len' key shown held links_are first_is len_is values_are =
       let known = of s values links first len shown in
       shows (slot_vacate s key) links' first' len'
       (subst (λ n. Represents (slot_vacate s key) links' first' n) (sym len_is)
       (subst (λ f. Represents (slot_vacate s key) links' f (len - 1)) (sym first_is)
       (subst (λ ls. Represents (slot_vacate s key) ls key (len - 1)) (sym links_are)
-      (represents_emptied s links first len known.0 key held))))
+      (Represents-slot_vacate s links first len known.0 key held))))
       values' (values_are ∙ ap (λ vs. set vs key None) known.1)
 
--- the key behind one of 0, 1 and so on
+-- the key after one of 0, 1 and so on
 next_rising : (capacity key count : ℕ) → key + suc count ≡ capacity → (if nat_eq (key + 1) capacity then no_key else key + 1) ≡ first_or (range_with_len (key + 1) count) no_key
 next_rising capacity key zero all = grind (arith, nat_tests)
 next_rising capacity key (suc count) all = grind (arith, nat_tests)
@@ -252,16 +311,16 @@ next_rising capacity key (suc count) all = grind (arith, nat_tests)
 rising_chain : (links : List (Option Link)) (capacity : ℕ) → IsRisingList capacity links → (key count : ℕ) → key + count ≡ capacity → IsChain links (if nat_eq key 0 then no_key else key - 1) (range_with_len key count) no_key
 rising_chain links capacity rising key zero all = tt
 rising_chain links capacity rising key (suc count) all =
-    let behind = next_rising capacity key count all in
+    let after = next_rising capacity key count all in
     let before : (if nat_eq (key + 1) 0 then no_key else key + 1 - 1) ≡ key = grind (arith, nat_tests) in (
-      rising.1 key (omega arith) ∙ ap (λ next. Some (free_link (if nat_eq key 0 then no_key else key - 1) next)) behind,
+      rising.1 key (omega arith) ∙ ap (λ next. Some (free_link (if nat_eq key 0 then no_key else key - 1) next)) after,
       subst (λ b. IsChain links b (range_with_len (key + 1) count) no_key) before (rising_chain links capacity rising (key + 1) count (omega arith)),
     )
 
 module _ {T : Type 0} where
-  -- two fresh tables stand for an empty map
-  represents_fresh : (links : List (Option Link)) (first capacity : ℕ) → IsRisingList capacity links → first ≡ first_or (range_with_len 0 capacity) no_key → capacity ≤ no_key → Represents (slot_new {T = T} capacity) links first 0
-  represents_fresh links first capacity rising first_is fits =
+  -- two Shows-slot_new tables stand for an empty map
+  Represents-slot_new : (links : List (Option Link)) (first capacity : ℕ) → IsRisingList capacity links → first ≡ first_or (range_with_len 0 capacity) no_key → capacity ≤ no_key → Represents (slot_new {T = T} capacity) links first 0
+  Represents-slot_new links first capacity rising first_is fits =
       let values_len = length-replicate capacity (let none : Option T = None in none) in
       let keys_len = length-range_with_len 0 capacity in
       let links_len = rising.0 in
@@ -270,18 +329,18 @@ module _ {T : Type 0} where
         below = omega arith;
         chain = rising_chain links capacity rising 0 capacity (omega arith);
         head = first_is;
-        others = λ key within none. (let one = times_within 0 capacity key (omega arith) (omega arith) in absurd (omega arith));
+        others = λ key within none. (let one = key_count-range_within 0 capacity key (omega arith) (omega arith) in absurd (omega arith));
         formed = record {
-          free_is_empty = λ key stands. elim (cases_lt key capacity) [
+          listed_is_free = λ key stands. elim (cases_lt key capacity) [
             | inl below ↦ (omega arith, get_or-replicate capacity key None None below)
-            | inr past ↦ let none = times_past 0 capacity key (omega arith) in absurd (omega arith)
+            | inr past ↦ let none = key_count-range_past 0 capacity key (omega arith) in absurd (omega arith)
           ];
-          empty_is_free = λ key is_empty. times_within 0 capacity key (omega arith) (let below = is_empty.0 in omega arith);
+          free_is_listed = λ key is_empty. key_count-range_within 0 capacity key (omega arith) (let below = is_empty.0 in omega arith);
         };
         held = sym (sum_by-replicate held_one capacity None ∙ (omega arith));
         counted = omega arith;
       }
 
-  pub fresh : (values : List (Option T)) (links : List (Option Link)) (first capacity : ℕ) → values ≡ replicate capacity None → IsRisingList capacity links → first ≡ first_or (range_with_len 0 capacity) no_key → capacity ≤ no_key → Shows (slot_new capacity) values links first 0
-  fresh values links first capacity values_are rising first_is fits =
-      shows (slot_new capacity) links first 0 (represents_fresh links first capacity rising first_is fits) values values_are
+  pub Shows-slot_new : (values : List (Option T)) (links : List (Option Link)) (first capacity : ℕ) → values ≡ replicate capacity None → IsRisingList capacity links → first ≡ first_or (range_with_len 0 capacity) no_key → capacity ≤ no_key → Shows (slot_new capacity) values links first 0
+  Shows-slot_new values links first capacity values_are rising first_is fits =
+      shows (slot_new capacity) links first 0 (Represents-slot_new links first capacity rising first_is fits) values values_are

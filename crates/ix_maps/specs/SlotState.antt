@@ -1,5 +1,5 @@
--- A slot map as a contract sees it: the value or nothing at each key, and the free keys in their order.
-use Rattle.std.specs.Prelude.{◌≡◌, ℕ, ◌+◌, ◌<◌, List, [], ◌∷◌, length, replicate, nat_eq, if◌then◌else◌, Option, Some, None, is_some, count_by, refl}
+-- A slot map as contracts see it: for each key its value or nothing, and the free keys in their order.
+use Rattle.std.specs.Prelude.{◌≡◌, ℕ, ◌+◌, ◌<◌, List, [], ◌∷◌, length, replicate, nat_eq, Option, Some, None, is_some, count_by, refl}
 use Rattle.std.specs.List.{range_with_len}
 use Rattle.std.specs.Coded.{Coded, code_by, coded×, coded_ℕ, coded_list, coded_option}
 use Rattle.ix_cells.specs.Places.{place_at, IsEmptyAt, IsHeldAt}
@@ -18,18 +18,8 @@ slot_state_code {T} code =
     (λ p. record { values = p.0; free = p.1 })
     (λ _. refl)
 
--- how often a key stands among some keys
-abbrev pub times : ℕ → List ℕ → ℕ
-times key [] = 0
-times key (other ∷ keys) = (if nat_eq key other then 1 else 0) + times key keys
-
--- the first of some keys
-abbrev pub first_of : List ℕ → Option ℕ
-first_of [] = None
-first_of (key ∷ keys) = Some key
-
 module _ {T : Type 0} where
-  -- the value at a key; there is none at a free key, and none past the last key
+  -- the value at a key; there is none at a free key, and none at a key out of range
   abbrev pub value_at : SlotState T → ℕ → Option T
   value_at s key = place_at s.values key
 
@@ -37,29 +27,33 @@ module _ {T : Type 0} where
   abbrev pub IsHeld : SlotState T → ℕ → Type 0
   IsHeld s key = IsHeldAt s.values key
 
-  -- the key is one of the map's
+  -- the key is in range: below the capacity
   abbrev pub IsKey : SlotState T → ℕ → Type 0
   IsKey s key = key < length s.values
 
-  -- the free keys are exactly the keys with no value, each once
+  -- the key is in range, and has no value
+  abbrev pub IsFree : SlotState T → ℕ → Type 0
+  IsFree s key = IsEmptyAt s.values key
+
+  -- the free list has exactly the keys that are free, each once
   pub record IsWellFormed (s : SlotState T) : Type 0 where
-    pub free_is_empty : (key : ℕ) → 0 < times key s.free → IsEmptyAt s.values key
-    pub empty_is_free : (key : ℕ) → IsEmptyAt s.values key → times key s.free ≡ 1
+    pub listed_is_free : (key : ℕ) → 0 < count_by (nat_eq key) s.free → IsFree s key
+    pub free_is_listed : (key : ℕ) → IsFree s key → count_by (nat_eq key) s.free ≡ 1
 
   -- no key has a value, and the free keys are 0, 1 and so on
   abbrev pub slot_new : ℕ → SlotState T
   slot_new capacity = record { values = replicate capacity None; free = range_with_len 0 capacity }
 
-  -- the number of keys with a value
+  -- the number of keys that have a value
   abbrev pub held_count : SlotState T → ℕ
   held_count s = count_by is_some s.values
 
-  -- the keys with a value among these places, of which the first has this key, each with its value
+  -- the keys of these places that have a value, each with it; the first place's key is the number
   abbrev pub entries_from : ℕ → List (Option T) → List (ℕ × T)
   entries_from key [] = []
   entries_from key (None ∷ places) = entries_from (key + 1) places
   entries_from key (Some value ∷ places) = (key, value) ∷ entries_from (key + 1) places
 
-  -- the held keys in rising order, with their values
+  -- the held keys in rising order, each with its value
   abbrev pub entries : SlotState T → List (ℕ × T)
   entries s = entries_from 0 s.values

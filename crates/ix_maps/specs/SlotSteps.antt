@@ -1,38 +1,61 @@
--- The steps of a slot map: the slot state that each call leaves. What a call answers is a key or value of the old one.
-use Rattle.std.specs.Prelude.{ℕ, List, [], ◌∷◌, length, nat_eq, nat_lt, if◌then◌else◌, Option, Some, None, is_some, slice_set}
-use Rattle.ix_maps.specs.SlotState.{SlotState, value_at}
+-- The steps of a slot map: the slot state after each call, and what the calls that change a map promise.
+use Rattle.std.specs.Prelude.{◌≡◌, ◌≢◌, ◌↔◌, ℕ, List, [], ◌∷◌, length, nat_eq, nat_lt, if◌then◌else◌, Bool, Option, Some, None, IsTrue, IsNone, IfSome, is_some, slice_get, slice_set}
+use Rattle.std.specs.Bool.{OnFalse}
+use Rattle.std.specs.Option.{option_map_or}
+use Rattle.ix_maps.specs.SlotState.{SlotState, value_at, IsHeld, IsKey, IsFree}
 
--- the keys without the first one that is this key
+-- the keys but for the first one that equals this key
 abbrev pub keys_without : ℕ → List ℕ → List ℕ
 keys_without key [] = []
 keys_without key (other ∷ keys) = if nat_eq key other then keys else other ∷ keys_without key keys
 
 module _ {T : Type 0} where
-  -- another value at a key, and the free keys as they are
-  abbrev pub with_value : SlotState T → ℕ → T → SlotState T
-  with_value s key value = record { values = slice_set s.values key (Some value); free = s.free }
+  -- the value at the key, and the free keys unchanged
+  abbrev pub slot_set : SlotState T → ℕ → T → SlotState T
+  slot_set s key value = record { values = slice_set s.values key (Some value); free = s.free }
 
-  -- the key has the value, and is not free
+  -- the value at the key, which is no longer free
   abbrev pub slot_fill : SlotState T → ℕ → T → SlotState T
   slot_fill s key value = record { values = slice_set s.values key (Some value); free = keys_without key s.free }
 
-  -- the key has no value, and is the first that is free
+  -- no value at the key, which is the first free key
   abbrev pub slot_vacate : SlotState T → ℕ → SlotState T
   slot_vacate s key = record { values = slice_set s.values key None; free = key ∷ s.free }
 
-  -- the first of the free keys gets the value
-  abbrev pub head_filled : List (Option T) → List ℕ → T → SlotState T
-  head_filled values [] value = record { values = values; free = [] }
-  head_filled values (key ∷ keys) value = record { values = slice_set values key (Some value); free = keys }
-
-  -- insert: the head of the free list gets the value, if there is one
+  -- the value at the first free key, if there is one
   abbrev pub slot_insert : SlotState T → T → SlotState T
-  slot_insert s value = head_filled s.values s.free value
+  slot_insert s value = option_map_or (λ key. slot_fill s key value) (slice_get s.free 0) s
 
-  -- insert_at: a key below the capacity gets the value, and leaves the free list if it stands there
+  -- the value at the key, if that is in range
   abbrev pub slot_insert_at : SlotState T → ℕ → T → SlotState T
   slot_insert_at s key value = if nat_lt key (length s.values) then slot_fill s key value else s
 
-  -- remove: a held key loses its value, and goes to the front of the free list
+  -- no value at the key, if it had one
   abbrev pub slot_remove : SlotState T → ℕ → SlotState T
   slot_remove s key = if is_some (value_at s key) then slot_vacate s key else s
+
+  -- what `insert` and `insert_counted` promise
+  pub record SlotInsert (old : SlotState T) (x : T) (new : SlotState T) (result : Option ℕ) : Type 0 where
+    pub key : result ≡ slice_get old.free 0
+    pub map : new ≡ slot_insert old x
+    pub was_free : IfSome result (IsFree old)
+    pub holds : IfSome result (λ key. value_at new key ≡ Some x)
+    pub full : IsNone result ↔ (old.free ≡ [])
+    pub refused : IsNone result → new ≡ old
+    pub kept : (key : ℕ) → IsHeld old key → value_at new key ≡ value_at old key
+
+  -- what `insert_at` and `insert_at_counted` promise
+  pub record SlotInsertAt (old : SlotState T) (key : ℕ) (x : T) (new : SlotState T) (result : Bool) : Type 0 where
+    pub value : IsTrue result ↔ IsKey old key
+    pub map : new ≡ slot_insert_at old key x
+    pub holds : IsTrue result → value_at new key ≡ Some x
+    pub refused : OnFalse result (new ≡ old)
+    pub kept : (other : ℕ) → other ≢ key → value_at new other ≡ value_at old other
+
+  -- what `remove` and `remove_counted` promise
+  pub record SlotRemove (old : SlotState T) (key : ℕ) (new : SlotState T) (result : Option T) : Type 0 where
+    pub value : result ≡ value_at old key
+    pub map : new ≡ slot_remove old key
+    pub gone : value_at new key ≡ None
+    pub refused : IsNone result → new ≡ old
+    pub kept : (other : ℕ) → other ≢ key → value_at new other ≡ value_at old other

@@ -1,7 +1,14 @@
 //! Containers over tables: queues and slot maps.
 //!
 //! Each container is generic over the [`Table`](ix_cells::Table) that holds its items, and the kinds of storage are
-//! names of that one type. Contracts see a container as its bounded model, whatever the table.
+//! aliases of one type. Contracts see a container as its bounded model, whatever the table is.
+//!
+//! ```text
+//! let mut queue = FixedSizeQueue::<u64, 2>::new();
+//! queue.push(1);                        // true
+//! let mut map = FixedSizeSlotMap::<char, 3>::new();
+//! map.insert('a');                      // Some: the key 0
+//! ```
 #![tactic(auto)]
 
 pub mod queue;

@@ -1,4 +1,13 @@
-//! Queues: bounded lists, to which items are added at the back and from which they are taken at the front.
+//! Queues: bounded lists, in which items are appended at the back and removed at the front.
+//!
+//! [`FixedSizeQueue`] is in the value itself, [`Queue`] and [`RelocatableQueue`] are in memory of an allocator.
+//!
+//! ```text
+//! let mut queue = FixedSizeQueue::<u64, 2>::new();
+//! queue.push(1);                    // true
+//! queue.push(2);                    // true
+//! queue.pop();                      // Some(1)
+//! ```
 
 mod fixed_size_queue;
 mod heap_queue;

@@ -1,6 +1,15 @@
-//! Slot maps: containers that give each value a key of their own choosing, by which it is found in constant time.
+//! Slot maps: bounded maps that choose the key of each value, by which it is found in constant time.
+//!
+//! [`FixedSizeSlotMap`] is in the value itself, [`SlotMap`] and [`RelocatableSlotMap`] are in memory of an allocator.
+//!
+//! ```text
+//! let mut map = FixedSizeSlotMap::<char, 3>::new();
+//! if let Some(key) = map.insert('a') {  // the key 0
+//!     map.get(key);                     // Some(&'a')
+//!     map.remove(key);                  // Some('a')
+//! }
+//! ```
 
-mod changes;
 mod fixed_size_slot_map;
 mod free_list;
 mod iter;

@@ -1,4 +1,4 @@
--- Lemmas on a row in which a gap opens or closes.
+-- Lemmas on a row in which a gap is opened or closed.
 use Rattle.std.proofs.Common.{ℕ, ◌≡◌, ◌+◌, ◌≤◌, List, ◌++◌, length, take, drop, append_assoc, arith}
 use Rattle.std.proofs.lemmas.List.{take-take, drop-take, drop-drop, drop_at, take_at, take-append-le}
 use Rattle.std.proofs.Math.Seq.{paste}
@@ -6,7 +6,7 @@ use borrow.Rule.Slice.PartMut.{put_mid}
 use Rattle.std.proofs.lemmas.Grind.{common_steps}
 
 module _ {T : Type 0} where
-  -- m items from place j on go down to place i
+  -- m items from index j on are moved down to index i
   pub paste-closed : (row : List T) (i j m len last : ℕ) → len ≡ j + m → last ≡ i + m → i ≤ j
       → paste row i (drop j row) m ≡ (take i (take len row) ++ drop j (take len row)) ++ drop last row
   paste-closed row i j m len last whole end le =
@@ -14,13 +14,13 @@ module _ {T : Type 0} where
       let back : drop j (take len row) ≡ take m (drop j row) = rw whole (drop-take j m row) in
       rw (front, back, end)
 
-  -- the part behind a front of e items that was written over
+  -- the part from index e on, where m items were overwritten
   drop-paste_at : (row : List T) (e m : ℕ) (ys : List T) → e ≤ length row → drop e (paste row e ys m) ≡ take m ys ++ drop (e + m) row
   drop-paste_at row e m ys le =
       let counted : length (take e row) ≡ e = grind (arith, common_steps) in
       rw append_assoc (drop_at (take e row) (take m ys ++ drop (e + m) row) e counted)
 
-  -- m items from place i on go n places up, and others stand in the gap
+  -- m items from index i on are moved up by n, and new ones are written into the gap
   pub put_mid-opened : (row new : List T) (i n m k len last : ℕ) → len ≡ i + m → last ≡ len + n → k ≡ n → last ≤ length row
       → put_mid i k (paste row (i + n) (drop i row) m) new ≡ ((take i (take len row) ++ new) ++ drop i (take len row)) ++ drop last row
   put_mid-opened row new i n m k len last whole end same room =
@@ -35,7 +35,7 @@ module _ {T : Type 0} where
       let past : last ≡ (i + n) + m = omega arith in
       rw (same, drop-drop, before, front, short, back, behind, past, append_assoc, append_assoc)
 
-  -- k items behind the first e ones are written over
+  -- k items after the first e ones are overwritten
   pub put_mid-behind : (front row new : List T) (e k last : ℕ) → length front ≡ e → last ≡ e + k
       → put_mid e k (front ++ drop e row) new ≡ front ++ (new ++ drop last row)
   put_mid-behind front row new e k last counted end =

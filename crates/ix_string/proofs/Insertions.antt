@@ -1,4 +1,4 @@
--- Lemmas on bytes that go into a row by pushes at its end.
+-- Lemmas on items that are inserted into a row which grows by appending alone.
 use Rattle.std.proofs.Common.{ℕ, ◌≡◌, ◌+◌, ◌-◌, ◌<◌, ◌≤◌, ◌∙◌, List, [], ◌∷◌, ◌++◌, ◌⊎◌, inl, inr, refl, length, take, drop, get_or, length-append, length-drop, append_assoc, min, slice_range, sym, ap, arith}
 use Rattle.std.specs.List.{insert_slice}
 use Rattle.std.proofs.lemmas.Bool.{cases_lt}
@@ -17,7 +17,7 @@ module _ {X : Type 0} where
       let read : get_or (drop a xs) (i - a) d ≡ get_or xs i d = get_or-drop a xs (i - a) d ∙ ap (λ (k : ℕ). get_or xs k d) place in
       ap (λ (k : ℕ). take k (drop a xs)) longer ∙ take_more (drop a xs) (i - a) d counted ∙ ap (λ (y : X). slice_range xs a i ++ y ∷ []) read
 
-  -- one more of the own items goes behind the others
+  -- one more of the own items is appended
   pub vec_extend-more : (old held : Bounded X) (a i : ℕ) (y d : X) → a ≤ i → i < length old.items → held ≡ vec_extend old (slice_range old.items a i) → y ≡ get_or old.items i d
       → with_items held (held.items ++ y ∷ []) ≡ vec_extend old (slice_range old.items a (i + 1))
   vec_extend-more old held a i y d order lt is read =
@@ -25,7 +25,7 @@ module _ {X : Type 0} where
       let longer : part ++ y ∷ [] ≡ slice_range old.items a (i + 1) = rw read (sym (slice_range-more old.items a i d order lt)) in
       ap (λ (h : Bounded X). with_items h (h.items ++ y ∷ [])) is ∙ ap (with_items old) (append_assoc old.items part (y ∷ []) ∙ ap (λ (r : List X). old.items ++ r) longer)
 
-  -- what stands from the gap on, where no new item or every moved one was pushed
+  -- the items from the gap on, if no new item was appended, and if every moved item was
   between-none : (xs back : List X) (i e : ℕ) → i ≤ e → e ≤ length xs → back ≡ [] → drop i (take e xs) ++ (back ++ drop e xs) ≡ back ++ drop i xs
   between-none xs back i e order within none =
       let counted : length (take e xs) ≡ e = length-take-le e xs within in
@@ -37,7 +37,7 @@ module _ {X : Type 0} where
       let none : drop i (take e xs) ≡ [] = drop_all i (take e xs) short in
       rw (none, same) refl
 
-  -- a front, a part, what lies between, and two parts behind it are a front, the joined parts and a rest
+  -- if first and second make up bytes, and between, second and behind are second and rest, all of it is front, bytes and rest
   joined : (front first between second behind bytes rest : List X) → first ++ second ≡ bytes → between ++ (second ++ behind) ≡ second ++ rest
       → ((front ++ first) ++ between) ++ (second ++ behind) ≡ (front ++ bytes) ++ rest
   joined front first between second behind bytes rest whole is =
@@ -53,7 +53,7 @@ module _ {X : Type 0} where
       let none : b ≡ length bytes = grind (arith, common_steps) in
       between-none xs (drop b bytes) i e (omega arith) (omega arith) (drop_all b bytes (omega arith))
 
-  -- the last b new items and the last b own ones were pushed, and then the first b new ones went into the gap
+  -- the last new items and the last b own ones are appended, and then the first b new ones are inserted into the gap
   pub insert_slice-parts : (xs bytes : List X) (i b e n : ℕ) → n ≡ length xs → i ≤ n → b ≡ min (length bytes) (n - i) → e ≡ n - b
       → let row = (xs ++ drop b bytes) ++ slice_range (xs ++ drop b bytes) e n in
       insert_slice (take e row) i (take b bytes) ++ drop (e + b) row ≡ insert_slice xs i bytes

@@ -1,6 +1,6 @@
 pub mod Gaps
 pub mod Insertions
+pub mod Matches
 pub mod Nul
-pub mod Places
 pub mod Retaining
 pub mod Texts

@@ -1,61 +1,61 @@
--- Lemmas on items that a closure is asked of, from the last one to the first.
+-- Lemmas on a closure that is called at the items from the last to the first.
 use Rattle.std.proofs.Common.{ℕ, ◌≡◌, ◌+◌, ◌<◌, ◌≤◌, ◌∙◌, length, take, drop, set, get_or, arith, List, [], ◌∷◌, ◌++◌, Bool, true, false, refl, subst, sym, ap}
-use Rattle.std.specs.Prelude.{reverse, if◌then◌else◌}
-use Rattle.std.specs.List.{All}
+use Rattle.std.specs.Prelude.{reverse, map, not, if◌then◌else◌}
+use Rattle.std.specs.List.{All, items_where_true}
 use Rattle.std.proofs.lemmas.List.{reverse-append, take-take, get_or-take, drop-set, drop_more}
 use Rattle.std.proofs.lemmas.List.Elements.{All-nil, All-cons, All-drop}
-use Rattle.ix_string.specs.Retain.{ResultsAt, items_where_false, retained_items, Retains}
+use Rattle.ix_string.specs.Retain.{ResultsAt, retained_items, Retains}
 
 module _ {F X : Type 0} (step : F → X → Bool → F → Type 0) where
-  -- one more call
-  pub ResultsAt-push : (f : F) (xs : List X) (answers : List Bool) (g : F) (x : X) (b : Bool) (h : F)
-      → ResultsAt step f xs answers g → step g x b h → ResultsAt step f (xs ++ x ∷ []) (answers ++ b ∷ []) h
+  -- one more call, at the item x
+  pub ResultsAt-push : (f : F) (xs : List X) (results : List Bool) (g : F) (x : X) (b : Bool) (h : F)
+      → ResultsAt step f xs results g → step g x b h → ResultsAt step f (xs ++ x ∷ []) (results ++ b ∷ []) h
   ResultsAt-push f [] [] g x b h same called = (h, subst (λ (p : F). step p x b h) (sym same) called, refl)
   ResultsAt-push f [] (c ∷ cs) g x b h same called = absurd same
   ResultsAt-push f (y ∷ ys) [] g x b h same called = absurd same
-  ResultsAt-push f (y ∷ ys) (c ∷ cs) g x b h (next, answered, rest) called = (next, answered, ResultsAt-push next ys cs g x b h rest called)
+  ResultsAt-push f (y ∷ ys) (c ∷ cs) g x b h (next, returned, rest) called = (next, returned, ResultsAt-push next ys cs g x b h rest called)
 
-  -- the item before others
-  items_where_false-more : (b : Bool) (x : X) (xs kept : List X) (answers : List Bool) → kept ≡ items_where_false answers xs
-      → (if b then kept else x ∷ kept) ≡ items_where_false (b ∷ answers) (x ∷ xs)
-  items_where_false-more true x xs kept answers is = is
-  items_where_false-more false x xs kept answers is = ap (λ (r : List X). x ∷ r) is
+  -- one more item in front
+  items_where_true-cons : (b : Bool) (x : X) (xs kept : List X) (results : List Bool) → kept ≡ items_where_true (map not results) xs
+      → (if b then kept else x ∷ kept) ≡ items_where_true (map not (b ∷ results)) (x ∷ xs)
+  items_where_true-cons true x xs kept results is = is
+  items_where_true-cons false x xs kept results is = ap (λ (r : List X). x ∷ r) is
 
-  -- the item before those that were asked about is asked about
-  pub Retains-more : (f : F) (x : X) (xs kept : List X) (answers : List Bool) (g : F) (b : Bool) (h : F)
-      → ResultsAt step f (reverse xs) answers g → kept ≡ retained_items answers xs → step g x b h
+  -- one more call, at the item before the others
+  pub Retains-more : (f : F) (x : X) (xs kept : List X) (results : List Bool) (g : F) (b : Bool) (h : F)
+      → ResultsAt step f (reverse xs) results g → kept ≡ retained_items results xs → step g x b h
       → (more : List Bool) × ResultsAt step f (reverse (x ∷ xs)) more h × ((if b then kept else x ∷ kept) ≡ retained_items more (x ∷ xs))
-  Retains-more f x xs kept answers g b h asked is called =
-      let pushed = ResultsAt-push f (reverse xs) answers g x b h asked called in
+  Retains-more f x xs kept results g b h calls is called =
+      let pushed = ResultsAt-push f (reverse xs) results g x b h calls called in
       let order : reverse (x ∷ xs) ≡ reverse xs ++ x ∷ [] = reverse-append (x ∷ []) xs in
-      let turned : reverse (answers ++ b ∷ []) ≡ b ∷ reverse answers = reverse-append answers (b ∷ []) in
-      let asked_again : ResultsAt step f (reverse (x ∷ xs)) (answers ++ b ∷ []) h = rw order pushed in
-      (answers ++ b ∷ [], asked_again, rw turned (items_where_false-more b x xs kept (reverse answers) is))
+      let turned : reverse (results ++ b ∷ []) ≡ b ∷ reverse results = reverse-append results (b ∷ []) in
+      let called_again : ResultsAt step f (reverse (x ∷ xs)) (results ++ b ∷ []) h = rw order pushed in
+      (results ++ b ∷ [], called_again, rw turned (items_where_true-cons b x xs kept (reverse results) is))
 
 module _ {X : Type 0} where
-  -- the items from the last one that was asked about on
+  -- the items from index i on are item i and those after it
   pub drop-last : (xs : List X) (i n : ℕ) (d : X) → n ≡ i + 1 → n ≤ length xs → drop i xs ≡ get_or xs i d ∷ drop n xs
   drop-last xs i n d next le = rw next (drop_more xs i d (omega arith))
 
-  -- rows with the same front have the same item there
+  -- rows with the same first n items have the same item i
   pub get_or-front : (row old : List X) (i n : ℕ) (d : X) → i < n → take n row ≡ take n old → get_or row i d ≡ get_or old i d
   get_or-front row old i n d lt same = sym (get_or-take n row i d lt) ∙ ap (λ (r : List X). get_or r i d) same ∙ get_or-take n old i d lt
 
-  -- and the same shorter front
+  -- and the same first i items
   pub take-front : (row old : List X) (i n : ℕ) → i ≤ n → take n row ≡ take n old → take i row ≡ take i old
   take-front row old i n le same = sym (take-take i n row le) ∙ ap (take i) same ∙ take-take i n old le
 
-  -- an item is put before the last ones
+  -- an item is written before the last ones
   pub drop-put : (row : List X) (s t : ℕ) (x : X) → t ≡ s + 1 → t ≤ length row → drop s (set row s x) ≡ x ∷ drop t row
   drop-put row s t x next le = rw next (drop-set row s x (omega arith))
 
-  -- what holds of all items holds of those that stay
-  All-items_where_false : (P : X → Type 0) (answers : List Bool) (xs : List X) → All P xs → All P (items_where_false answers xs)
-  All-items_where_false P [] xs all = All-nil P
-  All-items_where_false P (b ∷ bs) [] all = All-nil P
-  All-items_where_false P (true ∷ bs) (x ∷ xs) all = All-items_where_false P bs xs (All-drop P 1 (x ∷ xs) all)
-  All-items_where_false P (false ∷ bs) (x ∷ xs) all =
-      All-cons P x (items_where_false bs xs) (all 0 x (omega arith)) (All-items_where_false P bs xs (All-drop P 1 (x ∷ xs) all))
+  -- what holds of all items holds of those that are kept
+  All-items_where_true : (P : X → Type 0) (results : List Bool) (xs : List X) → All P xs → All P (items_where_true (map not results) xs)
+  All-items_where_true P [] xs all = All-nil P
+  All-items_where_true P (b ∷ bs) [] all = All-nil P
+  All-items_where_true P (true ∷ bs) (x ∷ xs) all = All-items_where_true P bs xs (All-drop P 1 (x ∷ xs) all)
+  All-items_where_true P (false ∷ bs) (x ∷ xs) all =
+      All-cons P x (items_where_true (map not bs) xs) (all 0 x (omega arith)) (All-items_where_true P bs xs (All-drop P 1 (x ∷ xs) all))
 
   pub All-Retains : {F : Type 0} (P : X → Type 0) (step : F → X → Bool → F → Type 0) (f : F) (xs kept : List X) → Retains step f xs kept → All P xs → All P kept
-  All-Retains P step f xs kept (answers, last, asked, is) all = rw is (All-items_where_false P (reverse answers) xs all)
+  All-Retains P step f xs kept (results, last, calls, is) all = rw is (All-items_where_true P (reverse results) xs all)

@@ -15,27 +15,23 @@ use Rattle.ix_string.specs.TextSteps.{StringFromBytes}
 use Rattle.ix_string.specs.declared.string.modification_error.StringModificationError.{StringModificationError}
 use Rattle.ix_string.specs.declared.string.modification_error.StringModificationError.TheVariants.{InvalidCharacter, InsertWouldExceedCapacity}
 
--- a text is ASCII
 pub IsAscii-text : (text : List ℕ) → IsText text → IsAscii text
 IsAscii-text text is i = grind (arith, common_steps, is i 0)
 
--- a text is UTF-8
 pub IsUtf8-text : (text : List ℕ) → IsText text → IsUtf8 text
 IsUtf8-text text is = IsUtf8-from_ascii text (IsAscii-text text is)
 
--- text that goes into a text
 pub IsText-insert_slice : (text : List ℕ) (i : ℕ) (bytes : List ℕ) → IsText text → IsText bytes → IsText (insert_slice text i bytes)
 IsText-insert_slice text i bytes is more =
     let P : ℕ → Type 0 = λ b. IsTextByte b in
     All-append P (take i text ++ bytes) (drop i text) (All-append P (take i text) bytes (All-take P i text is) more) (All-drop P i text is)
 
--- a text that loses a range
 pub IsText-remove_range : (text : List ℕ) (i j : ℕ) → IsText text → IsText (remove_range text i j)
 IsText-remove_range text i j is =
     let P : ℕ → Type 0 = λ b. IsTextByte b in
     All-append P (take i text) (drop j text) (All-take P i text is) (All-drop P j text is)
 
--- what stands behind a text from a later place on
+-- from n bytes after the text on, there are zeros
 drop-padded_text : (capacity count : ℕ) (text : List ℕ) (n : ℕ) → length text ≡ count → drop (count + n) (padded_text capacity text) ≡ replicate (capacity - (count + n)) 0
 drop-padded_text capacity count text n counted =
     let behind = drop-append-add text (replicate (capacity - length text) 0) n in
@@ -43,14 +39,13 @@ drop-padded_text capacity count text n counted =
     let fewer : (capacity - length text) - n ≡ capacity - (count + n) = omega arith in
     ap (λ (k : ℕ). drop (k + n) (padded_text capacity text)) (sym counted) ∙ behind ∙ left ∙ ap (λ (k : ℕ). replicate k 0) fewer
 
--- what stands in a padded row from a place behind the text on
+-- from n cells after the text on, there are zeros
 pub drop-IsPadded : (capacity count : ℕ) (cells : List ℕ) (n : ℕ) → IsPadded capacity count cells → drop (count + n) cells ≡ replicate (capacity - (count + n)) 0
 drop-IsPadded capacity count cells n is =
     let within = is.within in
     let counted : length (take count cells) ≡ count = grind (arith, common_steps, is.whole) in
     ap (drop (count + n)) is.zeros ∙ drop-padded_text capacity count (take count cells) n counted
 
--- a text and zeros up to the capacity
 pub IsPadded-from_text : (capacity count : ℕ) (text cells : List ℕ) → cells ≡ text ++ replicate (capacity - count) 0 → length text ≡ count → count ≤ capacity → IsText text → IsPadded capacity count cells
 IsPadded-from_text capacity count text cells parts counted within is =
     let front : take count cells ≡ text = rw parts (take_at text (replicate (capacity - count) 0) count counted) in
@@ -61,14 +56,14 @@ IsPadded-from_text capacity count text cells parts counted within is =
       zeros = rw (front, counted) parts;
     }
 
--- what the test for a text answers
+-- the test for a text
 pub is_text-yes : (bytes : List ℕ) → IsText bytes → is_text bytes ≡ true
 is_text-yes bytes is = list_all-from_AllPass is_text_byte bytes (λ k d lt. let here = is k d lt in grind (arith, common_steps))
 
 pub IsText-not : (bytes : List ℕ) → is_text bytes ≡ false → ¬ IsText bytes
 IsText-not bytes fails is = let passes = is_text-yes bytes is in cc
 
--- a string is made exactly of text, where there is room
+-- if there is room, a string is made exactly of text
 pub IsOk-StringFromBytes : (capacity : ℕ) (bytes : List ℕ) (result : Result (List ℕ) StringModificationError) → StringFromBytes capacity bytes result → length bytes ≤ capacity → IsOk result ↔ IsText bytes
 IsOk-StringFromBytes capacity bytes (Ok string) gives room = (λ _. gives.1, λ _. search rules)
 IsOk-StringFromBytes capacity bytes (Err InvalidCharacter) gives room = (λ made. absurd (search rules), λ is. absurd (gives.1 is))

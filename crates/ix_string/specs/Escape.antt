@@ -1,11 +1,11 @@
--- Escaped text: how bytes are shown.
+-- Escaped text: how bytes are printed.
 use Rattle.std.specs.Prelude.{ℕ, ◌+◌, ◌/◌, ◌%◌, ◌==◌, ◌&&◌, List, [], ◌∷◌, ◌++◌, if◌then◌else◌, nat_lt, nat_le, flat_map, codes}
 
 -- the lower-case hexadecimal digit of a number below 16
 abbrev pub hex_digit : ℕ → ℕ
 hex_digit n = if nat_lt n 10 then 48 + n else 87 + n
 
--- 9, 13 and 10 are shown by letters, 32 to 127 stay, and every other byte is two hexadecimal digits
+-- 9, 13 and 10 become letters, 32 to 127 stay, and every other byte becomes two hexadecimal digits
 abbrev pub escaped_byte : ℕ → List ℕ
 escaped_byte b =
     if b == 9 then codes "\\t"
@@ -14,6 +14,5 @@ escaped_byte b =
     else (if nat_le 32 b && nat_lt b 128 then b ∷ []
     else codes "\\x" ++ hex_digit (b / 16) ∷ hex_digit (b % 16) ∷ [])))
 
--- the bytes' images, one after the other
 abbrev pub escaped_text : List ℕ → List ℕ
 escaped_text = flat_map escaped_byte

@@ -1,6 +1,6 @@
+pub mod Debug
 pub mod ErrorTexts
 pub mod Escape
 pub mod Retain
 pub mod Text
 pub mod TextSteps
-pub mod Undoing

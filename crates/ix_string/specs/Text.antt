@@ -1,35 +1,34 @@
--- Text: bytes from 1 to 127, and where one text stands in another.
+-- Text: bytes from 1 to 127, and where one text occurs in another.
 use Rattle.std.specs.Prelude.{ℕ, ◌≡◌, ◌-◌, ◌<◌, ◌≤◌, ◌&&◌, ◌==◌, nat_lt, List, ◌++◌, length, take, replicate, Bool, Option, Some, None}
 use Rattle.std.specs.List.{All, list_all, position_or_len}
 
--- a byte that a text may hold
+-- a byte of a text is from 1 to 127
 abbrev pub IsTextByte : ℕ → Type 0
 IsTextByte b = (0 < b) × (b < 128)
 
--- every byte is one of these
 abbrev pub IsText : List ℕ → Type 0
 IsText bytes = All IsTextByte bytes
 
--- whether a text may hold the byte
+-- the test for `IsTextByte`
 abbrev pub is_text_byte : ℕ → Bool
 is_text_byte b = nat_lt 0 b && nat_lt b 128
 
--- whether it may hold all of them
+-- the test for `IsText`
 abbrev pub is_text : List ℕ → Bool
 is_text = list_all is_text_byte
 
--- the text, and zeros behind it up to the capacity
+-- the text, and then zeros up to the capacity
 abbrev pub padded_text : ℕ → List ℕ → List ℕ
 padded_text capacity text = text ++ replicate (capacity - length text) 0
 
--- a row as long as the capacity holds a text of count bytes, and zeros behind it
+-- the cells, as many as the capacity, are a text of count bytes and then zeros
 pub record IsPadded (capacity count : ℕ) (cells : List ℕ) : Type 0 where
   pub within : count ≤ capacity
   pub whole : length cells ≡ capacity
   pub text : IsText (take count cells)
   pub zeros : cells ≡ padded_text capacity (take count cells)
 
--- the place of the first zero, or the length where there is none
+-- the index of the first zero, or the length if there is none
 abbrev pub nul_position : List ℕ → ℕ
 nul_position bytes = position_or_len (λ b. b == 0) bytes
 
@@ -37,23 +36,22 @@ nul_position bytes = position_or_len (λ b. b == 0) bytes
 abbrev pub before_nul : List ℕ → List ℕ
 before_nul bytes = take (nul_position bytes) bytes
 
--- the text is a front of i bytes, then the needle, then a rest
+-- the needle occurs in the text at index i
 pub record MatchesAt (text needle : List ℕ) (i : ℕ) : Type 0 where
   pub front : List ℕ
   pub rest : List ℕ
   pub parts : text ≡ front ++ (needle ++ rest)
-  pub place : length front ≡ i
+  pub index : length front ≡ i
 
--- the least place where the needle stands, or None where it stands nowhere
+-- the result is the least index at which the needle occurs, or None if it does not occur
 abbrev pub IsFirstMatch : List ℕ → List ℕ → Option ℕ → Type 0
 IsFirstMatch text needle (Some i) = MatchesAt text needle i × ((j : ℕ) → MatchesAt text needle j → i ≤ j)
 IsFirstMatch text needle None = (j : ℕ) → ¬ MatchesAt text needle j
 
--- the greatest place where the needle stands, or None where it stands nowhere
+-- the result is the greatest index at which the needle occurs, or None if it does not occur
 abbrev pub IsLastMatch : List ℕ → List ℕ → Option ℕ → Type 0
 IsLastMatch text needle (Some i) = MatchesAt text needle i × ((j : ℕ) → MatchesAt text needle j → j ≤ i)
 IsLastMatch text needle None = (j : ℕ) → ¬ MatchesAt text needle j
 
--- the text is a front and then the ending
 abbrev pub EndsWith : List ℕ → List ℕ → Type 0
 EndsWith text ending = (front : List ℕ) × (text ≡ front ++ ending)

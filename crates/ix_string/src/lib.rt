@@ -1,7 +1,17 @@
 //! Strings with a capacity that is set when they are made: bounded lists of bytes from 1 to 127.
 //!
-//! Contracts see a string as a bounded list of its bytes, whatever memory they lie in; the calls are those of the trait
-//! [`String`]. The string of std is `std::string::String` here.
+//! The calls of every kind of string are those of the trait [`String`]. [`StaticString`] lies in the value itself,
+//! [`PolymorphicString`] in memory of an allocator, and [`RelocatableString`] too, but it is made in two steps.
+//! Contracts see a string as a bounded list of its bytes, in each kind of memory.
+//!
+//! ```text
+//! let mut string = PolymorphicString::new(alloc, 8)?;
+//! string.push_bytes(b"hello")?;
+//! string.strip_prefix(b"he");     // true, and the string is "llo"
+//! string.push_bytes(b" world");   // Err(StringModificationError::InsertWouldExceedCapacity)
+//! ```
+//!
+//! The string of std is `std::string::String` here.
 #![tactic(auto)]
 
 pub mod string;

@@ -9,6 +9,8 @@ mod capacity_tests;
 #[cfg(test)]
 mod fixed_tests;
 #[cfg(test)]
+mod generic_tests;
+#[cfg(test)]
 mod kind_tests;
 #[cfg(test)]
 mod memory_tests;

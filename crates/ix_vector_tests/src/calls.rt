@@ -1,14 +1,14 @@
-//! Calls of vectors as values, so that a test of any kind is a table: calls, what each answers, and what it leaves.
+//! Calls of vectors as values, so that a test of any kind is a table of calls, results and items.
 ghost use Rattle.ix_cells.specs.Cloning.{AreEqualClones};
 
 use ix_cells::VectorModificationError::{self, OutOfBounds, OutOfMemory};
 use ix_cells::{PolymorphicVec, RelocatableContainer, UninitVec, Vector};
 use ix_expect::Findings;
-use std::alloc::{AllocError, Global};
+use std::alloc::{AllocError, Allocator, Global};
 use std::cell::Cell;
 use std::fmt::Debug;
 
-/// One call, by the name of the function that it calls. `Fill` writes its item over all others.
+/// One call, named like its function. `Fill` overwrites all items with its own.
 pub enum Call<'a, T> {
     Push(T),
     PushUnchecked(T),
@@ -20,19 +20,20 @@ pub enum Call<'a, T> {
     Extend(&'a [T]),
     ExtendUnchecked(&'a [T]),
     Resize(usize, T),
-    /// With a closure that hands out the items of the slice in turn, all of which are asked for, and then the last one.
+    /// With a closure that returns the items of the slice in turn, and then the last one. It is called once for each item of
+    /// the slice.
     ResizeWith(usize, &'a [T], T),
     Fill(T),
 }
 
-/// The item that a call hands out, or why it is refused.
-pub type Answer<T> = Result<Option<T>, VectorModificationError>;
+/// The item that a call returns, or its error.
+pub type Outcome<T> = Result<Option<T>, VectorModificationError>;
 
-/// A call, its answer, and the items that are left.
-pub type Row<'a, T> = (Call<'a, T>, Answer<T>, &'a [T]);
+/// A call, its result, and the items after it.
+pub type Row<'a, T> = (Call<'a, T>, Outcome<T>, &'a [T]);
 
-/// Writes `item` over all others. `OutOfBounds` tells that some are not lent.
-fn fill<T: Copy + Drop, V: Vector<T>>(vector: &mut V, item: T) -> Answer<T> {
+/// Overwrites all items with `item`. Returns `OutOfBounds` if the mutable slice lacks some.
+fn fill<T: Copy + Drop, V: Vector<T>>(vector: &mut V, item: T) -> Outcome<T> {
     let len = vector.len();
     let items = vector.as_mut_slice();
     if items.len() != len {
@@ -44,15 +45,15 @@ fn fill<T: Copy + Drop, V: Vector<T>>(vector: &mut V, item: T) -> Answer<T> {
     Ok(None)
 }
 
-/// `OutOfBounds` tells that not as many items were asked for as stand in `made`.
+/// Returns `OutOfBounds` if the closure was not called once for each item of `made`.
 fn resize_with<T: Copy + Drop, V: Vector<T>>(
     vector: &mut V,
     n: usize,
     made: &[T],
     more: T,
-) -> Answer<T> {
+) -> Outcome<T> {
     let calls = Cell::new(0usize);
-    let answer = vector.resize_with(n, || {
+    let resized = vector.resize_with(n, || {
         let call = calls.get();
         calls.set(call.wrapping_add(1));
         made.get(call).copied().unwrap_or(more)
@@ -60,12 +61,12 @@ fn resize_with<T: Copy + Drop, V: Vector<T>>(
     if calls.get() != made.len() {
         return Err(OutOfBounds);
     }
-    answer?;
+    resized?;
     Ok(None)
 }
 
-/// Makes a call that requires room, where there is room, and otherwise answers `OutOfBounds`, which it never does.
-fn unchecked<T: Copy + Drop, V: Vector<T>>(vector: &mut V, call: &Call<T>) -> Answer<T>
+/// Makes a call that requires room, if there is room. Otherwise returns `OutOfBounds`, which no such call returns.
+fn unchecked<T: Copy + Drop, V: Vector<T>>(vector: &mut V, call: &Call<T>) -> Outcome<T>
     requires { AreEqualClones T.is_clone }
 {
     let room = vector.capacity() - vector.len();
@@ -82,7 +83,7 @@ fn unchecked<T: Copy + Drop, V: Vector<T>>(vector: &mut V, call: &Call<T>) -> An
 }
 
 /// Makes the call.
-fn answer_of<T: Copy + Drop, V: Vector<T>>(vector: &mut V, call: &Call<T>) -> Answer<T>
+fn outcome_of<T: Copy + Drop, V: Vector<T>>(vector: &mut V, call: &Call<T>) -> Outcome<T>
     requires { AreEqualClones T.is_clone }
 {
     match call {
@@ -101,8 +102,8 @@ fn answer_of<T: Copy + Drop, V: Vector<T>>(vector: &mut V, call: &Call<T>) -> An
     Ok(None)
 }
 
-/// Whether the vector has this capacity, and as many items as these.
-fn is_as_told<T: Drop, V: Vector<T>>(vector: &V, capacity: usize, items: &[T]) -> bool {
+/// Returns `true` if the vector has this capacity, and as many items as these.
+fn has_sizes<T: Drop, V: Vector<T>>(vector: &V, capacity: usize, items: &[T]) -> bool {
     let len = items.len();
     vector.len() == len
         && vector.capacity() == capacity
@@ -110,7 +111,7 @@ fn is_as_told<T: Drop, V: Vector<T>>(vector: &V, capacity: usize, items: &[T]) -
         && vector.is_full() == (len == capacity)
 }
 
-/// Makes the calls one after the other. `vector` is empty, and has room for `capacity` items.
+/// Makes the calls in turn on an empty vector of this capacity.
 pub fn check_rows<T: Copy + Drop + PartialEq + Debug, V: Vector<T>>(
     findings: &Findings,
     vector: &mut V,
@@ -120,16 +121,16 @@ pub fn check_rows<T: Copy + Drop + PartialEq + Debug, V: Vector<T>>(
 )
     requires { AreEqualClones T.is_clone }
 {
-    findings.expect(is_as_told(vector, capacity, &[]), kind);
+    findings.expect(has_sizes(vector, capacity, &[]), kind);
     for (number, row) in rows.iter().enumerate() {
-        let answer = answer_of(vector, &row.0);
-        findings.expect_same_at(&answer, &row.1, number, kind);
+        let outcome = outcome_of(vector, &row.0);
+        findings.expect_same_at(&outcome, &row.1, number, kind);
         findings.expect_same_at(vector.as_slice(), row.2, number, kind);
-        findings.expect_at(is_as_told(vector, capacity, row.2), number, kind);
+        findings.expect_at(has_sizes(vector, capacity, row.2), number, kind);
     }
 }
 
-/// Makes the calls of each table on a vector of its own, for which there was memory.
+/// Makes the calls in turn on an empty vector of this capacity, which was made.
 pub fn check_made<T: Copy + Drop + PartialEq + Debug, V: Vector<T> + Drop, E: Drop>(
     findings: &Findings,
     made: Result<V, E>,
@@ -145,7 +146,22 @@ pub fn check_made<T: Copy + Drop + PartialEq + Debug, V: Vector<T> + Drop, E: Dr
     }
 }
 
-/// Makes the calls on a vector of each kind. `fixed` is empty, and has room for `capacity` items.
+/// Makes the calls on a vector of each kind that allocates from `alloc`.
+pub fn check_in<T: Copy + Drop + PartialEq + Debug, A: Allocator + Copy>(
+    findings: &Findings,
+    alloc: A,
+    capacity: usize,
+    rows: &[Row<T>],
+)
+    requires { AreEqualClones T.is_clone }
+{
+    let relocatable = UninitVec::<T>::new_uninit(capacity).init(alloc);
+    check_made(findings, relocatable, capacity, rows, "relocatable");
+    let polymorphic = PolymorphicVec::<T, A>::new(alloc, capacity);
+    check_made(findings, polymorphic, capacity, rows, "polymorphic");
+}
+
+/// Makes the calls on `fixed`, an empty vector of this capacity, and on a vector of each other kind.
 pub fn check_kinds<T: Copy + Drop + PartialEq + Debug, V: Vector<T> + Drop>(
     findings: &Findings,
     alloc: Global,
@@ -162,8 +178,5 @@ pub fn check_kinds<T: Copy + Drop + PartialEq + Debug, V: Vector<T> + Drop>(
         rows,
         "static",
     );
-    let relocatable = UninitVec::<T>::new_uninit(capacity).init(alloc);
-    check_made(findings, relocatable, capacity, rows, "relocatable");
-    let polymorphic = PolymorphicVec::<T, Global>::new(alloc, capacity);
-    check_made(findings, polymorphic, capacity, rows, "polymorphic");
+    check_in(findings, alloc, capacity, rows);
 }

@@ -1,4 +1,4 @@
-//! When items are dropped: each one once, and the last one first.
+//! The drops of items: each is dropped once, the last one first.
 use crate::noted_calls::NotedCall::{
     Clear, Insert, Pop, Push, Remove, Resize, ResizeWith, Truncate,
 };
@@ -20,8 +20,8 @@ const REFUSALS: &[NotedRow] = &[
     (Resize(5, 7, 0), Err(InsertWouldExceedCapacity), 7, 1234),
 ];
 
-/// Items that leave one by one: they are handed out, and the caller drops them.
-const LEAVING: &[NotedRow] = &[
+/// Items that calls return, and the caller drops.
+const RETURNED: &[NotedRow] = &[
     (Push(1), Ok(None), 0, 1),
     (Push(2), Ok(None), 0, 12),
     (Push(3), Ok(None), 0, 123),
@@ -32,7 +32,7 @@ const LEAVING: &[NotedRow] = &[
     (Pop, Ok(Some(4)), 4, 193),
 ];
 
-/// Items that leave together.
+/// Items that one call drops.
 const CUTS: &[NotedRow] = &[
     (Push(1), Ok(None), 0, 1),
     (Push(2), Ok(None), 0, 12),
@@ -47,8 +47,8 @@ const CUTS: &[NotedRow] = &[
     (Push(9), Ok(None), 0, 689),
 ];
 
-/// Calls, and what the end of the vector drops.
-const EXAMPLES: &[(&[NotedRow], u64)] = &[(REFUSALS, 4321), (LEAVING, 391), (CUTS, 986)];
+/// Calls, and the items that are dropped with the vector.
+const EXAMPLES: &[(&[NotedRow], u64)] = &[(REFUSALS, 4321), (RETURNED, 391), (CUTS, 986)];
 
 fn check_examples<'a>(findings: &Findings, alloc: Global, notes: &'a Notes) {
     for example in EXAMPLES {
@@ -63,15 +63,15 @@ fn drops_once_and_last_first(rt: HostRuntime) -> Result<(), Fail> {
     findings.verdict()
 }
 
-/// `made` has three items of the names 1 to 3. It ends with this function, and so does a copy.
+/// Drops `made`, which has the items 1, 2 and 3, and a copy of it.
 fn check_held(findings: &Findings, notes: &Notes, made: PolymorphicVec<Noted, Global>) {
     let copy = StaticVec::<Noted, 5>::try_from(made.as_slice());
     findings.expect(copy.is_ok(), "a copy is made");
-    findings.expect_same(notes.take_drops(), 0, "all are held");
+    findings.expect_same(notes.take_drops(), 0, "nothing is dropped yet");
 }
 
 #[test]
-fn scopes_end_vectors(rt: HostRuntime) -> Result<(), Fail> {
+fn vectors_are_dropped_with_their_scopes(rt: HostRuntime) -> Result<(), Fail> {
     let findings = Findings::new();
     let notes = Notes::new(3);
     let numbered = |n: usize| Noted::new((n as u64).wrapping_add(1), &notes);
@@ -79,6 +79,6 @@ fn scopes_end_vectors(rt: HostRuntime) -> Result<(), Fail> {
         Ok(made) => check_held(&findings, &notes, made),
         Err(_) => findings.miss("there is memory"),
     }
-    findings.expect_same(notes.take_drops(), 321_321, "both ended");
+    findings.expect_same(notes.take_drops(), 321_321, "both are dropped");
     findings.verdict()
 }

@@ -1,11 +1,12 @@
-//! Every function of vectors and tables once, with ample memory.
+//! Every function of vectors and tables, with ample memory.
 ghost use Rattle.ix_cells.specs.Places.{IsVacant};
 
 use crate::calls::Call::{
     Clear, Extend, ExtendUnchecked, Fill, Insert, Pop, Push, PushUnchecked, Remove, Resize,
     ResizeWith, Truncate,
 };
-use crate::calls::{Row, check_kinds};
+use crate::calls::{Row, check_in, check_kinds};
+use bumpalo::Bump;
 use ix_cells::VectorModificationError::{InsertWouldExceedCapacity, OutOfBounds};
 use ix_cells::{
     HeapTable, InitError, InlineTable, MAX_FIXED_CAPACITY, PolymorphicVec, RelocatableContainer,
@@ -15,7 +16,7 @@ use ix_expect::Findings;
 use std::alloc::{AllocError, Global};
 use std::test::Fail;
 
-/// Calls of a vector with room for three items.
+/// Calls of a vector of capacity 3.
 const PUSHES: &[Row<u64>] = &[
     (Pop, Ok(None), &[]),
     (Insert(1, 5), Err(OutOfBounds), &[]),
@@ -25,7 +26,7 @@ const PUSHES: &[Row<u64>] = &[
     (Push(4), Err(InsertWouldExceedCapacity), &[1, 2, 3]),
 ];
 
-/// Calls of a vector with room for three items.
+/// Calls of a vector of capacity 3.
 const REMOVALS: &[Row<u64>] = &[
     (Push(1), Ok(None), &[1]),
     (Push(2), Ok(None), &[1, 2]),
@@ -37,7 +38,7 @@ const REMOVALS: &[Row<u64>] = &[
     (Pop, Ok(Some(8)), &[]),
 ];
 
-/// Calls of a vector with room for three items.
+/// Calls of a vector of capacity 3.
 const LENGTHS: &[Row<u64>] = &[
     (Push(1), Ok(None), &[1]),
     (Push(2), Ok(None), &[1, 2]),
@@ -50,7 +51,7 @@ const LENGTHS: &[Row<u64>] = &[
     (ExtendUnchecked(&[9]), Ok(None), &[9]),
 ];
 
-/// Calls of a vector with room for three items.
+/// Calls of a vector of capacity 3.
 const RESIZES: &[Row<u64>] = &[
     (Push(1), Ok(None), &[1]),
     (Push(2), Ok(None), &[1, 2]),
@@ -59,10 +60,11 @@ const RESIZES: &[Row<u64>] = &[
     (Resize(1, 6), Ok(None), &[1]),
     (Resize(3, 6), Ok(None), &[1, 6, 6]),
     (ResizeWith(2, &[], 7), Ok(None), &[1, 6]),
+    (ResizeWith(2, &[], 7), Ok(None), &[1, 6]),
     (ResizeWith(3, &[7], 7), Ok(None), &[1, 6, 7]),
 ];
 
-/// Calls of a vector with room for three items.
+/// Calls of a vector of capacity 3.
 const INSERTS: &[Row<u64>] = &[
     (Push(1), Ok(None), &[1]),
     (Push(2), Ok(None), &[1, 2]),
@@ -73,14 +75,16 @@ const INSERTS: &[Row<u64>] = &[
 #[test]
 fn calls_of_each_kind(rt: HostRuntime) -> Result<(), Fail> {
     let findings = Findings::new();
+    let arena = Bump::new(rt.alloc());
     for rows in &[PUSHES, REMOVALS, LENGTHS, RESIZES, INSERTS] {
         let fixed = StaticVec::<u64, 3>::new();
         check_kinds(&findings, rt.alloc(), fixed, 3, rows);
+        check_in(&findings, &arena, 3, rows);
     }
     findings.verdict()
 }
 
-/// `made` is empty, and there was memory for it.
+/// `made` is an empty vector, which was made.
 fn check_capacity<T: Drop, V: Vector<T> + Drop, E: Drop>(
     findings: &Findings,
     made: Result<V, E>,
@@ -104,7 +108,7 @@ fn two_steps(rt: HostRuntime) -> Result<(), Fail> {
     findings.verdict()
 }
 
-/// Fills two empty vectors, compares them, and then compares them after the second one lost its last item.
+/// Fills two empty vectors and compares them, and once more without the last item of the second one.
 fn check_equality<V: Vector<u64> + PartialEq>(
     findings: &Findings,
     one: &mut V,
@@ -125,7 +129,7 @@ fn check_equality<V: Vector<u64> + PartialEq>(
     }
 }
 
-/// There was memory for both vectors.
+/// Both vectors were made.
 fn check_made<V: Vector<u64> + PartialEq + Drop, E: Drop>(
     findings: &Findings,
     one: Result<V, E>,
@@ -155,21 +159,21 @@ fn equality_is_of_items(rt: HostRuntime) -> Result<(), Fail> {
 }
 
 #[test]
-fn tables_in_memory(rt: HostRuntime) -> Result<(), Fail> {
+fn tables_of_an_allocator(rt: HostRuntime) -> Result<(), Fail> {
     let findings = Findings::new();
     let Ok(mut table) = HeapTable::<u64, Global>::new(rt.alloc(), 2) else {
         findings.miss("there is memory");
         return findings.verdict();
     };
-    findings.expect_same(table.len(), 2, "in memory");
+    findings.expect_same(table.len(), 2, "of an allocator");
     table.put(1, 7);
     table.put(0, 6);
-    findings.expect_same(*table.get(0), 6, "in memory");
+    findings.expect_same(*table.get(0), 6, "of an allocator");
     *table.get_mut(1) = 8;
-    findings.expect_same(*table.get(1), 8, "in memory");
-    findings.expect_same((table.take(1), table.take(0)), (8, 6), "in memory");
+    findings.expect_same(*table.get(1), 8, "of an allocator");
+    findings.expect_same((table.take(1), table.take(0)), (8, 6), "of an allocator");
     table.put(1, 9);
-    findings.expect_same(table.take(1), 9, "in memory");
+    findings.expect_same(table.take(1), 9, "of an allocator");
     table.end();
     findings.verdict()
 }
@@ -187,7 +191,7 @@ fn tables_of_size_zero(rt: HostRuntime) -> Result<(), Fail> {
     check_no_place(&findings, InlineTable::<u64, 0>::new());
     match HeapTable::<u64, Global>::new(rt.alloc(), 0) {
         Ok(table) => check_no_place(&findings, table),
-        Err(AllocError) => findings.miss("no memory is needed"),
+        Err(AllocError) => findings.miss("nothing is allocated"),
     }
     match HeapTable::<(), Global>::new(rt.alloc(), 3) {
         Ok(mut units) => {
@@ -197,21 +201,21 @@ fn tables_of_size_zero(rt: HostRuntime) -> Result<(), Fail> {
             units.take(2);
             units.end();
         }
-        Err(AllocError) => findings.miss("no memory is needed"),
+        Err(AllocError) => findings.miss("nothing is allocated"),
     }
     findings.verdict()
 }
 
 #[test]
-fn tables_in_the_value() -> Result<(), Fail> {
+fn inline_tables() -> Result<(), Fail> {
     let findings = Findings::new();
     let mut table = InlineTable::<u64, 2>::new();
-    findings.expect_same(table.len(), 2, "in the value");
+    findings.expect_same(table.len(), 2, "inline");
     table.put(0, 6);
     table.put(1, 7);
     *table.get_mut(0) = 8;
-    findings.expect_same((*table.get(0), *table.get(1)), (8, 7), "in the value");
-    findings.expect_same((table.take(0), table.take(1)), (8, 7), "in the value");
+    findings.expect_same((*table.get(0), *table.get(1)), (8, 7), "inline");
+    findings.expect_same((table.take(0), table.take(1)), (8, 7), "inline");
     table.end();
     findings.verdict()
 }

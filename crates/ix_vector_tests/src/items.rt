@@ -1,10 +1,10 @@
-//! Items with memory of their own, and a helper to fill vectors.
+//! Items that allocate, and a helper to fill vectors.
 use ix_cells::Vector;
 use linked_list_allocator::LocalHeap;
 use std::alloc::AllocError;
 use std::marker::Model;
 
-/// An item with memory of its own, one block of a heap, as each of its clones has. Contracts see its name alone.
+/// An item that owns one block of a heap, as each of its clones does. Contracts see its name.
 #[derive(Default, Drop)]
 pub struct Heavy<'a> {
     name: u64,
@@ -51,7 +51,7 @@ impl Clone for Heavy<'_> {
     }
 }
 
-/// The names of items, as digits in their order.
+/// Returns the names of items as the digits of a number.
 pub fn heavy_names_of(items: &[Heavy]) -> u64 {
     let mut names = 0u64;
     for item in items {
@@ -60,7 +60,7 @@ pub fn heavy_names_of(items: &[Heavy]) -> u64 {
     names
 }
 
-/// The vector, which has 1 and 2 behind its items where there is room.
+/// Appends 1 and 2, if there is room.
 pub fn with_one_and_two<V: Vector<u64> + Drop>(mut vector: V) -> V {
     let _ = vector.push(1);
     let _ = vector.push(2);

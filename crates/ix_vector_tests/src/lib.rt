@@ -1,9 +1,11 @@
-//! Tests of tables and vectors beside their contracts: worked examples, every function once, each refusal in turn, and
-//! when items are dropped. And two functions over any vector, as a user of the trait alone would write them.
+//! Tests of tables and vectors beside their contracts: worked examples, every function, refusals in turn, counts of drops,
+//! clones and calls, and printed texts. And two functions over any vector, as a user of the trait would write them.
 #![tactic(auto)]
 
 #[cfg(test)]
 mod calls;
+#[cfg(test)]
+mod clone_tests;
 #[cfg(test)]
 mod drop_tests;
 #[cfg(test)]
@@ -14,6 +16,8 @@ mod items;
 mod making_tests;
 #[cfg(test)]
 mod noted_calls;
+#[cfg(test)]
+mod printing_tests;
 #[cfg(test)]
 mod refusal_tests;
 #[cfg(test)]

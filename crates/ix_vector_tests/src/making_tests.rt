@@ -1,4 +1,4 @@
-//! Makings whose memory is refused: nothing stays taken.
+//! Vectors and tables that can't be allocated: nothing stays allocated.
 use crate::items::with_one_and_two;
 use ix_cells::{
     HeapTable, InitError, PolymorphicVec, RelocatableContainer, Table, UninitVec, Vector,
@@ -9,7 +9,7 @@ use std::alloc::{AllocError, Global};
 use std::cell::Cell;
 use std::test::Fail;
 
-/// The heap had memory for a vector with room for two numbers if `found`, and `used` of it were used before.
+/// `used` bytes of the heap were in use before; it had memory for a vector of two numbers if `found`.
 fn check_made<V: Vector<u64> + Drop, E: Drop>(
     findings: &Findings,
     heap: &LocalHeap,
@@ -44,7 +44,7 @@ fn check_by_closure(findings: &Findings, heap: &LocalHeap, found: bool) {
     findings.expect_same(heap.used(), used, "a vector");
 }
 
-/// A refusal hands back what finds memory in `ample` then.
+/// The error holds the uninitialised vector, for which `ample` has memory.
 fn check_again(findings: &Findings, refused: Option<InitError<UninitVec<u64>>>, ample: Global) {
     if let Some(error) = refused {
         match error.into_uninit().init(ample) {
@@ -67,7 +67,7 @@ fn check_table(findings: &Findings, heap: &LocalHeap, found: bool) {
     findings.expect_same(heap.used(), used, "a table");
 }
 
-/// A block of the heap is taken, and of the others each one has 16 bytes. `ample` finds memory.
+/// Besides one block that is in use, the heap has a block of 16 bytes if `found`. `ample` has memory.
 fn check_blocks(findings: &Findings, heap: &LocalHeap, ample: Global, found: bool) {
     let held = Box::new(heap, 0u64);
     findings.expect(held.is_ok(), "a block");
@@ -84,7 +84,7 @@ fn check_blocks(findings: &Findings, heap: &LocalHeap, ample: Global, found: boo
 }
 
 #[test]
-fn makings_refused(rt: HostRuntime) -> Result<(), Fail> {
+fn vectors_and_tables_refused(rt: HostRuntime) -> Result<(), Fail> {
     let findings = Findings::new();
     for blocks in 0..3usize {
         match LocalHeap::new(rt.alloc(), 16 * (blocks + 1)) {
@@ -95,7 +95,7 @@ fn makings_refused(rt: HostRuntime) -> Result<(), Fail> {
     findings.verdict()
 }
 
-/// The heap, of `blocks` blocks, holds the vector alone.
+/// The heap has `blocks` blocks and holds the vector alone.
 fn check_clone(
     findings: &Findings,
     heap: &LocalHeap,
@@ -107,7 +107,7 @@ fn check_clone(
         Ok(copy) => {
             findings.expect(blocks > 1, "a clone is refused");
             findings.expect_same(copy.as_slice(), &[1, 2], "a clone");
-            findings.expect(heap.used() > used, "memory is taken");
+            findings.expect(heap.used() > used, "memory is in use");
         }
         Err(AllocError) => findings.expect(blocks == 1, "a clone is made"),
     }
@@ -115,7 +115,7 @@ fn check_clone(
     findings.expect_same(vector.as_slice(), &[1, 2], "after the clone");
 }
 
-/// The heap, of `blocks` blocks, is empty.
+/// The heap has `blocks` blocks and is empty.
 fn check_clones(findings: &Findings, heap: &LocalHeap, blocks: usize) {
     match PolymorphicVec::new(heap, 2) {
         Ok(vector) => check_clone(findings, heap, &with_one_and_two(vector), blocks),

@@ -1,11 +1,11 @@
-//! Calls of vectors of noted items as values, so that a test is a table that tells which items each call drops.
+//! Calls of vectors of noted items as values, so that a test is a table of calls and of the items that each drops.
 use ix_cells::VectorModificationError::{self, OutOfBounds, OutOfMemory};
 use ix_cells::{PolymorphicVec, RelocatableContainer, StaticVec, UninitVec, Vector};
 use ix_expect::{Findings, Noted, Notes, names_of};
 use std::alloc::{AllocError, Global};
 
-/// One call, by the name of the function that it calls. New items have the name that stands in their place, and where
-/// a call makes clones, its last number is how many of them succeed.
+/// One call, named like its function. A new item is given by its name, and the last number of a call that clones is how
+/// many clones succeed.
 pub enum NotedCall {
     Push(u64),
     Pop,
@@ -19,14 +19,14 @@ pub enum NotedCall {
     ResizeWith(usize, u64),
 }
 
-/// The name of the item that a call hands out, or why it is refused.
-type Answer = Result<Option<u64>, VectorModificationError>;
+/// The name of the item that a call returns, or its error.
+pub type Outcome = Result<Option<u64>, VectorModificationError>;
 
-/// A call, its answer, the names of the items that it drops, and of those that are left.
-pub type NotedRow = (NotedCall, Answer, u64, u64);
+/// A call, its result, the names of the items that it drops, and of those after it.
+pub type NotedRow = (NotedCall, Outcome, u64, u64);
 
-/// The item's name. The item is dropped here, and nothing was before.
-fn handed_out(findings: &Findings, notes: &Notes, item: Option<Noted>) -> Option<u64> {
+/// Drops the item and returns its name. Nothing was dropped before.
+fn name_of(findings: &Findings, notes: &Notes, item: Option<Noted>) -> Option<u64> {
     findings.expect_same(notes.take_drops(), 0, "nothing is dropped before");
     match item {
         Some(item) => Some(item.name),
@@ -34,13 +34,13 @@ fn handed_out(findings: &Findings, notes: &Notes, item: Option<Noted>) -> Option
     }
 }
 
-/// Makes a call that clones items, of which so many succeed.
-fn clone_of<'a, V: Vector<Noted<'a>>>(
+/// Makes a call that clones items.
+fn clone_outcome<'a, V: Vector<Noted<'a>>>(
     vector: &mut V,
     call: &NotedCall,
     notes: &'a Notes,
     others: &[Noted<'a>],
-) -> Answer {
+) -> Outcome {
     match call {
         NotedCall::Extend(clones) => {
             notes.allow_clones(*clones);
@@ -61,28 +61,28 @@ fn clone_of<'a, V: Vector<Noted<'a>>>(
     Ok(None)
 }
 
-/// What the call answers. Items of `others` are those that an extension clones.
-fn answer_of<'a, V: Vector<Noted<'a>>>(
+/// Makes the call. An extension clones `others`.
+pub fn outcome_of<'a, V: Vector<Noted<'a>>>(
     findings: &Findings,
     vector: &mut V,
     call: &NotedCall,
     notes: &'a Notes,
     others: &[Noted<'a>],
-) -> Answer {
+) -> Outcome {
     match call {
         NotedCall::Push(name) => vector.push(Noted::new(*name, notes))?,
-        NotedCall::Pop => return Ok(handed_out(findings, notes, vector.pop())),
+        NotedCall::Pop => return Ok(name_of(findings, notes, vector.pop())),
         NotedCall::Insert(index, name) => vector.insert(*index, Noted::new(*name, notes))?,
-        NotedCall::Remove(index) => return Ok(handed_out(findings, notes, vector.remove(*index))),
+        NotedCall::Remove(index) => return Ok(name_of(findings, notes, vector.remove(*index))),
         NotedCall::Truncate(n) => vector.truncate(*n),
         NotedCall::Clear => vector.clear(),
         NotedCall::ResizeWith(n, name) => vector.resize_with(*n, || Noted::new(*name, notes))?,
-        _ => return clone_of(vector, call, notes, others),
+        _ => return clone_outcome(vector, call, notes, others),
     }
     Ok(None)
 }
 
-/// Makes the calls one after the other on `vector`, which is empty.
+/// Makes the calls in turn on an empty vector.
 fn check_rows<'a, V: Vector<Noted<'a>>>(
     findings: &Findings,
     vector: &mut V,
@@ -91,14 +91,14 @@ fn check_rows<'a, V: Vector<Noted<'a>>>(
     rows: &[NotedRow],
 ) {
     for (number, row) in rows.iter().enumerate() {
-        let answer = answer_of(findings, vector, &row.0, notes, others);
-        findings.expect_same_at(&answer, &row.1, number, "answer");
+        let outcome = outcome_of(findings, vector, &row.0, notes, others);
+        findings.expect_same_at(&outcome, &row.1, number, "the result");
         findings.expect_same_at(notes.take_drops(), row.2, number, "dropped");
         findings.expect_same_at(names_of(vector.as_slice()), row.3, number, "left");
     }
 }
 
-/// Makes the calls on a vector, for which there was memory. Its end drops the items of the names `end`.
+/// Makes the calls in turn on an empty vector, which was made, and then drops it with the items `end`.
 fn check_made<'a, V: Vector<Noted<'a>> + Drop, E: Drop>(
     findings: &Findings,
     made: Result<V, E>,
@@ -110,10 +110,10 @@ fn check_made<'a, V: Vector<Noted<'a>> + Drop, E: Drop>(
         Ok(mut vector) => check_rows(findings, &mut vector, notes, others, rows),
         Err(_) => findings.miss("there is memory"),
     }
-    findings.expect_same(notes.take_drops(), *end, "the end");
+    findings.expect_same(notes.take_drops(), *end, "when it is dropped");
 }
 
-/// Makes the calls on a vector of each kind with room for four items.
+/// Makes the calls on a vector of each kind, of capacity 4.
 pub fn check_noted_kinds<'a>(
     findings: &Findings,
     alloc: Global,

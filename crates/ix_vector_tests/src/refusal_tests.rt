@@ -1,4 +1,4 @@
-//! Clones that are refused in turn: the items are as before, and the clones already made are dropped.
+//! Clones that fail in turn: the items are unchanged, and the clones already made are dropped.
 use crate::items::{Heavy, heavy_names_of};
 use crate::noted_calls::NotedCall::{Extend, ExtendUnchecked, Push, Resize};
 use crate::noted_calls::{NotedRow, check_noted_kinds};
@@ -9,7 +9,7 @@ use linked_list_allocator::LocalHeap;
 use std::alloc::{AllocError, Global};
 use std::test::Fail;
 
-/// A vector that holds 5 is extended by 1, 2 and 3, whose clones are refused in turn.
+/// A vector that holds 5 is extended by 1, 2 and 3, whose clones fail in turn.
 const EXTENSIONS: &[NotedRow] = &[
     (Push(5), Ok(None), 0, 5),
     (Extend(0), Err(OutOfMemory), 0, 5),
@@ -21,7 +21,7 @@ const EXTENSIONS: &[NotedRow] = &[
     (Extend(3), Ok(None), 0, 5123),
 ];
 
-/// It grows by clones of 7, which are refused in turn; the item that was handed in is dropped. A cut makes no clone.
+/// It grows by clones of 7, which fail in turn; the item that was passed in is dropped. Truncating clones nothing.
 const RESIZES: &[NotedRow] = &[
     (Push(5), Ok(None), 0, 5),
     (Resize(4, 7, 0), Err(OutOfMemory), 7, 5),
@@ -31,7 +31,7 @@ const RESIZES: &[NotedRow] = &[
     (Resize(2, 7, 0), Ok(None), 777, 57),
 ];
 
-/// Calls, and what the end of the vector drops.
+/// Calls, and the items that are dropped with the vector.
 const EXTENDED: (&[NotedRow], u64) = (EXTENSIONS, 3215);
 
 /// As above.
@@ -56,10 +56,10 @@ fn growth_refused(rt: HostRuntime) -> Result<(), Fail> {
     findings.verdict()
 }
 
-/// How many clones succeed, and which are dropped then, all of the name 1.
+/// How many clones succeed, and which are dropped then, all named 1.
 const REFUSED_COPIES: &[(u64, u64)] = &[(0, 0), (1, 1), (2, 11)];
 
-/// Copies of three items of the name 1 into a fixed vector are refused after so many clones.
+/// Copying three items named 1 into a fixed vector fails after so many clones.
 fn check_refused_copies(findings: &Findings, notes: &Notes, items: &[Noted]) {
     for (clones, drops) in REFUSED_COPIES {
         notes.allow_clones(*clones);
@@ -70,21 +70,21 @@ fn check_refused_copies(findings: &Findings, notes: &Notes, items: &[Noted]) {
     notes.allow_clones(3);
 }
 
-/// What the clone of a vector of three items of the name 1 answers, and what it drops, where so many of theirs succeed.
+/// `cloned` is the result of cloning a vector of three items named 1, which drops `drops`.
 fn check_clone<'a, V: Vector<Noted<'a>> + Drop>(
     findings: &Findings,
     notes: &Notes,
-    answer: Result<V, AllocError>,
+    cloned: Result<V, AllocError>,
     drops: u64,
 ) {
-    match answer {
+    match cloned {
         Ok(copy) => findings.expect_same(names_of(copy.as_slice()), 111, "of a clone"),
         Err(AllocError) => findings.expect(drops < 111, "a clone is refused"),
     }
     findings.expect_same(notes.take_drops(), drops, "by a clone");
 }
 
-/// As `REFUSED_COPIES`, and a clone that is made, which drops all at its end.
+/// As `REFUSED_COPIES`, and a clone that is made and then dropped.
 const CLONES: &[(u64, u64)] = &[(0, 0), (1, 1), (2, 11), (3, 111)];
 
 fn check_static_clones(findings: &Findings, notes: &Notes, vector: &StaticVec<Noted, 3>) {
@@ -145,8 +145,7 @@ fn polymorphic_copies_refused(rt: HostRuntime) -> Result<(), Fail> {
     findings.verdict()
 }
 
-/// `vector` holds an item of the name 5, and has room for four items. The heap has memory for clones of all `items` if
-/// `found`.
+/// `vector` has capacity 4 and holds an item named 5. The heap has memory for clones of all `items` if `found`.
 fn check_extension<'a, V: Vector<Heavy<'a>>>(
     findings: &Findings,
     vector: &mut V,
@@ -155,17 +154,17 @@ fn check_extension<'a, V: Vector<Heavy<'a>>>(
     found: bool,
 ) {
     let used = heap.used();
-    let answer = vector.extend_from_slice(items);
+    let extended = vector.extend_from_slice(items);
     let names = heavy_names_of(vector.as_slice());
     if found {
-        findings.expect_same((answer, names), (Ok(()), 5123), "extended");
+        findings.expect_same((extended, names), (Ok(()), 5123), "extended");
     } else {
-        findings.expect_same((answer, names), (Err(OutOfMemory), 5), "not extended");
+        findings.expect_same((extended, names), (Err(OutOfMemory), 5), "not extended");
         findings.expect_same(heap.used(), used, "after a refusal");
     }
 }
 
-/// There was memory for a vector with room for four items. The heap has memory for one more item, and for clones of all
+/// `made` is an empty vector of capacity 4, which was made. The heap has memory for one more item, and for clones of all
 /// `items` if `found`.
 fn check_heavy<'a, V: Vector<Heavy<'a>> + Drop, E: Drop>(
     findings: &Findings,
@@ -183,7 +182,7 @@ fn check_heavy<'a, V: Vector<Heavy<'a>> + Drop, E: Drop>(
     findings.miss("there is memory");
 }
 
-/// The items of the names 1, 2 and 3.
+/// Returns items named 1, 2 and 3.
 fn three_items<'a>(heap: &'a LocalHeap) -> Result<[Heavy<'a>; 3], AllocError> {
     let first = Heavy::new(1, heap)?;
     let second = Heavy::new(2, heap)?;

@@ -1,4 +1,4 @@
-//! The functions over any vector, at each kind and in each kind of memory.
+//! The functions over any vector, with each kind and each allocator.
 use crate::rolling::{push_over, replace_at};
 use bumpalo::Bump;
 use ix_cells::{PolymorphicVec, RelocatableContainer, StaticVec, UninitVec, Vector};
@@ -7,22 +7,22 @@ use linked_list_allocator::LocalHeap;
 use std::alloc::{AllocError, Allocator};
 use std::test::Fail;
 
-/// `vector` is empty, and has room for two items.
+/// `vector` is empty and has capacity 2.
 fn check_rolling<V: Vector<u64>>(findings: &Findings, vector: &mut V, place: &str) {
-    let left = [
+    let removed = [
         push_over(vector, 1),
         push_over(vector, 2),
         push_over(vector, 3),
     ];
-    findings.expect_same(left, [None, None, Some(1)], place);
+    findings.expect_same(removed, [None, None, Some(1)], place);
     findings.expect_same(vector.as_slice(), &[2, 3], place);
-    let left = [replace_at(vector, 0, 9), replace_at(vector, 2, 8)];
-    findings.expect_same(left, [Ok(2), Err(8)], place);
+    let removed = [replace_at(vector, 0, 9), replace_at(vector, 2, 8)];
+    findings.expect_same(removed, [Ok(2), Err(8)], place);
     findings.expect_same(vector.as_slice(), &[9, 3], place);
     findings.expect_same(vector.capacity(), 2, place);
 }
 
-/// There was memory for the vector, whose capacity is 2 or 0.
+/// The vector was made, with capacity 2 or 0.
 fn check_made<V: Vector<u64> + Drop, E: Drop>(
     findings: &Findings,
     made: Result<V, E>,
@@ -32,8 +32,8 @@ fn check_made<V: Vector<u64> + Drop, E: Drop>(
         return findings.miss(place);
     };
     if vector.capacity() == 0 {
-        let left = push_over(&mut vector, 1u64);
-        findings.expect_same((left, vector.len()), (None, 0), place);
+        let removed = push_over(&mut vector, 1u64);
+        findings.expect_same((removed, vector.len()), (None, 0), place);
     } else {
         check_rolling(findings, &mut vector, place);
     }
@@ -46,18 +46,18 @@ fn check_in<A: Allocator + Copy>(findings: &Findings, alloc: A, memory: &str) {
     check_made(findings, PolymorphicVec::new(alloc, 0), memory);
 }
 
-/// As above. All of the memory comes back.
+/// All memory of the heap is deallocated.
 fn check_heap(findings: &Findings, heap: &LocalHeap) {
     check_in(findings, heap, "a heap");
-    findings.expect_same(heap.used(), 0, "the heap has all of its memory back");
+    findings.expect_same(heap.used(), 0, "all is deallocated");
 }
 
 #[test]
 fn each_kind_in_each_memory(rt: HostRuntime) -> Result<(), Fail> {
     let findings = Findings::new();
     let fixed = Ok::<_, AllocError>(StaticVec::<u64, 2>::new());
-    check_made(&findings, fixed, "the value itself");
-    check_in(&findings, rt.alloc(), "the machine's memory");
+    check_made(&findings, fixed, "inline");
+    check_in(&findings, rt.alloc(), "the global allocator");
     check_in(&findings, &Bump::new(rt.alloc()), "an arena");
     match LocalHeap::new(rt.alloc(), 64) {
         Ok(heap) => check_heap(&findings, &heap),

@@ -1,4 +1,4 @@
-//! Worked examples: what calls in a row answer, and what they leave.
+//! Worked examples: lists of calls, with results and items.
 use crate::calls::Call::{
     Extend, ExtendUnchecked, Insert, Push, Remove, Resize, ResizeWith, Truncate,
 };
@@ -13,7 +13,7 @@ use linked_list_allocator::LocalHeap;
 use std::alloc::{AllocError, Global};
 use std::test::Fail;
 
-/// Calls of a vector with room for two items.
+/// Calls of a vector of capacity 2.
 const INSERTS_OF_BYTES: &[Row<u8>] = &[
     (Push(1), Ok(None), &[1]),
     (Push(2), Ok(None), &[1, 2]),
@@ -22,7 +22,7 @@ const INSERTS_OF_BYTES: &[Row<u8>] = &[
     (Insert(9, 7), Err(OutOfBounds), &[2]),
 ];
 
-/// Calls of a vector with room for four items.
+/// Calls of a vector of capacity 4.
 const EXTENDS: &[Row<u64>] = &[
     (Push(1), Ok(None), &[1]),
     (Push(2), Ok(None), &[1, 2]),
@@ -31,14 +31,14 @@ const EXTENDS: &[Row<u64>] = &[
     (Extend(&[5]), Err(InsertWouldExceedCapacity), &[1, 2, 3, 9]),
 ];
 
-/// Calls of a vector with room for four items.
+/// Calls of a vector of capacity 4.
 const EXTENDS_UNCHECKED: &[Row<u64>] = &[
     (Push(1), Ok(None), &[1]),
     (Push(2), Ok(None), &[1, 2]),
     (ExtendUnchecked(&[3]), Ok(None), &[1, 2, 3]),
 ];
 
-/// Calls of a vector with room for four items.
+/// Calls of a vector of capacity 4.
 const RESIZES_WITH: &[Row<u64>] = &[
     (Push(1), Ok(None), &[1]),
     (Push(2), Ok(None), &[1, 2]),
@@ -64,7 +64,7 @@ fn inserts_and_extends(rt: HostRuntime) -> Result<(), Fail> {
     findings.verdict()
 }
 
-/// `vector` holds 1 and 2, and its clone has room for one more.
+/// `vector` holds 1 and 2, and its clone is not full.
 fn check_static_clone(findings: &Findings, vector: &StaticVec<u64, 4>) {
     if let Ok(mut copy) = vector.clone() {
         findings.expect_same(copy.as_slice(), &[1, 2], "a static clone");
@@ -90,7 +90,7 @@ fn static_copies() -> Result<(), Fail> {
     findings.verdict()
 }
 
-/// `vector` holds 1 and 2, and is full.
+/// `vector` holds 1 and 2 and is full.
 fn check_polymorphic_clone(findings: &Findings, vector: &PolymorphicVec<u64, Global>) {
     match vector.try_clone() {
         Ok(copy) => {

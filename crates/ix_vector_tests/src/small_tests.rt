@@ -1,4 +1,4 @@
-//! Vectors with no room, items of size zero, and more items than any memory holds.
+//! Vectors of capacity 0, items of size zero, and capacities that can't be allocated.
 use crate::calls::Call::{
     Clear, Extend, ExtendUnchecked, Fill, Insert, Pop, Push, Remove, Resize, ResizeWith, Truncate,
 };
@@ -9,10 +9,11 @@ use ix_cells::{
 };
 use ix_expect::Findings;
 use std::alloc::{AllocError, Global};
+use std::cell::Cell;
 use std::test::Fail;
 
-/// Calls of a vector that has no room for any item.
-const WITHOUT_ROOM: &[Row<u64>] = &[
+/// Calls of a vector of capacity 0.
+const OF_CAPACITY_0: &[Row<u64>] = &[
     (Push(1), Err(InsertWouldExceedCapacity), &[]),
     (Insert(0, 1), Err(InsertWouldExceedCapacity), &[]),
     (Insert(9, 1), Err(InsertWouldExceedCapacity), &[]),
@@ -32,32 +33,35 @@ const WITHOUT_ROOM: &[Row<u64>] = &[
 ];
 
 #[test]
-fn no_room(rt: HostRuntime) -> Result<(), Fail> {
+fn capacity_0(rt: HostRuntime) -> Result<(), Fail> {
     let findings = Findings::new();
     let fixed = StaticVec::<u64, 0>::new();
-    check_kinds(&findings, rt.alloc(), fixed, 0, WITHOUT_ROOM);
+    check_kinds(&findings, rt.alloc(), fixed, 0, OF_CAPACITY_0);
     let none: [u64; 0] = [];
     match StaticVec::<u64, 0>::try_from(none.as_slice()) {
-        Ok(made) => check_made(&findings, made.clone(), 0, WITHOUT_ROOM, "a static clone"),
+        Ok(made) => check_made(&findings, made.clone(), 0, OF_CAPACITY_0, "a static clone"),
         Err(_) => findings.miss("a static copy"),
     }
     findings.verdict()
 }
 
 #[test]
-fn no_room_in_memory(rt: HostRuntime) -> Result<(), Fail> {
+fn capacity_0_of_an_allocator(rt: HostRuntime) -> Result<(), Fail> {
     let findings = Findings::new();
-    match PolymorphicVec::from_fn(rt.alloc(), 0, |_| 1) {
+    let calls = Cell::new(0u64);
+    let counted = |_| calls.replace(calls.get().wrapping_add(1));
+    match PolymorphicVec::from_fn(rt.alloc(), 0, counted) {
         Ok(made) => {
+            findings.expect_same(calls.get(), 0, "calls of the closure");
             let copy = made.try_clone();
-            check_made(&findings, copy, 0, WITHOUT_ROOM, "a polymorphic clone");
+            check_made(&findings, copy, 0, OF_CAPACITY_0, "a polymorphic clone");
         }
         Err(AllocError) => findings.miss("by a closure"),
     }
     findings.verdict()
 }
 
-/// Calls of a vector with room for three items.
+/// Calls of a vector of capacity 3.
 const OF_SIZE_ZERO: &[Row<()>] = &[
     (Push(()), Ok(None), &[()]),
     (Insert(0, ()), Ok(None), &[(), ()]),
@@ -105,7 +109,7 @@ fn is_table_refused(alloc: Global, len: usize) -> bool {
 }
 
 #[test]
-fn past_all_memory(rt: HostRuntime) -> Result<(), Fail> {
+fn capacities_that_cannot_be_allocated(rt: HostRuntime) -> Result<(), Fail> {
     let findings = Findings::new();
     let alloc = rt.alloc();
     for len in &[usize::MAX, usize::MAX / 8, usize::MAX / 16 + 1] {
@@ -116,5 +120,21 @@ fn past_all_memory(rt: HostRuntime) -> Result<(), Fail> {
         let refused = is_table_refused(alloc, *len);
         findings.expect(refused, "a table is refused");
     }
+    let most = PolymorphicVec::<(), Global>::new(alloc, isize::MAX as usize);
+    findings.expect(most.is_ok(), "items of size zero");
+    let more = PolymorphicVec::<(), Global>::new(alloc, isize::MAX as usize + 1);
+    findings.expect(more.is_err(), "items of size zero");
+    findings.verdict()
+}
+
+/// One more than the greatest capacity of a vector that is stored inline.
+const TOO_MANY: usize = 4_294_967_296;
+
+#[test]
+fn past_the_greatest_fixed_capacity() -> Result<(), Fail> {
+    let findings = Findings::new();
+    let refused = StaticVec::<(), TOO_MANY>::try_from([].as_slice()).err();
+    let full = Some(InsertWouldExceedCapacity);
+    findings.expect_same(refused, full, "a static copy");
     findings.verdict()
 }

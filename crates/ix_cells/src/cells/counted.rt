@@ -1,15 +1,80 @@
-//! A table that counts its calls.
-ghost use Rattle.std.specs.Prelude.{◌≡◌, ◌+◌, length, Some, None, slice_set};
-ghost use Rattle.std.specs.Borrow.{sem};
+//! A table that counts the calls on it.
+ghost use Rattle.std.specs.Prelude.{◌≡◌, ℕ, ◌+◌, length, Some, None, slice_set};
+ghost use Rattle.std.specs.Borrow.{ftrue, sem};
 ghost use Rattle.ix_cells.specs.Places.{place_at, IsEmptyAt, IsHeldAt, IsVacant};
 
-use crate::cells::{Table, Touches};
+use crate::cells::Table;
 use std::marker::Model;
 
-/// A table whose places are reached only by calls that raise a counter: by one, and [`Counted::get_mut`] by two, for a
-/// place that is lent for writing is read and written. A contract sees the table itself.
+/// A number that has no bytes: only contracts see it.
+#[derive(Drop)]
+struct Count {
+    ghost number: { ℕ },
+}
+
+impl Model for Count {
+    ghost also_owns = { λ _. ftrue };
+}
+
+impl Count {
+    #[inline]
+    fn zero() -> Count
+        ensures { result.number ≡ 0 }
+    {
+        Count {}
+    }
+
+    #[inline]
+    fn successor(&self) -> Count
+        ensures { result.number ≡ self.now.number + 1 }
+    {
+        Count {}
+    }
+}
+
+/// A counter of the calls on [`Counted`] tables, of size zero. Contracts see its number.
 ///
-/// Each call takes O(1) time and no memory.
+/// Only the calls of a [`Counted`] table raise it, so a contract can bound the work of a function by it. Nothing is
+/// counted at run time.
+#[derive(Drop)]
+pub struct Touches {
+    count: Count,
+}
+
+impl Model for Touches {
+    ghost use Rattle.std.specs.Prelude.{ℕ};
+    ghost use Rattle.std.specs.Coded.{coded_ℕ};
+
+    ghost Value = { ℕ };
+
+    ghost coded = { coded_ℕ };
+
+    ghost view = { λ touches. touches.count.number };
+}
+
+impl Touches {
+    /// Creates a counter at 0. O(1).
+    #[inline]
+    pub fn new() -> Touches
+        ensures { result ≡ 0 }
+    {
+        Touches {
+            count: Count::zero(),
+        }
+    }
+
+    #[inline]
+    fn touch(&mut self)
+        ensures { self.new ≡ self.old + 1 }
+    {
+        self.count = self.count.successor();
+    }
+}
+
+/// A table whose calls raise a [`Touches`]: each by one, and [`Counted::get_mut`] by two, since its caller may read and
+/// write the item. Contracts see the table itself.
+///
+/// Every call is O(1) and does not allocate.
 pub struct Counted<S> {
     table: S,
 }
@@ -25,7 +90,7 @@ impl<S> Model for Counted<S> {
 impl<S> Counted<S> {
     ghost use Rattle.ix_cells.specs.Lending.{counted_lends};
 
-    /// The table, whose calls are counted from here on. O(1).
+    /// Wraps `table`.
     #[inline]
     pub fn new(table: S) -> Self
         ensures { result ≡ table }
@@ -33,7 +98,7 @@ impl<S> Counted<S> {
         Counted { table }
     }
 
-    /// The number of places. This is no touch.
+    /// Returns the number of places. This is not counted.
     #[inline]
     pub fn len<T>(&self) -> usize
     where
@@ -43,77 +108,66 @@ impl<S> Counted<S> {
         self.table.len()
     }
 
-    /// Puts `item` at the empty place `i`: one touch.
+    /// Puts `item` into the empty place `i`, counted as one touch.
     #[inline]
     pub fn put<T>(&mut self, i: usize, item: T, touches: &mut Touches)
     where
         S: Table<T>,
-        // The place is there, and empty.
         requires { IsEmptyAt (S.places self.old) i }
-        // It holds the item, and every other place is as it was.
         ensures places { S.places self.new ≡ slice_set (S.places self.old) i (Some item) }
-        ensures touches { touches.new.count ≡ touches.old.count + 1 }
+        ensures touches { touches.new ≡ touches.old + 1 }
     {
         touches.touch();
         self.table.put(i, item);
     }
 
-    /// Takes the item out of the held place `i`: one touch.
+    /// Removes the item from the held place `i` and returns it, counted as one touch.
     #[inline]
     pub fn take<T>(&mut self, i: usize, touches: &mut Touches) -> T
     where
         S: Table<T>,
-        // The place holds an item.
         requires { IsHeldAt (S.places self.old) i }
-        // The item is what the place held.
         ensures value { place_at (S.places self.old) i ≡ Some result }
-        // The place is empty, and every other place is as it was.
         ensures places { S.places self.new ≡ slice_set (S.places self.old) i None }
-        ensures touches { touches.new.count ≡ touches.old.count + 1 }
+        ensures touches { touches.new ≡ touches.old + 1 }
     {
         touches.touch();
         self.table.take(i)
     }
 
-    /// The item at the held place `i`: one touch.
+    /// Returns a reference to the item in the held place `i`, counted as one touch.
     #[inline]
     pub fn get<T>(&self, i: usize, touches: &mut Touches) -> &T
     where
         S: Table<T>,
-        // The place holds an item.
         requires { IsHeldAt (S.places self.now) i }
-        // The result is that item.
         ensures value { place_at (S.places self.now) i ≡ Some result.now }
-        ensures touches { touches.new.count ≡ touches.old.count + 1 }
+        ensures touches { touches.new ≡ touches.old + 1 }
     {
         touches.touch();
         self.table.get(i)
     }
 
-    /// The item at the held place `i`, for writing: two touches.
+    /// Returns a mutable reference to the item in the held place `i`, counted as two touches.
     #[inline]
     pub fn get_mut<T>(&mut self, i: usize, touches: &mut Touches) -> &mut T
     where
         S: Table<T>,
-        // The place holds an item.
         requires { IsHeldAt (S.places self.old) i }
-        // What is written comes back to that place, and every other place is as it was.
         ensures* writes_back { sem 𝓛 (counted_lends S.row T.row S.with_item self.entry i result) }
-        // The result is that item.
         ensures value { place_at (S.places self.old) i ≡ Some result.now }
-        ensures touches { touches.new.count ≡ touches.old.count + 2 }
+        ensures touches { touches.new ≡ touches.old + 2 }
     {
         touches.touch();
         touches.touch();
         self.table.get_mut(i)
     }
 
-    /// Ends the table, whose places are all empty.
+    /// Consumes the table, all of whose places are empty.
     #[inline]
     pub fn end<T>(self)
     where
         S: Table<T>,
-        // Every item was taken out.
         requires { IsVacant (S.places self) }
     {
         let Counted { table } = self;

@@ -7,7 +7,12 @@ use std::alloc::{AllocError, Allocator, Global};
 use std::marker::Model;
 use std::mem;
 
-/// A table whose places lie in memory of the allocator `A`, taken once where it is made and given back at its end.
+/// A table that allocates its places from `A` once, when it is made, and deallocates them when it ends.
+///
+/// ```text
+/// let mut table = HeapTable::new(alloc, 3)?;
+/// table.put(0, 'a');
+/// ```
 pub struct HeapTable<T, A: Allocator = Global> {
     row: Vec<Option<T>, A>,
 }
@@ -21,14 +26,12 @@ impl<T, A: Allocator> Model for HeapTable<T, A> {
 }
 
 impl<T: Drop, A: Allocator> HeapTable<T, A> {
-    /// A table of `len` places, all empty.
+    /// Creates a table of `len` empty places.
     ///
-    /// O(`len`), and one request of memory at most. `AllocError` tells that there was no memory, which is so too where
-    /// the places would take more than `isize::MAX` bytes; nothing stays taken then.
+    /// O(`len`), with at most one allocation. Returns `AllocError` if that fails, as it does if the places would take
+    /// more than `isize::MAX` bytes.
     pub fn new(alloc: A, len: usize) -> Result<Self, AllocError>
-        // There are len places, all empty.
-        ensures table { IfOk result (λ table. table ≡ replicate len None) }
-        // No place needs no memory.
+        ensures value { IfOk result (λ table. table ≡ replicate len None) }
         ensures memory { len ≡ 0 → IsOk result }
     {
         let mut row = Vec::with_capacity(alloc, len)?;

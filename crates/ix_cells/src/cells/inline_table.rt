@@ -1,4 +1,4 @@
-//! A table in the value itself.
+//! A table that is stored inline.
 ghost use Rattle.std.specs.Prelude.{◌≡◌, ◌≤◌, Some, None, slice_set, replicate, refl};
 
 use crate::cells::places::{item, item_mut};
@@ -7,10 +7,13 @@ use crate::cells::{MAX_FIXED_CAPACITY, Table};
 use arrayvec::ArrayVec;
 use std::marker::Model;
 
-/// A table of `CAP` places in the value itself. It takes no memory of an allocator.
+/// A table of `CAP` places that is stored inline and does not allocate.
 ///
-/// The places lie in an `ArrayVec` that is full from its making to its end: it takes an array in one fill, and lends its
-/// places as a slice.
+/// ```text
+/// let mut table = InlineTable::<char, 3>::new();
+/// table.put(0, 'a');
+/// ```
+// The places are an `ArrayVec` that is always full: it is made of an array in one fill, and lends slices of its places.
 pub struct InlineTable<T, const CAP: usize> {
     row: ArrayVec<Option<T>, CAP>,
 }
@@ -26,13 +29,9 @@ impl<T, const CAP: usize> Model for InlineTable<T, CAP> {
 }
 
 impl<T: Drop, const CAP: usize> InlineTable<T, CAP> {
-    /// A table whose places are all empty.
-    ///
-    /// O(`CAP`). `CAP` is at most [`MAX_FIXED_CAPACITY`].
+    /// Creates a table of empty places. `CAP` is at most [`MAX_FIXED_CAPACITY`]. O(`CAP`).
     pub fn new() -> Self
-        // The capacity is one that fixed kinds have.
         requires { CAP ≤ MAX_FIXED_CAPACITY }
-        // There are CAP places, all empty.
         ensures { result ≡ replicate CAP None }
     {
         InlineTable {
@@ -82,7 +81,6 @@ impl<T: Drop, const CAP: usize> Table<T> for InlineTable<T, CAP> {
     }
 }
 
-/// `CAP` empty places.
 fn vacant<T, const CAP: usize>() -> [Option<T>; CAP]
     ensures { result ≡ replicate CAP None }
 {

@@ -1,9 +1,9 @@
-//! The item of one place of a row.
+//! The item in one place of a table.
 ghost use Rattle.std.specs.Prelude.{◌≡◌, Some, IsSome};
 ghost use Rattle.std.specs.Borrow.{sem};
 ghost use Rattle.ix_cells.specs.Lending.{option_lends};
 
-/// The item of a place that holds one.
+/// Returns a reference to the item in a held place.
 #[inline]
 pub(crate) fn item<T>(place: &Option<T>) -> &T
     requires { IsSome place.now }
@@ -15,7 +15,7 @@ pub(crate) fn item<T>(place: &Option<T>) -> &T
     }
 }
 
-/// The item of a place that holds one, for writing.
+/// Returns a mutable reference to the item in a held place.
 #[inline]
 pub(crate) fn item_mut<T>(place: &mut Option<T>) -> &mut T
     requires { IsSome place.old }

@@ -1,10 +1,11 @@
 //! Containers that are made in two steps: first with a capacity, then with memory.
-ghost use Rattle.std.specs.Prelude.{◌≡◌, ℕ, IfOk, IfErr};
+ghost use Rattle.std.specs.Prelude.{◌≡◌, ℕ, IfOk, IfErr, Some, codes};
 
+use std::fmt;
 use std::marker::Model;
 
-/// Why a container was not initialised: there was no memory. It holds the uninitialised container. A contract sees
-/// that container alone.
+/// The error of [`RelocatableContainer::init`]: an allocation failed. It holds the uninitialised container, and
+/// contracts see it as that container.
 #[derive(Drop)]
 pub struct InitError<U> {
     uninit: U,
@@ -19,7 +20,7 @@ impl<U> Model for InitError<U> {
 }
 
 impl<U> InitError<U> {
-    /// The error that hands `uninit` back. O(1).
+    /// Creates an error that holds `uninit`. O(1).
     #[inline]
     pub fn new(uninit: U) -> Self
         ensures { result ≡ uninit }
@@ -27,7 +28,7 @@ impl<U> InitError<U> {
         InitError { uninit }
     }
 
-    /// The uninitialised container, with the capacity that it had. O(1).
+    /// Returns the uninitialised container, which has the capacity that it had. O(1).
     #[inline]
     pub fn into_uninit(self) -> U
         ensures { result ≡ self }
@@ -37,31 +38,54 @@ impl<U> InitError<U> {
     }
 }
 
-/// A container that has a capacity first, and memory of an allocator `A` once it is initialised.
+impl<U> fmt::Display for InitError<U> {
+    ghost output = { λ _. Some (codes "memory allocation failed") };
+
+    fn fmt<W: fmt::Write>(&self, f: &mut fmt::Formatter<W>) -> fmt::Result {
+        let _uninit = &self.uninit;
+        f.write_str("memory allocation failed")
+    }
+}
+
+impl<U> fmt::Debug for InitError<U> {
+    ghost debug_output = { λ _. Some (codes "InitError { .. }") };
+
+    fn fmt<W: fmt::Write>(&self, f: &mut fmt::Formatter<W>) -> fmt::Result {
+        let _uninit = &self.uninit;
+        f.write_str("InitError { .. }")
+    }
+}
+
+/// A container that is made in two steps: first uninitialised with a capacity, then initialised with memory of an
+/// allocator `A`.
 ///
-/// A value of a type with this trait is uninitialised; it offers [`RelocatableContainer::init`] alone.
+/// An uninitialised container offers [`RelocatableContainer::init`] alone.
+///
+/// ```text
+/// let uninit = UninitVec::<u64>::new_uninit(2);
+/// let mut vector = uninit.init(alloc)?;
+/// vector.push(1);             // Ok(())
+/// ```
 ///
 /// This is `RelocatableContainer` of iceoryx2-bb-container.
 pub trait RelocatableContainer<A>: Sized {
-    /// The container that is ready for use.
+    /// The initialised container.
     type Ready;
 
     /// The capacity that the container will have.
     ghost capacity_of: { Self → ℕ };
 
-    /// Holds of a capacity and an empty container that has it.
+    /// Holds of a capacity and an empty container of that capacity.
     ghost is_empty_with: { ℕ → Self.Ready → Type 0 };
 
-    /// An uninitialised container for `capacity` items. It takes no memory. O(1).
+    /// Creates an uninitialised container for `capacity` items. Does not allocate. O(1).
     fn new_uninit(capacity: usize) -> Self
-        // It has this capacity.
         ensures { capacity_of result ≡ capacity };
 
-    /// The container that is ready for use, with memory of `alloc`; or, where there was no memory, the error that
-    /// hands this value back.
+    /// Allocates from `alloc` and returns the empty container.
+    ///
+    /// If an allocation fails, nothing stays allocated and the error holds `self`.
     fn init(self, alloc: A) -> Result<Self::Ready, InitError<Self>>
-        // The ready container is empty, and has this capacity.
-        ensures ready { IfOk result (is_empty_with (capacity_of self)) }
-        // The value comes back as it was.
+        ensures value { IfOk result (is_empty_with (capacity_of self)) }
         ensures refused { IfErr result (λ error. error ≡ self) };
 }

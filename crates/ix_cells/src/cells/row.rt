@@ -1,7 +1,7 @@
-//! Rows of places in the value itself: an `ArrayVec` that is full from its making to its end.
+//! Rows of places that are stored inline: an `ArrayVec` that is always full.
 //!
-//! A row is made of an array, in one fill. What is here reads and writes its places, lends some of them, and tells what
-//! comes back.
+//! A row is made of an array, in one fill, and never changes its length. The functions here read, overwrite and borrow
+//! its places.
 ghost use Rattle.std.specs.Prelude.{◌≡◌, ◌+◌, ◌<◌, ◌≤◌, length, take, slice_index_or, slice_set, IsOk, OnOk};
 ghost use Rattle.std.specs.List.{AllZip, AppendsClones};
 ghost use Rattle.std.specs.Borrow.{sem};
@@ -13,7 +13,7 @@ use arrayvec::ArrayVec;
 use std::alloc::AllocError;
 use std::mem;
 
-/// Returns place `i`.
+/// Returns a reference to place `i`.
 #[inline]
 pub(crate) fn place<T, const CAP: usize>(row: &ArrayVec<T, CAP>, i: usize) -> &T
     requires { i < array_vec_len row.now }
@@ -22,7 +22,7 @@ pub(crate) fn place<T, const CAP: usize>(row: &ArrayVec<T, CAP>, i: usize) -> &T
     &row.as_slice()[i]
 }
 
-/// Puts `value` in place `i`, and drops what was there.
+/// Overwrites place `i`, dropping its old content.
 #[inline]
 pub(crate) fn put<T: Drop, const CAP: usize>(row: &mut ArrayVec<T, CAP>, i: usize, value: T)
     requires { i < array_vec_len row.old }
@@ -31,7 +31,7 @@ pub(crate) fn put<T: Drop, const CAP: usize>(row: &mut ArrayVec<T, CAP>, i: usiz
     row.as_mut_slice()[i] = value;
 }
 
-/// Puts `value` in place `i`, and returns what was there.
+/// Overwrites place `i` and returns its old content.
 #[inline]
 pub(crate) fn replace<T, const CAP: usize>(row: &mut ArrayVec<T, CAP>, i: usize, value: T) -> T
     requires { i < array_vec_len row.old }
@@ -41,7 +41,7 @@ pub(crate) fn replace<T, const CAP: usize>(row: &mut ArrayVec<T, CAP>, i: usize,
     mem::replace(&mut row.as_mut_slice()[i], value)
 }
 
-/// Puts defaults in the places from `start` up to `end`, the last one first, and drops what was there.
+/// Overwrites the places `start..end` with defaults, the last one first.
 #[inline]
 pub(crate) fn put_defaults<T: Default + Drop, const CAP: usize>(
     row: &mut ArrayVec<T, CAP>,
@@ -51,15 +51,14 @@ pub(crate) fn put_defaults<T: Default + Drop, const CAP: usize>(
     requires order { start ≤ end }
     requires bounds { end ≤ array_vec_len row.old }
     ensures len { array_vec_len row.new ≡ array_vec_len row.old }
-    // The places before are as they were.
     ensures front { take start row.new.items ≡ take start row.old.items }
 {
     let places = row.as_mut_slice();
     fill_with_defaults(&mut places[start..end]);
 }
 
-/// Puts clones of the items in the places from `start` on, in their order; or leaves defaults there, and drops the
-/// clones already made, where a clone found no memory.
+/// Overwrites the places from `start` on with clones of the items. If cloning fails, drops the clones already made and
+/// leaves defaults there.
 #[inline]
 pub(crate) fn put_clones<T: Default + Clone + Drop, const CAP: usize>(
     row: &mut ArrayVec<T, CAP>,
@@ -68,18 +67,16 @@ pub(crate) fn put_clones<T: Default + Clone + Drop, const CAP: usize>(
 ) -> Result<(), AllocError>
     requires { start + length items.now ≤ array_vec_len row.old }
     ensures len { array_vec_len row.new ≡ array_vec_len row.old }
-    // The places before are as they were.
     ensures front { take start row.new.items ≡ take start row.old.items }
-    // The clones follow them.
-    ensures row { OnOk result (AppendsClones T.is_clone (take start row.old.items) (take (start + length items.now) row.new.items) items.now) }
-    // It is done where no clone of these items can fail.
+    ensures row { OnOk result (AppendsClones T.is_clone (take start row.old.items)
+        (take (start + length items.now) row.new.items) items.now) }
     ensures memory { AreInfallible T.is_infallible items.now → IsOk result }
 {
     let places = row.as_mut_slice();
     fill_with_clones(&mut places[start..start + items.len()], items)
 }
 
-/// Puts defaults in all places, the last one first, and drops what was there.
+/// Overwrites all places with defaults, the last one first.
 #[inline]
 fn fill_with_defaults<T: Default + Drop>(places: &mut [T])
     ensures { length places.new ≡ length places.old }
@@ -89,19 +86,16 @@ fn fill_with_defaults<T: Default + Drop>(places: &mut [T])
     }
 }
 
-/// Puts clones of the items in the places, in their order; or leaves defaults in the places, and drops the clones
-/// already made, where a clone found no memory.
+/// Overwrites the places with clones of the items. If cloning fails, drops the clones already made and leaves defaults
+/// there.
 #[inline]
 fn fill_with_clones<T: Default + Clone + Drop>(
     places: &mut [T],
     items: &[T],
 ) -> Result<(), AllocError>
-    // There are as many places as items.
     requires { length places.old ≡ length items.now }
     ensures len { length places.new ≡ length places.old }
-    // The places hold the clones.
     ensures places { OnOk result (AllZip T.is_clone items.now places.new) }
-    // It is done where no clone of these items can fail.
     ensures memory { AreInfallible T.is_infallible items.now → IsOk result }
 {
     for i in 0..items.len() {
@@ -116,22 +110,20 @@ fn fill_with_clones<T: Default + Clone + Drop>(
     Ok(())
 }
 
-/// Lends place `i` for writing.
+/// Returns a mutable reference to place `i`.
 #[inline]
 pub(crate) fn place_mut<T, const CAP: usize>(row: &mut ArrayVec<T, CAP>, i: usize) -> &mut T
     requires { i < array_vec_len row.old }
-    // What is written comes back to that place, and every other place is as it was.
     ensures* writes_back { sem 𝓛 (array_vec_lends_place T.row CAP.row row.entry i result) }
     ensures value { result.now ≡ slice_index_or row.old.items i result.now }
 {
     place_of(all_mut(row), i)
 }
 
-/// Lends the first `len` places for writing.
+/// Returns the first `len` places as a mutable slice.
 #[inline]
 pub(crate) fn front_mut<T, const CAP: usize>(row: &mut ArrayVec<T, CAP>, len: usize) -> &mut [T]
     requires { len ≤ array_vec_len row.old }
-    // What is written comes back to these places, and every other place is as it was.
     ensures* writes_back { sem 𝓛 (array_vec_lends_front T.row CAP.row row.entry result) }
     ensures value { result.now ≡ take len row.old.items }
 {
@@ -139,22 +131,20 @@ pub(crate) fn front_mut<T, const CAP: usize>(row: &mut ArrayVec<T, CAP>, len: us
     &mut all[..len]
 }
 
-/// Lends all places for writing.
+/// Returns all places as a mutable slice.
 #[inline]
 fn all_mut<T, const CAP: usize>(row: &mut ArrayVec<T, CAP>) -> &mut [T]
-    // What is written comes back to the places.
     ensures* writes_back { sem 𝓛 (array_vec_lends_front T.row CAP.row row.entry result) }
     ensures value { result.now ≡ row.old.items }
 {
     row.as_mut_slice()
 }
 
-/// Lends place `i` of `places` for writing.
-// A call of its own, for the proof by hand of `place_mut` needs this contract.
+/// Returns a mutable reference to place `i` of `places`.
+// A function of its own, since the proof by hand of `place_mut` needs this contract.
 #[inline]
 fn place_of<T>(places: &mut [T], i: usize) -> &mut T
     requires { i < length places.old }
-    // What is written comes back to that place.
     ensures* writes_back { sem 𝓛 (slice_lends_place T.row places.entry i result) }
     ensures value { result.now ≡ slice_index_or places.old i result.now }
 {

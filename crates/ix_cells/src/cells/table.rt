@@ -4,63 +4,52 @@ ghost use Rattle.std.specs.Borrow.{sem};
 ghost use Rattle.ix_cells.specs.Lending.{table_lends};
 ghost use Rattle.ix_cells.specs.Places.{place_at, IsEmptyAt, IsHeldAt, IsVacant};
 
-/// The greatest capacity of a fixed kind, in items.
+/// The greatest capacity of a container that is stored inline, in items.
 pub const MAX_FIXED_CAPACITY: usize = 4_294_967_295;
 
 /// A fixed row of places, each empty or holding one item.
 ///
-/// Places are numbered from 0 to one below [`Table::len`]. A table is not asked whether a place is held: its owner
-/// knows. An owner takes every item out before it ends its table by [`Table::end`]; a table can't be let go otherwise.
+/// Places are indexed from 0. A table can't be asked whether a place holds an item: its owner knows. The owner takes
+/// every item out before it consumes the table by [`Table::end`]; a table can't be dropped.
 ///
-/// Each call takes O(1) time and no memory.
+/// Every call is O(1) and does not allocate.
 pub trait Table<T>: Sized {
-    /// What each place holds.
+    /// The content of each place.
     ghost places: { Self → List (Option T) };
 
-    /// The table with another item at a held place.
+    /// The table with another item in a held place.
     ghost with_item: { Self → ℕ → T → Self };
 
-    /// The number of places.
+    /// Returns the number of places.
     fn len(&self) -> usize
         ensures { result ≡ length (places self.now) };
 
-    /// Puts `item` at the empty place `i`.
+    /// Puts `item` into the empty place `i`.
     fn put(&mut self, i: usize, item: T)
-        // The place is there, and empty.
         requires { IsEmptyAt (places self.old) i }
-        // It holds the item, and every other place is as it was.
         ensures { places self.new ≡ slice_set (places self.old) i (Some item) };
 
-    /// Takes the item out of the held place `i`.
+    /// Removes the item from the held place `i` and returns it.
     fn take(&mut self, i: usize) -> T
-        // The place holds an item.
         requires { IsHeldAt (places self.old) i }
-        // The item is what the place held.
         ensures value { place_at (places self.old) i ≡ Some result }
-        // The place is empty, and every other place is as it was.
         ensures places { places self.new ≡ slice_set (places self.old) i None };
 
-    /// The item at the held place `i`.
+    /// Returns a reference to the item in the held place `i`.
     fn get(&self, i: usize) -> &T
-        // The place holds an item.
         requires { IsHeldAt (places self.now) i }
-        // The result is that item.
         ensures { place_at (places self.now) i ≡ Some result.now };
 
-    /// The item at the held place `i`, for writing.
+    /// Returns a mutable reference to the item in the held place `i`.
     fn get_mut(&mut self, i: usize) -> &mut T
-        // The place holds an item.
         requires { IsHeldAt (places self.old) i }
-        // What is written comes back to that place, and every other place is as it was.
         ensures* writes_back { sem 𝓛 (table_lends Self.row T.row with_item self.entry i result) }
-        // The result is that item.
         ensures value { place_at (places self.old) i ≡ Some result.now };
 
-    /// Ends the table, whose places are all empty.
+    /// Consumes the table, all of whose places are empty.
     fn end(self)
-        // Every item was taken out.
         requires { IsVacant (places self) };
 
-    /// Another item at a place changes that place alone.
+    /// Another item in a place changes that place alone.
     ghost places_with_item: { (s : Self) (i : ℕ) (x : T) → places (with_item s i x) ≡ slice_set (places s) i (Some x) };
 }

@@ -3,24 +3,25 @@ ghost use Rattle.std.specs.Prelude.{◌≡◌, ℕ, IsOk, IfOk, IfErr};
 
 use crate::cells::{InitError, RelocatableContainer};
 use std::alloc::AllocError;
+use std::fmt;
 use std::marker::{Model, PhantomData};
 
-/// The containers of one kind, one type for each allocator `A`. [`Uninit::init`](RelocatableContainer::init) makes them.
+/// The containers of one kind, one type for each allocator `A`: what [`Uninit`] initialises.
 pub trait ContainerFamily<A> {
     /// The container in memory of an `A`.
     type Container;
 
-    /// Holds of a capacity and an empty container that has it.
+    /// Holds of a capacity and an empty container of that capacity.
     ghost is_empty_with: { ℕ → Self.Container → Type 0 };
 
-    /// Returns an empty container with memory of `alloc` for `capacity` items, or `AllocError` where there is no memory.
+    /// Creates an empty container for `capacity` items in memory of `alloc`, or returns `AllocError` if an allocation
+    /// fails.
     fn with_capacity(alloc: A, capacity: usize) -> Result<Self::Container, AllocError>
-        ensures container { IfOk result (is_empty_with capacity) }
-        // A capacity of 0 needs no memory.
+        ensures value { IfOk result (is_empty_with capacity) }
         ensures memory { capacity ≡ 0 → IsOk result };
 }
 
-/// A container of the family `F` that has a capacity, and no memory yet. Contracts see it as that capacity.
+/// An uninitialised container of the family `F`: a capacity, and no memory yet. Contracts see it as that capacity.
 ///
 /// It offers [`RelocatableContainer::init`] alone.
 #[derive(Drop)]
@@ -41,7 +42,7 @@ impl<F> Model for Uninit<F> {
 }
 
 impl<F> Uninit<F> {
-    /// Returns an uninitialised container for `capacity` items. It takes no memory. O(1).
+    /// Creates an uninitialised container for `capacity` items. Does not allocate. O(1).
     #[inline]
     pub fn new_uninit(capacity: usize) -> Self
         ensures { result ≡ capacity }
@@ -66,14 +67,22 @@ impl<A, F: ContainerFamily<A>> RelocatableContainer<A> for Uninit<F> {
     }
 
     fn init(self, alloc: A) -> Result<F::Container, InitError<Self>>
-        ensures ready { IfOk result (F.is_empty_with self) }
+        ensures value { IfOk result (F.is_empty_with self) }
         ensures refused { IfErr result (λ error. error ≡ self) }
-        // A capacity of 0 needs no memory.
         ensures memory { self ≡ 0 → IsOk result }
     {
         match F::with_capacity(alloc, self.capacity) {
             Ok(container) => Ok(container),
             Err(AllocError) => Err(InitError::new(self)),
         }
+    }
+}
+
+/// Prints the capacity.
+impl<F> fmt::Debug for Uninit<F> {
+    fn fmt<W: fmt::Write>(&self, f: &mut fmt::Formatter<W>) -> fmt::Result {
+        f.debug_struct("Uninit")
+            .field("capacity", &self.capacity)
+            .finish()
     }
 }

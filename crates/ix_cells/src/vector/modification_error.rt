@@ -1,18 +1,18 @@
-//! Why a vector refuses a change.
+//! The error of calls that change a vector.
 ghost use Rattle.std.specs.Prelude.{Some};
 
 use std::fmt;
 
-/// Why a vector refuses a change. The vector is then as it was.
+/// The error of calls that change a vector. The vector is unchanged when it is returned.
 ///
 /// This is `VectorModificationError` of iceoryx2-bb-container, with [`VectorModificationError::OutOfMemory`] added.
 #[derive(Clone, Copy, PartialEq, Eq, Debug)]
 pub enum VectorModificationError {
-    /// The place is not one of the vector.
+    /// The index is greater than the length.
     OutOfBounds,
     /// There would be more items than the capacity.
     InsertWouldExceedCapacity,
-    /// The clone of an item found no memory.
+    /// Cloning an item failed because there was no memory.
     OutOfMemory,
 }
 

@@ -1,22 +1,31 @@
-//! The vector whose memory is taken where it is made.
+//! The vector that allocates when it is made.
 ghost use Rattle.std.specs.Prelude.{◌≡◌, ◌≤◌, length, IsOk, IfOk};
 ghost use Rattle.std.specs.Cmp.{on_per, on_equiv};
 ghost use Rattle.std.specs.Cmp.Lexicographic.{pointwise, lists_per, lists_equiv};
+ghost use Rattle.std.proofs.Common.{arith, ap};
+ghost use Rattle.std.proofs.lemmas.Grind.{common_steps};
 ghost use Rattle.ix_cells.specs.Bounded.{bounded_new, with_items, IsFull};
 ghost use Rattle.ix_cells.specs.Calls.{ResultsFrom};
 ghost use Rattle.ix_cells.specs.Cloning.{AreEqualClones};
 ghost use Rattle.ix_cells.specs.VectorSteps.{vec_refill};
-ghost use Rattle.std.proofs.Common.{arith, ap};
-ghost use Rattle.std.proofs.lemmas.Grind.{common_steps};
 
 use crate::vector::Vector;
 use std::alloc::{AllocError, Allocator, Global};
+use std::fmt;
 use std::marker::Model;
 
-/// A vector whose memory is taken of the allocator `A` once, where it is made, and given back at its end. Contracts see
-/// it as a bounded list.
+/// A vector that allocates from `A` once, when it is made, and deallocates when it is dropped. Contracts see it as a
+/// bounded list.
 ///
-/// `A` is an allocator whose value can be copied. A vector that ends drops its items, the last one first.
+/// `A` is the global allocator, a `&Bump` of `bumpalo`, a `&LocalHeap` of `linked_list_allocator`, or any other. The
+/// items are dropped from the last to the first.
+///
+/// ```text
+/// let mut squares = PolymorphicVec::<u64>::new(alloc, 3)?;
+/// squares.extend_from_slice(&[0, 1, 4])?;
+/// squares.push(9);            // Err(VectorModificationError::InsertWouldExceedCapacity)
+/// squares.pop();              // Some(4)
+/// ```
 ///
 /// This is `PolymorphicVec` of iceoryx2-bb-container.
 pub struct PolymorphicVec<T, A: Allocator = Global> {
@@ -37,14 +46,12 @@ impl<T, A: Allocator> Model for PolymorphicVec<T, A> {
 }
 
 impl<T: Drop, A: Allocator> PolymorphicVec<T, A> {
-    /// An empty vector with memory for `capacity` items.
+    /// Creates an empty vector with capacity for `capacity` items.
     ///
-    /// O(1), and one request of memory at most. `AllocError` tells that there was no memory, which is so too where the
-    /// items would take more than `isize::MAX` bytes; nothing stays taken then.
+    /// O(1), with at most one allocation. Returns `AllocError` if that fails, as it does if the items would take more
+    /// than `isize::MAX` bytes or, at size zero, be more than `isize::MAX`.
     pub fn new(alloc: A, capacity: usize) -> Result<Self, AllocError>
-        // It has no item, and this capacity.
-        ensures vector { IfOk result (λ vector. vector ≡ bounded_new capacity) }
-        // A capacity of 0 needs no memory.
+        ensures value { IfOk result (λ vector. vector ≡ bounded_new capacity) }
         ensures memory { capacity ≡ 0 → IsOk result }
     {
         Ok(PolymorphicVec {
@@ -52,25 +59,19 @@ impl<T: Drop, A: Allocator> PolymorphicVec<T, A> {
         })
     }
 
-    /// A full vector, whose item `n` is `f(n)`. The closure is called at 0, 1 and so on, once there is memory for all
-    /// items.
+    /// Creates a full vector whose item `n` is `f(n)`.
     ///
-    /// O(`capacity`) calls. `AllocError` tells that there was no memory, as for [`PolymorphicVec::new`]; the closure is
-    /// not called then.
+    /// Calls `f` at 0, 1, .. in this order, `capacity` times, once the memory is allocated. Returns `AllocError` without
+    /// calling `f` if the allocation fails, as for [`PolymorphicVec::new`].
     pub fn from_fn<F: FnMut(usize) -> T>(
         alloc: A,
         capacity: usize,
         mut f: F,
     ) -> Result<Self, AllocError>
-        // The closure can be called again and again.
         requires { F.IsAlwaysCallable f }
-        // It has this capacity.
         ensures capacity { IfOk result (λ vector. vector.capacity ≡ capacity) }
-        // It has as many items.
         ensures full { IfOk result (λ vector. IsFull vector) }
-        // They are the answers of calls at 0, 1 and so on.
         ensures items { IfOk result (λ vector. (last : F) × ResultsFrom F.step 0 f vector.items last) }
-        // A capacity of 0 needs no memory.
         ensures memory { capacity ≡ 0 → IsOk result }
     {
         let mut vector = PolymorphicVec::new(alloc, capacity)?;
@@ -82,16 +83,12 @@ impl<T: Drop, A: Allocator> PolymorphicVec<T, A> {
 }
 
 impl<T: Clone, A: Allocator + Copy> PolymorphicVec<T, A> {
-    /// A vector of the same capacity, with memory of the same allocator, that holds clones of the items.
+    /// Creates a vector of the same capacity that holds clones of the items, in memory of the same allocator.
     ///
-    /// O(`len`) clones. `AllocError` tells that there was no memory for the items, or none for a clone; nothing stays
-    /// taken then.
+    /// O(`len`) clones. Returns `AllocError` if an allocation or a clone fails; nothing stays allocated then.
     pub fn try_clone(&self) -> Result<Self, AllocError>
-        // Clones of the items equal them.
         requires { AreEqualClones T.is_clone }
-        // It has the same items and the same capacity.
-        ensures vector { IfOk result (λ vector. vector ≡ self.now) }
-        // A capacity of 0 needs no memory.
+        ensures value { IfOk result (λ vector. vector ≡ self.now) }
         ensures memory { self.now.capacity ≡ 0 → IsOk result }
     {
         let mut copy = PolymorphicVec::new(*self.items.allocator(), self.capacity())?;
@@ -138,7 +135,7 @@ impl<T: Drop, A: Allocator> Vector<T> for PolymorphicVec<T, A> {
     ghost bounded_with_slice = { λ vector xs same. ap (with_items vector) (Prim.search (arith, common_steps)) };
 }
 
-/// The items are dropped, the last one first.
+/// Drops the items, the last one first.
 impl<T: Drop, A: Allocator> Drop for PolymorphicVec<T, A> {
     fn drop(mut self) {
         self.clear();
@@ -146,7 +143,7 @@ impl<T: Drop, A: Allocator> Drop for PolymorphicVec<T, A> {
     }
 }
 
-/// Vectors are equal if their items are, whatever the capacities.
+/// Compares the items, whatever the capacities.
 impl<T: PartialEq, A: Allocator> PartialEq for PolymorphicVec<T, A> {
     ghost eq = { λ vector other. pointwise T.eq vector.items other.items };
 
@@ -159,4 +156,11 @@ impl<T: PartialEq, A: Allocator> PartialEq for PolymorphicVec<T, A> {
 
 impl<T: Eq, A: Allocator> Eq for PolymorphicVec<T, A> {
     ghost laws = { on_equiv (λ vector. vector.items) (lists_equiv T.Eq.laws) };
+}
+
+/// Prints the items as a list.
+impl<T: Drop + fmt::Debug, A: Allocator> fmt::Debug for PolymorphicVec<T, A> {
+    fn fmt<W: fmt::Write>(&self, f: &mut fmt::Formatter<W>) -> fmt::Result {
+        f.debug_list().entries(self.as_slice()).finish()
+    }
 }

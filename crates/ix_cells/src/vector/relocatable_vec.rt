@@ -4,21 +4,19 @@ ghost use Rattle.std.specs.Prelude.{◌≡◌};
 use crate::vector::{PolymorphicVec, UninitVec};
 use std::alloc::{Allocator, Global};
 
-/// A vector that has a capacity first, as an [`UninitVec`], and memory of the allocator `A` once that is initialised.
-///
-/// A ready vector does not show in how many steps it was made, so this is another name of [`PolymorphicVec`].
+/// A vector that is made in two steps: [`UninitVec`] has its capacity, and allocates from `A` when it is initialised.
 ///
 /// ```text
-/// let uninit = RelocatableVec::<u64, Global>::new_uninit(2);
+/// let uninit = RelocatableVec::<u64>::new_uninit(2);
 /// let mut vector = uninit.init(alloc)?;
-/// vector.push(1);    // Ok(())
+/// vector.push(1);             // Ok(())
 /// ```
 ///
-/// This is `RelocatableVec` of iceoryx2-bb-container.
+/// Once initialised it is a [`PolymorphicVec`]. This is `RelocatableVec` of iceoryx2-bb-container.
 pub type RelocatableVec<T, A = Global> = PolymorphicVec<T, A>;
 
 impl<T, A: Allocator> RelocatableVec<T, A> {
-    /// Returns an uninitialised vector for `capacity` items. It takes no memory. O(1).
+    /// Creates an uninitialised vector for `capacity` items. Does not allocate. O(1).
     #[inline]
     pub fn new_uninit(capacity: usize) -> UninitVec<T>
         ensures { result ≡ capacity }

@@ -1,4 +1,4 @@
-//! The vector in the value itself.
+//! The vector that is stored inline.
 ghost use Rattle.std.specs.Prelude.{◌≡◌, ◌+◌, ◌<◌, ◌≤◌, [], length, take, IsOk, OnOk, OnErr};
 ghost use Rattle.std.specs.List.{AllZip, AppendsClones, refill};
 ghost use Rattle.std.specs.Cmp.Lexicographic.{pointwise, lists_per, lists_equiv};
@@ -11,23 +11,25 @@ use crate::cells::row::{front_mut, put, put_clones, put_defaults, replace};
 use crate::vector::{Vector, VectorModificationError};
 use arrayvec::ArrayVec;
 use std::alloc::AllocError;
+use std::fmt;
 use std::marker::Model;
 
-/// A vector of at most `CAPACITY` items, in the value itself. It takes no memory of an allocator. Contracts see it as
-/// the list of its items.
+/// A vector of at most `CAPACITY` items that is stored inline and does not allocate. Contracts see it as the list of
+/// its items.
 ///
-/// A vector that ends drops its items, the last one first.
+/// The items are dropped from the last to the first.
 ///
 /// ```text
 /// let mut vector = StaticVec::<u64, 2>::new();
-/// vector.push(1);         // Ok(())
-/// vector.insert(0, 2);    // Ok(())
-/// vector.push(3);         // Err(VectorModificationError::InsertWouldExceedCapacity)
-/// vector.as_slice();      // 2, 1
-/// vector.pop();           // Some(1)
+/// vector.push(1);             // Ok(())
+/// vector.insert(0, 2);        // Ok(())
+/// vector.push(3);             // Err(VectorModificationError::InsertWouldExceedCapacity)
+/// vector.as_slice();          // [2, 1]
+/// vector.pop();               // Some(1)
 /// ```
 ///
 /// This is `StaticVec` of iceoryx2-bb-container.
+// The row is an `ArrayVec` that is always full: the first `len` places hold the items, the others hold defaults.
 pub struct StaticVec<T: Default, const CAPACITY: usize> {
     row: ArrayVec<T, CAPACITY>,
     len: usize,
@@ -48,13 +50,9 @@ impl<T: Default, const CAPACITY: usize> Model for StaticVec<T, CAPACITY> {
 }
 
 impl<T: Default, const CAPACITY: usize> StaticVec<T, CAPACITY> {
-    /// An empty vector.
-    ///
-    /// O(`CAPACITY`). `CAPACITY` is at most [`MAX_FIXED_CAPACITY`].
+    /// Creates an empty vector. `CAPACITY` is at most [`MAX_FIXED_CAPACITY`]. O(`CAPACITY`).
     pub fn new() -> Self
-        // The capacity is one that fixed kinds have.
         requires { CAPACITY ≤ MAX_FIXED_CAPACITY }
-        // It has no item.
         ensures { result ≡ [] }
     {
         StaticVec::empty()
@@ -77,7 +75,7 @@ impl<T: Default, const CAPACITY: usize> StaticVec<T, CAPACITY> {
         &self.row.as_slice()[..self.len]
     }
 
-    /// The number of items for which there is room, held ones among them. O(1).
+    /// Returns the maximum number of items. O(1).
     #[inline]
     pub const fn capacity() -> usize
         ensures { result ≡ CAPACITY }
@@ -87,17 +85,12 @@ impl<T: Default, const CAPACITY: usize> StaticVec<T, CAPACITY> {
 }
 
 impl<T: Default + Clone, const CAPACITY: usize> StaticVec<T, CAPACITY> {
-    /// Puts clones of the items behind the own ones, in their order; or drops the clones already made, where a clone
-    /// found no memory.
+    /// Appends clones of the items. If cloning fails, drops the clones already made.
     #[inline]
-    fn put_clones_behind(&mut self, items: &[T]) -> Result<(), AllocError>
-        // There is room for all of them.
+    fn append_clones(&mut self, items: &[T]) -> Result<(), AllocError>
         requires { length self.old + length items.now ≤ CAPACITY }
-        // Clones of the items stand behind the others.
         ensures vector { OnOk result (AppendsClones T.is_clone self.old self.new items.now) }
-        // A refusal leaves the items as they were.
         ensures refused { OnErr result (self.new ≡ self.old) }
-        // It is done where no clone of these items can fail.
         ensures memory { AreInfallible T.is_infallible items.now → IsOk result }
     {
         let len = self.len;
@@ -158,18 +151,18 @@ impl<T: Default + Drop, const CAPACITY: usize> Vector<T> for StaticVec<T, CAPACI
         }
     }
 
-    /// The clones go straight to their places. O(`other.len()`) clones.
+    /// O(`other.len()`) clones.
     fn extend_from_slice_unchecked(&mut self, other: &[T]) -> Result<(), AllocError>
     where
         T: Clone,
     {
-        self.put_clones_behind(other)
+        self.append_clones(other)
     }
 
     ghost bounded_with_slice = { λ vector xs same. ap (λ items. record { items = items; capacity = CAPACITY }) (Prim.search (arith, common_steps)) };
 }
 
-/// The items are dropped, the last one first.
+/// Drops the items, the last one first.
 impl<T: Default + Drop, const CAPACITY: usize> Drop for StaticVec<T, CAPACITY> {
     fn drop(mut self) {
         self.clear();
@@ -184,11 +177,11 @@ impl<T: Default + Clone, const CAPACITY: usize> TryFrom<&[T]> for StaticVec<T, C
 
     ghost try_from_gives = { λ items result. StaticVecFromSlice CAPACITY T.is_clone T.is_infallible items.now result };
 
-    /// A vector with clones of the items.
+    /// Creates a vector that holds clones of the items.
     ///
-    /// Where they do not fit, or `CAPACITY` is past [`MAX_FIXED_CAPACITY`], the answer is
-    /// [`VectorModificationError::InsertWouldExceedCapacity`]. Where a clone found no memory, it is
-    /// [`VectorModificationError::OutOfMemory`]. O(`CAPACITY`), and `items.len()` clones.
+    /// O(`CAPACITY`), with `items.len()` clones. Returns [`VectorModificationError::InsertWouldExceedCapacity`] without
+    /// cloning if there are more items than `CAPACITY`, or `CAPACITY` is greater than [`MAX_FIXED_CAPACITY`], and
+    /// [`VectorModificationError::OutOfMemory`] if cloning an item fails.
     fn try_from(items: &[T]) -> Result<Self, VectorModificationError> {
         if CAPACITY > MAX_FIXED_CAPACITY {
             return Err(VectorModificationError::InsertWouldExceedCapacity);
@@ -197,7 +190,7 @@ impl<T: Default + Clone, const CAPACITY: usize> TryFrom<&[T]> for StaticVec<T, C
             return Err(VectorModificationError::InsertWouldExceedCapacity);
         }
         let mut vector = StaticVec::new();
-        match vector.put_clones_behind(items) {
+        match vector.append_clones(items) {
             Ok(()) => Ok(vector),
             Err(AllocError) => Err(VectorModificationError::OutOfMemory),
         }
@@ -209,10 +202,11 @@ impl<T: Default + Clone, const CAPACITY: usize> Clone for StaticVec<T, CAPACITY>
 
     ghost is_infallible = { AreInfallible T.is_infallible };
 
-    /// A vector with clones of the items, or the error of a clone that found no memory. O(`CAPACITY`).
+    /// Creates a vector that holds clones of the items, or returns the error of the first clone that fails.
+    /// O(`CAPACITY`).
     fn clone(&self) -> Result<Self, AllocError> {
         let mut vector = StaticVec::empty();
-        vector.put_clones_behind(self.items())?;
+        vector.append_clones(self.items())?;
         Ok(vector)
     }
 }
@@ -229,4 +223,11 @@ impl<T: Default + PartialEq, const CAPACITY: usize> PartialEq for StaticVec<T, C
 
 impl<T: Default + Eq, const CAPACITY: usize> Eq for StaticVec<T, CAPACITY> {
     ghost laws = { lists_equiv T.Eq.laws };
+}
+
+/// Prints the items as a list.
+impl<T: Default + fmt::Debug, const CAPACITY: usize> fmt::Debug for StaticVec<T, CAPACITY> {
+    fn fmt<W: fmt::Write>(&self, f: &mut fmt::Formatter<W>) -> fmt::Result {
+        f.debug_list().entries(self.items()).finish()
+    }
 }

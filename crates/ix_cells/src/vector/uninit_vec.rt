@@ -18,13 +18,19 @@ impl<T: Drop, A: Allocator> ContainerFamily<A> for VecFamily<T> {
 
     ghost is_empty_with = { λ capacity vector. vector ≡ bounded_new capacity };
 
-    /// O(1), and one request of memory at most.
+    /// O(1), with at most one allocation.
     #[inline]
     fn with_capacity(alloc: A, capacity: usize) -> Result<RelocatableVec<T, A>, AllocError> {
         PolymorphicVec::new(alloc, capacity)
     }
 }
 
-/// A vector that has a capacity, and no memory yet. [`RelocatableContainer::init`](crate::RelocatableContainer::init)
-/// makes it a [`RelocatableVec`].
+/// An uninitialised [`RelocatableVec`]: a capacity, and no memory yet.
+///
+/// ```text
+/// match UninitVec::<u64>::new_uninit(1000).init(alloc) {
+///     Ok(mut vector) => vector.extend_from_slice(&[1, 2, 3])?,
+///     Err(error) => retry_later(error.into_uninit()),
+/// }
+/// ```
 pub type UninitVec<T> = Uninit<VecFamily<T>>;

@@ -11,42 +11,47 @@ ghost use Rattle.ix_cells.specs.declared.vector.modification_error.VectorModific
 use crate::vector::VectorModificationError;
 use std::alloc::AllocError;
 
-/// A list of items with a capacity that their number does not pass. Contracts see it as a bounded list.
+/// A contiguous list of at most [`capacity`](Vector::capacity) items. Contracts see it as a bounded list.
 ///
-/// The memory for all items is there when the vector is made: no call takes memory, but that a clone of an item may.
-/// A refusal leaves the vector as it was, and drops the item that was handed in.
+/// The memory for all items is there once the vector is made, so no call allocates, except that cloning an item may. A
+/// call that returns an error leaves the vector unchanged, and drops an item that was passed to it. Indexes start at 0.
+///
+/// ```text
+/// fn keep_even<V: Vector<u64>>(vector: &mut V) {
+///     let mut i = 0;
+///     while i < vector.len() {
+///         if vector.as_slice()[i] % 2 == 0 { i += 1 } else { vector.remove(i); }
+///     }
+/// }
+/// ```
 ///
 /// This is `Vector` of iceoryx2-bb-container.
 pub trait Vector<T: Drop> {
     /// The items, and the capacity.
     ghost bounded: { Self → Bounded T };
 
-    /// The vector with other items in the places of its own.
+    /// The vector with its items overwritten by others.
     ghost with_slice: { Self → List T → Self };
 
-    /// The items, the first one first. O(1).
+    /// Returns the items as a slice. O(1).
     fn as_slice(&self) -> &[T]
         ensures { result.now ≡ (bounded self.now).items };
 
-    /// The items for writing, the first one first. O(1).
+    /// Returns the items as a mutable slice. O(1).
     fn as_mut_slice(&mut self) -> &mut [T]
-        // What is written comes back to the places of the items.
         ensures* writes_back { sem 𝓛 (vec_lends Self.row T.row with_slice self.entry result) }
-        // The slice holds the items.
         ensures value { result.now ≡ (bounded self.old).items };
 
-    /// The number of items for which there is room, held ones among them. O(1).
+    /// Returns the maximum number of items. O(1).
     fn capacity(&self) -> usize
         ensures { result ≡ (bounded self.now).capacity };
 
-    /// The number of items. O(1).
+    /// Returns the number of items. O(1).
     fn len(&self) -> usize
-        // It is the list's length.
         ensures value { result ≡ length (bounded self.now).items }
-        // It is not above the capacity.
         ensures within { IsWithin (bounded self.now) };
 
-    /// Whether there is no item. O(1).
+    /// Returns `true` if the vector has no items. O(1).
     #[inline]
     final fn is_empty(&self) -> bool
         ensures { IsTrue result ↔ ((bounded self.now).items ≡ []) }
@@ -54,7 +59,7 @@ pub trait Vector<T: Drop> {
         self.len() == 0
     }
 
-    /// Whether there are as many items as the capacity. A vector of capacity 0 is empty and full. O(1).
+    /// Returns `true` if there are as many items as the capacity. A vector of capacity 0 is both empty and full. O(1).
     #[inline]
     final fn is_full(&self) -> bool
         ensures { IsTrue result ↔ IsFull (bounded self.now) }
@@ -62,30 +67,23 @@ pub trait Vector<T: Drop> {
         self.len() == self.capacity()
     }
 
-    /// Puts `item` behind the others. O(1).
+    /// Appends `item` to a vector that is not full. O(1).
     fn push_unchecked(&mut self, item: T)
-        // There is room for it.
         requires { length (bounded self.old).items < (bounded self.old).capacity }
-        // It stands behind the others.
         ensures { bounded self.new ≡ with_items (bounded self.old) ((bounded self.old).items ++ item ∷ []) };
 
-    /// Takes the last item, or answers None where there is none. O(1).
+    /// Removes the last item and returns it, or `None` if the vector is empty. O(1).
     fn pop(&mut self) -> Option<T>
-        // It answers the last item.
         ensures value { result ≡ vec_last (bounded self.old) }
-        // The last item left.
         ensures vector { bounded self.new ≡ vec_pop (bounded self.old) };
 
-    /// Puts `item` behind the others. O(1).
+    /// Appends `item`. O(1).
     ///
-    /// A full vector answers [`VectorModificationError::InsertWouldExceedCapacity`].
+    /// Returns [`VectorModificationError::InsertWouldExceedCapacity`] if the vector is full.
     #[inline]
     final fn push(&mut self, item: T) -> Result<(), VectorModificationError>
-        // It is refused exactly where there is no room.
         ensures value { result ≡ vec_push_result (bounded self.old) }
-        // The item stands behind the others where there was room.
         ensures vector { bounded self.new ≡ bounded_push (bounded self.old) item }
-        // A refusal changes nothing.
         ensures refused { OnErr result (self.new ≡ self.old) }
     {
         if self.len() < self.capacity() {
@@ -95,16 +93,13 @@ pub trait Vector<T: Drop> {
         Err(VectorModificationError::InsertWouldExceedCapacity)
     }
 
-    /// Puts `item` at place `index`, and moves each item from there on one place up. O(`len - index`).
+    /// Inserts `item` at `index`, shifting all later items to the right. O(`len - index`).
     ///
-    /// A full vector answers [`VectorModificationError::InsertWouldExceedCapacity`], and else an `index` past the
-    /// length is answered by [`VectorModificationError::OutOfBounds`].
+    /// Returns [`VectorModificationError::InsertWouldExceedCapacity`] if the vector is full, and otherwise
+    /// [`VectorModificationError::OutOfBounds`] if `index` is greater than the length.
     final fn insert(&mut self, index: usize, item: T) -> Result<(), VectorModificationError>
-        // It is refused exactly where there is no room, or no such place.
         ensures value { result ≡ vec_insert_result (bounded self.old) index }
-        // The item stands between the first ones and the others where it is not refused.
         ensures vector { bounded self.new ≡ vec_insert (bounded self.old) index item }
-        // A refusal changes nothing.
         ensures refused { OnErr result (self.new ≡ self.old) }
     {
         if self.is_full() {
@@ -114,29 +109,26 @@ pub trait Vector<T: Drop> {
             return Err(VectorModificationError::OutOfBounds);
         }
         self.push_unchecked(item);
-        put_last_at(self.as_mut_slice(), index);
+        move_last_to(self.as_mut_slice(), index);
         Ok(())
     }
 
-    /// Takes the item at place `index`, and moves each later item one place down; or answers None where there is no
-    /// such item. O(`len - index`).
+    /// Removes the item at `index` and returns it, shifting all later items to the left. Returns `None` if `index` is out
+    /// of bounds. O(`len - index`).
     final fn remove(&mut self, index: usize) -> Option<T>
-        // It answers the item of that place.
         ensures value { result ≡ slice_get (bounded self.old).items index }
-        // That item left, and the others stay in their order.
         ensures vector { bounded self.new ≡ vec_remove (bounded self.old) index }
-        // Where there is no such item, nothing changes.
         ensures refused { length (bounded self.old).items ≤ index → self.new ≡ self.old }
     {
         if index < self.len() {
-            put_behind_others(self.as_mut_slice(), index, index + 1);
+            move_to_end(self.as_mut_slice(), index, index + 1);
             return self.pop();
         }
         None
     }
 
-    /// Keeps the first `n` items, and drops the others, the last one first. It changes nothing where there are no
-    /// more than `n` items. O(`len - n`).
+    /// Shortens the vector, keeping the first `n` items and dropping the rest, the last one first. Does nothing if `n` is
+    /// greater than or equal to the length. O(`len - n`).
     fn truncate(&mut self, n: usize)
         ensures { bounded self.new ≡ vec_truncate (bounded self.old) n }
     {
@@ -145,27 +137,23 @@ pub trait Vector<T: Drop> {
         }
     }
 
-    /// Drops every item, the last one first. O(`len`).
+    /// Removes and drops all items, the last one first. O(`len`).
     final fn clear(&mut self)
         ensures { bounded self.new ≡ with_items (bounded self.old) [] }
     {
         self.truncate(0);
     }
 
-    /// Puts clones of the items of `other` behind the own ones, in their order; or leaves the items as they are, and
-    /// drops the clones already made, where a clone found no memory. O(`other.len()`) clones.
+    /// Appends clones of all items of `other`, for which there is room. O(`other.len()`) clones.
+    ///
+    /// Returns `AllocError` if cloning an item fails; the clones already made are dropped.
     fn extend_from_slice_unchecked(&mut self, other: &[T]) -> Result<(), AllocError>
     where
         T: Clone,
-        // Clones of the items equal them.
         requires clones { AreEqualClones T.is_clone }
-        // There is room for all of them.
         requires room { HasRoomFor (length other.now) (bounded self.old) }
-        // The items of the slice stand behind the others.
         ensures vector { OnOk result (bounded self.new ≡ vec_extend (bounded self.old) other.now) }
-        // A refusal leaves items and capacity as they were.
         ensures refused { OnErr result (bounded self.new ≡ bounded self.old) }
-        // It is done where no clone of these items can fail.
         ensures memory { AreInfallible T.is_infallible other.now → IsOk result }
     {
         let old_len = self.len();
@@ -181,26 +169,19 @@ pub trait Vector<T: Drop> {
         Ok(())
     }
 
-    /// Puts clones of the items of `other` behind the own ones, in their order. O(`other.len()`) clones.
+    /// Appends clones of all items of `other`. O(`other.len()`) clones.
     ///
-    /// Where they do not fit, it answers [`VectorModificationError::InsertWouldExceedCapacity`] and clones nothing.
-    /// Where a clone found no memory, it drops the clones already made, and answers
-    /// [`VectorModificationError::OutOfMemory`].
+    /// Returns [`VectorModificationError::InsertWouldExceedCapacity`] without cloning if there is no room for all of them,
+    /// and [`VectorModificationError::OutOfMemory`] if cloning an item fails; the clones already made are dropped.
     final fn extend_from_slice(&mut self, other: &[T]) -> Result<(), VectorModificationError>
     where
         T: Clone,
-        // Clones of the items equal them.
         requires clones { AreEqualClones T.is_clone }
-        // Where they do not fit, that is the answer.
         ensures full { LacksRoomFor (length other.now) (bounded self.old)
             → result ≡ Err InsertWouldExceedCapacity }
-        // Where they fit, want of memory is the only refusal.
         ensures fits { HasRoomFor (length other.now) (bounded self.old) → IsOkUnless result OutOfMemory }
-        // The items of the slice stand behind the others.
         ensures vector { OnOk result (bounded self.new ≡ vec_extend (bounded self.old) other.now) }
-        // A refusal leaves items and capacity as they were.
         ensures refused { OnErr result (bounded self.new ≡ bounded self.old) }
-        // It is done where they fit and no clone of these items can fail.
         ensures memory { HasRoomFor (length other.now) (bounded self.old)
             → AreInfallible T.is_infallible other.now → IsOk result }
     {
@@ -213,27 +194,19 @@ pub trait Vector<T: Drop> {
         }
     }
 
-    /// Cuts the vector to `n` items, as [`Vector::truncate`] does; or puts clones of `item` behind the others up to
-    /// `n` items. O(`len - n`), or O(`n - len`) clones.
+    /// Resizes the vector to `n` items: truncates it, or appends clones of `item`. O(`len - n`), or O(`n - len`) clones.
     ///
-    /// An `n` past the capacity is answered by [`VectorModificationError::InsertWouldExceedCapacity`]. Where a clone
-    /// found no memory, it drops the clones already made, and answers [`VectorModificationError::OutOfMemory`].
+    /// Returns [`VectorModificationError::InsertWouldExceedCapacity`] if `n` is greater than the capacity, and
+    /// [`VectorModificationError::OutOfMemory`] if cloning `item` fails; the clones already made are dropped.
     final fn resize(&mut self, n: usize, item: T) -> Result<(), VectorModificationError>
     where
         T: Clone,
-        // Clones of the items equal them.
         requires clones { AreEqualClones T.is_clone }
-        // A length past the capacity is refused.
         ensures full { (bounded self.old).capacity < n → result ≡ Err InsertWouldExceedCapacity }
-        // Where the length fits, want of memory is the only refusal.
         ensures fits { n ≤ (bounded self.old).capacity → IsOkUnless result OutOfMemory }
-        // There are n items: the first ones, or all and then copies of the item.
         ensures vector { OnOk result (bounded self.new ≡ vec_resize (bounded self.old) n item) }
-        // A refusal leaves items and capacity as they were.
         ensures refused { OnErr result (bounded self.new ≡ bounded self.old) }
-        // A cut is always done.
         ensures shrinks { n ≤ length (bounded self.old).items → IsOk result }
-        // It is done where the length fits and no clone of the item can fail.
         ensures memory { n ≤ (bounded self.old).capacity → T.is_infallible item → IsOk result }
     {
         let len = self.len();
@@ -256,28 +229,22 @@ pub trait Vector<T: Drop> {
         Ok(())
     }
 
-    /// Cuts the vector to `n` items, as [`Vector::truncate`] does; or puts answers of `f` behind the others up to `n`
-    /// items, in the order of the calls. O(`len - n`), or `n - len` calls.
+    /// Resizes the vector to `n` items: truncates it, or appends results of `f` in the order of its calls. O(`len - n`), or
+    /// `n - len` calls.
     ///
-    /// An `n` past the capacity is answered by [`VectorModificationError::InsertWouldExceedCapacity`]; `f` is not
-    /// called then, and it is not called for a cut.
+    /// Returns [`VectorModificationError::InsertWouldExceedCapacity`] without calling `f` if `n` is greater than the
+    /// capacity. `f` is not called to truncate either.
     final fn resize_with<F: FnMut() -> T>(
         &mut self,
         n: usize,
         mut f: F,
     ) -> Result<(), VectorModificationError>
-        // The closure can be called again and again.
         requires { F.IsAlwaysCallable f }
-        // It is refused exactly where the length is past the capacity.
         ensures value { result ≡ vec_resize_result (bounded self.old) n }
-        // There are n items.
         ensures len { OnOk result (length (bounded self.new).items ≡ n) }
-        // They are the first ones, or all and then the answers of the closure, in the order of its calls.
         ensures vector { OnOk result (AppendsResults F.step (take n (bounded self.old).items)
             (bounded self.new).items f) }
-        // The capacity stays.
         ensures capacity { (bounded self.new).capacity ≡ (bounded self.old).capacity }
-        // A refusal changes nothing.
         ensures refused { OnErr result (self.new ≡ self.old) }
     {
         let old_len = self.len();
@@ -294,23 +261,23 @@ pub trait Vector<T: Drop> {
         Ok(())
     }
 
-    /// Another list of as many items changes the items alone.
+    /// Overwriting all items changes nothing else.
     ghost bounded_with_slice: { (vector : Self) (xs : List T) → length xs ≡ length (bounded vector).items
         → bounded (with_slice vector xs) ≡ with_items (bounded vector) xs };
 }
 
-/// Moves the last item to `index`, and each item from there on one place up.
+/// Moves the last item to `index`, shifting all items from there on to the right.
 #[inline]
-fn put_last_at<T>(items: &mut [T], index: usize)
+fn move_last_to<T>(items: &mut [T], index: usize)
     requires { index < length items.old }
     ensures { (front : List T) (last : T) → items.old ≡ front ++ last ∷ [] → items.new ≡ take index front ++ last ∷ drop index front }
 {
     items[index..].rotate_right(1);
 }
 
-/// Moves the items from `start` up to `end` behind the others.
+/// Moves the items `start..end` to the end.
 #[inline]
-fn put_behind_others<T>(items: &mut [T], start: usize, end: usize)
+fn move_to_end<T>(items: &mut [T], start: usize, end: usize)
     requires order { start ≤ end }
     requires bounds { end ≤ length items.old }
     ensures { items.new ≡ remove_range items.old start end ++ slice_range items.old start end }

@@ -1,4 +1,4 @@
-//! The queues in memory of an allocator.
+//! Queues in memory of an allocator.
 ghost use Rattle.std.specs.Prelude.{◌≡◌, IsOk, IfOk};
 ghost use Rattle.ix_cells.specs.Bounded.{bounded_new};
 
@@ -6,7 +6,7 @@ use crate::queue::{MetaQueue, UninitQueue};
 use ix_cells::HeapTable;
 use std::alloc::{AllocError, Allocator, Global};
 
-/// A queue whose memory is taken of the allocator `A` once, where it is made, and given back at its end.
+/// A queue whose memory is allocated from `A` when it is made, and deallocated when it is dropped.
 ///
 /// `A` is an allocator whose value can be copied.
 ///
@@ -21,8 +21,8 @@ use std::alloc::{AllocError, Allocator, Global};
 /// This is `Queue` of iceoryx2-bb-container.
 pub type Queue<T, A = Global> = MetaQueue<T, HeapTable<T, A>>;
 
-/// A queue that has its capacity first, as an [`UninitQueue`], and its memory once that is initialised. The memory is
-/// given back at its end.
+/// A queue that is made in two steps: first its capacity, as an [`UninitQueue`], and later its memory, allocated from
+/// `A`.
 ///
 /// `A` is an allocator whose value can be copied.
 ///
@@ -36,29 +36,22 @@ pub type Queue<T, A = Global> = MetaQueue<T, HeapTable<T, A>>;
 pub type RelocatableQueue<T, A = Global> = MetaQueue<T, HeapTable<T, A>>;
 
 impl<T: Drop, A: Allocator> Queue<T, A> {
-    /// An empty queue with memory for `capacity` items.
+    /// Returns an empty queue with memory for `capacity` items.
     ///
-    /// O(`capacity`), and one request of memory at most. `AllocError` tells that there was no memory, which is so too
-    /// where the places would take more than `isize::MAX` bytes; nothing stays taken then.
-    ///
-    /// This is `Queue::new` of iceoryx2-bb-container.
+    /// O(`capacity`). Allocates from `alloc` at most once. Returns `AllocError` if there is not enough memory, and for
+    /// any capacity whose items would fill more than `isize::MAX` bytes. A capacity of 0 needs no memory.
     pub fn new(alloc: A, capacity: usize) -> Result<Self, AllocError>
-        // It has no item, and this capacity.
         ensures queue { IfOk result (λ queue. queue ≡ bounded_new capacity) }
-        // A capacity of 0 needs no memory.
         ensures memory { capacity ≡ 0 → IsOk result }
     {
-        Ok(MetaQueue::over(HeapTable::new(alloc, capacity)?))
+        Ok(MetaQueue::from_table(HeapTable::new(alloc, capacity)?))
     }
 }
 
 impl<T: Drop, A: Allocator> RelocatableQueue<T, A> {
-    /// An uninitialised queue for `capacity` items. It takes no memory. O(1).
-    ///
-    /// This is `RelocatableContainer::new_uninit` of `RelocatableQueue` of iceoryx2-bb-container.
+    /// Returns an uninitialised queue for `capacity` items. Does not allocate. O(1).
     #[inline]
     pub fn new_uninit(capacity: usize) -> UninitQueue<T>
-        // It has this capacity.
         ensures { result ≡ capacity }
     {
         UninitQueue::new_uninit(capacity)

@@ -12,12 +12,22 @@ ghost use Rattle.ix_maps.specs.QueueSteps.{queue_overflow, queue_overflow_item, 
 ghost use Rattle.ix_maps.specs.Ring.{ring_place, ring_next};
 
 use ix_cells::Table;
+use std::fmt::{self, Debug, Formatter, Write};
 use std::marker::{Model, PhantomData};
 
-/// A queue whose items lie in a table `S`. Contracts see it as a bounded list, the oldest item first.
+/// A queue whose items lie in a table `S`. Contracts see it as a bounded list, with the front item, which is the
+/// oldest, first.
 ///
-/// The items stand in a ring of the table's places. A call takes O(1) time where nothing else is said, and no call takes
-/// memory. A queue that ends drops the items that it still holds, the oldest first, in O(`capacity`) time.
+/// The items lie in a ring of the table's places. Each call takes O(1) time if nothing else is said, and no call
+/// allocates. A queue that is dropped drops its items, the front item first, in O(capacity) time.
+///
+/// ```text
+/// let mut queue = FixedSizeQueue::<u64, 2>::new();
+/// queue.push(1);                    // true
+/// queue.push(2);                    // true
+/// queue.get(1);                     // 2
+/// queue.pop();                      // Some(1)
+/// ```
 ///
 /// This is `MetaQueue` of iceoryx2-bb-container.
 pub struct MetaQueue<T, S: Table<T>> {
@@ -30,21 +40,21 @@ pub struct MetaQueue<T, S: Table<T>> {
 impl<T, S: Table<T>> Model for MetaQueue<T, S> {
     ghost use Rattle.std.specs.Prelude.{length};
     ghost use Rattle.ix_cells.specs.Bounded.{Bounded, bounded_code};
-    ghost use Rattle.ix_maps.specs.Ring.{row_from, held_items, IsRing};
+    ghost use Rattle.ix_maps.specs.Ring.{ring_row, row_items, IsRing};
 
     ghost Value = { Bounded T };
 
     ghost coded = { bounded_code T.code };
 
     ghost view = { λ queue. record {
-      items = held_items (row_from (S.places queue.table) queue.start);
+      items = row_items (ring_row (S.places queue.table) queue.start);
       capacity = length (S.places queue.table);
     } };
 
     ghost invariant = { λ queue. IsRing (S.places queue.table) queue.start queue.len };
 }
 
-/// The place that is `i` places behind `start`, round past the last place.
+/// Returns the place that is `i` places after `start`, where the first place follows the last.
 #[inline]
 fn place_after(start: usize, i: usize, capacity: usize) -> usize
     requires start { start ≤ capacity }
@@ -59,7 +69,7 @@ fn place_after(start: usize, i: usize, capacity: usize) -> usize
     }
 }
 
-/// The place behind `place`, round past the last place.
+/// Returns the place after `place`, where the first place follows the last.
 #[inline]
 fn next_after(place: usize, capacity: usize) -> usize
     requires { place < capacity }
@@ -71,9 +81,16 @@ fn next_after(place: usize, capacity: usize) -> usize
 impl<T, S: Table<T>> MetaQueue<T, S> {
     ghost use Rattle.ix_maps.specs.contracts.queue.meta_queue.MetaQueue.{the_row};
 
-    /// An empty queue over a table whose places are all empty.
+    /// Returns an empty queue over `table`, whose length is the capacity.
+    ///
+    /// Every place of `table` is empty. A table of any kind will do, one of your own too.
+    ///
+    /// ```text
+    /// let mut queue = MetaQueue::from_table(InlineTable::<u64, 2>::new());
+    /// queue.capacity();                 // 2
+    /// ```
     #[inline]
-    pub(crate) fn over(table: S) -> Self
+    pub fn from_table(table: S) -> Self
         requires { IsVacant (S.places table) }
         ensures { result ≡ bounded_new (length (S.places table)) }
     {
@@ -85,9 +102,7 @@ impl<T, S: Table<T>> MetaQueue<T, S> {
         }
     }
 
-    /// The number of items for which there is room, held ones among them.
-    ///
-    /// This is `capacity` of iceoryx2-bb-container.
+    /// Returns the maximum number of items.
     #[inline]
     pub fn capacity(&self) -> usize
         ensures { result ≡ self.now.capacity }
@@ -95,22 +110,16 @@ impl<T, S: Table<T>> MetaQueue<T, S> {
         self.table.len()
     }
 
-    /// The number of items.
-    ///
-    /// This is `len` of iceoryx2-bb-container.
+    /// Returns the number of items, which is at most the capacity.
     #[inline]
     pub fn len(&self) -> usize
-        // It is the list's length.
         ensures value { result ≡ length self.now.items }
-        // It is not above the capacity.
         ensures within { IsWithin self.now }
     {
         self.len
     }
 
-    /// Whether there is no item.
-    ///
-    /// This is `is_empty` of iceoryx2-bb-container.
+    /// Returns `true` if the queue has no items.
     #[inline]
     pub fn is_empty(&self) -> bool
         ensures { IsTrue result ↔ (self.now.items ≡ []) }
@@ -118,9 +127,7 @@ impl<T, S: Table<T>> MetaQueue<T, S> {
         self.len == 0
     }
 
-    /// Whether there are as many items as the capacity. A queue of capacity 0 is empty and full.
-    ///
-    /// This is `is_full` of iceoryx2-bb-container.
+    /// Returns `true` if the number of items is the capacity. A queue of capacity 0 is both empty and full.
     #[inline]
     pub fn is_full(&self) -> bool
         ensures { IsTrue result ↔ IsFull self.now }
@@ -128,20 +135,14 @@ impl<T, S: Table<T>> MetaQueue<T, S> {
         self.len == self.table.len()
     }
 
-    /// Adds `value` at the back and answers true, or drops it and answers false where the queue is full.
-    ///
-    /// This is `push` of iceoryx2-bb-container.
+    /// Appends `value` at the back and returns `true`; or drops it and returns false if the queue is full.
     #[inline]
     pub fn push(&mut self, value: T) -> bool
     where
         T: Drop,
-        // It answers whether there was room.
         ensures value { result ≡ has_room self.old }
-        // The item stands behind the others where there was room.
         ensures queue { self.new ≡ bounded_push self.old value }
-        // It is refused only where the queue is full.
         ensures full { OnFalse result (IsFull self.old) }
-        // A refusal changes nothing.
         ensures refused { OnFalse result (self.new ≡ self.old) }
     {
         let has_room = self.len < self.table.len();
@@ -151,23 +152,18 @@ impl<T, S: Table<T>> MetaQueue<T, S> {
         has_room
     }
 
-    /// Adds `value` at the back. Where the queue is full, the oldest item leaves and is handed back; at capacity 0 that
-    /// is `value` itself.
+    /// Appends `value` at the back. If the queue is full, removes the front item first and returns it; at capacity 0
+    /// returns `value` itself. Returns `None` otherwise.
     ///
     /// ```text
     /// let mut queue = FixedSizeQueue::<u64, 1>::new();
     /// queue.push_with_overflow(1);      // None
     /// queue.push_with_overflow(2);      // Some(1)
     /// ```
-    ///
-    /// This is `push_with_overflow` of iceoryx2-bb-container.
     #[inline]
     pub fn push_with_overflow(&mut self, value: T) -> Option<T>
-        // It answers the item that leaves, if one does.
         ensures value { result ≡ queue_overflow_item self.old value }
-        // The item stands behind the others, and the head left where that was too long.
         ensures queue { self.new ≡ queue_overflow self.old value }
-        // An item leaves exactly if the queue was full.
         ensures full { IsSome result ↔ IsFull self.old }
     {
         let capacity = self.table.len();
@@ -179,22 +175,17 @@ impl<T, S: Table<T>> MetaQueue<T, S> {
             return Some(value);
         }
         let start = self.start;
-        let oldest = self.table.take(start);
+        let front = self.table.take(start);
         self.table.put(start, value);
         self.start = next_after(start, capacity);
-        Some(oldest)
+        Some(front)
     }
 
-    /// Takes the oldest item, or answers None where there is none.
-    ///
-    /// This is `pop` of iceoryx2-bb-container.
+    /// Removes the front item and returns it, or `None` if the queue is empty.
     #[inline]
     pub fn pop(&mut self) -> Option<T>
-        // It answers the head.
         ensures value { result ≡ queue_front self.old }
-        // The head left.
         ensures queue { self.new ≡ queue_pop self.old }
-        // There was no item exactly if it answers None.
         ensures empty { IsNone result ↔ (self.old.items ≡ []) }
     {
         let start = self.start;
@@ -208,13 +199,10 @@ impl<T, S: Table<T>> MetaQueue<T, S> {
         Some(item)
     }
 
-    /// Drops every item, the oldest first. The queue is then as good as new. O(`len`).
-    ///
-    /// This is `clear` of iceoryx2-bb-container.
+    /// Removes all items and drops them, the front item first. O(`len`).
     pub fn clear(&mut self)
     where
         T: Drop,
-        // It has no item, and the same capacity.
         ensures { self.new ≡ bounded_new self.old.capacity }
     {
         while let Some(item) = self.pop() {
@@ -222,14 +210,10 @@ impl<T, S: Table<T>> MetaQueue<T, S> {
         }
     }
 
-    /// The oldest item, which stays where it is, or None where there is none.
-    ///
-    /// This is `peek` of iceoryx2-bb-container.
+    /// Returns a reference to the front item, or `None` if the queue is empty.
     #[inline]
     pub fn peek(&self) -> Option<&T>
-        // It answers the head.
         ensures value { option_copied result ≡ queue_front self.now }
-        // There is no item exactly if it answers None.
         ensures empty { IsNone result ↔ (self.now.items ≡ []) }
     {
         if self.len == 0 {
@@ -238,63 +222,51 @@ impl<T, S: Table<T>> MetaQueue<T, S> {
         Some(self.table.get(self.start))
     }
 
-    /// The oldest item for writing, which stays where it is, or None where there is none.
+    /// Returns a mutable reference to the front item, or `None` if the queue is empty.
     ///
     /// ```text
-    /// if let Some(oldest) = queue.peek_mut() {
-    ///     *oldest = 5;
+    /// if let Some(front) = queue.peek_mut() {
+    ///     *front = 5;
     /// }
-    /// queue.pop();                      // Some(5), where there was an item
+    /// queue.pop();                      // Some(5), if there was an item
     /// ```
-    ///
-    /// This is `peek_mut` of iceoryx2-bb-container.
     #[inline]
     pub fn peek_mut(&mut self) -> Option<&mut T>
-        // What is written comes back as the head, and every other item is as it was.
-        ensures* writes_back { sem 𝓛 (LendsIf (the_row T.row S.row S.Table) T.row self.entry result (queue_set_front self.old) self.old) }
-        // It answers the head.
+        ensures* writes_back { sem 𝓛 (LendsIf (the_row T.row S.row S.Table) T.row self.entry result
+            (queue_set_front self.old) self.old) }
         ensures value { option_copied_mut result ≡ queue_front self.old }
-        // There is no item exactly if it answers None.
         ensures empty { IsNone result ↔ (self.old.items ≡ []) }
     {
         if self.len == 0 {
             None
         } else {
-            Some(self.oldest_mut())
+            Some(self.front_mut())
         }
     }
 
-    /// The item `index`, counted from 0 at the oldest.
-    ///
-    /// This is `get` of iceoryx2-bb-container.
+    /// Returns a copy of the item at `index`, where 0 is the front. `index` is less than the number of items.
     #[inline]
     pub fn get(&self, index: usize) -> T
     where
         T: Copy,
-        // There is such an item.
         requires { index < length self.now.items }
-        // It is item `index` of the list.
         ensures { slice_get self.now.items index ≡ Some result }
     {
         *self.item_at(index)
     }
 
-    /// The item `index`, counted from 0 at the oldest, as [`MetaQueue::get`] gives it under the same condition.
-    ///
-    /// This is `get_unchecked` of iceoryx2-bb-container.
+    /// Does what [`MetaQueue::get`] does, under the same condition.
     #[inline]
     pub fn get_unchecked(&self, index: usize) -> T
     where
         T: Copy,
-        // There is such an item.
         requires { index < length self.now.items }
-        // It is item `index` of the list.
         ensures { slice_get self.now.items index ≡ Some result }
     {
         self.get(index)
     }
 
-    /// The item `index`, counted from 0 at the oldest.
+    /// Returns a reference to the item at `index`, where 0 is the front.
     #[inline]
     fn item_at(&self, index: usize) -> &T
         requires { index < length self.now.items }
@@ -304,17 +276,18 @@ impl<T, S: Table<T>> MetaQueue<T, S> {
             .get(place_after(self.start, index, self.table.len()))
     }
 
-    /// The oldest item, for writing.
+    /// Returns a mutable reference to the front item of a queue that has one.
     #[inline]
-    fn oldest_mut(&mut self) -> &mut T
+    fn front_mut(&mut self) -> &mut T
         requires { 0 < length self.old.items }
-        ensures* writes_back { sem 𝓛 (Lends (the_row T.row S.row S.Table) T.row self.entry result (queue_set_front self.old)) }
+        ensures* writes_back { sem 𝓛 (Lends (the_row T.row S.row S.Table) T.row self.entry result
+            (queue_set_front self.old)) }
         ensures value { queue_front self.old ≡ Some result.now }
     {
         self.table.get_mut(self.start)
     }
 
-    /// Adds `value` at the back.
+    /// Appends `value` at the back of a queue that is not full.
     #[inline]
     fn append(&mut self, value: T)
         requires { length self.old.items < self.old.capacity }
@@ -327,7 +300,7 @@ impl<T, S: Table<T>> MetaQueue<T, S> {
     }
 }
 
-/// The items that are left are dropped, the oldest first.
+/// Drops the items, the front item first.
 impl<T: Drop, S: Table<T>> Drop for MetaQueue<T, S> {
     fn drop(mut self) {
         self.clear();
@@ -341,15 +314,13 @@ impl<T: Drop, S: Table<T>> Drop for MetaQueue<T, S> {
     }
 }
 
-/// Queues are equal if their items are, in their order, wherever they stand in their rings and whatever the capacities.
-///
-/// This is `==` of `FixedSizeQueue` of iceoryx2-bb-container.
+/// Queues are equal if their items are, in order. Their capacities and the places of the items do not matter.
 impl<T: PartialEq, S: Table<T>> PartialEq for MetaQueue<T, S> {
     ghost eq = { λ queue other. pointwise T.eq queue.items other.items };
 
     ghost laws = { on_per (λ queue. queue.items) (lists_per T.laws) };
 
-    /// O(`len`) comparisons at most.
+    /// Returns `true` if the queues are equal. O(`len`).
     fn eq(&self, other: &Self) -> bool {
         if self.len() != other.len() {
             return false;
@@ -365,4 +336,15 @@ impl<T: PartialEq, S: Table<T>> PartialEq for MetaQueue<T, S> {
 
 impl<T: Eq, S: Table<T>> Eq for MetaQueue<T, S> {
     ghost laws = { on_equiv (λ queue. queue.items) (lists_equiv T.Eq.laws) };
+}
+
+/// Prints a list of the items, the front item first. O(`len`).
+impl<T: Debug, S: Table<T>> Debug for MetaQueue<T, S> {
+    fn fmt<W: Write>(&self, f: &mut Formatter<W>) -> fmt::Result {
+        let mut list = f.debug_list();
+        for i in 0..self.len() {
+            list.entry(self.item_at(i));
+        }
+        list.finish()
+    }
 }

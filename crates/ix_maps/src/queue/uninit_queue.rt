@@ -1,4 +1,4 @@
-//! The queue that has no memory yet.
+//! Queues that have no memory yet.
 ghost use Rattle.std.specs.Prelude.{◌≡◌};
 ghost use Rattle.ix_cells.specs.Bounded.{bounded_new};
 
@@ -18,14 +18,14 @@ impl<T: Drop, A: Allocator> ContainerFamily<A> for QueueFamily<T> {
 
     ghost is_empty_with = { λ capacity queue. queue ≡ bounded_new capacity };
 
-    /// O(`capacity`), and one request of memory at most.
+    /// Returns an empty queue with memory for `capacity` items. O(`capacity`). Allocates from `alloc` at most once.
     #[inline]
     fn with_capacity(alloc: A, capacity: usize) -> Result<RelocatableQueue<T, A>, AllocError> {
         Queue::new(alloc, capacity)
     }
 }
 
-/// A queue that has a capacity, and no memory yet.
+/// An uninitialised queue: a capacity without memory.
 /// [`RelocatableContainer::init`](ix_cells::RelocatableContainer::init) makes it a [`RelocatableQueue`].
 ///
 /// ```text

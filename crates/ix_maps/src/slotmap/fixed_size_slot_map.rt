@@ -1,18 +1,18 @@
 //! Slot maps in the value itself.
 ghost use Rattle.std.specs.Prelude.{◌≡◌, ◌≤◌};
-ghost use Rattle.ix_maps.specs.SlotState.{IsWellFormed, slot_new};
+ghost use Rattle.ix_maps.specs.SlotState.{slot_new};
 
 use crate::slotmap::{Link, MetaSlotMap};
 use ix_cells::{InlineTable, MAX_FIXED_CAPACITY};
 
-/// A slot map with `CAPACITY` keys, in the value itself.
+/// A slot map with `CAPACITY` keys, in the value itself. It never allocates.
 ///
 /// ```text
 /// let mut map = FixedSizeSlotMap::<char, 3>::new();
-/// map.insert('a');                          // Some(0)
-/// map.insert('b');                          // Some(1)
+/// map.insert('a');                          // Some: the key 0
+/// map.insert('b');                          // Some: the key 1
 /// map.remove(SlotMapKey::new(0));           // Some('a')
-/// map.next_free_key();                      // Some(0)
+/// map.next_free_key();                      // Some: the key 0
 /// map.insert_at(SlotMapKey::new(2), 'c');   // true
 /// ```
 ///
@@ -24,16 +24,12 @@ pub type FixedSizeSlotMap<T, const CAPACITY: usize> = MetaSlotMap<
 >;
 
 impl<T: Drop, const CAPACITY: usize> FixedSizeSlotMap<T, CAPACITY> {
-    /// An empty map.
+    /// Returns an empty map.
     ///
     /// O(`CAPACITY`). `CAPACITY` is at most [`MAX_FIXED_CAPACITY`].
     pub fn new() -> Self
-        // The capacity is one that fixed kinds have.
         requires { CAPACITY ≤ MAX_FIXED_CAPACITY }
-        // No key has a value, and the free keys are 0, 1 and so on.
-        ensures map { result ≡ slot_new CAPACITY }
-        // The free keys are exactly those with no value.
-        ensures formed { IsWellFormed result }
+        ensures { result ≡ slot_new CAPACITY }
     {
         MetaSlotMap::from_tables(InlineTable::new(), InlineTable::new())
     }

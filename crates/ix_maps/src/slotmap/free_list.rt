@@ -1,19 +1,19 @@
-//! Steps on a table of links, which is a doubly linked list of free keys.
+//! The list of free keys, which is doubly linked: steps on its table of links.
 ghost use Rattle.std.specs.Prelude.{◌≡◌, ◌+◌, ◌<◌, ◌≤◌, length, Some, None, replicate, slice_set};
 ghost use Rattle.std.specs.List.{range_with_len};
 ghost use Rattle.ix_cells.specs.Places.{IsHeldAt, IsVacant};
-ghost use Rattle.ix_maps.specs.FreeList.{no_key, first_or, IsLinkTable, IsKeyOrNone, IsLinkWithin, IsRisingList, IsToldBy, with_next, with_previous, unlinked, linked_first, first_without};
+ghost use Rattle.ix_maps.specs.FreeList.{no_key, first_or, IsLinkTable, IsKeyOrNone, IsLinkWithin, IsRisingList, MatchesLinks, links_set_next, links_set_previous, links_remove, links_remove_first, links_insert_first, first_after_remove};
 
 use crate::slotmap::Link;
 use crate::slotmap::link::NO_KEY;
 use ix_cells::{Counted, Table, Touches};
 
-/// Writes `key`'s link.
+/// Replaces the link of `key`.
 #[inline]
 fn set_link<L: Table<Link>>(links: &mut Counted<L>, key: usize, link: Link, touches: &mut Touches)
     requires { IsHeldAt (L.places links.old) key }
     ensures links { L.places links.new ≡ slice_set (L.places links.old) key (Some link) }
-    ensures touches { touches.new.count ≡ touches.old.count + 2 }
+    ensures touches { touches.new ≡ touches.old + 2 }
 {
     // Field by field, so that the bytes between the fields are not written.
     let place = links.get_mut(key, touches);
@@ -22,21 +22,21 @@ fn set_link<L: Table<Link>>(links: &mut Counted<L>, key: usize, link: Link, touc
     place.next = link.next;
 }
 
-/// Writes which key stands behind `key`, where that is a key.
+/// Makes `to` the key after `key`. Does nothing if `key` is [`NO_KEY`].
 #[inline]
 fn set_next<L: Table<Link>>(links: &mut Counted<L>, key: usize, to: usize, touches: &mut Touches)
     requires links { IsLinkTable (L.places links.old) }
     requires key { IsKeyOrNone key (L.places links.old) }
-    ensures links { L.places links.new ≡ with_next (L.places links.old) key to }
-    ensures touches { touches.new.count ≤ touches.old.count + 2 }
-    ensures counts_on { touches.old.count ≤ touches.new.count }
+    ensures links { L.places links.new ≡ links_set_next (L.places links.old) key to }
+    ensures touches { touches.new ≤ touches.old + 2 }
+    ensures counts_on { touches.old ≤ touches.new }
 {
     if key != NO_KEY {
         links.get_mut(key, touches).next = to;
     }
 }
 
-/// Writes which key stands before `key`, where that is a key.
+/// Makes `to` the key before `key`. Does nothing if `key` is [`NO_KEY`].
 #[inline]
 fn set_previous<L: Table<Link>>(
     links: &mut Counted<L>,
@@ -46,18 +46,18 @@ fn set_previous<L: Table<Link>>(
 )
     requires links { IsLinkTable (L.places links.old) }
     requires key { IsKeyOrNone key (L.places links.old) }
-    ensures links { L.places links.new ≡ with_previous (L.places links.old) key to }
-    ensures touches { touches.new.count ≤ touches.old.count + 2 }
-    ensures counts_on { touches.old.count ≤ touches.new.count }
+    ensures links { L.places links.new ≡ links_set_previous (L.places links.old) key to }
+    ensures touches { touches.new ≤ touches.old + 2 }
+    ensures counts_on { touches.old ≤ touches.new }
 {
     if key != NO_KEY {
         links.get_mut(key, touches).previous = to;
     }
 }
 
-/// Takes a free key, which has this link, out of the list.
+/// Removes a free key, which has this link, from the list.
 #[inline]
-pub(crate) fn unlink<L: Table<Link>>(
+pub(crate) fn remove<L: Table<Link>>(
     links: &mut Counted<L>,
     key: usize,
     link: Link,
@@ -65,20 +65,38 @@ pub(crate) fn unlink<L: Table<Link>>(
 )
     requires links { IsLinkTable (L.places links.old) }
     requires key { key < length (L.places links.old) }
-    // The keys beside it are the table's.
-    requires beside { IsLinkWithin (Some link) (L.places links.old) }
-    ensures links { L.places links.new ≡ unlinked (L.places links.old) key link }
-    ensures touches { touches.new.count ≤ touches.old.count + 6 }
-    ensures counts_on { touches.old.count ≤ touches.new.count }
+    requires link { IsLinkWithin (Some link) (L.places links.old) }
+    ensures links { L.places links.new ≡ links_remove (L.places links.old) key link }
+    ensures touches { touches.new ≤ touches.old + 6 }
+    ensures counts_on { touches.old ≤ touches.new }
 {
     set_link(links, key, Link::HELD, touches);
     set_next(links, link.previous, link.next, touches);
     set_previous(links, link.next, link.previous, touches);
 }
 
-/// Puts a key in front of `first`, the first of the list.
+/// Removes the first key, which is followed by `next`, from the list.
 #[inline]
-pub(crate) fn link_first<L: Table<Link>>(
+pub(crate) fn remove_first<L: Table<Link>>(
+    links: &mut Counted<L>,
+    key: usize,
+    next: usize,
+    touches: &mut Touches,
+)
+    requires links { IsLinkTable (L.places links.old) }
+    requires key { key < length (L.places links.old) }
+    requires next { IsKeyOrNone next (L.places links.old) }
+    ensures links { L.places links.new ≡ links_remove_first (L.places links.old) key next }
+    ensures touches { touches.new ≤ touches.old + 4 }
+    ensures counts_on { touches.old ≤ touches.new }
+{
+    set_link(links, key, Link::HELD, touches);
+    set_previous(links, next, NO_KEY, touches);
+}
+
+/// Inserts a key before `first`, the first of the list.
+#[inline]
+pub(crate) fn insert_first<L: Table<Link>>(
     links: &mut Counted<L>,
     key: usize,
     first: usize,
@@ -87,18 +105,23 @@ pub(crate) fn link_first<L: Table<Link>>(
     requires links { IsLinkTable (L.places links.old) }
     requires key { key < length (L.places links.old) }
     requires first { IsKeyOrNone first (L.places links.old) }
-    ensures links { L.places links.new ≡ linked_first (L.places links.old) key first }
-    ensures touches { touches.new.count ≤ touches.old.count + 4 }
-    ensures counts_on { touches.old.count ≤ touches.new.count }
+    ensures links { L.places links.new ≡ links_insert_first (L.places links.old) key first }
+    ensures touches { touches.new ≤ touches.old + 4 }
+    ensures counts_on { touches.old ≤ touches.new }
 {
-    set_link(links, key, Link::first_before(first), touches);
+    let link = Link {
+        is_free: true,
+        previous: NO_KEY,
+        next: first,
+    };
+    set_link(links, key, link, touches);
     set_previous(links, first, key, touches);
 }
 
-/// The first of the list once a key with this link has left it.
+/// Returns the first of the list after a key that had this link is removed.
 #[inline]
-pub(crate) fn first_left(first: usize, link: Link) -> usize
-    ensures { result ≡ first_without first link }
+pub(crate) fn first_after_remove(first: usize, link: Link) -> usize
+    ensures { result ≡ first_after_remove first link }
 {
     if link.previous == NO_KEY {
         link.next
@@ -107,7 +130,7 @@ pub(crate) fn first_left(first: usize, link: Link) -> usize
     }
 }
 
-/// Links all `len` keys in rising order, and answers the first of them.
+/// Links all `len` keys in rising order, and returns the first of them. O(`len`).
 pub(crate) fn link_all<L: Table<Link>>(links: &mut Counted<L>, len: usize) -> usize
     requires { L.places links.old ≡ replicate len None }
     ensures links { IsRisingList len (L.places links.new) }
@@ -125,12 +148,13 @@ pub(crate) fn link_all<L: Table<Link>>(links: &mut Counted<L>, len: usize) -> us
     if len == 0 { NO_KEY } else { 0 }
 }
 
-/// Takes every value and every link out of their tables, and drops the values in the order of their keys.
-pub(crate) fn take_all<T: Drop, S: Table<T>, L: Table<Link>>(
+/// Takes every value and every link out of their tables, and drops the values, that of the least key first.
+/// O(capacity).
+pub(crate) fn drop_all<T: Drop, S: Table<T>, L: Table<Link>>(
     values: &mut Counted<S>,
     links: &mut Counted<L>,
 )
-    requires { IsToldBy (S.places values.old) (L.places links.old) }
+    requires { MatchesLinks (S.places values.old) (L.places links.old) }
     ensures values { IsVacant (S.places values.new) }
     ensures links { IsVacant (L.places links.new) }
 {

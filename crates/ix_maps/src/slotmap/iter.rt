@@ -1,21 +1,32 @@
-//! The walk over a slot map.
+//! The iterator of slot maps.
+ghost use Rattle.std.specs.Prelude.{◌≡◌};
 ghost use Rattle.std.specs.Iterator.{YieldsFirstBy, item_count};
+ghost use Rattle.ix_maps.specs.SlotState.{entries};
 
 use crate::slotmap::{Link, MetaSlotMap, SlotMapKey};
 use ix_cells::Table;
 use std::marker::Model;
 
-/// The held keys of a slot map in rising order, each with its value, as [`MetaSlotMap::iter`] gives them. A contract
-/// sees those that are still to come.
+/// An iterator over the held keys of a slot map in rising order, each with its value, as [`MetaSlotMap::iter`] returns
+/// it. Contracts see the items that are still to come.
+///
+/// ```text
+/// let mut map = FixedSizeSlotMap::<char, 3>::new();
+/// map.insert_at(SlotMapKey::new(2), 'c');
+/// map.insert('a');
+/// for (key, value) in map.iter() {      // (0, 'a'), (2, 'c')
+///     report(key.value(), value);
+/// }
+/// ```
 ///
 /// This is `Iter` of iceoryx2-bb-container.
 #[derive(Drop)]
 pub struct Iter<'a, T, S: Table<T>, L: Table<Link>> {
-    pub(crate) map: &'a MetaSlotMap<T, S, L>,
-    /// The keys below this one were passed.
-    pub(crate) key: usize,
-    /// So many keys are still to come.
-    pub(crate) left: usize,
+    map: &'a MetaSlotMap<T, S, L>,
+    /// The least key that is still to be visited.
+    key: usize,
+    /// The number of items that are still to come.
+    left: usize,
 }
 
 impl<'a, T, S: Table<T>, L: Table<Link>> Model for Iter<'a, T, S, L> {
@@ -26,7 +37,22 @@ impl<'a, T, S: Table<T>, L: Table<Link>> Model for Iter<'a, T, S, L> {
 
     ghost view = { λ iter. entries_from iter.key (drop iter.key iter.map.now.values) };
 
-    ghost invariant = { λ iter. iter.left ≡ length (entries_from iter.key (drop iter.key iter.map.now.values)) };
+    ghost invariant = { λ iter.
+        iter.left ≡ length (entries_from iter.key (drop iter.key iter.map.now.values)) };
+}
+
+impl<'a, T, S: Table<T>, L: Table<Link>> Iter<'a, T, S, L> {
+    /// Returns an iterator over all held keys. O(1).
+    #[inline]
+    pub(crate) fn new(map: &'a MetaSlotMap<T, S, L>) -> Self
+        ensures { result ≡ entries map.now }
+    {
+        Iter {
+            map,
+            key: 0,
+            left: map.len(),
+        }
+    }
 }
 
 impl<'a, T, S: Table<T>, L: Table<Link>> Iterator for Iter<'a, T, S, L> {
@@ -36,7 +62,7 @@ impl<'a, T, S: Table<T>, L: Table<Link>> Iterator for Iter<'a, T, S, L> {
 
     ghost remaining = { item_count (λ rest. rest) };
 
-    /// The next held key with its value. O(the number of free keys before it).
+    /// Returns the next held key with its value, or `None` after the last one. O(the number of free keys before it).
     #[inline]
     fn next(&mut self) -> Option<(SlotMapKey, &'a T)> {
         if self.left == 0 {

@@ -1,37 +1,50 @@
-//! The slot map over any two tables, and the calls that read it.
-ghost use Rattle.std.specs.Prelude.{◌≡◌, ℕ, nat_eq, ◌+◌, ◌<◌, ◌↔◌, [], length, drop, replicate, Option, Some, None, IsTrue, IsNone, option_copied, true, false};
+//! The slot map over any two tables.
+ghost use Rattle.std.specs.Prelude.{◌≡◌, ◌≢◌, ℕ, nat_eq, ◌+◌, ◌<◌, ◌≤◌, ◌↔◌, [], length, drop, replicate, slice_get, Some, None, IsTrue, IsNone, IfSome, option_copied, true, false};
 ghost use Rattle.std.specs.List.Sorted.{IsStrictlyIncreasing};
 ghost use Rattle.std.specs.Map.{keys_of, lookup};
 ghost use Rattle.std.specs.Borrow.{sem, Lends, LendsIf};
 ghost use Rattle.std.specs.Option.{option_copied_mut};
 ghost use Rattle.ix_cells.specs.Places.{IsVacant};
-ghost use Rattle.ix_maps.specs.SlotState.{SlotState, times, first_of, value_at, IsHeld, IsKey, IsWellFormed, slot_new, held_count, entries, entries_from};
-ghost use Rattle.ix_maps.specs.SlotSteps.{with_value};
+ghost use Rattle.ix_maps.specs.SlotState.{value_at, IsHeld, IsKey, IsFree, IsWellFormed, slot_new, held_count, entries, entries_from};
+ghost use Rattle.ix_maps.specs.SlotSteps.{slot_set, slot_fill, slot_vacate, slot_insert, SlotInsert, SlotInsertAt, SlotRemove};
 ghost use Rattle.ix_maps.specs.FreeList.{no_key};
 
-use crate::slotmap::free_list::{link_all, take_all};
+use crate::slotmap::free_list::{
+    drop_all, first_after_remove, insert_first, link_all, remove, remove_first,
+};
 use crate::slotmap::link::NO_KEY;
 use crate::slotmap::{Iter, Link, SlotMapKey};
 use ix_cells::{Counted, Table, Touches};
+use std::fmt::{self, Debug, Formatter, Write};
 use std::marker::{Model, PhantomData};
 
-/// Values under keys of the map's choosing, in a table of values `S` and a table of links `L`. Contracts see it as a
-/// slot state: the value or nothing at each key, and the free keys in their order.
+/// A map from keys that it chooses itself to values, over a table of values `S` and a table of links `L`. Contracts see
+/// the value or nothing at each key, and the free keys in their order.
 ///
-/// The keys are 0 to one below the capacity. A key with no value is free, and stands in a list of free keys, at first
-/// in rising order: [`MetaSlotMap::insert`] takes the first, [`MetaSlotMap::remove`] puts a key in front. A key that is
-/// out of range, the greatest number too, is answered false or None.
+/// The keys are the numbers from 0 to one below the capacity. A key that has a value is held, any other is free. The
+/// free keys are a list, in rising order at first: [`MetaSlotMap::insert`] removes the first key of the list, and
+/// [`MetaSlotMap::remove`] makes a key the first. A key out of range, up to `usize::MAX`, is an ordinary case, for
+/// which calls return false or `None`.
 ///
-/// Every call but [`MetaSlotMap::iter`] and the end of a map takes O(1) time, and no call takes memory. A map that ends
-/// drops the values that it still holds.
+/// Each call takes O(1) time if nothing else is said, and no call allocates. A map that is dropped drops its values,
+/// that of the least key first, in O(capacity) time.
+///
+/// ```text
+/// let mut map = FixedSizeSlotMap::<char, 2>::new();
+/// if let Some(key) = map.insert('a') {  // the key 0
+///     map.get(key);                     // Some(&'a')
+///     map.remove(key);                  // Some('a')
+///     map.contains(key);                // false
+/// }
+/// ```
 ///
 /// This is `MetaSlotMap` of iceoryx2-bb-container.
 pub struct MetaSlotMap<T, S: Table<T>, L: Table<Link>> {
-    pub(crate) values: Counted<S>,
-    pub(crate) links: Counted<L>,
-    pub(crate) first: usize,
-    pub(crate) len: usize,
-    pub(crate) of: PhantomData<T>,
+    values: Counted<S>,
+    links: Counted<L>,
+    first: usize,
+    len: usize,
+    of: PhantomData<T>,
 }
 
 impl<T, S: Table<T>, L: Table<Link>> Model for MetaSlotMap<T, S, L> {
@@ -44,24 +57,21 @@ impl<T, S: Table<T>, L: Table<Link>> Model for MetaSlotMap<T, S, L> {
 
     ghost view = { λ map. slots_of (S.places map.values) (L.places map.links) map.first };
 
-    ghost invariant = { λ map. Represents (slots_of (S.places map.values) (L.places map.links) map.first) (L.places map.links) map.first map.len };
+    ghost invariant = { λ map.
+        Represents (slots_of (S.places map.values) (L.places map.links) map.first)
+        (L.places map.links) map.first map.len };
 }
 
 impl<T, S: Table<T>, L: Table<Link>> MetaSlotMap<T, S, L> {
     ghost use Rattle.ix_maps.specs.contracts.slotmap.meta_slot_map.MetaSlotMap.{the_row};
 
-    /// An empty map over two tables of one length, which becomes its capacity.
+    /// Returns an empty map over two tables of the same length, which is the capacity. O(capacity).
     ///
-    /// O(capacity). Both tables are empty.
+    /// Every place of both tables is empty. A table of any kind will do, one of your own too.
     pub fn from_tables(values: S, links: L) -> Self
-        // No place holds a value.
         requires values { IsVacant (S.places values) }
-        // No place holds a link, and there are as many places.
         requires links { L.places links ≡ replicate (length (S.places values)) None }
-        // No key has a value, and the free keys are 0, 1 and so on.
-        ensures map { result ≡ slot_new (length (S.places values)) }
-        // The free keys are exactly those with no value.
-        ensures formed { IsWellFormed result }
+        ensures { result ≡ slot_new (length (S.places values)) }
     {
         let values = Counted::new(values);
         let mut links = Counted::new(links);
@@ -75,29 +85,26 @@ impl<T, S: Table<T>, L: Table<Link>> MetaSlotMap<T, S, L> {
         }
     }
 
-    /// The number of keys, free ones and held ones.
+    /// Returns the number of keys, held and free: the maximum number of values.
     #[inline]
     pub fn capacity(&self) -> usize
-        // Each place is a key.
         ensures value { result ≡ length self.now.values }
-        // The free keys are exactly those with no value.
+        // This holds of every map, whatever calls were made.
         ensures formed { IsWellFormed self.now }
     {
         self.values.len()
     }
 
-    /// The number of values.
+    /// Returns the number of values.
     #[inline]
     pub fn len(&self) -> usize
-        // It is the number of keys with a value.
         ensures value { result ≡ held_count self.now }
-        // Each key has a value or is free.
         ensures rest { held_count self.now + length self.now.free ≡ length self.now.values }
     {
         self.len
     }
 
-    /// Whether no key has a value.
+    /// Returns `true` if no key has a value.
     #[inline]
     pub fn is_empty(&self) -> bool
         ensures { IsTrue result ↔ (held_count self.now ≡ 0) }
@@ -105,23 +112,20 @@ impl<T, S: Table<T>, L: Table<Link>> MetaSlotMap<T, S, L> {
         self.len == 0
     }
 
-    /// Whether every key has a value. A map of capacity 0 is empty and full.
+    /// Returns `true` if every key has a value. A map of capacity 0 is both empty and full.
     #[inline]
     pub fn is_full(&self) -> bool
-        // There are as many values as keys.
         ensures value { IsTrue result ↔ (held_count self.now ≡ length self.now.values) }
-        // That is, no key is free.
         ensures free { IsTrue result ↔ (self.now.free ≡ []) }
     {
         self.len == self.values.len()
     }
 
-    /// The key that the next [`MetaSlotMap::insert`] answers, or None where the map is full.
+    /// Returns the key that the next [`MetaSlotMap::insert`] will return, or `None` if the map is full.
     #[inline]
     pub fn next_free_key(&self) -> Option<SlotMapKey>
-        // It is the first free key.
-        ensures value { result ≡ first_of self.now.free }
-        // There is none exactly if every key has a value.
+        ensures value { result ≡ slice_get self.now.free 0 }
+        ensures free { IfSome result (IsFree self.now) }
         ensures full { IsNone result ↔ (held_count self.now ≡ length self.now.values) }
     {
         if self.first == NO_KEY {
@@ -131,7 +135,7 @@ impl<T, S: Table<T>, L: Table<Link>> MetaSlotMap<T, S, L> {
         }
     }
 
-    /// Whether `key` has a value: false for a free key, and for a key out of range.
+    /// Returns `true` if `key` has a value, and false if it is free or out of range.
     #[inline]
     pub fn contains(&self, key: SlotMapKey) -> bool
         ensures { IsTrue result ↔ IsHeld self.now key }
@@ -140,7 +144,7 @@ impl<T, S: Table<T>, L: Table<Link>> MetaSlotMap<T, S, L> {
         key < self.capacity() && !self.is_free(key, &mut Touches::new())
     }
 
-    /// The value under `key`: None for a free key, and for a key out of range.
+    /// Returns the value at `key`, or `None` if `key` is free or out of range.
     #[inline]
     pub fn get(&self, key: SlotMapKey) -> Option<&T>
         ensures { option_copied result ≡ value_at self.now key }
@@ -153,12 +157,11 @@ impl<T, S: Table<T>, L: Table<Link>> MetaSlotMap<T, S, L> {
         }
     }
 
-    /// The value under `key`, for writing: None for a free key, and for a key out of range.
+    /// Returns a mutable reference to the value at `key`, or `None` if `key` is free or out of range.
     #[inline]
     pub fn get_mut(&mut self, key: SlotMapKey) -> Option<&mut T>
-        // What is written comes back to that key, and nothing else changes.
-        ensures* writes_back { sem 𝓛 (LendsIf (the_row T.row S.row L.row S.Table L.Table) T.row self.entry result (with_value self.old key) self.old) }
-        // The result is that value.
+        ensures* writes_back { sem 𝓛 (LendsIf (the_row T.row S.row L.row S.Table L.Table) T.row self.entry result
+            (slot_set self.old key) self.old) }
         ensures value { option_copied_mut result ≡ value_at self.old key }
     {
         if self.contains(key) {
@@ -168,27 +171,123 @@ impl<T, S: Table<T>, L: Table<Link>> MetaSlotMap<T, S, L> {
         }
     }
 
-    /// The held keys in rising order, with their values. O(1), and O(capacity) for the whole walk, which ends at the last
-    /// held key.
+    /// Returns an iterator over the held keys in rising order, each with its value. O(1), and O(capacity) for all of
+    /// its items together.
     #[inline]
     pub fn iter(&self) -> Iter<'_, T, S, L>
-        // What is to come is the held keys in rising order, with their values.
         ensures entries { result ≡ entries self.now }
-        // Each key is above the one before it.
         ensures rising { IsStrictlyIncreasing (keys_of result) }
-        // Under each key stands the value that it has, and nothing under a key with none.
         ensures exactly { (key : ℕ) → lookup (nat_eq key) result ≡ value_at self.now key }
     {
-        Iter {
-            map: self,
-            key: 0,
-            left: self.len,
-        }
+        Iter::new(self)
     }
 
-    /// The value under a key of the map, if it has one.
+    /// Inserts `value` at the first free key and returns that key; or drops `value` and returns `None` if the map is
+    /// full.
+    ///
+    /// ```text
+    /// let mut map = FixedSizeSlotMap::<char, 1>::new();
+    /// map.insert('a');                      // the key 0
+    /// map.insert('b');                      // None
+    /// ```
     #[inline]
-    pub(crate) fn value(&self, key: usize) -> Option<&T>
+    pub fn insert(&mut self, value: T) -> Option<SlotMapKey>
+    where
+        T: Drop,
+        ensures { SlotInsert self.old value self.new result }
+    {
+        self.insert_counted(value, &mut Touches::new())
+    }
+
+    /// Inserts `value` at `key` and returns `true`; a value that is there already is dropped. Drops `value` and returns
+    /// false if `key` is out of range.
+    #[inline]
+    pub fn insert_at(&mut self, key: SlotMapKey, value: T) -> bool
+    where
+        T: Drop,
+        ensures { SlotInsertAt self.old key value self.new result }
+    {
+        self.insert_at_counted(key, value, &mut Touches::new())
+    }
+
+    /// Removes the value at `key` and returns it, or `None` if `key` is free or out of range. A key whose value is
+    /// removed is the first free key.
+    #[inline]
+    pub fn remove(&mut self, key: SlotMapKey) -> Option<T>
+        ensures { SlotRemove self.old key self.new result }
+    {
+        self.remove_counted(key, &mut Touches::new())
+    }
+
+    /// Does what [`MetaSlotMap::insert`] does, and raises `touches` by at most 16, whatever the capacity.
+    #[inline]
+    pub fn insert_counted(&mut self, value: T, touches: &mut Touches) -> Option<SlotMapKey>
+    where
+        T: Drop,
+        ensures step { SlotInsert self.old value self.new result }
+        ensures touches { touches.new ≤ touches.old + 16 }
+        ensures counts_on { touches.old ≤ touches.new }
+    {
+        if self.first == NO_KEY {
+            return None;
+        }
+        let key = self.first;
+        self.fill_first(value, touches);
+        Some(SlotMapKey::new(key))
+    }
+
+    /// Does what [`MetaSlotMap::insert_at`] does, and raises `touches` by at most 16, whatever the capacity.
+    #[inline]
+    pub fn insert_at_counted(&mut self, key: SlotMapKey, value: T, touches: &mut Touches) -> bool
+    where
+        T: Drop,
+        ensures step { SlotInsertAt self.old key value self.new result }
+        ensures touches { touches.new ≤ touches.old + 16 }
+        ensures counts_on { touches.old ≤ touches.new }
+    {
+        let key = key.value();
+        if key >= self.capacity() {
+            return false;
+        }
+        if self.is_free(key, touches) {
+            self.fill(key, value, touches);
+        } else {
+            self.replace(key, value, touches);
+        }
+        true
+    }
+
+    /// Does what [`MetaSlotMap::remove`] does, and raises `touches` by at most 16, whatever the capacity.
+    #[inline]
+    pub fn remove_counted(&mut self, key: SlotMapKey, touches: &mut Touches) -> Option<T>
+        ensures step { SlotRemove self.old key self.new result }
+        ensures touches { touches.new ≤ touches.old + 16 }
+        ensures counts_on { touches.old ≤ touches.new }
+    {
+        let key = key.value();
+        if key >= self.capacity() {
+            return None;
+        }
+        if self.is_free(key, touches) {
+            return None;
+        }
+        Some(self.vacate(key, touches))
+    }
+
+    /// Returns `true` if a key in range is free.
+    #[inline]
+    fn is_free(&self, key: usize, touches: &mut Touches) -> bool
+        requires { IsKey self.now key }
+        ensures free { result ≡ true → IsFree self.now key }
+        ensures held { result ≡ false → IsHeld self.now key }
+        ensures touches { touches.new ≡ touches.old + 1 }
+    {
+        self.links.get(key, touches).is_free
+    }
+
+    /// Returns the value at a key in range, if it has one.
+    #[inline]
+    fn value(&self, key: usize) -> Option<&T>
         requires { IsKey self.now key }
         ensures { option_copied result ≡ value_at self.now key }
     {
@@ -200,7 +299,7 @@ impl<T, S: Table<T>, L: Table<Link>> MetaSlotMap<T, S, L> {
         }
     }
 
-    /// The value under a held key.
+    /// Returns the value at a held key.
     #[inline]
     pub(crate) fn held_value(&self, key: usize) -> &T
         requires { IsHeld self.now key }
@@ -209,16 +308,25 @@ impl<T, S: Table<T>, L: Table<Link>> MetaSlotMap<T, S, L> {
         self.values.get(key, &mut Touches::new())
     }
 
-    /// The least held key from `start` on, of which there is one.
+    /// Returns a mutable reference to the value at a held key.
+    #[inline]
+    fn value_mut(&mut self, key: usize) -> &mut T
+        requires { IsHeld self.old key }
+        ensures* writes_back { sem 𝓛 (Lends (the_row T.row S.row L.row S.Table L.Table) T.row self.entry result
+            (slot_set self.old key)) }
+        ensures value { value_at self.old key ≡ Some result.now }
+    {
+        self.values.get_mut(key, &mut Touches::new())
+    }
+
+    /// Returns the least held key that is `start` or greater; there is one.
     #[inline]
     pub(crate) fn held_from(&self, start: usize) -> usize
         requires { 0 < length (entries_from start (drop start self.now.values)) }
-        // It is held.
         ensures held { IsHeld self.now result }
-        // It is not the greatest number.
-        ensures within { result < no_key }
-        // No key before it is.
-        ensures entries { entries_from result (drop result self.now.values) ≡ entries_from start (drop start self.now.values) }
+        ensures below { result < no_key }
+        ensures entries { entries_from result (drop result self.now.values)
+            ≡ entries_from start (drop start self.now.values) }
     {
         // Each key is below this number, so that the next one fits.
         let _capacity = self.capacity();
@@ -230,31 +338,69 @@ impl<T, S: Table<T>, L: Table<Link>> MetaSlotMap<T, S, L> {
         key
     }
 
-    /// The value under a held key, for writing.
+    /// Inserts a value at a free key, which leaves the list of free keys.
     #[inline]
-    fn value_mut(&mut self, key: usize) -> &mut T
-        requires { IsHeld self.old key }
-        ensures* writes_back { sem 𝓛 (Lends (the_row T.row S.row L.row S.Table L.Table) T.row self.entry result (with_value self.old key)) }
-        ensures value { value_at self.old key ≡ Some result.now }
+    fn fill(&mut self, key: usize, value: T, touches: &mut Touches)
+        requires { IsFree self.old key }
+        ensures map { self.new ≡ slot_fill self.old key value }
+        ensures touches { touches.new ≤ touches.old + 8 }
+        ensures counts_on { touches.old ≤ touches.new }
     {
-        self.values.get_mut(key, &mut Touches::new())
+        let link = *self.links.get(key, touches);
+        remove(&mut self.links, key, link, touches);
+        self.first = first_after_remove(self.first, link);
+        self.values.put(key, value, touches);
+        self.len += 1;
     }
 
-    /// Whether a key of the map is free.
+    /// Inserts a value at the first free key. No key is before it in the list, so there is less to do than in
+    /// [`MetaSlotMap::fill`].
     #[inline]
-    pub(crate) fn is_free(&self, key: usize, touches: &mut Touches) -> bool
-        requires { IsKey self.now key }
-        ensures free { result ≡ true → 0 < times key self.now.free }
-        ensures empty { result ≡ true → value_at self.now key ≡ None }
-        ensures held { result ≡ false → IsHeld self.now key }
-        ensures formed { IsWellFormed self.now }
-        ensures touches { touches.new.count ≡ touches.old.count + 1 }
+    fn fill_first(&mut self, value: T, touches: &mut Touches)
+        requires { self.old.free ≢ [] }
+        ensures map { self.new ≡ slot_insert self.old value }
+        ensures touches { touches.new ≤ touches.old + 8 }
+        ensures counts_on { touches.old ≤ touches.new }
     {
-        self.links.get(key, touches).is_free
+        let key = self.first;
+        let next = self.links.get(key, touches).next;
+        remove_first(&mut self.links, key, next, touches);
+        self.first = next;
+        self.values.put(key, value, touches);
+        self.len += 1;
+    }
+
+    /// Replaces the value at a held key.
+    #[inline]
+    fn replace(&mut self, key: usize, value: T, touches: &mut Touches)
+    where
+        T: Drop,
+        requires { IsHeld self.old key }
+        ensures map { self.new ≡ slot_fill self.old key value }
+        ensures touches { touches.new ≡ touches.old + 2 }
+    {
+        *self.values.get_mut(key, touches) = value;
+    }
+
+    /// Removes the value at a held key, which becomes the first free key.
+    #[inline]
+    fn vacate(&mut self, key: usize, touches: &mut Touches) -> T
+        requires { IsHeld self.old key }
+        ensures value { value_at self.old key ≡ Some result }
+        ensures map { self.new ≡ slot_vacate self.old key }
+        ensures touches { touches.new ≤ touches.old + 5 }
+        ensures counts_on { touches.old ≤ touches.new }
+    {
+        // First the link, which was looked at just now.
+        insert_first(&mut self.links, key, self.first, touches);
+        let value = self.values.take(key, touches);
+        self.first = key;
+        self.len -= 1;
+        value
     }
 }
 
-/// The values that are left are dropped, that of the least key first.
+/// Drops the values, that of the least key first.
 impl<T: Drop, S: Table<T>, L: Table<Link>> Drop for MetaSlotMap<T, S, L> {
     fn drop(self) {
         let MetaSlotMap {
@@ -264,8 +410,19 @@ impl<T: Drop, S: Table<T>, L: Table<Link>> Drop for MetaSlotMap<T, S, L> {
             len: _,
             of: _,
         } = self;
-        take_all(&mut values, &mut links);
+        drop_all(&mut values, &mut links);
         values.end();
         links.end();
+    }
+}
+
+/// Prints a map from the numbers of the held keys to their values, in rising order. O(capacity).
+impl<T: Debug, S: Table<T>, L: Table<Link>> Debug for MetaSlotMap<T, S, L> {
+    fn fmt<W: Write>(&self, f: &mut Formatter<W>) -> fmt::Result {
+        let mut map = f.debug_map();
+        for (key, value) in self.iter() {
+            map.entry(&key.value(), value);
+        }
+        map.finish()
     }
 }

@@ -4,16 +4,22 @@ ghost use Rattle.std.specs.Prelude.{◌≡◌};
 use crate::slotmap::{SlotMap, UninitSlotMap};
 use std::alloc::{Allocator, Global};
 
-/// A slot map that has a capacity first, as [`UninitSlotMap`], and memory of the allocator `A` in a second step.
+/// A slot map that is made in two steps: first its capacity, as an [`UninitSlotMap`], and later its memory, allocated
+/// from `A`.
+///
+/// ```text
+/// let uninit = RelocatableSlotMap::<char>::new_uninit(3);
+/// let mut map = uninit.init(alloc)?;
+/// map.insert('a');                          // Some: the key 0
+/// ```
 ///
 /// This is `RelocatableSlotMap` of iceoryx2-bb-container.
 pub type RelocatableSlotMap<T, A = Global> = SlotMap<T, A>;
 
 impl<T: Drop, A: Allocator + Copy> RelocatableSlotMap<T, A> {
-    /// A map with `capacity` keys that has no memory yet. O(1).
+    /// Returns an uninitialised map with `capacity` keys. Does not allocate. O(1).
     #[inline]
     pub fn new_uninit(capacity: usize) -> UninitSlotMap<T>
-        // It has this capacity.
         ensures { result ≡ capacity }
     {
         UninitSlotMap::new_uninit(capacity)

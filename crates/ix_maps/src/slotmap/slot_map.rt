@@ -1,27 +1,30 @@
 //! Slot maps in memory of an allocator.
 ghost use Rattle.std.specs.Prelude.{◌≡◌, IfOk, IsOk};
-ghost use Rattle.ix_maps.specs.SlotState.{IsWellFormed, slot_new};
+ghost use Rattle.ix_maps.specs.SlotState.{slot_new};
 
 use crate::slotmap::{Link, MetaSlotMap};
 use ix_cells::{HeapTable, Table};
 use std::alloc::{AllocError, Allocator, Global};
 
-/// A slot map in memory of the allocator `A`, taken once where it is made and given back at its end.
+/// A slot map whose memory is allocated from `A` when it is made, and deallocated when it is dropped.
+///
+/// `A` is an allocator whose value can be copied.
+///
+/// ```text
+/// let mut map = SlotMap::<char>::new(alloc, 3)?;
+/// map.insert('a');                          // Some: the key 0
+/// ```
 ///
 /// This is `SlotMap` of iceoryx2-bb-container.
 pub type SlotMap<T, A = Global> = MetaSlotMap<T, HeapTable<T, A>, HeapTable<Link, A>>;
 
 impl<T: Drop, A: Allocator + Copy> SlotMap<T, A> {
-    /// An empty map with `capacity` keys.
+    /// Returns an empty map with `capacity` keys.
     ///
-    /// O(`capacity`), and two requests of memory at most. `AllocError` tells that there was no memory; nothing stays
-    /// taken then.
+    /// O(`capacity`). Allocates from `alloc` at most twice. Returns `AllocError` if there is not enough memory; what
+    /// was allocated is deallocated then. A capacity of 0 needs no memory.
     pub fn new(alloc: A, capacity: usize) -> Result<Self, AllocError>
-        // No key has a value, and the free keys are 0, 1 and so on.
         ensures map { IfOk result (λ map. map ≡ slot_new capacity) }
-        // The free keys are exactly those with no value.
-        ensures formed { IfOk result (λ map. IsWellFormed map) }
-        // No key needs no memory.
         ensures memory { capacity ≡ 0 → IsOk result }
     {
         let values = HeapTable::new(alloc, capacity)?;

@@ -3,9 +3,14 @@ ghost use Rattle.std.specs.Prelude.{◌≡◌};
 
 use std::marker::Model;
 
-/// A key of a slot map. A contract sees its number.
+/// A key of a slot map. Contracts see its number.
 ///
-/// Any number makes a key; a map has those below its capacity.
+/// A key can have any number. In range of a map are the keys whose number is less than its capacity.
+///
+/// ```text
+/// let key = SlotMapKey::new(3);
+/// key.value();                              // 3
+/// ```
 ///
 /// This is `SlotMapKey` of iceoryx2-bb-container.
 #[derive(Clone, Copy, Debug, PartialEq, Eq, PartialOrd, Ord, Hash)]
@@ -24,7 +29,7 @@ impl Model for SlotMapKey {
 }
 
 impl SlotMapKey {
-    /// The key with this number. O(1).
+    /// Returns the key with the number `value`. O(1).
     #[inline]
     pub fn new(value: usize) -> Self
         ensures { result ≡ value }
@@ -32,7 +37,7 @@ impl SlotMapKey {
         SlotMapKey { number: value }
     }
 
-    /// The key's number. O(1).
+    /// Returns the number of the key. O(1).
     #[inline]
     pub fn value(&self) -> usize
         ensures { result ≡ self.now }

@@ -1,4 +1,4 @@
-//! The slot map that has no memory yet.
+//! Slot maps that have no memory yet.
 ghost use Rattle.std.specs.Prelude.{◌≡◌};
 ghost use Rattle.ix_maps.specs.SlotState.{slot_new};
 
@@ -18,13 +18,20 @@ impl<T: Drop, A: Allocator + Copy> ContainerFamily<A> for SlotMapFamily<T> {
 
     ghost is_empty_with = { λ capacity map. map ≡ slot_new capacity };
 
-    /// O(`capacity`), and two requests of memory at most.
+    /// Returns an empty map with `capacity` keys. O(`capacity`). Allocates from `alloc` at most twice.
     #[inline]
     fn with_capacity(alloc: A, capacity: usize) -> Result<RelocatableSlotMap<T, A>, AllocError> {
         SlotMap::new(alloc, capacity)
     }
 }
 
-/// A slot map that has a capacity, and no memory yet.
+/// An uninitialised slot map: a capacity without memory.
 /// [`RelocatableContainer::init`](ix_cells::RelocatableContainer::init) makes it a [`RelocatableSlotMap`].
+///
+/// ```text
+/// match UninitSlotMap::<u64>::new_uninit(3).init(alloc) {
+///     Ok(mut map) => drop(map.insert(1)),
+///     Err(error) => retry_with(error.into_uninit()),
+/// }
+/// ```
 pub type UninitSlotMap<T> = Uninit<SlotMapFamily<T>>;

@@ -1,11 +1,11 @@
-//! Escaped text: how the bytes of a string are shown.
+//! Escaped text: how the bytes of a string are printed.
 ghost use Rattle.std.specs.Prelude.{◌≡◌, ◌<◌, Some, IfOk, string_bytes};
 ghost use Rattle.ix_string.specs.Escape.{hex_digit, escaped_byte, escaped_text};
 
 use std::alloc::{AllocError, Global};
 use std::fmt;
 
-/// The lower-case hexadecimal digit.
+/// Returns the lower-case hexadecimal digit.
 fn hex_char(digit: u8) -> char
     requires { digit < 16 }
     ensures { result ≡ hex_digit digit }
@@ -17,12 +17,12 @@ fn hex_char(digit: u8) -> char
     }
 }
 
-/// One byte, which is printed escaped.
+/// A byte that is printed escaped.
 #[derive(Clone, Copy)]
 struct EscapedByte(u8);
 
 impl fmt::Display for EscapedByte {
-    ghost output = { λ shown. Some (escaped_byte shown.0) };
+    ghost output = { λ byte. Some (escaped_byte byte.0) };
 
     fn fmt<W: fmt::Write>(&self, f: &mut fmt::Formatter<W>) -> fmt::Result {
         match self.0 {
@@ -44,7 +44,7 @@ impl fmt::Display for EscapedByte {
 pub(crate) struct Escaped<'a>(pub(crate) &'a [u8]);
 
 impl fmt::Display for Escaped<'_> {
-    ghost output = { λ shown. Some (escaped_text shown.0.now) };
+    ghost output = { λ bytes. Some (escaped_text bytes.0.now) };
 
     fn fmt<W: fmt::Write>(&self, f: &mut fmt::Formatter<W>) -> fmt::Result {
         for byte in self.0 {
@@ -54,14 +54,18 @@ impl fmt::Display for Escaped<'_> {
     }
 }
 
-/// The bytes as a text that can be read: 9, 13 and 10 become `\t`, `\r` and `\n`, bytes from 32 to 127 stay, a backslash
-/// too, and every other byte becomes `\x` and two lower-case hexadecimal digits.
+/// Returns the bytes as a text that can be printed, in memory of `alloc`. The bytes 9, 13 and 10 become `\t`, `\r` and
+/// `\n`. Those from 32 to 127 stay as they are, a backslash and a quote too. Every other byte becomes `\x` and two
+/// lower-case hexadecimal digits. O(`bytes.len()`).
 ///
-/// O(`bytes.len()`). `AllocError` tells that there was no memory for the text.
+/// ```text
+/// as_escaped_string(alloc, b"a\tb\x01");    // Ok("a\\tb\\x01")
+/// ```
+///
+/// Returns `AllocError` if there is no memory for the text.
 ///
 /// This is `as_escaped_string` of iceoryx2-bb-container.
 pub fn as_escaped_string(alloc: Global, bytes: &[u8]) -> Result<std::string::String, AllocError>
-    // It is the bytes' images, one after the other.
     ensures { IfOk result (λ text. string_bytes text ≡ escaped_text bytes.now) }
 {
     format!(in alloc; "{}", Escaped(bytes))

@@ -1,10 +1,12 @@
 //! The string in memory of an allocator.
-ghost use Rattle.std.specs.Prelude.{◌≡◌, ◌==◌, ℕ, List, ◌∷◌, [], Some};
+ghost use Rattle.std.specs.Prelude.{◌≡◌, ◌==◌, ℕ, List, ◌∷◌, [], refl, Some};
 ghost use Rattle.std.specs.Cmp.Lexicographic.{pointwise, slice_cmp};
 ghost use Rattle.std.specs.Cmp.Rules.{comparing, hashing};
 ghost use Rattle.std.specs.Cmp.{partial_order_from_own_ties};
+ghost use Rattle.std.specs.Fmt.{WritesOnOk};
 ghost use Rattle.std.specs.Ordering.{nat_cmp, as_partial_cmp};
 ghost use Rattle.std.proofs.Common.{rules};
+ghost use Rattle.ix_string.specs.Debug.{heap_debug_text};
 ghost use Rattle.ix_string.specs.Escape.{escaped_text};
 
 use crate::string::String;
@@ -17,7 +19,7 @@ use std::fmt;
 use std::hash::{Hash, Hasher};
 use std::marker::{Model, PhantomData};
 
-/// The kind of a [`HeapString`], which its `Debug` text begins with.
+/// The kind of a [`HeapString`], whose name its `Debug` text begins with.
 pub trait HeapStringKind {
     /// The name of the kind's type.
     ghost text: { List ℕ };
@@ -27,11 +29,17 @@ pub trait HeapStringKind {
         ensures { result.now ≡ text };
 }
 
-/// A string whose memory is taken of the allocator `A` once, where it is made, and given back at its end. Contracts see
-/// it as a bounded list.
+/// A string in memory of the allocator `A`. It is allocated once, when the string is made, and deallocated when the string
+/// is dropped. Contracts see the string as a bounded list.
 ///
-/// `A` is an allocator whose value can be copied. The kinds `K` are [`PolymorphicString`](crate::PolymorphicString) and
-/// [`RelocatableString`](crate::RelocatableString).
+/// The two kinds `K` have names of their own, [`PolymorphicString`](crate::PolymorphicString) and
+/// [`RelocatableString`](crate::RelocatableString). `A` is an allocator whose value can be copied.
+///
+/// ```text
+/// let mut string = PolymorphicString::new(alloc, 4)?;
+/// string.push_bytes(b"ab")?;
+/// // {:?} prints PolymorphicString { capacity: 4, len: 2, data: "ab" }
+/// ```
 #[derive(Drop)]
 pub struct HeapString<K, A: Allocator = Global> {
     pub(crate) bytes: PolymorphicVec<u8, A>,
@@ -54,7 +62,7 @@ impl<K, A: Allocator> Model for HeapString<K, A> {
 }
 
 impl<K, A: Allocator> HeapString<K, A> {
-    /// The empty string in an empty vector.
+    /// Returns the empty string in an empty vector.
     #[inline]
     pub(crate) fn in_vector(bytes: PolymorphicVec<u8, A>) -> Self
         requires { bytes.items ≡ [] }
@@ -67,8 +75,16 @@ impl<K, A: Allocator> HeapString<K, A> {
     }
 }
 
-impl<K, A: Allocator> String for HeapString<K, A> {
+impl<K: HeapStringKind, A: Allocator> String for HeapString<K, A> {
     ghost bounded = { λ string. string };
+
+    ghost eq_by_bytes = { λ _ _. refl };
+
+    ghost cmp_by_bytes = { λ _ _. refl };
+
+    ghost hash_input_by_bytes = { λ _. refl };
+
+    ghost output_by_bytes = { λ _. refl };
 
     #[inline]
     fn as_bytes(&self) -> &[u8] {
@@ -103,14 +119,14 @@ impl<K, A: Allocator> String for HeapString<K, A> {
     }
 }
 
-/// Strings are equal if their bytes are, whatever the capacities.
+/// Strings are equal if their bytes are, whatever their capacities.
 impl<K, A: Allocator> PartialEq for HeapString<K, A> {
     ghost eq = { λ string other. pointwise ◌==◌ string.items other.items };
 
     ghost laws = { Prim.search (comparing, rules) };
 
     fn eq(&self, other: &Self) -> bool {
-        self.as_bytes() == other.as_bytes()
+        self.bytes.as_slice() == other.bytes.as_slice()
     }
 }
 
@@ -118,7 +134,7 @@ impl<K, A: Allocator> Eq for HeapString<K, A> {
     ghost laws = { Prim.search (comparing, rules) };
 }
 
-/// The order by the first byte where the strings differ, and else the shorter one is less, whatever the capacities.
+/// Strings are compared by the first byte that differs, and otherwise the shorter one is less, whatever their capacities.
 impl<K, A: Allocator> Ord for HeapString<K, A> {
     ghost cmp = { λ string other. slice_cmp nat_cmp string.items other.items };
 
@@ -129,7 +145,7 @@ impl<K, A: Allocator> Ord for HeapString<K, A> {
     ghost matches_eq = { Prim.search (comparing, rules) };
 
     fn cmp(&self, other: &Self) -> Ordering {
-        self.as_bytes().cmp(&other.as_bytes())
+        self.bytes.as_slice().cmp(&other.bytes.as_slice())
     }
 }
 
@@ -150,30 +166,43 @@ impl<K, A: Allocator> Hash for HeapString<K, A> {
     ghost respects_eq = { Prim.search (hashing, rules) };
 
     fn hash<H: Hasher>(&self, state: &mut H) {
-        state.write(self.as_bytes());
+        state.write(self.bytes.as_slice());
     }
 }
 
-/// The bytes are shown escaped.
+/// Prints the bytes escaped.
 impl<K, A: Allocator> fmt::Display for HeapString<K, A> {
     ghost output = { λ string. Some (escaped_text string.items) };
 
     fn fmt<W: fmt::Write>(&self, f: &mut fmt::Formatter<W>) -> fmt::Result {
-        Escaped(self.as_bytes()).fmt(f)
+        Escaped(self.bytes.as_slice()).fmt(f)
     }
 }
 
-/// The kind, the capacity, the length and the escaped bytes are shown, as
+/// Prints the kind, the capacity, the length and the escaped bytes, as
 /// `RelocatableString { capacity: 5, len: 2, data: "ab" }`.
 impl<K: HeapStringKind, A: Allocator> fmt::Debug for HeapString<K, A> {
+    ghost debug_output = { λ string. Some (heap_debug_text K.text string) };
+
     fn fmt<W: fmt::Write>(&self, f: &mut fmt::Formatter<W>) -> fmt::Result {
-        write!(
-            f,
-            "{} {{ capacity: {}, len: {}, data: \"{}\" }}",
-            K::name(),
-            self.capacity(),
-            self.len(),
-            Escaped(self.as_bytes())
-        )
+        write_debug(f, K::name(), self.bytes.capacity(), self.bytes.as_slice())
     }
+}
+
+/// Writes the `Debug` text of a string of this kind, capacity and bytes.
+fn write_debug<W: fmt::Write>(
+    f: &mut fmt::Formatter<W>,
+    kind: &str,
+    capacity: usize,
+    bytes: &[u8],
+) -> fmt::Result
+    ensures { WritesOnOk W.write_str_gives f.old result
+        (heap_debug_text kind.now (record { items = bytes.now; capacity = capacity })) f.new }
+{
+    write!(
+        f,
+        "{kind} {{ capacity: {capacity}, len: {}, data: \"{}\" }}",
+        bytes.len(),
+        Escaped(bytes)
+    )
 }

@@ -1,16 +1,16 @@
-//! Why a string refuses a change.
+//! The error of a change that a string refuses.
 ghost use Rattle.std.specs.Prelude.{Some};
 
 use std::fmt;
 
-/// Why a string refuses a change. The string is then as it was.
+/// The error of a change that a string refuses. The string is left unchanged.
 ///
 /// This is `StringModificationError` of iceoryx2-bb-container.
 #[derive(Clone, Copy, PartialEq, Eq, Debug)]
 pub enum StringModificationError {
     /// A byte is 0 or above 127.
     InvalidCharacter,
-    /// There would be more bytes than the capacity.
+    /// The length would exceed the capacity.
     InsertWouldExceedCapacity,
 }
 

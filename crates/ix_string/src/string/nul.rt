@@ -1,9 +1,15 @@
-//! The length of bytes that a zero ends.
+//! The length of a text that ends with a zero.
 ghost use Rattle.std.specs.Prelude.{◌≡◌, min};
 ghost use Rattle.ix_string.specs.Text.{nul_position};
 
-/// The place of the first zero among the first `n` bytes; or, where there is none, `n` or the number of bytes, whichever
-/// is less. O(`n`).
+/// Returns the index of the first zero among the first `n` bytes. If there is none, returns `n` or `bytes.len()`,
+/// whichever is less. O(`n`).
+///
+/// ```text
+/// strnlen(b"ab\0c", 4);    // 2
+/// strnlen(b"ab\0c", 1);    // 1
+/// strnlen(b"ab", 4);       // 2
+/// ```
 ///
 /// This is `strnlen` of iceoryx2-bb-container, which reads from a pointer.
 pub fn strnlen(bytes: &[u8], n: usize) -> usize

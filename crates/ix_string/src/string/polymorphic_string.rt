@@ -1,4 +1,4 @@
-//! The string whose memory is taken where it is made.
+//! The string that is made in one step.
 ghost use Rattle.std.specs.Prelude.{◌≡◌, IsOk, IfOk, codes};
 ghost use Rattle.ix_cells.specs.Bounded.{bounded_new};
 
@@ -20,19 +20,27 @@ impl HeapStringKind for Polymorphic {
     }
 }
 
-/// A string whose memory is taken of the allocator `A` where it is made.
+/// A string in memory of the allocator `A`, which is allocated when the string is made.
+///
+/// ```text
+/// let mut string = PolymorphicString::new(alloc, 4)?;
+/// string.push_bytes(b"abc")?;
+/// let mut copy = string.try_clone()?;
+/// copy.push(100)?;
+/// copy > string;    // true: "abcd" > "abc"
+/// ```
 ///
 /// This is `PolymorphicString` of iceoryx2-bb-container.
 pub type PolymorphicString<A = Global> = HeapString<Polymorphic, A>;
 
 impl<A: Allocator> PolymorphicString<A> {
-    /// Returns an empty string with memory for `capacity` bytes.
+    /// Returns an empty string that can hold `capacity` bytes. Allocates from `alloc` once, or not at all if `capacity` is
+    /// 0. O(1).
     ///
-    /// O(1), and one request of memory at most. `AllocError` tells that there was no memory, which is so too where
-    /// `capacity` is above `isize::MAX`; nothing stays taken then.
+    /// Returns `AllocError` if there is no memory for `capacity` bytes, and always if `capacity` is greater than
+    /// `isize::MAX`.
     pub fn new(alloc: A, capacity: usize) -> Result<Self, AllocError>
         ensures string { IfOk result (λ string. string ≡ bounded_new capacity) }
-        // A capacity of 0 needs no memory.
         ensures memory { capacity ≡ 0 → IsOk result }
     {
         Ok(HeapString::in_vector(PolymorphicVec::new(alloc, capacity)?))
@@ -40,12 +48,12 @@ impl<A: Allocator> PolymorphicString<A> {
 }
 
 impl<A: Allocator + Copy> PolymorphicString<A> {
-    /// Returns a string of the same bytes and the same capacity, with memory of the same allocator.
+    /// Returns a string with the same bytes and the same capacity. Allocates once from the string's allocator, or not at
+    /// all if the capacity is 0. O(`len`).
     ///
-    /// O(`len`). `AllocError` tells that there was no memory; nothing stays taken then.
+    /// Returns `AllocError` if there is no memory.
     pub fn try_clone(&self) -> Result<Self, AllocError>
         ensures string { IfOk result (λ string. string ≡ self.now) }
-        // A capacity of 0 needs no memory.
         ensures memory { self.now.capacity ≡ 0 → IsOk result }
     {
         Ok(HeapString {

@@ -18,7 +18,8 @@ impl HeapStringKind for Relocatable {
     }
 }
 
-/// A string that has a capacity first, as an [`UninitString`], and memory of the allocator `A` once that is initialised.
+/// A string that is made in two steps: an [`UninitString`] has a capacity, and its `init` allocates the memory from the
+/// allocator `A`.
 ///
 /// ```text
 /// let uninit = RelocatableString::<Global>::new_uninit(2);
@@ -30,7 +31,7 @@ impl HeapStringKind for Relocatable {
 pub type RelocatableString<A = Global> = HeapString<Relocatable, A>;
 
 impl<A: Allocator> RelocatableString<A> {
-    /// Returns an uninitialised string for `capacity` bytes. It takes no memory. O(1).
+    /// Returns an uninitialised string for `capacity` bytes. Does not allocate. O(1).
     #[inline]
     pub fn new_uninit(capacity: usize) -> UninitString
         ensures { result ≡ capacity }

@@ -1,14 +1,12 @@
-//! Which bytes of a row stay.
+//! Moving the bytes that are kept to the end of a row.
 ghost use Rattle.std.specs.Prelude.{◌≤◌, length, drop};
 ghost use Rattle.ix_string.specs.Retain.{Retains};
 
-/// Asks `f` of each byte, from the last one to the first. Those for which it answers false move to the end of the row,
-/// in their order; the answer is the place of the first of them.
+/// Calls `f` at each byte, from the last to the first, and moves those for which it returns `false` to the end of the row,
+/// keeping their order. Returns the index of the first of them, or the length of the row if there are none.
 pub(crate) fn move_kept_back<F: FnMut(u8) -> bool>(row: &mut [u8], mut f: F) -> usize
     requires { F.IsAlwaysCallable f }
-    // It is a place of the row, or the one behind its last byte.
-    ensures place { result ≤ length row.old }
-    // From there on stand those that stay.
+    ensures within { result ≤ length row.old }
     ensures kept { Retains F.step f row.old (drop result row.new) }
 {
     let mut start = row.len();

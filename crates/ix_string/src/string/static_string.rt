@@ -1,5 +1,5 @@
 //! The string in the value itself.
-ghost use Rattle.std.specs.Prelude.{◌≡◌, ◌≤◌, ◌↔◌, [], length, take, IsOk, IfOk, IfErr};
+ghost use Rattle.std.specs.Prelude.{◌≡◌, ◌≤◌, ◌↔◌, [], length, take, refl, IsOk, IfOk, IfErr};
 ghost use Rattle.ix_string.specs.Text.{IsText, before_nul};
 ghost use Rattle.ix_string.specs.TextSteps.{StringFromBytes};
 ghost use Rattle.ix_string.specs.declared.string.modification_error.StringModificationError.TheVariants.{InvalidCharacter};
@@ -9,14 +9,14 @@ use crate::string::retaining::move_kept_back;
 use crate::string::{String, StringModificationError, strnlen};
 use std::marker::Model;
 
-/// A string of at most `CAPACITY` bytes, in the value itself. It takes no memory of an allocator, and it can be copied.
-/// Contracts see it as the list of its bytes.
+/// A string of at most `CAPACITY` bytes, in the value itself. It can be copied, and it does not allocate. Contracts see it
+/// as the list of its bytes.
 ///
-/// Behind its bytes there are zeros up to the capacity, which may be any number, 0 too.
+/// `CAPACITY` can be any number, 0 too. The unused bytes of the value are zeros.
 ///
 /// ```text
 /// let mut string = StaticString::<8>::from_bytes(b"ho")?;
-/// string.insert_bytes(1, b"ell");    // Ok(()), and the string is hello
+/// string.insert_bytes(1, b"ell");    // Ok(()), and the string is "hello"
 /// string.push(0);                    // Err(StringModificationError::InvalidCharacter)
 /// string.rfind(b"l");                // Some(3)
 /// ```
@@ -30,9 +30,8 @@ pub struct StaticString<const CAPACITY: usize> {
 
 impl<const CAPACITY: usize> Model for StaticString<CAPACITY> {
     ghost use Rattle.std.specs.Prelude.{ℕ, List, length, take};
-    ghost use Rattle.std.proofs.Common.{sym};
+    ghost use Rattle.std.proofs.Common.{sym, arith, length-take-le};
     ghost use Rattle.ix_string.specs.Text.{IsPadded, padded_text};
-    ghost use Rattle.ix_string.specs.Undoing.{count_back};
 
     ghost Value = { List ℕ };
 
@@ -42,13 +41,15 @@ impl<const CAPACITY: usize> Model for StaticString<CAPACITY> {
 
     ghost inverse = { λ text. record { cells = padded_text CAPACITY text; count = length text } };
 
-    ghost inverse_ok = { λ string is i. record { cells = sym is.zeros i; count = count_back CAPACITY string.cells string.count is.within is.whole i } };
+    ghost inverse_ok = { λ string is i. record {
+      cells = sym is.zeros i;
+      count = length-take-le string.count string.cells (omega (arith, is.within, is.whole)) i;
+    } };
 }
 
 impl<const CAPACITY: usize> StaticString<CAPACITY> {
-    /// An empty string. O(`CAPACITY`).
+    /// Returns an empty string. O(`CAPACITY`).
     pub fn new() -> Self
-        // It has no byte.
         ensures { result ≡ [] }
     {
         StaticString {
@@ -57,7 +58,7 @@ impl<const CAPACITY: usize> StaticString<CAPACITY> {
         }
     }
 
-    /// The number of bytes for which there is room, held ones among them. O(1).
+    /// Returns the maximum number of bytes, `CAPACITY`. O(1).
     #[inline]
     pub const fn capacity() -> usize
         ensures { result ≡ CAPACITY }
@@ -65,15 +66,12 @@ impl<const CAPACITY: usize> StaticString<CAPACITY> {
         CAPACITY
     }
 
-    /// The string of the first `n` bytes. O(`CAPACITY`).
+    /// Returns a string of the first `n` bytes, without checking that `bytes` fits, that it has `n` bytes, and that those
+    /// are from 1 to 127. O(`CAPACITY`).
     pub fn from_bytes_unchecked_restricted(bytes: &[u8], n: usize) -> Self
-        // There is room for all bytes.
         requires room { length bytes.now ≤ CAPACITY }
-        // There are so many bytes.
         requires kept { n ≤ length bytes.now }
-        // Each of these is from 1 to 127.
         requires text { IsText (take n bytes.now) }
-        // It holds them.
         ensures { result ≡ take n bytes.now }
     {
         let mut string = StaticString::new();
@@ -81,22 +79,19 @@ impl<const CAPACITY: usize> StaticString<CAPACITY> {
         string
     }
 
-    /// The string of the bytes. O(`CAPACITY`).
+    /// Returns a string of the bytes, without checking that they fit and are from 1 to 127. O(`CAPACITY`).
     pub fn from_bytes_unchecked(bytes: &[u8]) -> Self
-        // There is room for all of them.
         requires room { length bytes.now ≤ CAPACITY }
-        // Each is from 1 to 127.
         requires text { IsText bytes.now }
-        // It holds them.
         ensures { result ≡ bytes.now }
     {
         StaticString::from_bytes_unchecked_restricted(bytes, bytes.len())
     }
 
-    /// The string of the bytes. O(`CAPACITY`).
+    /// Returns a string of the bytes. O(`CAPACITY`).
     ///
-    /// More bytes than `CAPACITY` are answered by [`StringModificationError::InsertWouldExceedCapacity`], and else one
-    /// that is 0 or above 127 by [`StringModificationError::InvalidCharacter`].
+    /// Returns [`StringModificationError::InsertWouldExceedCapacity`] if there are more than `CAPACITY` bytes, and otherwise
+    /// [`StringModificationError::InvalidCharacter`] if one of them is 0 or above 127.
     pub fn from_bytes(bytes: &[u8]) -> Result<Self, StringModificationError>
         ensures { StringFromBytes CAPACITY bytes.now result }
     {
@@ -109,51 +104,45 @@ impl<const CAPACITY: usize> StaticString<CAPACITY> {
         Ok(StaticString::from_bytes_unchecked(bytes))
     }
 
-    /// The string of the first `CAPACITY` bytes, or of all where there are no more. O(`CAPACITY`).
+    /// Returns a string of the first `CAPACITY` bytes, or of all bytes if there are fewer. O(`CAPACITY`).
     ///
-    /// One of these that is 0 or above 127 is answered by [`StringModificationError::InvalidCharacter`]; the others are
-    /// not looked at.
+    /// Returns [`StringModificationError::InvalidCharacter`] if one of these is 0 or above 127. The other bytes are ignored.
     pub fn from_bytes_truncated(bytes: &[u8]) -> Result<Self, StringModificationError>
-        // It is made exactly where these bytes are text.
         ensures value { IsOk result ↔ IsText (take CAPACITY bytes.now) }
-        // It holds them.
         ensures ok { IfOk result (λ string. string ≡ take CAPACITY bytes.now) }
-        // No other refusal is told.
         ensures err { IfErr result (λ error. error ≡ InvalidCharacter) }
     {
         let n = bytes.len().min(CAPACITY);
         StaticString::from_bytes(&bytes[..n])
     }
 
-    /// The string of the text's first `CAPACITY` bytes, or of all where there are no more. O(`CAPACITY`).
+    /// Returns a string of the first `CAPACITY` bytes of `text`, or of all bytes if there are fewer. O(`CAPACITY`).
     ///
-    /// It refuses as [`StaticString::from_bytes_truncated`] does.
+    /// Returns the error of [`StaticString::from_bytes_truncated`].
     pub fn from_str_truncated(text: &str) -> Result<Self, StringModificationError>
-        // It is made exactly where these bytes are text.
         ensures value { IsOk result ↔ IsText (take CAPACITY text.now) }
-        // It holds them.
         ensures ok { IfOk result (λ string. string ≡ take CAPACITY text.now) }
-        // No other refusal is told.
         ensures err { IfErr result (λ error. error ≡ InvalidCharacter) }
     {
         StaticString::from_bytes_truncated(text.as_bytes())
     }
 
-    /// The string of the bytes before the first zero, or of all where there is no zero. O(`bytes.len()`).
+    /// Returns a string of the bytes before the first zero, or of all bytes if there is no zero.
+    /// O(`bytes.len() + CAPACITY`).
     ///
-    /// It refuses as [`StaticString::from_bytes`] does.
+    /// Returns the errors of [`StaticString::from_bytes`].
     pub fn from_c_str(bytes: &[u8]) -> Result<Self, StringModificationError>
         ensures { StringFromBytes CAPACITY (before_nul bytes.now) result }
     {
         StaticString::from_bytes(&bytes[..strnlen(bytes, bytes.len())])
     }
 
-    /// The bytes, the first one first. O(1).
+    /// Returns the bytes. O(1).
+    ///
+    /// [`String::as_bytes`] is the same call of the trait.
     #[inline]
     pub fn as_bytes_const(&self) -> &[u8]
-        // They are the string's.
         ensures value { result.now ≡ self.now }
-        // Each is from 1 to 127.
         ensures text { IsText result.now }
     {
         &self.cells[..self.count]
@@ -162,6 +151,14 @@ impl<const CAPACITY: usize> StaticString<CAPACITY> {
 
 impl<const CAPACITY: usize> String for StaticString<CAPACITY> {
     ghost bounded = { λ string. record { items = string; capacity = CAPACITY } };
+
+    ghost eq_by_bytes = { λ _ _. refl };
+
+    ghost cmp_by_bytes = { λ _ _. refl };
+
+    ghost hash_input_by_bytes = { λ _. refl };
+
+    ghost output_by_bytes = { λ _. refl };
 
     #[inline]
     fn as_bytes(&self) -> &[u8] {

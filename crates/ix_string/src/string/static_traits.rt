@@ -1,21 +1,22 @@
-//! Conversions into fixed strings, and how these are compared and shown.
+//! Conversions into fixed strings, and how these are compared, hashed and printed.
 ghost use Rattle.std.specs.Prelude.{◌≡◌, ◌==◌, ◌∷◌, [], Some};
 ghost use Rattle.std.specs.Cmp.{partial_order_from_own_ties};
 ghost use Rattle.std.specs.Cmp.Lexicographic.{pointwise, slice_cmp};
 ghost use Rattle.std.specs.Cmp.Rules.{comparing, hashing};
 ghost use Rattle.std.specs.Ordering.{nat_cmp, as_partial_cmp};
 ghost use Rattle.std.proofs.Common.{rules};
+ghost use Rattle.ix_string.specs.Debug.{static_debug_text};
 ghost use Rattle.ix_string.specs.Escape.{escaped_text};
 ghost use Rattle.ix_string.specs.TextSteps.{StringFromBytes};
 
 use crate::string::escape::Escaped;
-use crate::string::{StaticString, String, StringModificationError};
+use crate::string::{StaticString, StringModificationError};
 use std::cmp::Ordering;
 use std::fmt;
 use std::hash::{Hash, Hasher};
 use std::str::FromStr;
 
-/// An empty string.
+/// The default is the empty string.
 impl<const CAPACITY: usize> Default for StaticString<CAPACITY> {
     ghost is_default = { λ string. string ≡ [] };
 
@@ -29,7 +30,7 @@ impl<const CAPACITY: usize> FromStr for StaticString<CAPACITY> {
 
     ghost from_str_gives = { StringFromBytes CAPACITY };
 
-    /// As [`StaticString::from_bytes`] of the text's bytes.
+    /// As [`StaticString::from_bytes`], of the bytes of `text`.
     fn from_str(text: &str) -> Result<Self, StringModificationError> {
         StaticString::from_bytes(text.as_bytes())
     }
@@ -40,7 +41,7 @@ impl<const CAPACITY: usize> TryFrom<&str> for StaticString<CAPACITY> {
 
     ghost try_from_gives = { λ text result. StringFromBytes CAPACITY text.now result };
 
-    /// As [`StaticString::from_bytes`] of the text's bytes.
+    /// As [`StaticString::from_bytes`], of the bytes of `text`.
     fn try_from(text: &str) -> Result<Self, StringModificationError> {
         StaticString::from_bytes(text.as_bytes())
     }
@@ -75,7 +76,7 @@ impl<const CAPACITY: usize> PartialEq for StaticString<CAPACITY> {
     ghost laws = { Prim.search (comparing, rules) };
 
     fn eq(&self, other: &Self) -> bool {
-        self.as_bytes() == other.as_bytes()
+        self.as_bytes_const() == other.as_bytes_const()
     }
 }
 
@@ -83,7 +84,7 @@ impl<const CAPACITY: usize> Eq for StaticString<CAPACITY> {
     ghost laws = { Prim.search (comparing, rules) };
 }
 
-/// The order by the first byte where the strings differ, and else the shorter one is less.
+/// Strings are compared by the first byte that differs, and otherwise the shorter one is less.
 impl<const CAPACITY: usize> Ord for StaticString<CAPACITY> {
     ghost cmp = { slice_cmp nat_cmp };
 
@@ -94,7 +95,7 @@ impl<const CAPACITY: usize> Ord for StaticString<CAPACITY> {
     ghost matches_eq = { Prim.search (comparing, rules) };
 
     fn cmp(&self, other: &Self) -> Ordering {
-        self.as_bytes().cmp(&other.as_bytes())
+        self.as_bytes_const().cmp(&other.as_bytes_const())
     }
 }
 
@@ -115,28 +116,30 @@ impl<const CAPACITY: usize> Hash for StaticString<CAPACITY> {
     ghost respects_eq = { Prim.search (hashing, rules) };
 
     fn hash<H: Hasher>(&self, state: &mut H) {
-        state.write(self.as_bytes());
+        state.write(self.as_bytes_const());
     }
 }
 
-/// The bytes are shown escaped.
+/// Prints the bytes escaped.
 impl<const CAPACITY: usize> fmt::Display for StaticString<CAPACITY> {
     ghost output = { λ string. Some (escaped_text string) };
 
     fn fmt<W: fmt::Write>(&self, f: &mut fmt::Formatter<W>) -> fmt::Result {
-        Escaped(self.as_bytes()).fmt(f)
+        Escaped(self.as_bytes_const()).fmt(f)
     }
 }
 
-/// The capacity, the length and the escaped bytes are shown, as `StaticString<5> { len: 2, data: "ab" }`.
+/// Prints the capacity, the length and the escaped bytes, as `StaticString<5> { len: 2, data: "ab" }`.
 impl<const CAPACITY: usize> fmt::Debug for StaticString<CAPACITY> {
+    ghost debug_output = { λ string. Some (static_debug_text CAPACITY string) };
+
     fn fmt<W: fmt::Write>(&self, f: &mut fmt::Formatter<W>) -> fmt::Result {
         write!(
             f,
             "StaticString<{}> {{ len: {}, data: \"{}\" }}",
             CAPACITY,
-            self.len(),
-            Escaped(self.as_bytes())
+            self.as_bytes_const().len(),
+            Escaped(self.as_bytes_const())
         )
     }
 }

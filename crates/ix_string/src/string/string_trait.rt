@@ -1,10 +1,11 @@
 //! The trait of all strings.
-ghost use Rattle.std.specs.Prelude.{ℕ, ◌≡◌, ◌+◌, ◌-◌, ◌<◌, ◌≤◌, ◌↔◌, ◌==◌, [], ◌∷◌, ◌++◌, length, drop, IsTrue, IsSome, IfSome, IfNone, OnSome, OnErr, slice_get};
+ghost use Rattle.std.specs.Prelude.{ℕ, ◌≡◌, ◌+◌, ◌-◌, ◌<◌, ◌≤◌, ◌↔◌, ◌==◌, [], ◌∷◌, ◌++◌, length, drop, Some, IsTrue, IsSome, IfSome, IfNone, OnSome, OnErr, slice_get};
 ghost use Rattle.std.specs.Bool.{OnTrue, OnFalse};
-ghost use Rattle.std.specs.Cmp.Lexicographic.{slice_cmp};
+ghost use Rattle.std.specs.Cmp.Lexicographic.{pointwise, slice_cmp};
 ghost use Rattle.std.specs.Ordering.{nat_cmp};
 ghost use Rattle.ix_cells.specs.Bounded.{Bounded, IsWithin, IsFull, with_items};
 ghost use Rattle.ix_cells.specs.VectorSteps.{HasRoomFor, vec_remove, vec_pop, vec_last, vec_truncate};
+ghost use Rattle.ix_string.specs.Escape.{escaped_text};
 ghost use Rattle.ix_string.specs.Text.{IsText, MatchesAt, IsFirstMatch, IsLastMatch, EndsWith};
 ghost use Rattle.ix_string.specs.Retain.{Retains};
 ghost use Rattle.ix_string.specs.TextSteps.{text_insert_slice, text_insert, text_insert_result, IsRangeOf, text_remove_range};
@@ -13,58 +14,61 @@ use crate::string::StringModificationError;
 use crate::string::gaps::is_text;
 use memchr::memmem;
 use std::cmp::Ordering;
+use std::fmt::{Debug, Display};
+use std::hash::Hash;
 use std::str;
 
-/// A list of bytes from 1 to 127, with a capacity that their number does not pass. Contracts see it as a bounded list.
+/// A list of bytes from 1 to 127, with a capacity that their number does not exceed. Contracts see it as a bounded list.
 ///
-/// The memory for all bytes is there when the string is made: no call takes memory. A refusal leaves the string as it
-/// was. Places are counted in bytes, from 0.
+/// The memory for `capacity` bytes is allocated when the string is made: no call of this trait allocates. A call that is
+/// refused leaves the string unchanged. Lengths and indexes are counted in bytes, and indexes start at 0.
+///
+/// Strings are compared and hashed by their bytes, whatever their capacities, and `Display` prints the bytes escaped, as
+/// [`as_escaped_string`](crate::as_escaped_string) does.
+///
+/// ```text
+/// fn append_line<S: String>(string: &mut S, line: &[u8]) -> Result<(), StringModificationError> {
+///     string.push_bytes(line)?;
+///     string.push(10)
+/// }
+/// ```
 ///
 /// This is `String` of iceoryx2-bb-container.
-pub trait String {
+pub trait String: Debug + Display + Eq + Ord + Hash {
     /// The bytes, and the capacity.
     ghost bounded: { Self → Bounded ℕ };
 
-    /// The bytes, the first one first. O(1).
+    /// Returns the bytes. O(1).
     fn as_bytes(&self) -> &[u8]
-        // They are the string's.
         ensures value { result.now ≡ (bounded self.now).items }
-        // Each is from 1 to 127.
         ensures text { IsText result.now };
 
-    /// The number of bytes for which there is room, held ones among them. O(1).
+    /// Returns the maximum number of bytes. O(1).
     fn capacity(&self) -> usize
         ensures { result ≡ (bounded self.now).capacity };
 
-    /// The number of bytes. O(1).
+    /// Returns the number of bytes. O(1).
     fn len(&self) -> usize
-        // It is the list's length.
         ensures value { result ≡ length (bounded self.now).items }
-        // It is not above the capacity.
         ensures within { IsWithin (bounded self.now) };
 
-    /// Puts `bytes` at place `idx`, and moves each byte from there on up. O(`len - idx + bytes.len()`).
+    /// Inserts `bytes` at index `idx`, shifting all later bytes to the right, without checking that they fit and are from 1
+    /// to 127. O(`len - idx + bytes.len()`).
     fn insert_bytes_unchecked(&mut self, idx: usize, bytes: &[u8])
-        // The place is one of the string, or the one behind its last byte.
-        requires place { idx ≤ length (bounded self.old).items }
-        // There is room for all of them.
+        requires index { idx ≤ length (bounded self.old).items }
         requires room { HasRoomFor (length bytes.now) (bounded self.old) }
-        // Each is from 1 to 127.
         requires text { IsText bytes.now }
-        // They stand between the first ones and the others.
         ensures { bounded self.new ≡ text_insert_slice (bounded self.old) idx bytes.now };
 
-    /// Takes `n` bytes out from place `idx` on, moves the later ones down and answers true; or answers false where
-    /// there are not so many bytes from there on. O(`len - idx`).
+    /// Removes the `n` bytes from index `idx` on, shifting all later bytes to the left, and returns `true`. Returns `false`
+    /// if there are fewer than `n` bytes from `idx` on, or if `idx` is greater than the length. O(`len - idx`).
     fn remove_range(&mut self, idx: usize, n: usize) -> bool
-        // It is done exactly where there are such bytes.
         ensures value { IsTrue result ↔ IsRangeOf (bounded self.old) idx n }
-        // The bytes of the range left, and the others stay in their order.
         ensures string { OnTrue result (bounded self.new ≡ text_remove_range (bounded self.old) idx n) }
-        // A refusal changes nothing.
-        ensures refused { OnFalse result (self.new ≡ self.old) };
+        ensures refused { OnFalse result (self.new ≡ self.old) }
+        ensures no_bytes { n ≡ 0 → self.new ≡ self.old };
 
-    /// The bytes as a text. O(1).
+    /// Returns the bytes as a text. O(1).
     #[inline]
     final fn as_str(&self) -> &str
         ensures { result.now ≡ (bounded self.now).items }
@@ -73,7 +77,7 @@ pub trait String {
         unsafe { str::from_utf8_unchecked(self.as_bytes()) }
     }
 
-    /// Whether there is no byte. O(1).
+    /// Returns `true` if the string has no bytes. O(1).
     #[inline]
     final fn is_empty(&self) -> bool
         ensures { IsTrue result ↔ ((bounded self.now).items ≡ []) }
@@ -81,7 +85,7 @@ pub trait String {
         self.len() == 0
     }
 
-    /// Whether there are as many bytes as the capacity. A string of capacity 0 is empty and full. O(1).
+    /// Returns `true` if the length equals the capacity. A string of capacity 0 is both empty and full. O(1).
     #[inline]
     final fn is_full(&self) -> bool
         ensures { IsTrue result ↔ IsFull (bounded self.now) }
@@ -89,23 +93,19 @@ pub trait String {
         self.len() == self.capacity()
     }
 
-    /// Puts `bytes` at place `idx`, which is at most the length, and moves each byte from there on up.
+    /// Inserts `bytes` at index `idx`, which is at most the length, shifting all later bytes to the right.
     /// O(`len - idx + bytes.len()`).
     ///
-    /// Where they do not fit, it answers [`StringModificationError::InsertWouldExceedCapacity`]; and else, where one
-    /// of them is 0 or above 127, [`StringModificationError::InvalidCharacter`].
+    /// Returns [`StringModificationError::InsertWouldExceedCapacity`] if the bytes do not fit, and otherwise
+    /// [`StringModificationError::InvalidCharacter`] if one of them is 0 or above 127.
     final fn insert_bytes(
         &mut self,
         idx: usize,
         bytes: &[u8],
     ) -> Result<(), StringModificationError>
-        // The place is one of the string, or the one behind its last byte.
         requires { idx ≤ length (bounded self.old).items }
-        // It is refused exactly where there is no room, or a byte that is none of a text.
         ensures value { result ≡ text_insert_result (bounded self.old) bytes.now }
-        // The bytes stand between the first ones and the others where it is not refused.
         ensures string { bounded self.new ≡ text_insert (bounded self.old) idx bytes.now }
-        // A refusal changes nothing.
         ensures refused { OnErr result (self.new ≡ self.old) }
     {
         if bytes.len() > self.capacity() - self.len() {
@@ -118,64 +118,52 @@ pub trait String {
         Ok(())
     }
 
-    /// Puts `byte` at place `idx`, which is at most the length, and moves each byte from there on one place up.
-    /// O(`len - idx`).
+    /// Inserts `byte` at index `idx`, which is at most the length, shifting all later bytes to the right. O(`len - idx`).
     ///
-    /// A full string answers [`StringModificationError::InsertWouldExceedCapacity`], and else a byte that is 0 or above
-    /// 127 is answered by [`StringModificationError::InvalidCharacter`].
+    /// Returns [`StringModificationError::InsertWouldExceedCapacity`] if the string is full, and otherwise
+    /// [`StringModificationError::InvalidCharacter`] if the byte is 0 or above 127.
     #[inline]
     final fn insert(&mut self, idx: usize, byte: u8) -> Result<(), StringModificationError>
-        // The place is one of the string, or the one behind its last byte.
         requires { idx ≤ length (bounded self.old).items }
-        // It is refused exactly where there is no room, or the byte is none of a text.
         ensures value { result ≡ text_insert_result (bounded self.old) (byte ∷ []) }
-        // The byte stands between the first ones and the others where it is not refused.
         ensures string { bounded self.new ≡ text_insert (bounded self.old) idx (byte ∷ []) }
-        // A refusal changes nothing.
         ensures refused { OnErr result (self.new ≡ self.old) }
     {
         self.insert_bytes(idx, &[byte])
     }
 
-    /// Puts `bytes` behind the others. O(`bytes.len()`).
+    /// Appends `bytes`. O(`bytes.len()`).
     ///
-    /// It refuses as [`String::insert_bytes`] does.
+    /// Returns the errors of [`String::insert_bytes`].
     #[inline]
     final fn push_bytes(&mut self, bytes: &[u8]) -> Result<(), StringModificationError>
-        // It is refused exactly where there is no room, or a byte that is none of a text.
         ensures value { result ≡ text_insert_result (bounded self.old) bytes.now }
-        // The bytes stand behind the others where it is not refused.
-        ensures string { bounded self.new ≡ text_insert (bounded self.old) (length (bounded self.old).items) bytes.now }
-        // A refusal changes nothing.
+        ensures string { bounded self.new
+            ≡ text_insert (bounded self.old) (length (bounded self.old).items) bytes.now }
         ensures refused { OnErr result (self.new ≡ self.old) }
     {
         self.insert_bytes(self.len(), bytes)
     }
 
-    /// Puts `byte` behind the others. O(1).
+    /// Appends `byte`. O(1).
     ///
-    /// It refuses as [`String::insert`] does.
+    /// Returns the errors of [`String::insert`].
     #[inline]
     final fn push(&mut self, byte: u8) -> Result<(), StringModificationError>
-        // It is refused exactly where there is no room, or the byte is none of a text.
         ensures value { result ≡ text_insert_result (bounded self.old) (byte ∷ []) }
-        // The byte stands behind the others where it is not refused.
-        ensures string { bounded self.new ≡ text_insert (bounded self.old) (length (bounded self.old).items) (byte ∷ []) }
-        // A refusal changes nothing.
+        ensures string { bounded self.new
+            ≡ text_insert (bounded self.old) (length (bounded self.old).items) (byte ∷ []) }
         ensures refused { OnErr result (self.new ≡ self.old) }
     {
         self.insert_bytes(self.len(), &[byte])
     }
 
-    /// Takes the byte at place `idx`, and moves each later byte one place down; or answers None where there is no
-    /// such byte. O(`len - idx`).
+    /// Removes the byte at index `idx`, shifting all later bytes to the left, and returns it, or `None` if `idx` is out of
+    /// bounds. O(`len - idx`).
     final fn remove(&mut self, idx: usize) -> Option<u8>
-        // It answers the byte of that place.
         ensures value { result ≡ slice_get (bounded self.old).items idx }
-        // That byte left, and the others stay in their order.
         ensures string { bounded self.new ≡ vec_remove (bounded self.old) idx }
-        // Where there is no such byte, nothing changes.
-        ensures refused { length (bounded self.old).items ≤ idx → self.new ≡ self.old }
+        ensures refused { IfNone result (self.new ≡ self.old) }
     {
         if idx < self.len() {
             let byte = self.as_bytes()[idx];
@@ -185,12 +173,11 @@ pub trait String {
         None
     }
 
-    /// Takes the last byte, or answers None where there is none. O(1).
+    /// Removes the last byte and returns it, or `None` if the string is empty. O(1).
     final fn pop(&mut self) -> Option<u8>
-        // It answers the last byte.
         ensures value { result ≡ vec_last (bounded self.old) }
-        // The last byte left.
         ensures string { bounded self.new ≡ vec_pop (bounded self.old) }
+        ensures refused { IfNone result (self.new ≡ self.old) }
     {
         let len = self.len();
         if len == 0 {
@@ -199,12 +186,11 @@ pub trait String {
         self.remove(len - 1)
     }
 
-    /// Keeps the first `n` bytes. It changes nothing where there are no more than `n` bytes. O(`len - n`).
+    /// Shortens the string, keeping the first `n` bytes. Does nothing if `n` is greater than or equal to the length.
+    /// O(`len - n`).
     final fn truncate(&mut self, n: usize)
-        // The first bytes stay.
         ensures string { bounded self.new ≡ vec_truncate (bounded self.old) n }
-        // Where there are no more, nothing changes.
-        ensures kept { length (bounded self.old).items ≤ n → self.new ≡ self.old }
+        ensures refused { length (bounded self.old).items ≤ n → self.new ≡ self.old }
     {
         let len = self.len();
         if n < len {
@@ -212,35 +198,37 @@ pub trait String {
         }
     }
 
-    /// Takes every byte out. O(`len`).
+    /// Removes all bytes. Does nothing if the string is empty. O(`len`).
     final fn clear(&mut self)
-        ensures { bounded self.new ≡ with_items (bounded self.old) [] }
+        ensures string { bounded self.new ≡ with_items (bounded self.old) [] }
+        ensures refused { (bounded self.old).items ≡ [] → self.new ≡ self.old }
     {
         self.truncate(0);
     }
 
-    /// The least place where `needle` stands, or None where it stands nowhere. An empty one stands at 0.
+    /// Returns the least index at which `needle` occurs, or `None` if it does not occur. An empty `needle` occurs at 0.
     final fn find(&self, needle: &[u8]) -> Option<usize>
         ensures { IsFirstMatch (bounded self.now).items needle.now result }
     {
         memmem::find(self.as_bytes(), needle)
     }
 
-    /// The greatest place where `needle` stands, or None where it stands nowhere. An empty one stands at `len`.
+    /// Returns the greatest index at which `needle` occurs, or `None` if it does not occur. An empty `needle` occurs at
+    /// `len`.
     final fn rfind(&self, needle: &[u8]) -> Option<usize>
         ensures { IsLastMatch (bounded self.now).items needle.now result }
     {
         memmem::rfind(self.as_bytes(), needle)
     }
 
-    /// Takes `bytes` out and answers true where the string begins with them; or answers false. O(`len`).
+    /// Removes `bytes` from the start of the string and returns `true`. Returns `false` if the string does not start with
+    /// them. O(`len`).
     final fn strip_prefix(&mut self, bytes: &[u8]) -> bool
-        // It is done exactly where they stand in front.
         ensures value { IsTrue result ↔ MatchesAt (bounded self.old).items bytes.now 0 }
-        // They left, and the others stay in their order.
-        ensures string { OnTrue result (bounded self.new ≡ text_remove_range (bounded self.old) 0 (length bytes.now)) }
-        // A refusal changes nothing.
+        ensures string { OnTrue result
+            (bounded self.new ≡ text_remove_range (bounded self.old) 0 (length bytes.now)) }
         ensures refused { OnFalse result (self.new ≡ self.old) }
+        ensures no_bytes { bytes.now ≡ [] → self.new ≡ self.old }
     {
         if self.as_bytes().starts_with(bytes) {
             return self.remove_range(0, bytes.len());
@@ -248,15 +236,14 @@ pub trait String {
         false
     }
 
-    /// Takes `bytes` out and answers true where the string ends with them; or answers false. O(`bytes.len()`).
+    /// Removes `bytes` from the end of the string and returns `true`. Returns `false` if the string does not end with
+    /// them. O(`bytes.len()`).
     final fn strip_suffix(&mut self, bytes: &[u8]) -> bool
-        // It is done exactly where they are the ending.
         ensures value { IsTrue result ↔ EndsWith (bounded self.old).items bytes.now }
-        // They left, and the others stay.
         ensures string { OnTrue result (bounded self.new
             ≡ vec_truncate (bounded self.old) (length (bounded self.old).items - length bytes.now)) }
-        // A refusal changes nothing.
         ensures refused { OnFalse result (self.new ≡ self.old) }
+        ensures no_bytes { bytes.now ≡ [] → self.new ≡ self.old }
     {
         if self.as_bytes().ends_with(bytes) {
             self.truncate(self.len() - bytes.len());
@@ -265,27 +252,23 @@ pub trait String {
         false
     }
 
-    /// Asks `f` of each byte, from the last one to the first, and takes those out for which it answers true; the others
-    /// stay in their order. `len` calls, and O(`len`).
+    /// Removes each byte for which `f` returns `true`, keeping the order of the others. `f` is called once for each byte,
+    /// from the last to the first. O(`len`).
+    ///
+    /// The `retain` of std keeps those bytes instead.
     fn retain<F: FnMut(u8) -> bool>(&mut self, f: F)
-        // The closure can be called again and again.
         requires { F.IsAlwaysCallable f }
-        // It was called at the bytes from the last one to the first, and those answered false stay.
         ensures string { Retains F.step f (bounded self.old).items (bounded self.new).items }
-        // The capacity stays.
-        ensures capacity { (bounded self.new).capacity ≡ (bounded self.old).capacity };
+        ensures capacity { (bounded self.new).capacity ≡ (bounded self.old).capacity }
+        ensures refused { (bounded self.new).items ≡ (bounded self.old).items → self.new ≡ self.old };
 
-    /// Copies the bytes and one zero to the front of `out`, and answers their number, which is `len + 1`; or answers
-    /// None where `out` is shorter. The rest of `out` stays. O(`len`).
+    /// Copies the bytes and then a zero to the start of `out`, and returns how many bytes that is, `len + 1`. Returns
+    /// `None`, and leaves `out` unchanged, if `out` is shorter. The rest of `out` is left unchanged. O(`len`).
     final fn copy_with_nul(&self, out: &mut [u8]) -> Option<usize>
-        // It is refused exactly where the slice is too short.
         ensures variant { IsSome result ↔ (length (bounded self.now).items < length out.old) }
-        // It answers how many bytes were written.
         ensures value { IfSome result (λ n. n ≡ length (bounded self.now).items + 1) }
-        // The bytes and a zero stand in front, and the rest is as it was.
-        ensures written { OnSome result
-            (out.new ≡ ((bounded self.now).items ++ 0 ∷ []) ++ drop (length (bounded self.now).items + 1) out.old) }
-        // A refusal changes nothing.
+        ensures copy { OnSome result (out.new
+            ≡ ((bounded self.now).items ++ 0 ∷ []) ++ drop (length (bounded self.now).items + 1) out.old) }
         ensures refused { IfNone result (out.new ≡ out.old) }
     {
         let bytes = self.as_bytes();
@@ -298,7 +281,7 @@ pub trait String {
         Some(len + 1)
     }
 
-    /// Whether the bytes are those of `other`. O(`len`).
+    /// Returns `true` if the bytes are equal to `other`. O(`len`).
     #[inline]
     final fn eq_bytes(&self, other: &[u8]) -> bool
         ensures { IsTrue result ↔ ((bounded self.now).items ≡ other.now) }
@@ -306,7 +289,7 @@ pub trait String {
         self.as_bytes() == other
     }
 
-    /// Whether the bytes are those of `other`. O(`len`).
+    /// Returns `true` if the bytes are equal to those of `other`. O(`len`).
     #[inline]
     final fn eq_str(&self, other: &str) -> bool
         ensures { IsTrue result ↔ ((bounded self.now).items ≡ other.now) }
@@ -314,12 +297,23 @@ pub trait String {
         self.eq_bytes(other.as_bytes())
     }
 
-    /// The order of the bytes and those of `other`: by the first place where they differ, and else the shorter one is
-    /// less. O(`len`).
+    /// Compares the bytes with `other`: by the first byte that differs, and otherwise the shorter one is less. O(`len`).
     #[inline]
     final fn cmp_bytes(&self, other: &[u8]) -> Ordering
         ensures { result ≡ slice_cmp nat_cmp (bounded self.now).items other.now }
     {
         self.as_bytes().cmp(&other)
     }
+
+    /// Strings are equal if their bytes are.
+    ghost eq_by_bytes: { (a b : Self) → Self.PartialEq.eq a b ≡ pointwise ◌==◌ (bounded a).items (bounded b).items };
+
+    /// Strings are ordered as their bytes are.
+    ghost cmp_by_bytes: { (a b : Self) → Self.Ord.cmp a b ≡ slice_cmp nat_cmp (bounded a).items (bounded b).items };
+
+    /// The bytes are fed to a hasher in one write.
+    ghost hash_input_by_bytes: { (a : Self) → Self.Hash.hash_input a ≡ (bounded a).items ∷ [] };
+
+    /// `Display` prints the bytes escaped.
+    ghost output_by_bytes: { (a : Self) → Self.Display.output a ≡ Some (escaped_text (bounded a).items) };
 }

@@ -7,7 +7,7 @@ use crate::string::heap_string::HeapString;
 use ix_cells::{ContainerFamily, PolymorphicVec, Uninit};
 use std::alloc::{AllocError, Allocator};
 
-/// The relocatable strings, one type for each allocator.
+/// The family of relocatable strings: one type for each allocator.
 #[derive(Drop)]
 pub struct StringFamily;
 
@@ -16,13 +16,21 @@ impl<A: Allocator> ContainerFamily<A> for StringFamily {
 
     ghost is_empty_with = { λ capacity string. string ≡ bounded_new capacity };
 
-    /// O(1), and one request of memory at most.
+    /// Allocates from `alloc` once, or not at all if `capacity` is 0. O(1).
     #[inline]
     fn with_capacity(alloc: A, capacity: usize) -> Result<RelocatableString<A>, AllocError> {
         Ok(HeapString::in_vector(PolymorphicVec::new(alloc, capacity)?))
     }
 }
 
-/// A string that has a capacity, and no memory yet.
+/// An uninitialised string: a capacity, and no memory yet.
 /// [`RelocatableContainer::init`](ix_cells::RelocatableContainer::init) makes it a [`RelocatableString`].
+///
+/// ```text
+/// let uninit = UninitString::new_uninit(1000);
+/// match uninit.init(alloc) {
+///     Ok(mut string) => string.push_bytes(b"later")?,
+///     Err(error) => retry_with(error.into_uninit()),
+/// }
+/// ```
 pub type UninitString = Uninit<StringFamily>;

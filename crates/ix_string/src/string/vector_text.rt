@@ -1,4 +1,4 @@
-//! The changes of a text that lies in a vector of bytes.
+//! The changes of a text in a vector of bytes.
 ghost use Rattle.std.specs.Prelude.{◌≡◌, ◌+◌, ◌≤◌, ◌-◌, length, slice_range};
 ghost use Rattle.ix_cells.specs.VectorSteps.{HasRoomFor, vec_extend};
 ghost use Rattle.ix_string.specs.Retain.{Retains};
@@ -8,15 +8,14 @@ use crate::string::gaps::{close_gap, open_gap};
 use crate::string::retaining::move_kept_back;
 use ix_cells::Vector;
 
-/// Puts `bytes` at place `idx`, and moves each byte from there on up. Each byte is written once.
+/// Inserts `bytes` at index `idx`, shifting all later bytes to the right. Writes each byte once.
 pub(crate) fn insert_into<V: Vector<u8>>(vector: &mut V, idx: usize, bytes: &[u8])
-    requires place { idx ≤ length (V.bounded vector.old).items }
+    requires index { idx ≤ length (V.bounded vector.old).items }
     requires room { HasRoomFor (length bytes.now) (V.bounded vector.old) }
-    // They stand between the first ones and the others.
     ensures { V.bounded vector.new ≡ text_insert_slice (V.bounded vector.old) idx bytes.now }
 {
     let len = vector.len();
-    // A vector grows by pushes alone: what comes to stand past its old end goes there first.
+    // A vector grows by appending alone, so the bytes that will lie past its present end are appended first.
     let below_end = bytes.len().min(len - idx);
     let Ok(()) = vector.extend_from_slice_unchecked(&bytes[below_end..]) else {
         unreachable!()
@@ -32,13 +31,13 @@ pub(crate) fn insert_into<V: Vector<u8>>(vector: &mut V, idx: usize, bytes: &[u8
     }
 }
 
-/// Pushes the bytes from place `start` up to `end` once more.
+/// Appends the bytes of the range `start..end` once more.
 fn push_again<V: Vector<u8>>(vector: &mut V, start: usize, end: usize)
     requires order { start ≤ end }
     requires bounds { end ≤ length (V.bounded vector.old).items }
     requires room { HasRoomFor (end - start) (V.bounded vector.old) }
-    // They stand behind all others too.
-    ensures { V.bounded vector.new ≡ vec_extend (V.bounded vector.old) (slice_range (V.bounded vector.old).items start end) }
+    ensures { V.bounded vector.new
+        ≡ vec_extend (V.bounded vector.old) (slice_range (V.bounded vector.old).items start end) }
 {
     for idx in start..end {
         let byte = vector.as_slice()[idx];
@@ -46,10 +45,9 @@ fn push_again<V: Vector<u8>>(vector: &mut V, start: usize, end: usize)
     }
 }
 
-/// Takes `n` bytes out from place `idx` on, and moves the later ones down.
+/// Removes the `n` bytes from index `idx` on, shifting all later bytes to the left.
 pub(crate) fn remove_from<V: Vector<u8>>(vector: &mut V, idx: usize, n: usize)
     requires { idx + n ≤ length (V.bounded vector.old).items }
-    // They left, and the others stay in their order.
     ensures { V.bounded vector.new ≡ text_remove_range (V.bounded vector.old) idx n }
 {
     let len = vector.len();
@@ -57,12 +55,10 @@ pub(crate) fn remove_from<V: Vector<u8>>(vector: &mut V, idx: usize, n: usize)
     vector.truncate(len - n);
 }
 
-/// Asks `f` of each byte, from the last one to the first, and takes those out for which it answers true.
+/// Calls `f` at each byte, from the last to the first, and removes those for which it returns `true`.
 pub(crate) fn retain_in<V: Vector<u8>, F: FnMut(u8) -> bool>(vector: &mut V, f: F)
     requires { F.IsAlwaysCallable f }
-    // Those answered false stay.
     ensures text { Retains F.step f (V.bounded vector.old).items (V.bounded vector.new).items }
-    // The capacity stays.
     ensures capacity { (V.bounded vector.new).capacity ≡ (V.bounded vector.old).capacity }
 {
     let start = move_kept_back(vector.as_mut_slice(), f);

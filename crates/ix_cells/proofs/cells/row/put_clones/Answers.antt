@@ -1,5 +1,5 @@
 use Rattle.std.proofs.Common.{◌+◌, ◌≤◌, length, arith}
-use Rattle.ix_cells.proofs.Rows.{length-refill-written, take-refill-before, AppendsClones-written}
+use Rattle.ix_cells.proofs.Rows.{length-refill, take-refill, AppendsClones-refill}
 use Rattle.ix_cells.proofs.cells.row.put_clones.Goals as goal
 
 pub returns : goal.returns
@@ -11,8 +11,8 @@ returns g c =
     let order : a ≤ e = omega arith in
     let same = rw c.as_mut_slice-places.ensures.value at c.fill_with_clones.ensures.len in
     rw c.as_mut_slice-places.ensures.value (record {
-      len = length-refill-written xs ys a e order c.requires same;
-      front = take-refill-before xs ys a e order c.requires same;
-      row = AppendsClones-written xs ys a e order c.requires same g.T.Clone.is_clone c.args.items.now c.fill_with_clones.result c.fill_with_clones.ensures.places;
+      len = length-refill xs ys a e order c.requires same;
+      front = take-refill xs ys a e order c.requires same;
+      row = AppendsClones-refill xs ys a e order c.requires same g.T.Clone.is_clone c.args.items.now c.fill_with_clones.result c.fill_with_clones.ensures.places;
       memory = c.fill_with_clones.ensures.memory;
     })

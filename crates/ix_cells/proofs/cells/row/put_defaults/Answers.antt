@@ -1,4 +1,4 @@
-use Rattle.ix_cells.proofs.Rows.{length-refill-written, take-refill-before}
+use Rattle.ix_cells.proofs.Rows.{length-refill, take-refill}
 use Rattle.ix_cells.proofs.cells.row.put_defaults.Goals as goal
 
 pub returns : goal.returns
@@ -7,6 +7,6 @@ returns g c =
     let ys = c.fill_with_defaults.new.places in
     let same = rw c.as_mut_slice-places.ensures.value at c.fill_with_defaults.ensures in
     rw c.as_mut_slice-places.ensures.value (record {
-      len = length-refill-written xs ys c.args.start c.args.end c.requires.order c.requires.bounds same;
-      front = take-refill-before xs ys c.args.start c.args.end c.requires.order c.requires.bounds same;
+      len = length-refill xs ys c.args.start c.args.end c.requires.order c.requires.bounds same;
+      front = take-refill xs ys c.args.start c.args.end c.requires.order c.requires.bounds same;
     })

@@ -4,7 +4,7 @@ use Rattle.ix_string.proofs.string.gaps.close_gap.Goals as goal
 
 pub returns : goal.returns
 returns c =
-    let place = c.requires.place in
+    let range = c.requires.range in
     let j = c.args.idx + c.args.n in
     let m = c.args.len - j in
     let last : c.args.len - c.args.n ≡ c.args.idx + m = omega arith in

@@ -7,7 +7,7 @@ use Rattle.ix_string.proofs.string.gaps.close_gap_with_zeros.Goals as goal
 
 pub returns : goal.returns
 returns c =
-    let place = c.requires.place in
+    let range = c.requires.range in
     let room = c.requires.room in
     let row = c.args.row.now in
     let e = c.args.len - c.args.n in

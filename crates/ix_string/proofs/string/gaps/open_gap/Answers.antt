@@ -4,7 +4,7 @@ use Rattle.ix_string.proofs.string.gaps.open_gap.Goals as goal
 
 pub returns : goal.returns
 returns c =
-    let place = c.requires.place in
+    let index = c.requires.index in
     let room = c.requires.room in
     let n = length c.args.bytes.now in
     let i = c.args.idx in

@@ -11,6 +11,6 @@ invariant-loop-idx g l =
       order : l.idx ≤ l.start;
       within : l.start ≤ length old;
       front : take l.idx l.row ≡ take l.idx old;
-      asked : (answers : List Bool) × ResultsAt (λ p x b q. goal.F-step g p x b q) l.initial.f (reverse (drop l.idx old)) answers l.f
-          × (drop l.start l.row ≡ retained_items answers (drop l.idx old));
+      calls : (results : List Bool) × ResultsAt (λ p x b q. goal.F-step g p x b q) l.initial.f (reverse (drop l.idx old)) results l.f
+          × (drop l.start l.row ≡ retained_items results (drop l.idx old));
     }

@@ -21,7 +21,7 @@ returns-then-below_end-gt0 g c =
     let row = longer ++ slice_range longer e n in
     let least : b ≡ min (length bytes) (n - i) = c.min-below_end.ensures in
     let counted : length front ≡ b = length-take-le b bytes (grind (arith, common_steps, least)) in
-    let parts = insert_slice-parts xs bytes i b e n c.len-len.ensures.value (omega (arith, c.requires.place, c.len-len.ensures.value)) least refl in
+    let parts = insert_slice-parts xs bytes i b e n c.len-len.ensures.value (omega (arith, c.requires.index, c.len-len.ensures.value)) least refl in
     let once : g.V.Vector.bounded c.extend_from_slice_unchecked.new.self ≡ with_items old longer = c.in-Ok.ensures.vector ∙ ap (vec_extend old) (take_rest bytes b) in
     let twice : g.V.Vector.bounded c.push_again.new.vector ≡ with_items old row =
     c.push_again.ensures ∙ ap (λ (v : Bounded ℕ). vec_extend v (slice_range v.items e n)) once in

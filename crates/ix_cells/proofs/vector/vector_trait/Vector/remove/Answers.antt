@@ -1,7 +1,7 @@
 use Rattle.std.proofs.Common.{◌≡◌, suc, ◌-◌, None, sym, add-one, length, arith, rules}
 use Rattle.std.specs.Prelude.{slice_get}
 use Rattle.std.proofs.lemmas.Option.{slice_get_past}
-use Rattle.ix_cells.proofs.Lists.{slice_get-moved}
+use Rattle.ix_cells.proofs.Lists.{slice_get-move_to_end}
 use Rattle.ix_cells.proofs.vector.vector_trait.Vector.remove.Goals as goal
 
 pub returns-then-index-len-clause-value : goal.returns-then-index-len-clause-value
@@ -10,10 +10,10 @@ returns-then-index-len-clause-value g c =
     let i = c.args.index in
     let within = c.if-index-len.true in
     let one : suc i - i ≡ 1 = omega arith in
-    let moved = rw c.as_mut_slice.ensures.value at c.put_behind_others.ensures in
-    let same : length c.put_behind_others.new.items ≡ length items = search rules in
-    let law = g.met.Self.Vector.bounded_with_slice c.args.self.now c.put_behind_others.new.items same in
-    rw (c.pop.ensures.value, law, same, moved, add-one, one) (slice_get-moved items i (omega arith))
+    let moved = rw c.as_mut_slice.ensures.value at c.move_to_end.ensures in
+    let same : length c.move_to_end.new.items ≡ length items = search rules in
+    let law = g.met.Self.Vector.bounded_with_slice c.args.self.now c.move_to_end.new.items same in
+    rw (c.pop.ensures.value, law, same, moved, add-one, one) (slice_get-move_to_end items i (omega arith))
 
 pub returns-clause-value : goal.returns-clause-value
 returns-clause-value g c =

@@ -1,4 +1,4 @@
-use Rattle.ix_maps.proofs.SlotMaps.{free_by_link, held_by_link, link_held, formed_of}
+use Rattle.ix_maps.proofs.SlotMaps.{free_by_link, held_by_link, link_held}
 use Rattle.ix_maps.proofs.slotmap.meta_slot_map.MetaSlotMap.is_free.Goals as goal
 
 pub get-requires : goal.get-requires
@@ -6,15 +6,8 @@ get-requires g c = link_held _ _ _ _ _ c.args.key (record { sound = c.self.invar
 
 pub returns-clause-free : goal.returns-clause-free
 returns-clause-free g c is_free =
-    (free_by_link _ _ _ _ _ c.args.key _ (record { sound = c.self.invariant; is = c.self.view_is }) c.get.ensures.value is_free).0
-
-pub returns-clause-empty : goal.returns-clause-empty
-returns-clause-empty g c is_free =
-    (free_by_link _ _ _ _ _ c.args.key _ (record { sound = c.self.invariant; is = c.self.view_is }) c.get.ensures.value is_free).1
+    free_by_link _ _ _ _ _ c.args.key _ (record { sound = c.self.invariant; is = c.self.view_is }) c.get.ensures.value is_free
 
 pub returns-clause-held : goal.returns-clause-held
 returns-clause-held g c held =
     held_by_link _ _ _ _ _ c.args.key _ (record { sound = c.self.invariant; is = c.self.view_is }) c.requires c.get.ensures.value held
-
-pub returns-clause-formed : goal.returns-clause-formed
-returns-clause-formed g c = formed_of _ _ _ _ _ (record { sound = c.self.invariant; is = c.self.view_is })

@@ -1,13 +1,10 @@
-use Rattle.ix_maps.proofs.SlotSteps.{replaced}
+use Rattle.ix_maps.proofs.SlotSteps.{Shows-slot_set}
 use Rattle.ix_maps.proofs.slotmap.meta_slot_map.MetaSlotMap.replace.Goals as goal
 
 pub invariant_of-self : goal.invariant_of-self
 invariant_of-self g c =
-    (replaced _ _ _ _ _ _ c.args.key c.args.value (record { sound = c.self.invariant; is = c.self.view_is }) c.requires (g.met.S.Table.places_with_item c.self.inside.values c.args.key c.args.value)).sound
+    (Shows-slot_set _ _ _ _ _ _ c.args.key c.args.value (record { sound = c.self.invariant; is = c.self.view_is }) c.requires (g.met.S.Table.places_with_item c.self.inside.values c.args.key c.args.value)).sound
 
 pub returns-clause-map : goal.returns-clause-map
 returns-clause-map g c =
-    (replaced _ _ _ _ _ _ c.args.key c.args.value (record { sound = c.self.invariant; is = c.self.view_is }) c.requires (g.met.S.Table.places_with_item c.self.inside.values c.args.key c.args.value)).is
-
-pub returns-clause-formed : goal.returns-clause-formed
-returns-clause-formed g c = (invariant_of-self g c).formed
+    (Shows-slot_set _ _ _ _ _ _ c.args.key c.args.value (record { sound = c.self.invariant; is = c.self.view_is }) c.requires (g.met.S.Table.places_with_item c.self.inside.values c.args.key c.args.value)).is

@@ -1,4 +1,4 @@
-use Rattle.ix_string.proofs.Places.{IsFirstMatch-FindsNeedle}
+use Rattle.ix_string.proofs.Matches.{IsFirstMatch-FindsNeedle}
 use Rattle.ix_string.proofs.string.string_trait.String.find.Goals as goal
 
 pub returns : goal.returns

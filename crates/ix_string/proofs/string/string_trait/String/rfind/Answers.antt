@@ -1,4 +1,4 @@
-use Rattle.ix_string.proofs.Places.{IsLastMatch-FindsLastNeedle}
+use Rattle.ix_string.proofs.Matches.{IsLastMatch-FindsLastNeedle}
 use Rattle.ix_string.proofs.string.string_trait.String.rfind.Goals as goal
 
 pub returns : goal.returns

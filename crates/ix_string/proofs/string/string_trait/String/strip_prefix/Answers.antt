@@ -1,6 +1,6 @@
 use Rattle.std.proofs.Common.{◌∙◌, sym, arith, rules}
 use Rattle.std.proofs.lemmas.Grind.{common_steps}
-use Rattle.ix_string.proofs.Places.{starts_with-MatchesAt}
+use Rattle.ix_string.proofs.Matches.{starts_with-MatchesAt}
 use Rattle.ix_string.proofs.string.string_trait.String.strip_prefix.Goals as goal
 
 pub returns-then-starts_with-clause-value : goal.returns-then-starts_with-clause-value

@@ -1,5 +1,5 @@
 use Rattle.std.proofs.Common.{◌∙◌, sym, rules}
-use Rattle.ix_string.proofs.Places.{ends_with-EndsWith}
+use Rattle.ix_string.proofs.Matches.{ends_with-EndsWith}
 use Rattle.ix_string.proofs.string.string_trait.String.strip_suffix.Goals as goal
 
 pub returns-then-ends_with-clause-value : goal.returns-then-ends_with-clause-value

@@ -1,8 +1,0 @@
-use Rattle.ix_maps.proofs.Rings.{ring_empty}
-use Rattle.ix_maps.proofs.queue.meta_queue.MetaQueue.over.Goals as goal
-
-pub invariant_of-result : goal.invariant_of-result
-invariant_of-result g c = (ring_empty _ _ c.requires).sound
-
-pub returns : goal.returns
-returns g c = (ring_empty _ _ c.requires).is
