@@ -1,4 +1,7 @@
-//! Runs a script of container commands on standard input, and writes one reply line a line to standard output.
+//! Runs a script of container commands: reads commands from standard input, one a line, and writes one line of reply to
+//! each to standard output.
+//!
+//! Ends with status 0. After a read or a write fault, ends with status 1 and a line on standard error.
 #![tactic(auto)]
 
 use ix_run::{exit_status, fault_line, script};

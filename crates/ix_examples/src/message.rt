@@ -6,7 +6,7 @@ use ix_cells::StaticVec;
 use ix_string::StaticString;
 
 /// A topic of at most 32 bytes and at most 8 values.
-#[derive(Clone, PartialEq, Eq, Drop)]
+#[derive(Clone, PartialEq, Eq, Debug, Drop)]
 pub struct Message {
     pub topic: StaticString<32>,
     pub values: StaticVec<u64, 8>,

@@ -6,7 +6,7 @@ use ix_maps::{FixedSizeSlotMap, SlotMapKey};
 use ix_string::StaticString;
 
 /// A service that a handle finds.
-#[derive(Clone, Copy, PartialEq, Eq)]
+#[derive(Clone, Copy, PartialEq, Eq, Debug)]
 pub struct Service {
     pub name: StaticString<32>,
     pub port: u16,
@@ -22,9 +22,6 @@ pub fn register(registry: &mut Registry, service: Service) -> Option<SlotMapKey>
         → value_at registry.new other ≡ value_at registry.old other }
     ensures full { IfNone result (registry.new ≡ registry.old) }
 {
-    if registry.len() == registry.capacity() {
-        return None;
-    }
     registry.insert(service)
 }
 

@@ -1,6 +1,6 @@
 //! A table of sessions, whose numbers are used again.
-ghost use Rattle.std.specs.Prelude.{◌≡◌, ◌↔◌, ℕ, Some, IsTrue, IfSome};
-ghost use Rattle.ix_maps.specs.SlotState.{value_at, first_of, IsHeld};
+ghost use Rattle.std.specs.Prelude.{◌≡◌, ◌↔◌, ℕ, Some, IsTrue, IfSome, slice_get};
+ghost use Rattle.ix_maps.specs.SlotState.{value_at, IsHeld};
 
 use ix_maps::{SlotMap, SlotMapKey};
 use std::alloc::Allocator;
@@ -17,7 +17,7 @@ pub type SessionTable<A> = SlotMap<Session, A>;
 
 /// Opens a session and returns its number, or `None` if the table is full.
 pub fn open<A: Allocator>(table: &mut SessionTable<A>, session: Session) -> Option<SlotMapKey>
-    ensures number { result ≡ first_of table.old.free }
+    ensures number { result ≡ slice_get table.old.free 0 }
     ensures kept { (other : ℕ) → IsHeld table.old other
         → value_at table.new other ≡ value_at table.old other }
 {
@@ -41,7 +41,7 @@ pub fn note_heard<A: Allocator>(table: &mut SessionTable<A>, number: SlotMapKey,
 /// Closes a session and returns it, or `None` if no session has this number. The next session gets the number.
 pub fn close<A: Allocator>(table: &mut SessionTable<A>, number: SlotMapKey) -> Option<Session>
     ensures value { result ≡ value_at table.old number }
-    ensures free { IfSome result (λ _. first_of table.new.free ≡ Some number) }
+    ensures free { IfSome result (λ _. slice_get table.new.free 0 ≡ Some number) }
 {
     table.remove(number)
 }

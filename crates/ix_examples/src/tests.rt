@@ -89,11 +89,11 @@ fn numbers_are_used_again(rt: HostRuntime) {
 #[test]
 fn messages(rt: HostRuntime) {
     let message = Message::new("temperature", &[20, 21]);
-    assert!(rt; message == Message::new("temperature", &[20, 21]));
-    assert!(rt; message != Message::new("temperature", &[20]));
-    assert!(rt; Message::new("", &[0; 9]) == Err(MessageError::Values));
-    assert!(rt; Message::new("\u{e9}", &[]) == Err(MessageError::Topic));
-    let message = message.ok().expect(&rt, "it fits");
+    assert_eq!(rt; message, Message::new("temperature", &[20, 21]));
+    assert_ne!(rt; message, Message::new("temperature", &[20]));
+    assert_eq!(rt; Message::new("", &[0; 9]), Err(MessageError::Values));
+    assert_eq!(rt; Message::new("\u{e9}", &[]), Err(MessageError::Topic));
+    let message = message.expect(&rt, "it fits");
     assert_eq!(rt; message.topic.as_str(), "temperature");
     assert_eq!(rt; message.values.as_slice(), [20, 21].as_slice());
 }

@@ -1,37 +1,43 @@
-//! What a test finds that it did not expect.
+//! What a test finds and did not expect.
 use std::cell::Cell;
 use std::fmt::{Debug, InlineText};
 use std::test::Fail;
 
-/// For how many bytes of a text there is room. A longer one is cut.
+/// The maximum number of bytes of a text. A longer one is cut.
 const ROOM: usize = 400;
 
-/// The text of the first thing that a test did not expect. The test goes on behind it, and tells it at its end.
+/// Notes the first thing that a test did not expect. The test goes on, and fails with that text at its end.
 ///
-/// Findings are not `Drop`: a test spends them by `verdict`, and so cannot forget them. What they hold stands in a
-/// cell, of which no contract speaks.
+/// Findings are not `Drop`, so a test can't forget to return their [`Findings::verdict`]. They are in a cell, of which no
+/// contract can speak.
+///
+/// ```text
+/// let findings = Findings::new();
+/// findings.expect_same(queue.pop(), Some(1), "the first item");
+/// findings.verdict()    // Err with "the first item: found None, wanted Some(1)" if the queue is empty
+/// ```
 pub struct Findings {
     first: Cell<Option<InlineText<{ ROOM }>>>,
 }
 
 impl Findings {
-    /// Nothing is found yet.
+    /// Returns findings of which none is noted yet.
     pub fn new() -> Findings {
         Findings {
             first: Cell::new(None),
         }
     }
 
-    /// Notes a text, if none is noted yet.
+    /// Notes a text, unless one is noted already.
     fn note(&self, text: InlineText<{ ROOM }>) {
         if self.first.get().is_none() {
             self.first.set(Some(text));
         }
     }
 
-    /// Notes `place`, to which a test does not come where all is as told.
+    /// Notes `place`, which a test reaches only if something is unexpected.
     pub fn miss(&self, place: &str) {
-        self.note(InlineText::of(format_args!("{place}: not as told")));
+        self.note(InlineText::of(format_args!("{place}: not as expected")));
     }
 
     /// Notes `place` unless `holds`.
@@ -42,15 +48,15 @@ impl Findings {
         }
     }
 
-    /// Notes `row`, a number of a table's, and `place`, unless `holds`.
+    /// Notes `row`, the index of a row in a table, and `place`, unless `holds`.
     #[inline]
     pub fn expect_at(&self, holds: bool, row: usize, place: &str) {
         if !holds {
-            self.note(InlineText::of(format_args!("row {row}, {place}: not as told")));
+            self.note(InlineText::of(format_args!("row {row}, {place}: not as expected")));
         }
     }
 
-    /// Notes `place` and both values unless `found` is `wanted`.
+    /// Notes `place` and both values, unless `found == wanted`.
     pub fn expect_same<T: PartialEq + Debug + Drop>(&self, found: T, wanted: T, place: &str) {
         if found != wanted {
             let text = InlineText::of(format_args!("{place}: found {found:?}, wanted {wanted:?}"));
@@ -58,7 +64,7 @@ impl Findings {
         }
     }
 
-    /// Notes `row`, a number of a table's, `place` and both values unless `found` is `wanted`.
+    /// Notes `row`, the index of a row in a table, `place` and both values, unless `found == wanted`.
     pub fn expect_same_at<T: PartialEq + Debug + Drop>(
         &self,
         found: T,
@@ -74,12 +80,12 @@ impl Findings {
         }
     }
 
-    /// Returns the text that was noted first, or None where all is as told.
+    /// Returns the text that was noted first, or `None` if all was as expected.
     pub fn first(&self) -> Option<InlineText<{ ROOM }>> {
         self.first.get()
     }
 
-    /// The end of a test: the text that was noted first is its failure.
+    /// Returns the result of the test: a failure with the text that was noted first, if there is one.
     pub fn verdict(self) -> Result<(), Fail> {
         let Findings { first } = self;
         match first.into_inner() {

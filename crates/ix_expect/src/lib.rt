@@ -1,4 +1,11 @@
-//! What the crates of tests share: findings, to which a test tells what it expects, and items that note their drops.
+//! What the crates of tests share: [`Findings`], which note what a test did not expect, and items that note their drops.
+//!
+//! ```text
+//! let notes = Notes::new(0);
+//! drop(Noted::new(3, &notes));
+//! drop(Noted::new(5, &notes));
+//! notes.drops();    // 35
+//! ```
 #![tactic(auto)]
 
 mod findings;

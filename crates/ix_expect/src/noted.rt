@@ -4,17 +4,18 @@ ghost use Rattle.std.specs.Prelude.{◌≡◌};
 use std::alloc::AllocError;
 use std::cell::Cell;
 
-/// What items have in common that note their drops. It stands in cells, of which no contract speaks.
+/// Notes of the drops of some items, and how many clones of them succeed. They are in cells, of which no contract can
+/// speak.
 #[derive(Drop)]
 pub struct Notes {
-    /// The names of the dropped items, each a further digit.
+    /// The names of the dropped items, each as a further digit.
     drops: Cell<u64>,
-    /// How many more clones succeed.
+    /// The number of further clones that succeed.
     clones_left: Cell<u64>,
 }
 
 impl Notes {
-    /// No drop yet, and so many clones succeed.
+    /// Returns notes of no drop. The next `clones_left` clones succeed.
     pub fn new(clones_left: u64) -> Notes {
         Notes {
             drops: Cell::new(0),
@@ -22,28 +23,29 @@ impl Notes {
         }
     }
 
-    /// The names dropped since the last call of `take_drops`, as digits in the order of the drops.
+    /// Returns the names of the items dropped since the last call of [`Notes::take_drops`], as digits in the order of the
+    /// drops.
     pub fn drops(&self) -> u64 {
         self.drops.get()
     }
 
-    /// As `drops`, and forgets them.
+    /// As [`Notes::drops`], and forgets them.
     pub fn take_drops(&self) -> u64 {
         self.drops.replace(0)
     }
 
-    /// Returns how many more clones succeed.
+    /// Returns the number of further clones that succeed.
     pub fn clones_left(&self) -> u64 {
         self.clones_left.get()
     }
 
-    /// Lets so many more clones succeed.
+    /// Lets the next `clones_left` clones succeed.
     pub fn allow_clones(&self, clones_left: u64) {
         self.clones_left.set(clones_left);
     }
 }
 
-/// An item whose name is a digit from 1 to 9, which it notes when it is dropped. The default one notes nothing.
+/// An item whose name is a digit from 1 to 9. It notes the name when it is dropped. The default item notes nothing.
 #[derive(Default)]
 pub struct Noted<'a> {
     pub name: u64,
@@ -51,7 +53,7 @@ pub struct Noted<'a> {
 }
 
 impl<'a> Noted<'a> {
-    /// An item that tells `notes` of its drop.
+    /// Returns an item that notes its drop in `notes`.
     pub fn new(name: u64, notes: &'a Notes) -> Noted<'a>
         ensures { result.name ≡ name }
     {
@@ -79,7 +81,7 @@ impl Clone for Noted<'_> {
 
     ghost is_infallible = { λ _. ⊥ };
 
-    /// An item of the same name, or `AllocError` where no more clones succeed.
+    /// Returns an item of the same name, or `AllocError` if no more clones succeed.
     fn clone(&self) -> Result<Self, AllocError> {
         if let Some(notes) = self.notes {
             let left = notes.clones_left.get();
@@ -95,7 +97,7 @@ impl Clone for Noted<'_> {
     }
 }
 
-/// The names of items, as digits in their order.
+/// Returns the names of items, as digits in their order.
 pub fn names_of(items: &[Noted]) -> u64 {
     let mut names = 0u64;
     for item in items {

@@ -1,57 +1,57 @@
--- Bytes of readers and writers, known or not: what is kept, then written, then read.
+-- Bytes of readers and writers, known or not: kept, then appended, then consumed.
 use Rattle.std.proofs.Common.{ℕ, List, [], ◌++◌, Option, Some, None, refl, sym, ap, ◌∙◌, append_assoc, append-nil}
 use Rattle.std.specs.Io.KnownBytes.{Keeps, Appends, Consumes}
 
-pub keeps_same : (a : Option (List ℕ)) → Keeps a a
-keeps_same None = tt
-keeps_same (Some xs) = refl
+pub Keeps_refl : (a : Option (List ℕ)) → Keeps a a
+Keeps_refl None = tt
+Keeps_refl (Some xs) = refl
 
-pub keeps_then : (a b c : Option (List ℕ)) → Keeps a b → Keeps b c → Keeps a c
-keeps_then None b c p q = tt
-keeps_then (Some x) None c p q = absurd p
-keeps_then (Some x) (Some y) None p q = absurd q
-keeps_then (Some x) (Some y) (Some z) p q = q ∙ p
+pub Keeps_trans : (a b c : Option (List ℕ)) → Keeps a b → Keeps b c → Keeps a c
+Keeps_trans None b c p q = tt
+Keeps_trans (Some x) None c p q = absurd p
+Keeps_trans (Some x) (Some y) None p q = absurd q
+Keeps_trans (Some x) (Some y) (Some z) p q = q ∙ p
 
-pub keeps_appends : (a b c : Option (List ℕ)) (xs : List ℕ) → Keeps a b → Appends b c xs → Appends a c xs
-keeps_appends None b c xs p q = tt
-keeps_appends (Some x) None c xs p q = absurd p
-keeps_appends (Some x) (Some y) None xs p q = absurd q
-keeps_appends (Some x) (Some y) (Some z) xs p q = q ∙ ap (λ l. l ++ xs) p
+pub Keeps_Appends : (a b c : Option (List ℕ)) (xs : List ℕ) → Keeps a b → Appends b c xs → Appends a c xs
+Keeps_Appends None b c xs p q = tt
+Keeps_Appends (Some x) None c xs p q = absurd p
+Keeps_Appends (Some x) (Some y) None xs p q = absurd q
+Keeps_Appends (Some x) (Some y) (Some z) xs p q = q ∙ ap (λ l. l ++ xs) p
 
-pub appends_keeps : (a b c : Option (List ℕ)) (xs : List ℕ) → Appends a b xs → Keeps b c → Appends a c xs
-appends_keeps None b c xs p q = tt
-appends_keeps (Some x) None c xs p q = absurd p
-appends_keeps (Some x) (Some y) None xs p q = absurd q
-appends_keeps (Some x) (Some y) (Some z) xs p q = q ∙ p
+pub Appends-Keeps : (a b c : Option (List ℕ)) (xs : List ℕ) → Appends a b xs → Keeps b c → Appends a c xs
+Appends-Keeps None b c xs p q = tt
+Appends-Keeps (Some x) None c xs p q = absurd p
+Appends-Keeps (Some x) (Some y) None xs p q = absurd q
+Appends-Keeps (Some x) (Some y) (Some z) xs p q = q ∙ p
 
-pub appends_nothing : (a : Option (List ℕ)) → Appends a a []
-appends_nothing None = tt
-appends_nothing (Some xs) = sym (append-nil xs)
+pub Appends-nil : (a : Option (List ℕ)) → Appends a a []
+Appends-nil None = tt
+Appends-nil (Some xs) = sym (append-nil xs)
 
-pub appends_then : (a b c : Option (List ℕ)) (xs ys : List ℕ) → Appends a b xs → Appends b c ys → Appends a c (xs ++ ys)
-appends_then None b c xs ys p q = tt
-appends_then (Some x) None c xs ys p q = absurd p
-appends_then (Some x) (Some y) None xs ys p q = absurd q
-appends_then (Some x) (Some y) (Some z) xs ys p q = q ∙ ap (λ l. l ++ ys) p ∙ append_assoc x xs ys
+pub Appends-append : (a b c : Option (List ℕ)) (xs ys : List ℕ) → Appends a b xs → Appends b c ys → Appends a c (xs ++ ys)
+Appends-append None b c xs ys p q = tt
+Appends-append (Some x) None c xs ys p q = absurd p
+Appends-append (Some x) (Some y) None xs ys p q = absurd q
+Appends-append (Some x) (Some y) (Some z) xs ys p q = q ∙ ap (λ l. l ++ ys) p ∙ append_assoc x xs ys
 
-pub consumes_nothing : (a : Option (List ℕ)) → Consumes a a []
-consumes_nothing None = tt
-consumes_nothing (Some xs) = refl
+pub Consumes-nil : (a : Option (List ℕ)) → Consumes a a []
+Consumes-nil None = tt
+Consumes-nil (Some xs) = refl
 
-pub consumes_then : (a b c : Option (List ℕ)) (xs ys : List ℕ) → Consumes a b xs → Consumes b c ys → Consumes a c (xs ++ ys)
-consumes_then None b c xs ys p q = tt
-consumes_then (Some x) None c xs ys p q = absurd p
-consumes_then (Some x) (Some y) None xs ys p q = absurd q
-consumes_then (Some x) (Some y) (Some z) xs ys p q = p ∙ ap (λ l. xs ++ l) q ∙ sym (append_assoc xs ys z)
+pub Consumes-append : (a b c : Option (List ℕ)) (xs ys : List ℕ) → Consumes a b xs → Consumes b c ys → Consumes a c (xs ++ ys)
+Consumes-append None b c xs ys p q = tt
+Consumes-append (Some x) None c xs ys p q = absurd p
+Consumes-append (Some x) (Some y) None xs ys p q = absurd q
+Consumes-append (Some x) (Some y) (Some z) xs ys p q = p ∙ ap (λ l. xs ++ l) q ∙ sym (append_assoc xs ys z)
 
-pub consumes_keeps : (a b c : Option (List ℕ)) (xs : List ℕ) → Consumes a b xs → Keeps b c → Consumes a c xs
-consumes_keeps None b c xs p q = tt
-consumes_keeps (Some x) None c xs p q = absurd p
-consumes_keeps (Some x) (Some y) None xs p q = absurd q
-consumes_keeps (Some x) (Some y) (Some z) xs p q = p ∙ ap (λ l. xs ++ l) (sym q)
+pub Consumes-Keeps : (a b c : Option (List ℕ)) (xs : List ℕ) → Consumes a b xs → Keeps b c → Consumes a c xs
+Consumes-Keeps None b c xs p q = tt
+Consumes-Keeps (Some x) None c xs p q = absurd p
+Consumes-Keeps (Some x) (Some y) None xs p q = absurd q
+Consumes-Keeps (Some x) (Some y) (Some z) xs p q = p ∙ ap (λ l. xs ++ l) (sym q)
 
-pub consumes_none : (a b c : Option (List ℕ)) (xs : List ℕ) → Consumes a b xs → Consumes b c [] → Consumes a c xs
-consumes_none None b c xs p q = tt
-consumes_none (Some x) None c xs p q = absurd p
-consumes_none (Some x) (Some y) None xs p q = absurd q
-consumes_none (Some x) (Some y) (Some z) xs p q = p ∙ ap (λ l. xs ++ l) q
+pub Consumes-Consumes_nil : (a b c : Option (List ℕ)) (xs : List ℕ) → Consumes a b xs → Consumes b c [] → Consumes a c xs
+Consumes-Consumes_nil None b c xs p q = tt
+Consumes-Consumes_nil (Some x) None c xs p q = absurd p
+Consumes-Consumes_nil (Some x) (Some y) None xs p q = absurd q
+Consumes-Consumes_nil (Some x) (Some y) (Some z) xs p q = p ∙ ap (λ l. xs ++ l) q

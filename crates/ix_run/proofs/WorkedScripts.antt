@@ -8,12 +8,12 @@ empty_script : replies_to [] ≡ []
 unfolding replies_to
 empty_script = refl
 
--- a full queue refuses a push; an overflow hands back the oldest item
+-- a full queue refuses a push; an overflow returns the oldest item
 overflow_script : replies_to (codes "queue fixed 1\npush 123\npush 5\nover 456\npop\npop\n") ≡ codes "ready\ntrue\nfalse\nsome 123\nsome 456\nnone\n"
 unfolding replies_to digits
 overflow_script = refl
 
--- commands before the header, a capacity that no header has, a second header, a zero in front, and a number too great
+-- commands before the header, a capacity that no header has, a second header, a leading zero, and a number past 2^64
 unreadable_script : replies_to (codes "push 1\nqueue fixed 2\nqueue fixed 3\npush 01\npush 18446744073709551615\npush 18446744073709551616\nqueue fixed 1\nshow")
     ≡ codes "?\n?\nready\n?\ntrue\n?\n?\n18446744073709551615\n"
 unfolding replies_to digits

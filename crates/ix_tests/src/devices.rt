@@ -1,39 +1,41 @@
-//! Readers and writers that do as poor devices do: a few bytes a call, interruptions, and faults.
+//! Readers and writers that behave like poor devices: a few bytes a call, interruptions, and faults.
 use std::alloc::Global;
 use std::cell::Cell;
 use std::cmp::min;
 use std::io::{Error, ErrorKind, Read, Write};
 
-/// Gives at most `piece` bytes a call, and fails once it was called `calls` times.
+/// Reads at most `piece` bytes a call, and fails after `calls` calls.
 #[derive(Drop)]
 pub struct PoorReader<'a> {
     pub rest: &'a [u8],
     pub piece: usize,
     pub calls: usize,
-    /// Whether every other call is interrupted, the first one among them. These calls do not count.
-    pub interrupts: bool,
-    pub was_interrupted: bool,
+    /// How many calls in a row are interrupted before each other call. They do not count as calls.
+    pub interruptions: usize,
+    /// How many were interrupted since the last call that was not.
+    pub interrupted: usize,
 }
 
 impl<'a> PoorReader<'a> {
-    /// It gives `bytes`, and neither fails nor is interrupted.
+    /// Returns a reader of `bytes` that neither fails nor is interrupted.
     pub fn new(bytes: &'a [u8], piece: usize) -> PoorReader<'a> {
         PoorReader {
             rest: bytes,
             piece,
             calls: usize::MAX,
-            interrupts: false,
-            was_interrupted: false,
+            interruptions: 0,
+            interrupted: 0,
         }
     }
 }
 
 impl Read for PoorReader<'_> {
     fn read(&mut self, buf: &mut [u8]) -> std::io::Result<usize> {
-        self.was_interrupted = self.interrupts && !self.was_interrupted;
-        if self.was_interrupted {
+        if self.interrupted < self.interruptions {
+            self.interrupted += 1;
             return Err(Error::from(ErrorKind::Interrupted));
         }
+        self.interrupted = 0;
         if self.calls == 0 {
             return Err(Error::from(ErrorKind::Other));
         }
@@ -46,29 +48,29 @@ impl Read for PoorReader<'_> {
     }
 }
 
-/// Takes at most `piece` bytes a call and `room` in all, and fails once it was called `calls` times.
+/// Writes at most `piece` bytes a call and `room` bytes in all, and fails after `calls` calls.
 #[derive(Drop)]
 pub struct PoorWriter {
     pub bytes: Vec<u8>,
     pub piece: usize,
     pub room: usize,
     pub calls: usize,
-    /// Whether every other call is interrupted, the first one among them. These calls do not count.
-    pub interrupts: bool,
-    pub was_interrupted: bool,
+    /// As for [`PoorReader`].
+    pub interruptions: usize,
+    pub interrupted: usize,
     pub flush_fails: bool,
 }
 
 impl PoorWriter {
-    /// It has room for all, and neither fails nor is interrupted.
+    /// Returns a writer that has room for all bytes, and neither fails nor is interrupted.
     pub fn new(alloc: Global, piece: usize) -> PoorWriter {
         PoorWriter {
             bytes: Vec::new(alloc),
             piece,
             room: usize::MAX,
             calls: usize::MAX,
-            interrupts: false,
-            was_interrupted: false,
+            interruptions: 0,
+            interrupted: 0,
             flush_fails: false,
         }
     }
@@ -76,10 +78,11 @@ impl PoorWriter {
 
 impl Write for PoorWriter {
     fn write(&mut self, buf: &[u8]) -> std::io::Result<usize> {
-        self.was_interrupted = self.interrupts && !self.was_interrupted;
-        if self.was_interrupted {
+        if self.interrupted < self.interruptions {
+            self.interrupted += 1;
             return Err(Error::from(ErrorKind::Interrupted));
         }
+        self.interrupted = 0;
         if self.calls == 0 {
             return Err(Error::from(ErrorKind::Other));
         }
@@ -98,13 +101,13 @@ impl Write for PoorWriter {
     }
 }
 
-/// What a person at a terminal sees: the lines that were given and the replies to them.
+/// What a person at a terminal sees: the lines that were typed and the replies to them.
 #[derive(Drop)]
 pub struct Exchange {
     pub given: Cell<usize>,
     pub replies: Cell<usize>,
     pub flushes: Cell<usize>,
-    /// Whether a line was asked for while a reply was owed, or behind the end.
+    /// Whether a line was asked for before all replies were written, or after the flush at the end.
     pub was_late: Cell<bool>,
 }
 
@@ -119,7 +122,7 @@ impl Exchange {
     }
 }
 
-/// Gives at most one line a call, and looks at each call whether all replies came.
+/// Reads at most one line a call, and notes at each call whether all replies were written.
 #[derive(Drop)]
 pub struct Asker<'a> {
     pub rest: &'a [u8],
@@ -143,7 +146,7 @@ impl Read for Asker<'_> {
     }
 }
 
-/// Takes three bytes a call, and counts the ends of lines.
+/// Writes three bytes a call, and counts line feeds.
 #[derive(Drop)]
 pub struct Listener<'a> {
     pub exchange: &'a Exchange,
@@ -164,7 +167,7 @@ impl Write for Listener<'_> {
     }
 }
 
-/// How many lines end in `bytes`.
+/// Returns the number of line feeds in `bytes`.
 pub fn line_ends(bytes: &[u8]) -> usize {
     let mut count = 0usize;
     for byte in bytes {
@@ -175,7 +178,7 @@ pub fn line_ends(bytes: &[u8]) -> usize {
     count
 }
 
-/// The first `count` lines of `text`, each with its end.
+/// Returns the first `count` lines of `text`, each with its line feed.
 pub fn first_lines(text: &[u8], count: usize) -> &[u8] {
     let mut lines = 0usize;
     for (i, byte) in text.iter().enumerate() {

@@ -1,4 +1,4 @@
-//! Findings themselves, by plain asserts: a test that met something else fails, and tells what it met first.
+//! Findings themselves, by plain asserts: a test that finds something unexpected fails with the text of the first finding.
 use ix_expect::Findings;
 use std::process::{Abort, ExitCode, Termination};
 
@@ -14,7 +14,7 @@ fn all_as_told(rt: HostRuntime) {
     assert!(rt; status == ExitCode::SUCCESS);
 }
 
-/// One way to meet something else.
+/// One way to note something unexpected.
 enum Miss {
     Place,
     Fact,
@@ -24,9 +24,9 @@ enum Miss {
 }
 
 const MISSES: &[(Miss, &str)] = &[
-    (Miss::Place, "a place: not as told"),
-    (Miss::Fact, "a place: not as told"),
-    (Miss::FactAt, "row 7, a place: not as told"),
+    (Miss::Place, "a place: not as expected"),
+    (Miss::Fact, "a place: not as expected"),
+    (Miss::FactAt, "row 7, a place: not as expected"),
     (Miss::Value, "a place: found 3, wanted 4"),
     (Miss::ValueAt, "row 7, a place: found 3, wanted 4"),
 ];
@@ -41,7 +41,7 @@ fn find(findings: &Findings, miss: &Miss) {
     }
 }
 
-/// This text was noted first.
+/// Asserts that `wanted` was noted first.
 fn assert_first(rt: &impl Abort, findings: &Findings, wanted: &str) {
     match findings.first() {
         Some(text) => assert_eq!(rt; text.as_str(), wanted),
@@ -55,7 +55,7 @@ fn first_miss_is_the_verdict(rt: HostRuntime) {
         let findings = Findings::new();
         findings.expect(true, "before");
         find(&findings, miss);
-        findings.expect_same(true, false, "behind");
+        findings.expect_same(true, false, "after");
         assert_first(&rt, &findings, wanted);
         let status = findings.verdict().report(&rt);
         assert!(rt; status == ExitCode::FAILURE);

@@ -1,4 +1,4 @@
-//! Tests that cross crates: queues against a plain slow one, whole scripts on faulty devices, and findings.
+//! Tests that cross crates: queues beside a plain slow one, whole scripts on faulty devices, and findings.
 #![tactic(auto)]
 
 #[cfg(test)]

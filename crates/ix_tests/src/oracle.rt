@@ -1,4 +1,4 @@
-//! The ring against the plain slow queue: every short list of commands, on each small capacity.
+//! The ring against the plain slow queue: every short list of commands at each small capacity.
 use crate::slow_queue::{SlowQueue, run_slow_command};
 use ix_cells::Table;
 use ix_expect::Findings;
@@ -6,10 +6,10 @@ use ix_maps::{FixedSizeQueue, MetaQueue};
 use ix_run::run::{QueueCommand, run_queue_command};
 use std::test::Fail;
 
-/// How many lists of six commands there are, out of three.
+/// The number of lists of six commands out of three.
 const LISTS: u64 = 729;
 
-/// The command that the last digit of `list` tells, to the base of three.
+/// Returns the command of the last base-3 digit of `list`.
 fn command_of(list: u64, item: u64) -> QueueCommand<u64> {
     match list % 3 {
         0 => QueueCommand::Push(item),
@@ -18,10 +18,10 @@ fn command_of(list: u64, item: u64) -> QueueCommand<u64> {
     }
 }
 
-/// The capacity, the list, the turns before it, and the item of its last command.
+/// The capacity, the list, the turns of the ring before it, and the item of the last command.
 type Case = (usize, u64, u64, u64);
 
-/// Compares what both hold.
+/// Compares the items of both.
 fn check_same<S: Table<u64>>(
     findings: &Findings,
     ring: &MetaQueue<u64, S>,
@@ -41,7 +41,7 @@ fn check_same<S: Table<u64>>(
     }
 }
 
-/// Runs six commands on both, and compares each reply and the contents behind it.
+/// Runs six commands on both, and compares each reply and the items after it.
 fn check_list<S: Table<u64>>(
     findings: &Findings,
     ring: &mut MetaQueue<u64, S>,
@@ -61,7 +61,7 @@ fn check_list<S: Table<u64>>(
     }
 }
 
-/// As above. The ring, which is empty, first turns on by `turns`.
+/// As [`check_list`]. The empty ring is first turned by `turns` pushes and pops.
 fn check_agree<S: Table<u64>>(
     findings: &Findings,
     mut ring: MetaQueue<u64, S>,

@@ -1,11 +1,11 @@
-//! Words and lines at the edge of what is read.
+//! Words and lines that are just read, and others that just are not.
 use ix_expect::Findings;
 use ix_run::run::{
     FixedCapacity, QueueCommand, QueueLine, read_header, read_number, read_queue_line,
 };
 use std::test::Fail;
 
-/// Words that spell no number.
+/// Words that are the text of no number.
 const UNREADABLE_NUMBERS: &[&str] = &[
     "",
     "00",
@@ -35,7 +35,7 @@ const UNREADABLE_NUMBERS: &[&str] = &[
     "184467440737095516160",
 ];
 
-/// Words that spell a number.
+/// Words that are the text of a number.
 const NUMBERS: &[(&str, u64)] = &[
     ("0", 0),
     ("1", 1),
@@ -61,7 +61,7 @@ fn numbers() -> Result<(), Fail> {
     findings.verdict()
 }
 
-/// Lines that name no capacity.
+/// Lines that are no header.
 const UNREADABLE_HEADERS: &[&str] = &[
     "",
     "queue",
@@ -84,7 +84,7 @@ const UNREADABLE_HEADERS: &[&str] = &[
     "pop",
 ];
 
-/// Lines that name a capacity.
+/// Lines that are a header.
 const HEADERS: &[(&str, FixedCapacity)] = &[
     ("queue fixed 0", FixedCapacity::Zero),
     ("queue fixed 1", FixedCapacity::One),
@@ -141,7 +141,7 @@ const UNREADABLE_QUEUE_LINES: &[&str] = &[
     "queue fixed 1",
 ];
 
-/// Lines that ask for something.
+/// Lines that ask something of a queue.
 const QUEUE_LINES: &[(&str, QueueLine)] = &[
     ("push 0", QueueLine::Command(QueueCommand::Push(0))),
     (

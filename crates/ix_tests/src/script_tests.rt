@@ -8,13 +8,13 @@ use std::alloc::{AllocError, Global};
 use std::cmp::min;
 use std::test::Fail;
 
-/// A script whose last line lacks its end.
+/// A script whose last line has no line feed.
 const INPUT: &[u8] = b"queue fixed 1\npush 123\npush 5\nover 456\npop\npop";
 
-/// The same with the end of that line.
+/// The same script with that line feed.
 const ENDED_INPUT: &[u8] = b"queue fixed 1\npush 123\npush 5\nover 456\npop\npop\n";
 
-/// The replies to either.
+/// The replies to both.
 const OUTPUT: &[u8] = b"ready\ntrue\nfalse\nsome 123\nsome 456\nnone\n";
 
 /// A script and its output.
@@ -67,7 +67,7 @@ const BAD_INPUT: &[Example] = &[
     ),
 ];
 
-/// Runs a script over memory, which has to end well, and compares its output.
+/// Runs a script over memory, expects `Ok`, and compares its output.
 fn check_output(findings: &Findings, alloc: Global, input: &[u8], output: &[u8], case: usize) {
     let mut reader = input;
     let mut writer = Vec::new(alloc);
@@ -89,19 +89,19 @@ fn examples(rt: HostRuntime) -> Result<(), Fail> {
     findings.verdict()
 }
 
-/// `before`, `count` times `byte`, and `behind`.
+/// Returns `before`, `count` times `byte`, and `after`.
 fn with_run(
     alloc: Global,
     before: &[u8],
     byte: u8,
     count: usize,
-    behind: &[u8],
+    after: &[u8],
 ) -> Result<Vec<u8>, AllocError> {
     let mut bytes = Vec::from_slice(alloc, before)?;
     for _ in 0..count {
         bytes.push(byte)?;
     }
-    bytes.extend_from_slice(behind)?;
+    bytes.extend_from_slice(after)?;
     Ok(bytes)
 }
 
@@ -119,7 +119,7 @@ fn check_made(
     }
 }
 
-/// What stands before a run of one byte, that byte, what stands behind it, and the output.
+/// The input before a run of one byte, that byte, the input after it, and the output.
 const LONG_LINES: &[(&[u8], u8, &[u8], &[u8])] = &[
     (
         b"queue fixed 1\n",
@@ -144,15 +144,15 @@ const LONG_COUNTS: &[usize] = &[
 fn long_lines(rt: HostRuntime) -> Result<(), Fail> {
     let findings = Findings::new();
     for count in LONG_COUNTS {
-        for (before, byte, behind, output) in LONG_LINES {
-            let input = with_run(rt.alloc(), before, *byte, *count, behind);
+        for (before, byte, after, output) in LONG_LINES {
+            let input = with_run(rt.alloc(), before, *byte, *count, after);
             check_made(&findings, rt.alloc(), input, output, *count);
         }
     }
     findings.verdict()
 }
 
-/// `before`, and `count` times `lines`.
+/// Returns `before`, and `count` times `lines`.
 fn repeated(
     alloc: Global,
     before: &[u8],
@@ -193,26 +193,22 @@ fn many_lines(rt: HostRuntime) -> Result<(), Fail> {
     findings.verdict()
 }
 
-/// Whether reads are interrupted, and writes.
-const INTERRUPTIONS: &[(bool, bool)] = &[
-    (false, false),
-    (true, false),
-    (false, true),
-    (true, true),
-];
+/// How many interruptions in a row come before each read, and before each write.
+const INTERRUPTIONS: &[(usize, usize)] = &[(0, 0), (1, 0), (0, 1), (1, 1)];
 
-/// Runs a script whose reader gives so many bytes a call, and compares its output.
+/// Runs a script whose reader reads `piece` bytes a call, with so many interruptions before each read and each write, and
+/// compares its output.
 fn check_piece(
     findings: &Findings,
     alloc: Global,
     input: &[u8],
-    (piece, reads, writes): (usize, bool, bool),
+    (piece, reads, writes): (usize, usize, usize),
     output: &[u8],
 ) {
     let mut reader = PoorReader::new(input, piece);
-    reader.interrupts = reads;
+    reader.interruptions = reads;
     let mut writer = PoorWriter::new(alloc, 1 + piece % 29);
-    writer.interrupts = writes;
+    writer.interruptions = writes;
     let case = (input.len(), piece, reads, writes);
     let outcome = script(alloc, &mut reader, &mut writer);
     let found = (case, outcome, reader.rest.len());
@@ -221,7 +217,7 @@ fn check_piece(
     findings.expect_same((case, text), (case, output), "in pieces");
 }
 
-/// As above, with every kind of interruption.
+/// As [`check_piece`], with each of [`INTERRUPTIONS`].
 fn check_pieces(findings: &Findings, alloc: Global, input: &[u8], piece: usize, output: &[u8]) {
     for (reads, writes) in INTERRUPTIONS {
         check_piece(findings, alloc, input, (piece, *reads, *writes), output);
@@ -234,6 +230,42 @@ fn pieces_and_interruptions(rt: HostRuntime) -> Result<(), Fail> {
     for piece in 1..70 {
         check_pieces(&findings, rt.alloc(), INPUT, piece, OUTPUT);
         check_pieces(&findings, rt.alloc(), ENDED_INPUT, piece, OUTPUT);
+    }
+    findings.verdict()
+}
+
+/// Runs a script of 70,002 bytes that are read one by one.
+fn check_many_reads(findings: &Findings, alloc: Global) -> Result<(), AllocError> {
+    let input = repeated(alloc, b"queue fixed 1\n", b"pop\n", 17_497)?;
+    let output = repeated(alloc, b"ready\n", b"none\n", 17_497)?;
+    findings.expect_same(input.len(), 70_002, "the number of reads");
+    check_piece(
+        findings,
+        alloc,
+        input.as_slice(),
+        (1, 0, 0),
+        output.as_slice(),
+    );
+    Ok(())
+}
+
+/// A reader that reads one byte in each of 70,002 calls.
+#[test]
+fn many_reads(rt: HostRuntime) -> Result<(), Fail> {
+    let findings = Findings::new();
+    if check_many_reads(&findings, rt.alloc()).is_err() {
+        findings.miss("there is memory");
+    }
+    findings.verdict()
+}
+
+/// 1,000 interruptions in a row before each read, and before each write.
+#[test]
+fn interruptions_in_a_row(rt: HostRuntime) -> Result<(), Fail> {
+    let findings = Findings::new();
+    for (reads, writes) in &[(1000, 0), (0, 1000)] {
+        let case = (46, *reads, *writes);
+        check_piece(&findings, rt.alloc(), INPUT, case, OUTPUT);
     }
     findings.verdict()
 }
@@ -252,7 +284,7 @@ fn check_long_line(findings: &Findings, alloc: Global, count: usize) {
     }
 }
 
-/// Some pieces begin with what would be a command, but is the end of a longer line.
+/// Some pieces begin with the text of a command that is the end of a longer line.
 #[test]
 fn long_lines_in_pieces(rt: HostRuntime) -> Result<(), Fail> {
     let findings = Findings::new();
@@ -262,8 +294,8 @@ fn long_lines_in_pieces(rt: HostRuntime) -> Result<(), Fail> {
     findings.verdict()
 }
 
-/// The reader fails at its call number `calls`, and what was written is the replies to the whole lines that it gave
-/// before; or it came to its end before that call.
+/// The reader fails at its call number `calls`, and the replies to the whole lines before are written; or the input ends
+/// before that call.
 fn check_read_fault(
     findings: &Findings,
     alloc: Global,
@@ -273,7 +305,7 @@ fn check_read_fault(
     let case = (piece, calls);
     let mut reader = PoorReader::new(input, piece);
     reader.calls = calls;
-    reader.interrupts = calls % 2 == 1;
+    reader.interruptions = calls % 2;
     let mut writer = PoorWriter::new(alloc, 5);
     let outcome = script(alloc, &mut reader, &mut writer);
     let given = input.len().saturating_sub(reader.rest.len());
@@ -302,7 +334,7 @@ fn read_faults(rt: HostRuntime) -> Result<(), Fail> {
     findings.verdict()
 }
 
-/// The writer fails, and exactly this was written.
+/// The writer fails, and exactly `written` is written.
 fn check_write_fault(
     findings: &Findings,
     alloc: Global,
@@ -321,19 +353,19 @@ fn check_write_fault(
     findings.expect_same((case, text), (case, written), "a write fault");
 }
 
-/// A writer that has room for `count` bytes, and one that has as many calls.
+/// A writer with room for `count` bytes, and one that fails after as many calls.
 fn check_count(findings: &Findings, alloc: Global, piece: usize, count: usize)
     requires { count ≤ 40 }
 {
     let written = &OUTPUT[..count];
     let mut full = PoorWriter::new(alloc, 7);
     full.room = count;
-    full.interrupts = count % 2 == 1;
+    full.interruptions = count % 2;
     let reader = PoorReader::new(INPUT, piece);
     check_write_fault(findings, alloc, reader, full, written);
     let mut broken = PoorWriter::new(alloc, 1);
     broken.calls = count;
-    broken.interrupts = count % 2 == 0;
+    broken.interruptions = 1 - count % 2;
     let reader = PoorReader::new(INPUT, piece);
     check_write_fault(findings, alloc, reader, broken, written);
 }
@@ -349,7 +381,7 @@ fn write_faults(rt: HostRuntime) -> Result<(), Fail> {
     findings.verdict()
 }
 
-/// A writer that takes nothing, and one that does not flush.
+/// A writer that writes nothing, and one whose flush fails.
 fn check_idle_and_leaky(findings: &Findings, alloc: Global, piece: usize) {
     let reader = PoorReader::new(INPUT, piece);
     let idle = PoorWriter::new(alloc, 0);
@@ -366,7 +398,7 @@ fn writers_that_never_work(rt: HostRuntime) -> Result<(), Fail> {
     for piece in &[1, 9, 100] {
         check_idle_and_leaky(&findings, rt.alloc(), *piece);
     }
-    // Where all lines come and end in one piece, all replies are owed at once.
+    // If all lines are read at once, all replies are written after that read.
     for calls in 0..14 {
         let mut broken = PoorWriter::new(rt.alloc(), 3);
         broken.calls = calls;
@@ -376,7 +408,7 @@ fn writers_that_never_work(rt: HostRuntime) -> Result<(), Fail> {
     findings.verdict()
 }
 
-/// A writer that has just enough room, and just enough calls, is as good as any.
+/// A writer with just enough room and just enough calls does not fail.
 fn check_enough_room(findings: &Findings, alloc: Global, piece: usize) {
     let mut reader = PoorReader::new(INPUT, piece);
     let mut writer = PoorWriter::new(alloc, 1);

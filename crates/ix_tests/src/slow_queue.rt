@@ -1,4 +1,4 @@
-//! A plain slow queue, which tests hold against the ring. It meets the ring's clauses by another way.
+//! A plain slow queue, with the ring's contract and another body, which tests compare with the ring.
 ghost use Rattle.std.specs.Prelude.{◌≡◌, ◌≤◌, length};
 ghost use Rattle.ix_cells.specs.Bounded.{has_room, bounded_new, bounded_push};
 ghost use Rattle.ix_maps.specs.QueueSteps.{queue_overflow, queue_overflow_item, queue_front, queue_pop};
@@ -8,8 +8,7 @@ use arrayvec::ArrayVec;
 use ix_run::run::{QueueCommand, Reply};
 use std::marker::Model;
 
-/// A queue whose items stand in order at the front of a vector: each item that leaves has all others move up.
-/// Its capacity is known when it runs, and is at most 8.
+/// A queue whose items are in order in a vector: removing the oldest one moves all others. Its capacity is at most 8.
 #[derive(Drop)]
 pub struct SlowQueue<T> {
     items: ArrayVec<T, 8>,
@@ -33,7 +32,7 @@ impl<T> Model for SlowQueue<T> {
 }
 
 impl<T: Default + Drop> SlowQueue<T> {
-    /// An empty queue.
+    /// Returns an empty queue.
     pub fn new(capacity: usize) -> SlowQueue<T>
         requires { capacity ≤ 8 }
         ensures { result ≡ bounded_new capacity }
@@ -44,21 +43,21 @@ impl<T: Default + Drop> SlowQueue<T> {
         }
     }
 
-    /// The number of items.
+    /// Returns the number of items.
     pub fn len(&self) -> usize
         ensures { result ≡ length self.now.items }
     {
         self.items.len()
     }
 
-    /// The items, the oldest first.
+    /// Returns the items, the oldest first.
     pub fn as_slice(&self) -> &[T]
         ensures { result.now ≡ self.now.items }
     {
         self.items.as_slice()
     }
 
-    /// Adds `item` at the back and answers true, or drops it and answers false where the queue is full.
+    /// Appends `item` and returns `true`, or drops it and returns `false` if the queue is full.
     pub fn push(&mut self, item: T) -> bool
         ensures value { result ≡ has_room self.old }
         ensures queue { self.new ≡ bounded_push self.old item }
@@ -70,7 +69,7 @@ impl<T: Default + Drop> SlowQueue<T> {
         has_room
     }
 
-    /// Adds `item` at the back. Where that is too long, the oldest item leaves and is handed back.
+    /// Appends `item`. If the queue was full, removes the oldest item and returns it.
     pub fn push_with_overflow(&mut self, item: T) -> Option<T>
         ensures value { result ≡ queue_overflow_item self.old item }
         ensures queue { self.new ≡ queue_overflow self.old item }
@@ -87,7 +86,7 @@ impl<T: Default + Drop> SlowQueue<T> {
         Some(oldest)
     }
 
-    /// Takes the oldest item, or answers None where there is none.
+    /// Removes the oldest item and returns it, or `None` if the queue is empty.
     pub fn pop(&mut self) -> Option<T>
         ensures value { result ≡ queue_front self.old }
         ensures queue { self.new ≡ queue_pop self.old }
@@ -96,7 +95,7 @@ impl<T: Default + Drop> SlowQueue<T> {
     }
 }
 
-/// An optional item as a reply.
+/// Returns an optional item as a reply.
 fn reply_of_option<T: Copy>(item: Option<T>) -> Reply<T>
     ensures { result ≡ option_reply item }
 {
@@ -106,12 +105,12 @@ fn reply_of_option<T: Copy>(item: Option<T>) -> Reply<T>
     }
 }
 
-/// Does one command on the slow queue.
+/// Runs one command on the slow queue, and returns the reply to it.
 pub fn run_slow_command<T: Default + Copy>(
     queue: &mut SlowQueue<T>,
     command: QueueCommand<T>,
 ) -> Reply<T>
-    ensures reply { result ≡ reply_of queue.old command }
+    ensures value { result ≡ reply_of queue.old command }
     ensures queue { queue.new ≡ queue_after queue.old command }
 {
     match command {

@@ -43,7 +43,7 @@ fn number_in(word: &[u8]) -> Option<u64>
 
 /// Returns the number whose decimal text `word` is, from 0 to 18,446,744,073,709,551,615 and without leading zeros; or
 /// `None` for any other word. O(length).
-#[tactic(auto, using(crate::proofs::Numbers::number_spelled, crate::proofs::Numbers::number_read))]
+#[tactic(auto, using(crate::proofs::Numbers::number_of_text, crate::proofs::Numbers::number_of_decimal))]
 pub fn read_number(word: &[u8]) -> Option<u64>
     ensures value { result ≡ number_of word.now }
     ensures text { IfSome result (λ n. word.now ≡ decimal n) }
@@ -72,7 +72,7 @@ fn queue_line_in(line: &[u8]) -> Option<QueueLine>
 
 /// Returns what `line` asks of a queue: `push X`, `over X`, `pop` or `show`, where X is a number as [`read_number`] reads
 /// it; or `None` for any other line. O(length).
-#[tactic(auto, using(crate::proofs::Numbers::line_spelled, crate::proofs::Numbers::line_read))]
+#[tactic(auto, using(crate::proofs::Numbers::Spells_queue_line_of, crate::proofs::Numbers::queue_line_of_Spells))]
 pub fn read_queue_line(line: &[u8]) -> Option<QueueLine>
     ensures value { result ≡ queue_line_of line.now }
     ensures text { IfSome result (λ asked. Spells line.now asked) }
@@ -101,7 +101,7 @@ fn header_in(line: &[u8]) -> Option<FixedCapacity>
 
 /// Returns the capacity that `line` names as a header: `queue fixed` and one of 0, 1, 3 and 8; or `None` for any other
 /// line. O(length).
-#[tactic(auto, using(crate::proofs::Numbers::header_spelled, crate::proofs::Numbers::header_read))]
+#[tactic(auto, using(crate::proofs::Numbers::header_text_header_of, crate::proofs::Numbers::header_of_header_text))]
 pub fn read_header(line: &[u8]) -> Option<FixedCapacity>
     ensures value { result ≡ header_of line.now }
     ensures text { IfSome result (λ capacity. line.now ≡ header_text capacity) }

@@ -48,7 +48,7 @@ pub fn append_reply<W: Write>(
 }
 
 /// Appends a space and an item.
-#[tactic(auto, using(crate::proofs::Writing::wrote_then, crate::proofs::Writing::begins_more))]
+#[tactic(auto, using(crate::proofs::Writing::WriteResult_append, crate::proofs::Writing::WritesPart_append))]
 fn append_after_space<W: Write>(
     replies: &mut ReplyBuffer,
     writer: &mut W,
@@ -81,7 +81,7 @@ fn append_items<S: Table<u64>, W: Write>(
 }
 
 /// Appends the line that shows the items.
-#[tactic(auto, using(crate::proofs::Writing::wrote_then, crate::proofs::Writing::begins_more))]
+#[tactic(auto, using(crate::proofs::Writing::WriteResult_append, crate::proofs::Writing::WritesPart_append))]
 pub fn append_items_line<S: Table<u64>, W: Write>(
     replies: &mut ReplyBuffer,
     writer: &mut W,

@@ -11,7 +11,7 @@ use std::io::{ErrorKind, Write};
 use std::marker::Model;
 
 /// Writes the first `n` of the bytes, at least one, and returns `n`. An interrupted write is tried again.
-#[tactic(auto, using(crate::proofs::KnownBytes::keeps_same, crate::proofs::KnownBytes::keeps_then, crate::proofs::KnownBytes::keeps_appends))]
+#[tactic(auto, using(crate::proofs::KnownBytes::Keeps_refl, crate::proofs::KnownBytes::Keeps_trans, crate::proofs::KnownBytes::Keeps_Appends))]
 fn write_some<W: Write>(writer: &mut W, bytes: &[u8]) -> Result<usize, ScriptFault>
     ensures { MatchResult result
         (λ n. (0 < n) × (n ≤ length bytes.now)
@@ -74,7 +74,7 @@ impl ReplyBuffer {
     }
 
     /// Writes all bytes of the buffer, which is then empty.
-    #[tactic(auto, using(crate::proofs::Writing::puts_owed, crate::proofs::Writing::begins_owed))]
+    #[tactic(auto, using(crate::proofs::Writing::Writes_nil, crate::proofs::Writing::WritesPart_nil))]
     pub fn write_to<W: Write>(&mut self, writer: &mut W) -> Result<(), ScriptFault>
         ensures writer { WriteResult (W.contents writer.old) self.old []
             (W.contents writer.new) [] result }
@@ -104,7 +104,7 @@ impl ReplyBuffer {
 
     /// Appends at most [`BUFFER_LEN`] bytes. Writes those of the buffer first if there is no room.
     #[inline]
-    #[tactic(auto, using(crate::proofs::Writing::puts_here, crate::proofs::Writing::puts_behind_nothing, crate::proofs::Writing::begins_behind))]
+    #[tactic(auto, using(crate::proofs::Writing::Writes_pending, crate::proofs::Writing::Writes_after_nil, crate::proofs::Writing::WritesPart_after_nil))]
     pub fn append<W: Write>(&mut self, writer: &mut W, bytes: &[u8]) -> Result<(), ScriptFault>
         requires { length bytes.now ≤ BUFFER_LEN }
         ensures { WriteResult (W.contents writer.old) self.old bytes.now

@@ -1,21 +1,21 @@
 use Rattle.std.proofs.Common.{◌+◌, ◌++◌, ◌∙◌, ap, sym, codes, decimal, drop, append_assoc}
 use Rattle.std.proofs.lemmas.Result.{err_from_is_err_and}
 use Rattle.ix_run.specs.Script.{more_items_text}
-use Rattle.ix_run.proofs.Pieces.{shown_first, spaced_step}
-use Rattle.ix_run.proofs.Writing.{puts_then, puts_begins, begins_more}
+use Rattle.ix_run.proofs.Pieces.{items_text-slice_get, more_items_text-drop}
+use Rattle.ix_run.proofs.Writing.{Writes-append, WritesPart-Writes, WritesPart_append}
 use Rattle.ix_run.proofs.run.replies.append_items.Goals as goal
 
 pub returns-in_err-append_number : goal.returns-in_err-append_number
 returns-in_err-append_number g c =
     let p = err_from_is_err_and c.from_residual.result c.from_residual.ensures.1 in
     let items = c.args.queue.now.items in
-    rw (p.1, p.2, shown_first items _ c.get.ensures) (
+    rw (p.1, p.2, items_text-slice_get items _ c.get.ensures) (
       c.in_err-append_number.ensures.0,
-      begins_more _ _ _ (decimal c.get.result) (more_items_text (drop 1 items)) c.in_err-append_number.ensures.1,
+      WritesPart_append _ _ _ (decimal c.get.result) (more_items_text (drop 1 items)) c.in_err-append_number.ensures.1,
     )
 
 pub loop-i-init : goal.loop-i-init
-loop-i-init g c = (decimal c.get.result, shown_first c.args.queue.now.items _ c.get.ensures, c.in_ok-append_number.ensures)
+loop-i-init g c = (decimal c.get.result, items_text-slice_get c.args.queue.now.items _ c.get.ensures, c.in_ok-append_number.ensures)
 
 pub returns-in_err-append_after_space : goal.returns-in_err-append_after_space
 returns-in_err-append_after_space g c =
@@ -25,10 +25,10 @@ returns-in_err-append_after_space g c =
     let at = c.loop-i.invariant in
     let word = codes " " ++ decimal c.get-in-loop-i.result in
     let rest = more_items_text (drop (i + 1) items) in
-    let whole = at.1 ∙ ap (λ l. at.0 ++ l) (spaced_step items i _ c.get-in-loop-i.ensures) ∙ sym (append_assoc at.0 word rest) in
+    let whole = at.1 ∙ ap (λ l. at.0 ++ l) (more_items_text-drop items i _ c.get-in-loop-i.ensures) ∙ sym (append_assoc at.0 word rest) in
     rw (p.1, p.2, whole) (
       c.in_err-append_after_space.ensures.0,
-      begins_more _ _ _ (at.0 ++ word) rest (puts_begins _ _ _ _ _ at.0 word at.2 c.in_err-append_after_space.ensures.1),
+      WritesPart_append _ _ _ (at.0 ++ word) rest (WritesPart-Writes _ _ _ _ _ at.0 word at.2 c.in_err-append_after_space.ensures.1),
     )
 
 pub loop-i-preserved : goal.loop-i-preserved
@@ -37,5 +37,5 @@ loop-i-preserved g c =
     let i = c.loop-i.i in
     let at = c.loop-i.invariant in
     let word = codes " " ++ decimal c.get-in-loop-i.result in
-    let whole = at.1 ∙ ap (λ l. at.0 ++ l) (spaced_step items i _ c.get-in-loop-i.ensures) ∙ sym (append_assoc at.0 word (more_items_text (drop (i + 1) items))) in
-    (at.0 ++ word, whole, puts_then _ _ _ _ _ _ at.0 word at.2 c.in_ok-append_after_space.ensures)
+    let whole = at.1 ∙ ap (λ l. at.0 ++ l) (more_items_text-drop items i _ c.get-in-loop-i.ensures) ∙ sym (append_assoc at.0 word (more_items_text (drop (i + 1) items))) in
+    (at.0 ++ word, whole, Writes-append _ _ _ _ _ _ at.0 word at.2 c.in_ok-append_after_space.ensures)

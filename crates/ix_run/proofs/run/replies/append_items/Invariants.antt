@@ -5,6 +5,6 @@ use Rattle.ix_run.proofs.run.replies.append_items.Given as goal
 
 abbrev pub invariant-loop-i : goal.invariant-loop-i
 invariant-loop-i g l =
-    (told : List ℕ)
-    × (items_text l.queue.items ≡ told ++ more_items_text (drop l.i l.queue.items))
-    × Writes (g.W.Write.contents l.fn.writer) l.fn.replies told (g.W.Write.contents l.writer) l.replies
+    (so_far : List ℕ)
+    × (items_text l.queue.items ≡ so_far ++ more_items_text (drop l.i l.queue.items))
+    × Writes (g.W.Write.contents l.fn.writer) l.fn.replies so_far (g.W.Write.contents l.writer) l.replies

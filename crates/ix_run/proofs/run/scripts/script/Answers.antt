@@ -2,9 +2,9 @@ use Rattle.std.proofs.Common.{ℕ, List, ◌<◌, ◌++◌, ◌∙◌, [], refl,
 use Rattle.std.proofs.lemmas.Result.{err_from_is_err_and}
 use Rattle.ix_run.specs.Progress.{remaining_replies}
 use Rattle.ix_run.specs.Script.{replies_to}
-use Rattle.ix_run.proofs.KnownBytes.{consumes_nothing, appends_nothing, consumes_then, consumes_none, consumes_keeps}
-use Rattle.ix_run.proofs.Pieces.{replies_from_start}
-use Rattle.ix_run.proofs.Progress.{turns_halt, fed_on, fed_stops, answered_on_ok, begins_on_err, begins_to_answer}
+use Rattle.ix_run.proofs.KnownBytes.{Consumes-nil, Appends-nil, Consumes-append, Consumes-Consumes_nil, Consumes-Keeps}
+use Rattle.ix_run.proofs.Pieces.{replies_to-remaining_replies}
+use Rattle.ix_run.proofs.Progress.{AdvancesPart-Advances, Advances-feed, AdvancesPart-feed, WritesReplies-OnOk, WritesPartOfReplies-OnErr, WritesPartOfReplies-AdvancesPart}
 use Rattle.ix_run.proofs.run.scripts.script.Goals.{in-None, in-Some+in_ok-feed-in-Some}
 use Rattle.ix_run.proofs.run.scripts.script.Goals as goal
 
@@ -14,8 +14,8 @@ loop-init g c =
       refl,
       c.new-engine.ensures.replies,
       [],
-      consumes_nothing _,
-      ([], ([], appends_nothing _, refl), λ more. replies_from_start more),
+      Consumes-nil _,
+      ([], ([], Appends-nil _, refl), λ more. replies_to-remaining_replies more),
     )
 
 pub returns-in_err-read_once-clause-err : goal.returns-in_err-read_once-clause-err
@@ -24,7 +24,7 @@ returns-in_err-read_once-clause-err g c =
     let at = c.loop.invariant in
     let from : List ℕ → List ℕ = λ m. replies_to (at.2 ++ m) in
     let here : List ℕ → List ℕ = λ m. remaining_replies c.loop.engine.state c.loop.engine.line m in
-    rw p.1 (begins_to_answer _ _ _ _ at.2 (consumes_keeps _ _ _ at.2 at.3 c.in_err-read_once.ensures.1) (turns_halt _ _ [] [] from here at.4))
+    rw p.1 (WritesPartOfReplies-AdvancesPart _ _ _ _ at.2 (Consumes-Keeps _ _ _ at.2 at.3 c.in_err-read_once.ensures.1) (AdvancesPart-Advances _ _ [] [] from here at.4))
 
 pub returns-in-Some-eq0-clause-ok : goal.returns-in-Some-eq0-clause-ok
 returns-in-Some-eq0-clause-ok g c =
@@ -33,14 +33,14 @@ returns-in-Some-eq0-clause-ok g c =
     let size = c.read_once.auto.buffer ∙ at.0 in
     let room : 0 < length c.read_once.new.buffer = omega (arith, size) in
     let wrote = rw at.1 at c.finish.ensures in
-    answered_on_ok _ _ _ _ _ at.2 c.loop.engine.state c.loop.engine.line _ (consumes_none _ _ _ at.2 at.3 bytes.1) (bytes.2 refl room) at.4 wrote
+    WritesReplies-OnOk _ _ _ _ _ at.2 c.loop.engine.state c.loop.engine.line _ (Consumes-Consumes_nil _ _ _ at.2 at.3 bytes.1) (bytes.2 refl room) at.4 wrote
 
 pub returns-in-Some-eq0-clause-err : goal.returns-in-Some-eq0-clause-err
 returns-in-Some-eq0-clause-err g c =
     let at = c.loop.invariant in
     let bytes = rw (c.in-Some-eq0.is, c.in-Some-eq0.field-0-test) at c.in_ok-read_once.ensures in
     let wrote = rw at.1 at c.finish.ensures in
-    begins_on_err _ _ _ _ _ at.2 c.loop.engine.state c.loop.engine.line _ (consumes_none _ _ _ at.2 at.3 bytes.1) at.4 wrote
+    WritesPartOfReplies-OnErr _ _ _ _ _ at.2 c.loop.engine.state c.loop.engine.line _ (Consumes-Consumes_nil _ _ _ at.2 at.3 bytes.1) at.4 wrote
 
 pub returns-in_err-feed-in-Some-clause-err : goal.returns-in_err-feed-in-Some-clause-err
 returns-in_err-feed-in-Some-clause-err g c =
@@ -50,8 +50,8 @@ returns-in_err-feed-in-Some-clause-err g c =
     let bytes = rw c.in-Some.is at c.in_ok-read_once.ensures in
     let stops = rw at.1 at c.in_err-feed-in-Some.ensures.replies.1 in
     rw p.1 (
-    begins_to_answer _ _ _ _ (at.2 ++ piece) (consumes_then _ _ _ at.2 piece at.3 bytes.1)
-    (fed_stops _ _ _ [] at.2 piece c.loop.engine.state c.loop.engine.line at.4 stops)
+    WritesPartOfReplies-AdvancesPart _ _ _ _ (at.2 ++ piece) (Consumes-append _ _ _ at.2 piece at.3 bytes.1)
+    (AdvancesPart-feed _ _ _ [] at.2 piece c.loop.engine.state c.loop.engine.line at.4 stops)
     )
 
 pub loop-preserved : goal.loop-preserved
@@ -60,7 +60,7 @@ loop-preserved g c =
     elim c.match-branch-2.branch [
       | in-None w ↦
           let kept = rw w.in-None.is at c.in_ok-read_once.ensures in
-          rw (w.engine-is, w.writer-is) (c.read_once.auto.buffer ∙ at.0, at.1, at.2, consumes_keeps _ _ _ at.2 at.3 kept, at.4)
+          rw (w.engine-is, w.writer-is) (c.read_once.auto.buffer ∙ at.0, at.1, at.2, Consumes-Keeps _ _ _ at.2 at.3 kept, at.4)
       | in-Some+in_ok-feed-in-Some w ↦
           let piece = take w.in-Some.count c.read_once.new.buffer in
           let bytes = rw w.in-Some.is at c.in_ok-read_once.ensures in
@@ -70,8 +70,8 @@ loop-preserved g c =
             c.read_once.auto.buffer ∙ at.0,
             w.in_ok-feed-in-Some.ensures.empty,
             at.2 ++ piece,
-            consumes_then _ _ _ at.2 piece at.3 bytes.1,
-            fed_on _ _ _ [] [] at.2 piece c.loop.engine.state c.loop.engine.line then at.4 went,
+            Consumes-append _ _ _ at.2 piece at.3 bytes.1,
+            Advances-feed _ _ _ [] [] at.2 piece c.loop.engine.state c.loop.engine.line then at.4 went,
           )
     ]
 
@@ -80,4 +80,4 @@ returns-clause-err g c =
     let at = c.loop.invariant in
     let from : List ℕ → List ℕ = λ m. replies_to (at.2 ++ m) in
     let here : List ℕ → List ℕ = λ m. remaining_replies c.loop.engine.state c.loop.engine.line m in
-    begins_to_answer _ _ _ _ at.2 at.3 (turns_halt _ _ [] [] from here at.4)
+    WritesPartOfReplies-AdvancesPart _ _ _ _ at.2 at.3 (AdvancesPart-Advances _ _ [] [] from here at.4)
