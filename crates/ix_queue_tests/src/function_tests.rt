@@ -1,7 +1,7 @@
-//! Every function of queues once, with ample memory, and worked examples: queues of one item and of none.
-use crate::calls::Answer::{Bool, Done, Item, Number};
+//! Each function of queues once, and worked examples: queues of capacity 1 and 0.
+use crate::calls::Outcome::{Bool, Done, Item, Number};
 use crate::calls::Call::{
-    Capacity, Clear, Get, IsEmpty, IsFull, Len, Peek, Pop, Push, PushWithOverflow, ReplaceOldest,
+    Capacity, Clear, Get, IsEmpty, IsFull, Len, Peek, Pop, Push, PushWithOverflow, ReplaceFront,
     Write,
 };
 use crate::calls::{Row, check_fixed, check_in};
@@ -68,10 +68,10 @@ const CHANGES: &[Row<u64>] = &[
 ];
 
 const REPLACEMENTS: &[Row<u64>] = &[
-    (ReplaceOldest(1), Item(None)),
+    (ReplaceFront(1), Item(None)),
     (Push(2), Bool(true)),
     (Push(3), Bool(true)),
-    (ReplaceOldest(4), Item(Some(2))),
+    (ReplaceFront(4), Item(Some(2))),
     (Pop, Item(Some(4))),
     (Pop, Item(Some(3))),
     (Pop, Item(None)),
@@ -91,7 +91,7 @@ const NONE: &[Row<u64>] = &[
     (Pop, Item(None)),
 ];
 
-/// Calls of a queue with room for two items.
+/// Calls of a queue of capacity 2.
 const OF_TWO: &[&[Row<u64>]] = &[SIZES, PUSHES, READS, CHANGES, REPLACEMENTS];
 
 #[test]
@@ -105,7 +105,7 @@ fn in_the_value_itself() -> Result<(), Fail> {
     findings.verdict()
 }
 
-/// Makes the calls on a queue of each kind in memory of `alloc`.
+/// Checks each example on a queue of each kind, allocated from `alloc`.
 fn check_examples<A: Allocator + Copy>(findings: &Findings, alloc: A, memory: &str) {
     for rows in OF_TWO {
         check_in(findings, alloc, 2, &[*rows], memory);
@@ -114,10 +114,10 @@ fn check_examples<A: Allocator + Copy>(findings: &Findings, alloc: A, memory: &s
     check_in(findings, alloc, 0, &[NONE], memory);
 }
 
-/// As above. All of the memory comes back.
+/// Does what `check_examples` does. All of the memory is deallocated.
 fn check_heap(findings: &Findings, heap: &LocalHeap) {
     check_examples(findings, heap, "a heap");
-    findings.expect_same(heap.used(), 0, "the heap has all of its memory back");
+    findings.expect_same(heap.used(), 0, "bytes of the heap in use");
 }
 
 #[test]
@@ -132,7 +132,7 @@ fn in_each_memory(rt: HostRuntime) -> Result<(), Fail> {
     findings.verdict()
 }
 
-/// `made` is empty, and there was memory for it.
+/// Checks the capacity of a queue whose making did not fail.
 fn check_capacity<T: Drop, S: Table<T>, E: Drop>(
     findings: &Findings,
     made: Result<MetaQueue<T, S>, E>,
