@@ -1,16 +1,18 @@
 //! Each function of queues once, and worked examples: queues of capacity 1 and 0.
-use crate::calls::Outcome::{Bool, Done, Item, Number};
 use crate::calls::Call::{
     Capacity, Clear, Get, IsEmpty, IsFull, Len, Peek, Pop, Push, PushWithOverflow, ReplaceFront,
     Write,
 };
+use crate::calls::Outcome::{Bool, Done, Item, Number};
 use crate::calls::{Row, check_fixed, check_in};
+use crate::own_table::CountedPuts;
 use bumpalo::Bump;
-use ix_cells::{InitError, RelocatableContainer, Table};
+use ix_cells::{InitError, InlineTable, RelocatableContainer, Table};
 use ix_expect::Findings;
-use ix_maps::{FixedSizeQueue, MetaQueue, RelocatableQueue, UninitQueue};
+use ix_maps::{FixedSizeQueue, MetaQueue, Queue, RelocatableQueue, UninitQueue};
 use linked_list_allocator::LocalHeap;
-use std::alloc::{Allocator, Global};
+use std::alloc::{AllocError, Allocator, Global};
+use std::fmt::{Debug, InlineText};
 use std::test::Fail;
 
 const SIZES: &[Row<u64>] = &[
@@ -102,6 +104,47 @@ fn in_the_value_itself() -> Result<(), Fail> {
     }
     check_fixed(&findings, FixedSizeQueue::<u64, 1>::new(), ONE);
     check_fixed(&findings, FixedSizeQueue::<u64, 0>::new(), NONE);
+    findings.verdict()
+}
+
+#[test]
+fn from_table() -> Result<(), Fail> {
+    let findings = Findings::new();
+    for rows in OF_TWO {
+        let table = CountedPuts::new(InlineTable::<u64, 2>::new());
+        check_fixed(&findings, MetaQueue::from_table(table), rows);
+    }
+    findings.verdict()
+}
+
+/// Checks the `Debug` text of a value.
+fn check_text<T: Debug>(findings: &Findings, value: &T, text: &str) {
+    let found = InlineText::<80>::of(format_args!("{value:?}"));
+    findings.expect_same(found.as_str(), text, "the text");
+}
+
+/// Appends 1, 2 and 3 to an empty queue of capacity 2, so that its items lie round the end of the ring.
+fn append_three<S: Table<u64>>(queue: &mut MetaQueue<u64, S>) {
+    for n in 1..4 {
+        let _ = queue.push_with_overflow(n);
+    }
+}
+
+#[test]
+fn texts(rt: HostRuntime) -> Result<(), Fail> {
+    let findings = Findings::new();
+    let mut fixed = FixedSizeQueue::<u64, 2>::new();
+    check_text(&findings, &fixed, "[]");
+    append_three(&mut fixed);
+    check_text(&findings, &fixed, "[2, 3]");
+    match Queue::<u64>::new(rt.alloc(), 2) {
+        Ok(mut queue) => {
+            check_text(&findings, &queue, "[]");
+            append_three(&mut queue);
+            check_text(&findings, &queue, "[2, 3]");
+        }
+        Err(AllocError) => findings.miss("there is memory"),
+    }
     findings.verdict()
 }
 

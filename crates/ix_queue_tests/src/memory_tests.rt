@@ -18,8 +18,8 @@ fn check_ready<S: Table<u64>>(
     findings.expect_same(found, (capacity, 0, capacity > 0), place);
 }
 
-/// Checks a making of a queue of `capacity` numbers, which succeeds if `found`. Before it `used` bytes of the heap were in
-/// use.
+/// Checks a making of a queue of `capacity` numbers, which succeeds if `found`. Before it `used` bytes of the heap were
+/// in use.
 fn check_made<S: Table<u64>, E: Drop>(
     findings: &Findings,
     heap: &LocalHeap,
@@ -30,7 +30,10 @@ fn check_made<S: Table<u64>, E: Drop>(
     match made {
         Ok(queue) => {
             findings.expect(found, "the making succeeds");
-            findings.expect((heap.used() > used) == (capacity > 0), "bytes in use with it");
+            findings.expect(
+                (heap.used() > used) == (capacity > 0),
+                "bytes in use with it",
+            );
             check_ready(findings, queue, capacity, "in the heap");
         }
         Err(_) => findings.expect(!found, "the making fails"),

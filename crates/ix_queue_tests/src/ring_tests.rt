@@ -1,6 +1,6 @@
 //! Turns of the ring: the first place follows the last, wherever the front item lies.
-use crate::calls::Outcome::{Bool, Done, Item, Number};
 use crate::calls::Call::{Clear, Get, Len, Pop, Push, PushWithOverflow, Write};
+use crate::calls::Outcome::{Bool, Done, Item, Number};
 use crate::calls::{Row, check_fixed, check_in, check_made};
 use crate::turning::TURNS;
 use ix_expect::Findings;

@@ -1,6 +1,6 @@
 //! Turns of the ring before a test: calls after which the front item will lie at another place.
-use crate::calls::Outcome::{Bool, Item};
 use crate::calls::Call::{Pop, Push};
+use crate::calls::Outcome::{Bool, Item};
 use crate::calls::Row;
 
 const BY_THREE: &[Row<u64>] = &[

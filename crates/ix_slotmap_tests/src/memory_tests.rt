@@ -17,7 +17,8 @@ fn has_first(heap: &LocalHeap) -> bool {
     }
 }
 
-/// Checks a making of a map with `capacity` keys, which succeeds if `found`. Before it `used` bytes of the heap were in use.
+/// Checks a making of a map with `capacity` keys, which succeeds if `found`. Before it `used` bytes of the heap were in
+/// use.
 fn check_made<S: Table<u64>, L: Table<Link>, E: Drop>(
     findings: &Findings,
     heap: &LocalHeap,
@@ -62,8 +63,8 @@ fn check_heap(findings: &Findings, heap: &LocalHeap, ample: Global, found: bool)
     check_made(findings, heap, used, SlotMap::new(heap, 0), (0, true));
 }
 
-/// Allocates a block of the heap, and checks makings of maps. The first allocation of a map succeeds if `first`, both if
-/// `both`.
+/// Allocates a block of the heap, and checks makings of maps. The first allocation of a map succeeds if `first`, both
+/// if `both`.
 fn check_blocks(findings: &Findings, heap: &LocalHeap, ample: Global, (first, both): (bool, bool)) {
     let held = Box::new(heap, 0u64);
     findings.expect(held.is_ok(), "a block");

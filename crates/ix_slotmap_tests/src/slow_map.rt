@@ -122,8 +122,8 @@ impl SlowMap {
         true
     }
 
-    /// Removes the value at `key` and returns it, or `None` if there is none. Returns `AllocError` if there is not enough
-    /// memory.
+    /// Removes the value at `key` and returns it, or `None` if there is none. Returns `AllocError` if there is not
+    /// enough memory.
     pub fn remove(&mut self, key: usize) -> Result<Option<u64>, AllocError>
         ensures value { IfOk result (λ value. value ≡ value_at self.old key) }
         ensures map { OnOk result (self.new ≡ slot_remove self.old key) }
