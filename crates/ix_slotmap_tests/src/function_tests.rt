@@ -1,5 +1,6 @@
 //! Each function once.
 use crate::calls::{check_calls, check_made};
+use crate::inserting::{insert_and_get, insert_at_next};
 use crate::rows::EVERY_CALL;
 use ix_cells::{HeapTable, InitError, InlineTable, RelocatableContainer, Table, Touches};
 use ix_expect::Findings;
@@ -170,6 +171,18 @@ fn walks_end() -> Result<(), Fail> {
     let is_first = walk.next() == Some((SlotMapKey::new(1), &5));
     findings.expect(is_first, "the only value");
     findings.expect(walk.next().is_none(), "the end");
+    findings.verdict()
+}
+
+#[test]
+fn functions_of_a_user() -> Result<(), Fail> {
+    let findings = Findings::new();
+    let mut map = FixedSizeSlotMap::<u64, 2>::new();
+    findings.expect_same(insert_and_get(&mut map, 5), Some(5), "insert and get");
+    findings.expect(insert_at_next(&mut map, 6), "insert at the next free key");
+    findings.expect_same(map.get(SlotMapKey::new(1)).copied(), Some(6), "the value");
+    findings.expect_same(insert_and_get(&mut map, 7), None, "a full map");
+    findings.expect(!insert_at_next(&mut map, 7), "a full map");
     findings.verdict()
 }
 
