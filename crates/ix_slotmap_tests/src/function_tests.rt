@@ -84,6 +84,10 @@ fn texts(rt: HostRuntime) -> Result<(), Fail> {
         }
         Err(AllocError) => findings.miss("there is memory"),
     }
+    let mut walk = fixed.iter();
+    check_text(&findings, &walk, "[(0, 5), (2, 7)]");
+    findings.expect(walk.next().is_some(), "the first item");
+    check_text(&findings, &walk, "[(2, 7)]");
     check_text(&findings, &SlotMapKey::new(7), "SlotMapKey { number: 7 }");
     findings.verdict()
 }

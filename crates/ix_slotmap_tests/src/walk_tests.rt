@@ -1,4 +1,5 @@
-//! Random calls of slot maps and of the plain slow map: every result, and from time to time the whole content.
+//! Random calls of slot maps and of the plain slow map: every result, and from time to time the whole content. Maps in
+//! memory have each capacity from 0 to 40, fixed ones 0, 1, 2, 7 and 40.
 ghost use Rattle.std.specs.Prelude.{◌≤◌};
 
 use crate::slow_map::SlowMap;
