@@ -1,4 +1,4 @@
--- Chains of links: how a write of one link changes them.
+-- Chains of links, and how the write of one link changes them.
 use Rattle.std.proofs.Common.{◌≡◌, ℕ, zero, suc, ◌<◌, ◌≤◌, ◌≢◌, inl, inr, List, [], ◌∷◌, ◌++◌, length, set, Option, Some, None, refl, ap, ◌∙◌, arith}
 use Rattle.std.specs.Prelude.{option_map, unwrap_or}
 use Rattle.std.proofs.lemmas.Bool.{cases_eq}
@@ -15,12 +15,12 @@ within_row (v ∷ row) zero x at = omega arith
 within_row (v ∷ row) (suc i) x at = let below = within_row row i x at in omega arith
 
 -- the links around one key of a chain
-pub record Parts (links : List (Option Link)) (before : ℕ) (front : List ℕ) (key : ℕ) (back : List ℕ) (after : ℕ) : Type 0 where
+pub record ChainParts (links : List (Option Link)) (before : ℕ) (front : List ℕ) (key : ℕ) (back : List ℕ) (after : ℕ) : Type 0 where
   pub to_key : IsChain links before front key
   pub at_key : place_at links key ≡ Some (free_link (last_or before front) (first_or back after))
   pub from_key : IsChain links key back after
 
-pub chain_parts : (links : List (Option Link)) (before : ℕ) (front : List ℕ) (key : ℕ) (back : List ℕ) (after : ℕ) → IsChain links before (front ++ key ∷ back) after → Parts links before front key back after
+pub chain_parts : (links : List (Option Link)) (before : ℕ) (front : List ℕ) (key : ℕ) (back : List ℕ) (after : ℕ) → IsChain links before (front ++ key ∷ back) after → ChainParts links before front key back after
 chain_parts links before [] key back after chain = record { to_key = tt; at_key = chain.0; from_key = chain.1 }
 chain_parts links before (first ∷ []) key back after chain =
     let rest = chain_parts links first [] key back after chain.1 in
@@ -72,7 +72,7 @@ IsChain-links_set_previous links before (key ∷ keys) after from at_most_once c
       IsChain-set_other links key _ key keys after (λ other some is. (let same = ap (λ k. key_count k keys) is in omega arith)) chain.1,
     )
 
--- each key of a chain has the link of a free one
+-- each key of a chain has the link of a free key
 pub place_at-chain : (links : List (Option Link)) (before : ℕ) (keys : List ℕ) (after key : ℕ) → 0 < key_count key keys → IsChain links before keys after → (previous : ℕ) × (next : ℕ) × (place_at links key ≡ Some (free_link previous next))
 place_at-chain links before [] after key some chain = let none : key_count key [] ≡ 0 = refl in absurd (omega arith)
 place_at-chain links before (first ∷ keys) after key some chain = elim (cases_eq key first) [

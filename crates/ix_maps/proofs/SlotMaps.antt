@@ -1,4 +1,4 @@
--- What a step on the two tables does to the slot state that they stand for.
+-- What is known of two tables that represent a slot state.
 use Rattle.std.proofs.Common.{◌≡◌, ℕ, zero, suc, ◌+◌, ◌<◌, ◌≤◌, inl, inr, ◌⊎◌, List, [], ◌∷◌, ◌++◌, length, true, false, Option, Some, None, IsSome, refl, sym, ap, ap₂, ◌∙◌, subst, arith}
 use Rattle.std.proofs.lemmas.Bool.{cases_eq}
 use Rattle.std.proofs.lemmas.List.{length-append}
@@ -10,46 +10,42 @@ use Rattle.ix_maps.specs.FreeList.{no_key, held_link, free_link, first_or, last_
 use Rattle.ix_maps.proofs.FreeKeys.{key_count, key_count-cons, hit, hit_same, key_count-append, split_at_key, first_occurs, apart_from_last_or, apart_from_first_or}
 use Rattle.ix_maps.proofs.Chains.{within_row, chain_parts, place_at-chain, links_keys_from-chain}
 
--- a place past the row holds nothing
 pub place_at_past : {X : Type 0} (row : List (Option X)) (i : ℕ) → length row ≤ i → place_at row i ≡ None
 place_at_past [] i past = refl
 place_at_past (v ∷ row) zero past = absurd (omega arith)
 place_at_past (v ∷ row) (suc i) past = place_at_past row i (omega arith)
 
--- a row with nothing at each place is vacant
 pub IsVacant-from_places : {X : Type 0} (row : List (Option X)) → ((i : ℕ) → i < length row → place_at row i ≡ None) → IsVacant row
 IsVacant-from_places [] none = refl
 IsVacant-from_places (v ∷ row) none = ap₂ ◌∷◌ (none 0 (omega arith)) (IsVacant-from_places row (λ i below. none (suc i) (omega arith)))
 
--- what a held place holds
-pub held_is : {X : Type 0} (place : Option X) → IsSome place → (x : X) × (place ≡ Some x)
-held_is None held = absurd (cc)
-held_is (Some x) held = (x, refl)
+pub value_of_held : {X : Type 0} (place : Option X) → IsSome place → (x : X) × (place ≡ Some x)
+value_of_held None held = absurd (cc)
+value_of_held (Some x) held = (x, refl)
 
 module _ {T : Type 0} where
-  -- a place holds nothing or something
   pub empty_or_held : (place : Option T) → (place ≡ None) ⊎ IsSome place
   empty_or_held None = inl refl
   empty_or_held (Some x) = inr refl
 
-  -- two tables, a first key and a number of values stand for a slot state
+  -- two tables, a first free key and a number of values represent a slot state, and contracts see it in them
   pub record Shows (s : SlotState T) (values : List (Option T)) (links : List (Option Link)) (first len : ℕ) : Type 0 where
     pub sound : Represents (slots_of values links first) links first len
     pub is : slots_of values links first ≡ s
 
   module _ (s : SlotState T) (links : List (Option Link)) (first len : ℕ) (r : Represents s links first len) where
-    -- no key stands twice among the free ones
+    -- no key occurs twice in the free list
     pub key_count_le_one : (key : ℕ) → key_count key s.free ≤ 1
     key_count_le_one key = elim (cases_eq (key_count key s.free) 0) [
       | inl none ↦ omega arith
       | inr some ↦ let one = r.formed.free_is_listed key (r.formed.listed_is_free key (omega arith)) in omega arith
     ]
 
-    -- a free key is one of the map's
+    -- a free key is in range
     pub free_within : (key : ℕ) → 0 < key_count key s.free → key < length links
     free_within key some = let below = (r.formed.listed_is_free key some).0 in let lengths = r.lengths in omega arith
 
-    -- the number for no key is none of the free ones
+    -- the number for no key is not in the free list
     pub key_count-no_key : key_count no_key s.free ≡ 0
     key_count-no_key = elim (cases_eq (key_count no_key s.free) 0) [
       | inl none ↦ none
@@ -76,16 +72,15 @@ module _ {T : Type 0} where
       | inr some ↦ let empty = (r.formed.listed_is_free key (omega arith)).1 in absurd (let no = subst IsSome empty held in cc)
     ]
 
-    -- a key of the map that is not free is held
+    -- a key in range that is not free is held
     pub rest_is_held : (key : ℕ) → key < length s.values → key_count key s.free ≡ 0 → IsHeld s key
     rest_is_held key below none = elim (empty_or_held (value_at s key)) [
       | inl empty ↦ let one = r.formed.free_is_listed key (below, empty) in absurd (omega arith)
       | inr held ↦ held
     ]
 
-    -- every place of the links holds one
-    pub link_table : IsLinkTable links
-    link_table = record {
+    pub IsLinkTable-links : IsLinkTable links
+    IsLinkTable-links = record {
       within = let lengths = r.lengths in let fits = r.below in omega arith;
       held = λ key below. elim (cases_eq (key_count key s.free) 0) [
         | inl none ↦ subst IsSome (sym (r.others key below none)) refl
@@ -93,36 +88,34 @@ module _ {T : Type 0} where
       ];
     }
 
-    -- a free key, or none, is the first
-    pub first_within : IsKeyOrNone first links
-    first_within = elim (cases_eq first no_key) [
+    pub IsKeyOrNone-first : IsKeyOrNone first links
+    IsKeyOrNone-first = elim (cases_eq first no_key) [
       | inl none ↦ inl none
       | inr some ↦ inr (elim (cases_eq (key_count first s.free) 0) [
         | inl none ↦ absurd (apart_from_first_or first no_key s.free none some r.head)
-        | inr stands ↦ free_within first (omega arith)
+        | inr occurs ↦ free_within first (omega arith)
       ])
     ]
 
-    -- the first or last of some free keys, or none, is a key of the table or none
-    near_first : (keys : List ℕ) → ((key : ℕ) → 0 < key_count key keys → 0 < key_count key s.free) → IsKeyOrNone (first_or keys no_key) links
-    near_first keys among = elim (cases_eq (first_or keys no_key) no_key) [
+    IsKeyOrNone-first_or : (keys : List ℕ) → ((key : ℕ) → 0 < key_count key keys → 0 < key_count key s.free) → IsKeyOrNone (first_or keys no_key) links
+    IsKeyOrNone-first_or keys among = elim (cases_eq (first_or keys no_key) no_key) [
       | inl none ↦ inl none
       | inr some ↦ inr (elim (cases_eq (key_count (first_or keys no_key) keys) 0) [
         | inl none ↦ absurd (apart_from_first_or _ no_key keys none some refl)
-        | inr stands ↦ free_within _ (among _ (omega arith))
+        | inr occurs ↦ free_within _ (among _ (omega arith))
       ])
     ]
 
-    near_last : (keys : List ℕ) → ((key : ℕ) → 0 < key_count key keys → 0 < key_count key s.free) → IsKeyOrNone (last_or no_key keys) links
-    near_last keys among = elim (cases_eq (last_or no_key keys) no_key) [
+    IsKeyOrNone-last_or : (keys : List ℕ) → ((key : ℕ) → 0 < key_count key keys → 0 < key_count key s.free) → IsKeyOrNone (last_or no_key keys) links
+    IsKeyOrNone-last_or keys among = elim (cases_eq (last_or no_key keys) no_key) [
       | inl none ↦ inl none
       | inr some ↦ inr (elim (cases_eq (key_count (last_or no_key keys) keys) 0) [
         | inl none ↦ absurd (apart_from_last_or _ no_key keys none some refl)
-        | inr stands ↦ free_within _ (among _ (omega arith))
+        | inr occurs ↦ free_within _ (among _ (omega arith))
       ])
     ]
 
-    -- what is known of a free key: the keys before and after it, and its link
+    -- a free key's place in the free list: the keys before and after it, and its link
     pub record Placed (key : ℕ) : Type 0 where
       pub front : List ℕ
       pub back : List ℕ
@@ -155,16 +148,14 @@ module _ {T : Type 0} where
           head = r.head ∙ ap (λ keys. first_or keys no_key) at.is;
         }
 
-    -- the keys beside a free one are the table's, or none
-    pub link_within : (key : ℕ) → 0 < key_count key s.free → IsLinkWithin (place_at links key) links
-    link_within key some =
+    pub IsLinkWithin-free : (key : ℕ) → 0 < key_count key s.free → IsLinkWithin (place_at links key) links
+    IsLinkWithin-free key some =
         let at = place_of key some in
         subst (λ link. IsLinkWithin link links) (sym at.at_key) (
-          near_last at.front (λ other stands. let counts = at.counts other in omega arith),
-          near_first at.back (λ other stands. let counts = at.counts other in omega arith),
+          IsKeyOrNone-last_or at.front (λ other occurs. let counts = at.counts other in omega arith),
+          IsKeyOrNone-first_or at.back (λ other occurs. let counts = at.counts other in omega arith),
         )
 
-    -- the links tell which places hold a value
     pub MatchesLinks-links : MatchesLinks s.values links
     MatchesLinks-links = record {
       lengths = r.lengths;
@@ -182,31 +173,29 @@ module _ {T : Type 0} where
       ];
     }
 
-    -- a contract sees just this slot state of the two tables
-    seen : slots_of s.values links first ≡ s
-    seen =
+    -- contracts see exactly this slot state in the two tables
+    slots_of-links : slots_of s.values links first ≡ s
+    slots_of-links =
         let fits = r.counted in let lengths = r.lengths in let low = r.below in
         ap (λ keys. let t : SlotState T = record { values = s.values; free = keys } in t)
         (ap (links_keys_from (length links) links) r.head ∙ links_keys_from-chain links (length links) no_key s.free no_key (omega arith) (place_at_past links no_key (omega arith)) r.chain)
 
-    pub shows : (values : List (Option T)) → values ≡ s.values → Shows s values links first len
-    shows values is =
-        let all = ap (λ vs. slots_of vs links first) is ∙ seen in
+    pub Shows-from : (values : List (Option T)) → values ≡ s.values → Shows s values links first len
+    Shows-from values is =
+        let all = ap (λ vs. slots_of vs links first) is ∙ slots_of-links in
         record { sound = subst (λ t. Represents t links first len) (sym all) r; is = all }
 
-  -- what is known of the slot state that two tables stand for
-  pub of : (s : SlotState T) (values : List (Option T)) (links : List (Option Link)) (first len : ℕ) → Shows s values links first len → Represents s links first len × (values ≡ s.values)
-  of s values links first len shown = (subst (λ t. Represents t links first len) shown.is shown.sound, ap (λ (t : SlotState T). t.values) shown.is)
+  pub represents_of : (s : SlotState T) (values : List (Option T)) (links : List (Option Link)) (first len : ℕ) → Shows s values links first len → Represents s links first len × (values ≡ s.values)
+  represents_of s values links first len shown = (subst (λ t. Represents t links first len) shown.is shown.sound, ap (λ (t : SlotState T). t.values) shown.is)
 
-  -- the link of a key tells whether it is free
   pub link_held : (s : SlotState T) (values : List (Option T)) (links : List (Option Link)) (first len key : ℕ) → Shows s values links first len → key < length s.values → IsHeldAt links key
   link_held s values links first len key shown below =
-      let known = (of s values links first len shown).0 in
-      let lengths = known.lengths in (link_table s links first len known).held key (omega arith)
+      let known = (represents_of s values links first len shown).0 in
+      let lengths = known.lengths in (IsLinkTable-links s links first len known).held key (omega arith)
 
   pub free_by_link : (s : SlotState T) (values : List (Option T)) (links : List (Option Link)) (first len key : ℕ) (link : Link) → Shows s values links first len → place_at links key ≡ Some link → link.is_free ≡ true → IsFree s key
   free_by_link s values links first len key link shown at is_free =
-      let r = (of s values links first len shown).0 in
+      let r = (represents_of s values links first len shown).0 in
       elim (cases_eq (key_count key s.free) 0) [
         | inl none ↦
             let same : Some link ≡ Some held_link = sym at ∙ r.others key (within_row links key link at) none in
@@ -217,7 +206,7 @@ module _ {T : Type 0} where
 
   pub held_by_link : (s : SlotState T) (values : List (Option T)) (links : List (Option Link)) (first len key : ℕ) (link : Link) → Shows s values links first len → key < length s.values → place_at links key ≡ Some link → link.is_free ≡ false → IsHeld s key
   held_by_link s values links first len key link shown below at held =
-      let r = (of s values links first len shown).0 in
+      let r = (represents_of s values links first len shown).0 in
       elim (cases_eq (key_count key s.free) 0) [
         | inl none ↦ rest_is_held s links first len r key below none
         | inr some ↦
@@ -227,29 +216,29 @@ module _ {T : Type 0} where
             let no : true ≡ false = sym (ap (λ (l : Link). l.is_free) is) ∙ held in absurd (cc)
       ]
 
-  -- what a call may use of the state that a contract sees
+  -- the same facts, of the state that contracts see
   module _ (s : SlotState T) (values : List (Option T)) (links : List (Option Link)) (first len : ℕ) where
-    pub formed_of : Shows s values links first len → IsWellFormed s
-    formed_of shown = (of s values links first len shown).0.formed
+    pub IsWellFormed-shown : Shows s values links first len → IsWellFormed s
+    IsWellFormed-shown shown = (represents_of s values links first len shown).0.formed
 
-    pub links_of : Shows s values links first len → IsLinkTable links
-    links_of shown = link_table s links first len (of s values links first len shown).0
+    pub IsLinkTable-shown : Shows s values links first len → IsLinkTable links
+    IsLinkTable-shown shown = IsLinkTable-links s links first len (represents_of s values links first len shown).0
 
-    pub first_of_links : Shows s values links first len → IsKeyOrNone first links
-    first_of_links shown = first_within s links first len (of s values links first len shown).0
+    pub IsKeyOrNone-shown_first : Shows s values links first len → IsKeyOrNone first links
+    IsKeyOrNone-shown_first shown = IsKeyOrNone-first s links first len (represents_of s values links first len shown).0
 
     module _ (key : ℕ) (shown : Shows s values links first len) where
       known : Represents s links first len × (values ≡ s.values)
-      known = of s values links first len shown
+      known = represents_of s values links first len shown
 
-      pub occurs_of : IsFree s key → 0 < key_count key s.free
-      occurs_of is_free = let one = known.0.formed.free_is_listed key is_free in omega arith
+      pub occurs-free : IsFree s key → 0 < key_count key s.free
+      occurs-free is_free = let one = known.0.formed.free_is_listed key is_free in omega arith
 
-      pub key_of : IsFree s key → key < length links
-      key_of is_free = let below = is_free.0 in let lengths = known.0.lengths in omega arith
+      pub key_within : IsFree s key → key < length links
+      key_within is_free = let below = is_free.0 in let lengths = known.0.lengths in omega arith
 
-      pub link_of : IsFree s key → IsLinkWithin (place_at links key) links
-      link_of is_free = link_within s links first len known.0 key (occurs_of is_free)
+      pub IsLinkWithin-shown : IsFree s key → IsLinkWithin (place_at links key) links
+      IsLinkWithin-shown is_free = IsLinkWithin-free s links first len known.0 key (occurs-free is_free)
 
-      pub empty_of : IsFree s key → IsEmptyAt values key
-      empty_of is_free = subst (λ vs. IsEmptyAt vs key) (sym known.1) is_free
+      pub IsEmptyAt-free : IsFree s key → IsEmptyAt values key
+      IsEmptyAt-free is_free = subst (λ vs. IsEmptyAt vs key) (sym known.1) is_free

@@ -1,4 +1,4 @@
--- A slot map's steps keep what its tables stand for.
+-- After each step of a slot map its tables represent the new slot state.
 use Rattle.std.proofs.Common.{◌≡◌, ℕ, zero, suc, ◌+◌, ◌-◌, ◌<◌, ◌≤◌, ◌≢◌, inl, inr, List, [], ◌∷◌, ◌++◌, length, set, true, false, Option, Some, None, refl, sym, ap, ◌∙◌, subst, arith}
 use Rattle.std.specs.Prelude.{replicate, nat_eq, if◌then◌else◌, is_some, count_by, slice_get}
 use Rattle.std.specs.Option.{option_map_or}
@@ -16,47 +16,43 @@ use Rattle.ix_maps.specs.SlotSteps.{slot_fill, slot_vacate, slot_insert, SlotIns
 use Rattle.ix_maps.specs.FreeList.{no_key, held_link, free_link, first_or, last_or, IsChain, IsKeyOrNone, IsLinkWithin, links_set_next, links_set_previous, links_remove, links_remove_first, links_insert_first, first_after_remove, IsRisingList, Represents}
 use Rattle.ix_maps.proofs.FreeKeys.{key_count, key_count-cons, hit, hit_same, hit_other, key_count-append, keys_without-absent, apart_from_last_or, apart_from_first_or, key_count-range_past, key_count-range_within}
 use Rattle.ix_maps.proofs.Chains.{within_row, IsChain-append, IsChain-set_other, IsChain-links_set_next, IsChain-links_set_previous}
-use Rattle.ix_maps.proofs.SlotMaps.{held_is, Shows, shows, of, place_of, key_count_le_one, key_count-no_key, key_count-held, nil_from_first, links_of, link_of, occurs_of}
+use Rattle.ix_maps.proofs.SlotMaps.{value_of_held, Shows, Shows-from, represents_of, place_of, key_count_le_one, key_count-no_key, key_count-held, nil_from_first, IsLinkTable-shown, IsLinkWithin-shown, occurs-free}
 
--- the first key key_count_le_one one has left a list
-head_without : (front back : List ℕ) (key first : ℕ) → key_count no_key front ≡ 0 → first ≡ first_or (front ++ key ∷ back) no_key → first_after_remove first (free_link (last_or no_key front) (first_or back no_key)) ≡ first_or (front ++ back) no_key
-head_without [] back key first none is = refl
-head_without (other ∷ front) back key first none is =
+-- the first key after one is removed
+first_after_remove-append : (front back : List ℕ) (key first : ℕ) → key_count no_key front ≡ 0 → first ≡ first_or (front ++ key ∷ back) no_key → first_after_remove first (free_link (last_or no_key front) (first_or back no_key)) ≡ first_or (front ++ back) no_key
+first_after_remove-append [] back key first none is = refl
+first_after_remove-append (other ∷ front) back key first none is =
     let all = key_count-cons no_key other front in
     let last_apart = apart_from_last_or no_key other front (omega arith) (λ e. (let hits = hit_same no_key other e in omega arith)) in
     let no : nat_eq (last_or other front) no_key ≡ false = grind (arith, nat_tests) in
     ap (λ b. if b then first_or back no_key else first) no ∙ is
 
--- no key is before the first one, so that only the link of the key after it changes
+-- no key is before the first one, so that of the other links only that of the next key changes
 links_remove-first : (links : List (Option Link)) (key next : ℕ) → length links ≤ no_key → links_remove links key (free_link no_key next) ≡ links_remove_first links key next
 links_remove-first links key next fits =
     ap (λ ls. links_set_previous ls next no_key) (set_past (set links key (Some held_link)) no_key _ (let same = length-set links key (Some held_link) in omega arith))
 
 module _ {T : Type 0} where
-  -- 1 for a value, 0 for none
-  abbrev held_one : Option T → ℕ
-  held_one place = if is_some place then 1 else 0
+  abbrev one_if_held : Option T → ℕ
+  one_if_held place = if is_some place then 1 else 0
 
-  -- one more value where a place gets its first
-  held_more : (values : List (Option T)) (key : ℕ) (value : T) → key < length values → place_at values key ≡ None → count_by is_some (set values key (Some value)) ≡ count_by is_some values + 1
-  held_more values key value below empty =
-      let all = sum_by-set held_one values key (Some value) None below in
-      let was : held_one (place_at values key) ≡ 0 = ap held_one empty in omega arith
+  count_by-set_more : (values : List (Option T)) (key : ℕ) (value : T) → key < length values → place_at values key ≡ None → count_by is_some (set values key (Some value)) ≡ count_by is_some values + 1
+  count_by-set_more values key value below empty =
+      let all = sum_by-set one_if_held values key (Some value) None below in
+      let was : one_if_held (place_at values key) ≡ 0 = ap one_if_held empty in omega arith
 
-  -- as many where a place gets another
-  held_same : (values : List (Option T)) (key : ℕ) (old value : T) → key < length values → place_at values key ≡ Some old → count_by is_some (set values key (Some value)) ≡ count_by is_some values
-  held_same values key old value below at =
-      let all = sum_by-set held_one values key (Some value) None below in
-      let was : held_one (place_at values key) ≡ 1 = ap held_one at in omega arith
+  count_by-set_same : (values : List (Option T)) (key : ℕ) (old value : T) → key < length values → place_at values key ≡ Some old → count_by is_some (set values key (Some value)) ≡ count_by is_some values
+  count_by-set_same values key old value below at =
+      let all = sum_by-set one_if_held values key (Some value) None below in
+      let was : one_if_held (place_at values key) ≡ 1 = ap one_if_held at in omega arith
 
-  -- one less where a place loses its own
-  held_less : (values : List (Option T)) (key : ℕ) (old : T) → key < length values → place_at values key ≡ Some old → count_by is_some (set values key None) + 1 ≡ count_by is_some values
-  held_less values key old below at =
-      let all = sum_by-set held_one values key None None below in
-      let was : held_one (place_at values key) ≡ 1 = ap held_one at in omega arith
+  count_by-set_less : (values : List (Option T)) (key : ℕ) (old : T) → key < length values → place_at values key ≡ Some old → count_by is_some (set values key None) + 1 ≡ count_by is_some values
+  count_by-set_less values key old below at =
+      let all = sum_by-set one_if_held values key None None below in
+      let was : one_if_held (place_at values key) ≡ 1 = ap one_if_held at in omega arith
 
   module _ (s : SlotState T) (links : List (Option Link)) (first len : ℕ) (r : Represents s links first len) where
-    -- a free key left the list, and has a value
+    -- a free key gets a value
     Represents-slot_fill : (key : ℕ) (value : T) (link : Link) → 0 < key_count key s.free → place_at links key ≡ Some link → Represents (slot_fill s key value) (links_remove links key link) (first_after_remove first link) (len + 1)
     Represents-slot_fill key value link some at_link =
         let at = place_of s links first len r key some in
@@ -74,26 +70,26 @@ module _ {T : Type 0} where
         let all = links_set_previous led after before in
         let front_once : (other : ℕ) → key_count other at.front ≤ 1 = λ other. (let most = one other in let counts = at.counts other in omega arith) in
         let back_once : (other : ℕ) → key_count other at.back ≤ 1 = λ other. (let most = one other in let counts = at.counts other in omega arith) in
-        let front_held = IsChain-set_other links key (Some held_link) no_key at.front key (λ other stands e. (let none_here = at.not_in_front in let moved = ap (λ k. key_count k at.front) e in omega arith)) at.to_key in
-        let back_held = IsChain-set_other links key (Some held_link) key at.back no_key (λ other stands e. (let none_here = at.not_in_back in let moved = ap (λ k. key_count k at.back) e in omega arith)) at.from_key in
+        let front_held = IsChain-set_other links key (Some held_link) no_key at.front key (λ other occurs e. (let none_here = at.not_in_front in let moved = ap (λ k. key_count k at.front) e in omega arith)) at.to_key in
+        let back_held = IsChain-set_other links key (Some held_link) key at.back no_key (λ other occurs e. (let none_here = at.not_in_back in let moved = ap (λ k. key_count k at.back) e in omega arith)) at.from_key in
         let not_before : (other : ℕ) → key_count other at.front ≡ 0 → other ≢ no_key → other ≢ before = λ other clear apart. apart_from_last_or other no_key at.front clear apart in
-        let not_behind : (other : ℕ) → key_count other at.back ≡ 0 → other ≢ no_key → other ≢ after = λ other clear apart. apart_from_first_or other no_key at.back clear apart in
+        let not_after : (other : ℕ) → key_count other at.back ≡ 0 → other ≢ no_key → other ≢ after = λ other clear apart. apart_from_first_or other no_key at.back clear apart in
         let front_led = IsChain-links_set_next held no_key at.front key after front_once front_held in
-        let known : (other : ℕ) → 0 < key_count other s.free → other ≢ no_key = λ other stands e. (let moved = ap (λ k. key_count k s.free) e in omega arith) in
-        let back_led = IsChain-set_other held before _ key at.back no_key (λ other stands. not_before other (let most = one other in let counts = at.counts other in omega arith) (known other (let counts = at.counts other in omega arith))) back_held in
+        let known : (other : ℕ) → 0 < key_count other s.free → other ≢ no_key = λ other occurs e. (let moved = ap (λ k. key_count k s.free) e in omega arith) in
+        let back_led = IsChain-set_other held before _ key at.back no_key (λ other occurs. not_before other (let most = one other in let counts = at.counts other in omega arith) (known other (let counts = at.counts other in omega arith))) back_held in
         let back_all = IsChain-links_set_previous led key at.back no_key before back_once back_led in
-        let front_all = IsChain-set_other led after _ no_key at.front after (λ other stands. not_behind other (let most = one other in let counts = at.counts other in omega arith) (known other (let counts = at.counts other in omega arith))) front_led in
+        let front_all = IsChain-set_other led after _ no_key at.front after (λ other occurs. not_after other (let most = one other in let counts = at.counts other in omega arith) (known other (let counts = at.counts other in omega arith))) front_led in
         let links_len : length all ≡ length links = length-set led after _ ∙ length-set held before _ ∙ length-set links key _ in
         let values_len = length-set s.values key (Some value) in
         let made : Represents (slot_fill s key value) all (first_after_remove first (free_link before after)) (len + 1) = record {
           lengths = links_len ∙ lengths ∙ sym values_len;
           below = omega arith;
           chain = subst (λ keys. IsChain all no_key keys no_key) (sym at.rest) (IsChain-append all no_key at.front at.back no_key front_all back_all);
-          head = head_without at.front at.back key first (omega arith) at.head ∙ ap (λ keys. first_or keys no_key) (sym at.rest);
+          head = first_after_remove-append at.front at.back key first (omega arith) at.head ∙ ap (λ keys. first_or keys no_key) (sym at.rest);
           others = λ other within clear.
               let parts = ap (key_count other) at.rest ∙ key_count-append other at.front at.back in
               let in_range : other ≢ no_key = λ e. omega arith in
-              get_or-set_other led after other _ None (not_behind other (omega arith) in_range)
+              get_or-set_other led after other _ None (not_after other (omega arith) in_range)
               ∙ get_or-set_other held before other _ None (not_before other (omega arith) in_range)
               ∙ elim (cases_eq other key) [
                 | inl here ↦ ap (place_at held) here ∙ get_or-set_same links key (Some held_link) None (omega arith)
@@ -101,7 +97,7 @@ module _ {T : Type 0} where
                     get_or-set_other links key other (Some held_link) None there ∙ r.others other (omega arith) (omega arith)
               ];
           formed = record {
-            listed_is_free = λ other stands.
+            listed_is_free = λ other occurs.
                 let parts = ap (key_count other) at.rest ∙ key_count-append other at.front at.back in
                 let counts = at.counts other in
                 let was = r.formed.listed_is_free other (omega arith) in
@@ -114,15 +110,15 @@ module _ {T : Type 0} where
                 let miss = hit_other other key apart in
                 let was = r.formed.free_is_listed other (let below = is_empty.0 in omega arith, sym (get_or-set_other s.values key other (Some value) None apart) ∙ is_empty.1) in omega arith;
           };
-          held = let was = r.held in let more = held_more s.values key value empty.0 empty.1 in omega arith;
+          held = let was = r.held in let more = count_by-set_more s.values key value empty.0 empty.1 in omega arith;
           counted = let was = r.counted in let keys = at.lengths in let left = ap length at.rest ∙ length-append at.front at.back in omega arith;
         } in
         subst (λ (l : Link). Represents (slot_fill s key value) (links_remove links key l) (first_after_remove first l) (len + 1)) (sym is) made
 
-    -- a held key has another value
+    -- a held key gets another value
     Represents-slot_set : (key : ℕ) (value : T) → IsHeld s key → Represents (slot_fill s key value) links first len
     Represents-slot_set key value held =
-        let was = held_is (value_at s key) held in
+        let was = value_of_held (value_at s key) held in
         let below = within_row s.values key was.0 was.1 in
         let none = key_count-held s links first len r key held in
         let values_len = length-set s.values key (Some value) in
@@ -134,30 +130,30 @@ module _ {T : Type 0} where
           head = r.head;
           others = r.others;
           formed = record {
-            listed_is_free = λ other stands.
-                let old = r.formed.listed_is_free other stands in
+            listed_is_free = λ other occurs.
+                let old = r.formed.listed_is_free other occurs in
                 let apart : other ≢ key = λ e. (let moved = ap (λ k. key_count k s.free) e in omega arith) in
                 (let within = old.0 in omega arith, get_or-set_other s.values key other (Some value) None apart ∙ old.1);
             free_is_listed = λ other is_empty.
                 let apart : other ≢ key = λ e. (let no : Some value ≡ None = sym (ap (place_at (set s.values key (Some value))) e ∙ get_or-set_same s.values key (Some value) None below) ∙ is_empty.1 in absurd (cc)) in
                 r.formed.free_is_listed other (let within = is_empty.0 in omega arith, sym (get_or-set_other s.values key other (Some value) None apart) ∙ is_empty.1);
           };
-          held = let old = r.held in let all = held_same s.values key was.0 value below was.1 in omega arith;
+          held = let old = r.held in let all = count_by-set_same s.values key was.0 value below was.1 in omega arith;
           counted = let old = r.counted in omega arith;
         })
 
-    -- a held key lost its value, and is the first that is free
+    -- a held key loses its value
     Represents-slot_vacate : (key : ℕ) → IsHeld s key → Represents (slot_vacate s key) (links_insert_first links key first) key (len - 1)
     Represents-slot_vacate key held =
-        let was = held_is (value_at s key) held in
+        let was = value_of_held (value_at s key) held in
         let below = within_row s.values key was.0 was.1 in
         let none = key_count-held s links first len r key held in
         let lengths = r.lengths in let low = r.below in
         let put = set links key (Some (free_link no_key first)) in
         let all = links_set_previous put first key in
-        let less = held_less s.values key was.0 below was.1 in
+        let less = count_by-set_less s.values key was.0 below was.1 in
         let old_held = r.held in
-        let kept = IsChain-set_other links key (Some (free_link no_key first)) no_key s.free no_key (λ other stands e. (let moved = ap (λ k. key_count k s.free) e in omega arith)) r.chain in
+        let kept = IsChain-set_other links key (Some (free_link no_key first)) no_key s.free no_key (λ other occurs e. (let moved = ap (λ k. key_count k s.free) e in omega arith)) r.chain in
         let led = IsChain-links_set_previous put no_key s.free no_key key (key_count_le_one s links first len r) kept in
         let as_first : links_set_previous put (first_or s.free no_key) key ≡ all = ap (λ k. links_set_previous put k key) (sym r.head) in
         let key_in_range : key ≢ no_key = λ e. omega arith in
@@ -179,7 +175,7 @@ module _ {T : Type 0} where
               ∙ get_or-set_other links key other (Some (free_link no_key first)) None apart
               ∙ r.others other (omega arith) (omega arith);
           formed = record {
-            listed_is_free = λ other stands. elim (cases_eq other key) [
+            listed_is_free = λ other occurs. elim (cases_eq other key) [
               | inl here ↦ (let is = here in omega arith, ap (place_at (set s.values key None)) here ∙ get_or-set_same s.values key None None below)
               | inr there ↦ let miss = hit_other other key there in
                   let count = counts other in
@@ -197,12 +193,12 @@ module _ {T : Type 0} where
           counted = let old = r.counted in omega arith;
         }
 
-  -- the same, as a call sees it
+  -- the same steps, of the state that contracts see
   pub Shows-slot_fill : (s : SlotState T) (values values' : List (Option T)) (links links' : List (Option Link)) (first first' len key : ℕ) (value : T) (link : Link) → Shows s values links first len → IsFree s key → place_at links key ≡ Some link → links' ≡ links_remove links key link → first' ≡ first_after_remove first link → values' ≡ set values key (Some value) → Shows (slot_fill s key value) values' links' first' (len + 1)
   Shows-slot_fill s values values' links links' first first' len key value link shown is_free at links_are first_is values_are =
-      let known = of s values links first len shown in
-      let some = occurs_of s values links first len key shown is_free in
-      shows (slot_fill s key value) links' first' (len + 1)
+      let known = represents_of s values links first len shown in
+      let some = occurs-free s values links first len key shown is_free in
+      Shows-from (slot_fill s key value) links' first' (len + 1)
       (subst (λ f. Represents (slot_fill s key value) links' f (len + 1)) (sym first_is)
       (subst (λ ls. Represents (slot_fill s key value) ls (first_after_remove first link) (len + 1)) (sym links_are)
       (Represents-slot_fill s links first len known.0 key value link some at)))
@@ -224,25 +220,25 @@ module _ {T : Type 0} where
     step = ap (λ k. option_map_or (λ free. slot_fill s free value) (Some k) s) head ∙ ap (λ ks. option_map_or (λ free. slot_fill s free value) (slice_get ks 0) s) is;
   }
 
-  -- what a call knows of the first free key, if one is free
+  -- the same, if a key is free
   module _ (s : SlotState T) (values : List (Option T)) (links : List (Option Link)) (first len : ℕ) (value : T) (shown : Shows s values links first len) (some : s.free ≢ []) where
     first_shown : First s links first value
     first_shown =
-        let known = (of s values links first len shown).0 in
+        let known = (represents_of s values links first len shown).0 in
         first_of s links first value s.free refl known.chain known.head some
 
     pub first_is_free : IsFree s first
-    first_is_free = (of s values links first len shown).0.formed.listed_is_free first first_shown.occurs
+    first_is_free = (represents_of s values links first len shown).0.formed.listed_is_free first first_shown.occurs
 
     pub next_within : (link : Link) → place_at links first ≡ Some link → IsKeyOrNone link.next links
-    next_within link at = (subst (λ place. IsLinkWithin place links) at (link_of s values links first len first shown first_is_free)).1
+    next_within link at = (subst (λ place. IsLinkWithin place links) at (IsLinkWithin-shown s values links first len first shown first_is_free)).1
 
-  -- the first free key is removed from the list, and has a value
+  -- the first free key gets a value
   pub Shows-slot_insert : (s : SlotState T) (values values' : List (Option T)) (links links' : List (Option Link)) (first len : ℕ) (value : T) (link : Link) → Shows s values links first len → s.free ≢ [] → place_at links first ≡ Some link → links' ≡ links_remove_first links first link.next → values' ≡ set values first (Some value) → Shows (slot_insert s value) values' links' link.next (len + 1)
   Shows-slot_insert s values values' links links' first len value link shown some at links_are values_are =
       let front = first_shown s values links first len value shown some in
       let is_free = first_is_free s values links first len value shown some in
-      let table = links_of s values links first len shown in
+      let table = IsLinkTable-shown s values links first len shown in
       let same : Some link ≡ Some (free_link no_key front.link.0) = sym at ∙ front.link.1 in
       let is : link ≡ free_link no_key front.link.0 = cc in
       let own : free_link no_key link.next ≡ link = ap (λ (l : Link). free_link no_key l.next) is ∙ sym is in
@@ -254,7 +250,7 @@ module _ {T : Type 0} where
   -- a map without free keys refuses
   pub SlotInsert-refused : (s : SlotState T) (values : List (Option T)) (links : List (Option Link)) (first len : ℕ) (x : T) → Shows s values links first len → first ≡ no_key → SlotInsert s x s None
   SlotInsert-refused s values links first len x shown none =
-      let known = (of s values links first len shown).0 in
+      let known = (represents_of s values links first len shown).0 in
       let empty = nil_from_first s links first len known none in
       record {
         key = sym (ap (λ keys. slice_get keys 0) empty);
@@ -266,10 +262,10 @@ module _ {T : Type 0} where
         kept = λ _ _. refl;
       }
 
-  -- the first free key is filled
+  -- a map with a free key inserts
   pub SlotInsert-filled : (s : SlotState T) (values : List (Option T)) (links : List (Option Link)) (first len : ℕ) (x : T) (new : SlotState T) → Shows s values links first len → first ≢ no_key → new ≡ slot_insert s x → SlotInsert s x new (Some first)
   SlotInsert-filled s values links first len x new shown apart is =
-      let known = (of s values links first len shown).0 in
+      let known = (represents_of s values links first len shown).0 in
       let some : s.free ≢ [] = λ none. apart (known.head ∙ ap (λ keys. first_or keys no_key) none) in
       let front = first_shown s values links first len x shown some in
       let is_free = first_is_free s values links first len x shown some in
@@ -288,37 +284,35 @@ module _ {T : Type 0} where
 
   pub Shows-slot_set : (s : SlotState T) (values values' : List (Option T)) (links : List (Option Link)) (first len key : ℕ) (value : T) → Shows s values links first len → IsHeld s key → values' ≡ set values key (Some value) → Shows (slot_fill s key value) values' links first len
   Shows-slot_set s values values' links first len key value shown held values_are =
-      let known = of s values links first len shown in
-      shows (slot_fill s key value) links first len (Represents-slot_set s links first len known.0 key value held)
+      let known = represents_of s values links first len shown in
+      Shows-from (slot_fill s key value) links first len (Represents-slot_set s links first len known.0 key value held)
       values' (values_are ∙ ap (λ vs. set vs key (Some value)) known.1)
 
   pub Shows-slot_vacate : (s : SlotState T) (values values' : List (Option T)) (links links' : List (Option Link)) (first first' len len' key : ℕ) → Shows s values links first len → IsHeld s key → links' ≡ links_insert_first links key first → first' ≡ key → len' ≡ len - 1 → values' ≡ set values key None → Shows (slot_vacate s key) values' links' first' len'
   Shows-slot_vacate s values values' links links' first first' len len' key shown held links_are first_is len_is values_are =
-      let known = of s values links first len shown in
-      shows (slot_vacate s key) links' first' len'
+      let known = represents_of s values links first len shown in
+      Shows-from (slot_vacate s key) links' first' len'
       (subst (λ n. Represents (slot_vacate s key) links' first' n) (sym len_is)
       (subst (λ f. Represents (slot_vacate s key) links' f (len - 1)) (sym first_is)
       (subst (λ ls. Represents (slot_vacate s key) ls key (len - 1)) (sym links_are)
       (Represents-slot_vacate s links first len known.0 key held))))
       values' (values_are ∙ ap (λ vs. set vs key None) known.1)
 
--- the key after one of 0, 1 and so on
-next_rising : (capacity key count : ℕ) → key + suc count ≡ capacity → (if nat_eq (key + 1) capacity then no_key else key + 1) ≡ first_or (range_with_len (key + 1) count) no_key
-next_rising capacity key zero all = grind (arith, nat_tests)
-next_rising capacity key (suc count) all = grind (arith, nat_tests)
+first_or-range : (capacity key count : ℕ) → key + suc count ≡ capacity → (if nat_eq (key + 1) capacity then no_key else key + 1) ≡ first_or (range_with_len (key + 1) count) no_key
+first_or-range capacity key zero all = grind (arith, nat_tests)
+first_or-range capacity key (suc count) all = grind (arith, nat_tests)
 
--- links in rising order are a chain
-rising_chain : (links : List (Option Link)) (capacity : ℕ) → IsRisingList capacity links → (key count : ℕ) → key + count ≡ capacity → IsChain links (if nat_eq key 0 then no_key else key - 1) (range_with_len key count) no_key
-rising_chain links capacity rising key zero all = tt
-rising_chain links capacity rising key (suc count) all =
-    let after = next_rising capacity key count all in
+IsChain-rising : (links : List (Option Link)) (capacity : ℕ) → IsRisingList capacity links → (key count : ℕ) → key + count ≡ capacity → IsChain links (if nat_eq key 0 then no_key else key - 1) (range_with_len key count) no_key
+IsChain-rising links capacity rising key zero all = tt
+IsChain-rising links capacity rising key (suc count) all =
+    let after = first_or-range capacity key count all in
     let before : (if nat_eq (key + 1) 0 then no_key else key + 1 - 1) ≡ key = grind (arith, nat_tests) in (
       rising.1 key (omega arith) ∙ ap (λ next. Some (free_link (if nat_eq key 0 then no_key else key - 1) next)) after,
-      subst (λ b. IsChain links b (range_with_len (key + 1) count) no_key) before (rising_chain links capacity rising (key + 1) count (omega arith)),
+      subst (λ b. IsChain links b (range_with_len (key + 1) count) no_key) before (IsChain-rising links capacity rising (key + 1) count (omega arith)),
     )
 
 module _ {T : Type 0} where
-  -- two Shows-slot_new tables stand for an empty map
+  -- two new tables represent an empty map
   Represents-slot_new : (links : List (Option Link)) (first capacity : ℕ) → IsRisingList capacity links → first ≡ first_or (range_with_len 0 capacity) no_key → capacity ≤ no_key → Represents (slot_new {T = T} capacity) links first 0
   Represents-slot_new links first capacity rising first_is fits =
       let values_len = length-replicate capacity (let none : Option T = None in none) in
@@ -327,20 +321,20 @@ module _ {T : Type 0} where
       record {
         lengths = links_len ∙ sym values_len;
         below = omega arith;
-        chain = rising_chain links capacity rising 0 capacity (omega arith);
+        chain = IsChain-rising links capacity rising 0 capacity (omega arith);
         head = first_is;
         others = λ key within none. (let one = key_count-range_within 0 capacity key (omega arith) (omega arith) in absurd (omega arith));
         formed = record {
-          listed_is_free = λ key stands. elim (cases_lt key capacity) [
+          listed_is_free = λ key occurs. elim (cases_lt key capacity) [
             | inl below ↦ (omega arith, get_or-replicate capacity key None None below)
             | inr past ↦ let none = key_count-range_past 0 capacity key (omega arith) in absurd (omega arith)
           ];
           free_is_listed = λ key is_empty. key_count-range_within 0 capacity key (omega arith) (let below = is_empty.0 in omega arith);
         };
-        held = sym (sum_by-replicate held_one capacity None ∙ (omega arith));
+        held = sym (sum_by-replicate one_if_held capacity None ∙ (omega arith));
         counted = omega arith;
       }
 
   pub Shows-slot_new : (values : List (Option T)) (links : List (Option Link)) (first capacity : ℕ) → values ≡ replicate capacity None → IsRisingList capacity links → first ≡ first_or (range_with_len 0 capacity) no_key → capacity ≤ no_key → Shows (slot_new capacity) values links first 0
   Shows-slot_new values links first capacity values_are rising first_is fits =
-      shows (slot_new capacity) links first 0 (Represents-slot_new links first capacity rising first_is fits) values values_are
+      Shows-from (slot_new capacity) links first 0 (Represents-slot_new links first capacity rising first_is fits) values values_are

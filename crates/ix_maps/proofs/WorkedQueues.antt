@@ -1,50 +1,50 @@
--- Worked rows: the steps of a queue give what their users expect.
+-- Worked examples: the steps of a queue do what users expect.
 use Rattle.std.proofs.Common.{ℕ, ◌≡◌, List, [], ◌∷◌, true, false, Some, None, refl}
 use Rattle.ix_cells.specs.Bounded.{Bounded, has_room, bounded_push}
 use Rattle.ix_maps.specs.QueueSteps.{queue_overflow, queue_overflow_item, queue_front, queue_pop, queue_set_front}
 
--- a queue of so many numbers at most
+-- a queue with this capacity
 abbrev queue_of : List ℕ → ℕ → Bounded ℕ
 queue_of items capacity = record { items = items; capacity = capacity }
 
--- capacity 1: push 123 is true, over 456 hands back 123, and pop gives 456
-one_has_room : has_room (queue_of [] 1) ≡ true
-one_has_room = refl
+-- capacity 1: push 123 returns true, push_with_overflow 456 returns 123, and pop returns 456
+has_room-one : has_room (queue_of [] 1) ≡ true
+has_room-one = refl
 
-one_pushed : bounded_push (queue_of [] 1) 123 ≡ queue_of (123 ∷ []) 1
-one_pushed = refl
+bounded_push-one : bounded_push (queue_of [] 1) 123 ≡ queue_of (123 ∷ []) 1
+bounded_push-one = refl
 
-one_overflow : queue_overflow_item (queue_of (123 ∷ []) 1) 456 ≡ Some 123
-one_overflow = refl
+queue_overflow_item-one : queue_overflow_item (queue_of (123 ∷ []) 1) 456 ≡ Some 123
+queue_overflow_item-one = refl
 
-one_overflowed : queue_overflow (queue_of (123 ∷ []) 1) 456 ≡ queue_of (456 ∷ []) 1
-one_overflowed = refl
+queue_overflow-one : queue_overflow (queue_of (123 ∷ []) 1) 456 ≡ queue_of (456 ∷ []) 1
+queue_overflow-one = refl
 
-one_oldest : queue_front (queue_of (456 ∷ []) 1) ≡ Some 456
-one_oldest = refl
+queue_front-one : queue_front (queue_of (456 ∷ []) 1) ≡ Some 456
+queue_front-one = refl
 
-one_popped : queue_pop (queue_of (456 ∷ []) 1) ≡ queue_of [] 1
-one_popped = refl
+queue_pop-one : queue_pop (queue_of (456 ∷ []) 1) ≡ queue_of [] 1
+queue_pop-one = refl
 
--- capacity 2: 9 is written over the oldest item
-two_written : queue_set_front (queue_of (1 ∷ 2 ∷ []) 2) 9 ≡ queue_of (9 ∷ 2 ∷ []) 2
-two_written = refl
+-- capacity 2: the front item is replaced by 9
+queue_set_front-two : queue_set_front (queue_of (1 ∷ 2 ∷ []) 2) 9 ≡ queue_of (9 ∷ 2 ∷ []) 2
+queue_set_front-two = refl
 
--- capacity 0: push 1 is false, over 2 hands back 2, and pop gives nothing; a write changes nothing
-none_has_room : has_room (queue_of [] 0) ≡ false
-none_has_room = refl
+-- capacity 0: push 1 returns false, push_with_overflow 2 returns 2, and pop returns None; a write changes nothing
+has_room-none : has_room (queue_of [] 0) ≡ false
+has_room-none = refl
 
-none_pushed : bounded_push (queue_of [] 0) 1 ≡ queue_of [] 0
-none_pushed = refl
+bounded_push-none : bounded_push (queue_of [] 0) 1 ≡ queue_of [] 0
+bounded_push-none = refl
 
-none_overflow : queue_overflow_item (queue_of [] 0) 2 ≡ Some 2
-none_overflow = refl
+queue_overflow_item-none : queue_overflow_item (queue_of [] 0) 2 ≡ Some 2
+queue_overflow_item-none = refl
 
-none_overflowed : queue_overflow (queue_of [] 0) 2 ≡ queue_of [] 0
-none_overflowed = refl
+queue_overflow-none : queue_overflow (queue_of [] 0) 2 ≡ queue_of [] 0
+queue_overflow-none = refl
 
-none_oldest : queue_front (queue_of [] 0) ≡ None
-none_oldest = refl
+queue_front-none : queue_front (queue_of [] 0) ≡ None
+queue_front-none = refl
 
-none_written : queue_set_front (queue_of [] 0) 9 ≡ queue_of [] 0
-none_written = refl
+queue_set_front-none : queue_set_front (queue_of [] 0) 9 ≡ queue_of [] 0
+queue_set_front-none = refl

@@ -1,5 +1,5 @@
-//! Calls of queues as values, so that a test of any kind is a table: calls, and what each answers.
-use crate::replacing::replace_oldest;
+//! Calls of queues as values, so that a test of any kind of queue is a table: calls, and their results.
+use crate::replacing::replace_front;
 use ix_cells::{RelocatableContainer, Table};
 use ix_expect::Findings;
 use ix_maps::{MetaQueue, Queue, RelocatableQueue};
@@ -7,17 +7,17 @@ use std::alloc::Allocator;
 use std::fmt::Debug;
 use std::mem;
 
-/// One call, by the name of the function that it calls.
+/// A call, by the name of the function.
 pub enum Call<T> {
     Push(T),
     PushWithOverflow(T),
     Pop,
-    /// Writes an item over the oldest one, by `peek_mut`. The answer is the one before.
+    /// Replaces the front item through `peek_mut`. The result is the old one.
     Write(T),
-    ReplaceOldest(T),
+    ReplaceFront(T),
     Clear,
     Peek,
-    /// Both forms of it. An index past the last item answers None.
+    /// Both `get` and `get_unchecked`. The result is `None` if there is no such item.
     Get(usize),
     Capacity,
     Len,
@@ -25,28 +25,28 @@ pub enum Call<T> {
     IsFull,
 }
 
-/// What a call answers.
+/// The result of a call.
 #[derive(PartialEq, Debug, Drop)]
-pub enum Answer<T> {
+pub enum Outcome<T> {
     Bool(bool),
     Number(usize),
     Item(Option<T>),
-    /// The call answers nothing.
+    /// The call returns nothing.
     Done,
 }
 
-/// A call and its answer.
-pub type Row<T> = (Call<T>, Answer<T>);
+/// A call and its result.
+pub type Row<T> = (Call<T>, Outcome<T>);
 
-/// Writes an item over the oldest one, and answers that.
+/// Replaces the front item and returns the old one.
 fn write<T: Copy + Drop, S: Table<T>>(queue: &mut MetaQueue<T, S>, item: T) -> Option<T> {
     match queue.peek_mut() {
-        Some(oldest) => Some(mem::replace(oldest, item)),
+        Some(front) => Some(mem::replace(front, item)),
         None => None,
     }
 }
 
-/// The item that both `get` and `get_unchecked` answer, if there is one and they agree.
+/// Returns the item that both `get` and `get_unchecked` return, if there is one and they agree.
 fn item_at<T: Copy + PartialEq, S: Table<T>>(queue: &MetaQueue<T, S>, index: usize) -> Option<T> {
     if index < queue.len() {
         let item = queue.get(index);
@@ -57,52 +57,52 @@ fn item_at<T: Copy + PartialEq, S: Table<T>>(queue: &MetaQueue<T, S>, index: usi
     None
 }
 
-/// Makes a call that reads the queue. The others answer `Done`.
-fn read<T: Copy + PartialEq, S: Table<T>>(queue: &MetaQueue<T, S>, call: &Call<T>) -> Answer<T> {
+/// Makes a call that reads the queue, and returns its result. For other calls returns `Done`.
+fn read<T: Copy + PartialEq, S: Table<T>>(queue: &MetaQueue<T, S>, call: &Call<T>) -> Outcome<T> {
     match call {
-        Call::Peek => Answer::Item(queue.peek().copied()),
-        Call::Get(index) => Answer::Item(item_at(queue, *index)),
-        Call::Capacity => Answer::Number(queue.capacity()),
-        Call::Len => Answer::Number(queue.len()),
-        Call::IsEmpty => Answer::Bool(queue.is_empty()),
-        Call::IsFull => Answer::Bool(queue.is_full()),
-        _ => Answer::Done,
+        Call::Peek => Outcome::Item(queue.peek().copied()),
+        Call::Get(index) => Outcome::Item(item_at(queue, *index)),
+        Call::Capacity => Outcome::Number(queue.capacity()),
+        Call::Len => Outcome::Number(queue.len()),
+        Call::IsEmpty => Outcome::Bool(queue.is_empty()),
+        Call::IsFull => Outcome::Bool(queue.is_full()),
+        _ => Outcome::Done,
     }
 }
 
-/// Makes a call.
-pub fn answer_of<T: Copy + PartialEq, S: Table<T>>(
+/// Makes a call and returns its result.
+pub fn outcome_of<T: Copy + PartialEq, S: Table<T>>(
     queue: &mut MetaQueue<T, S>,
     call: &Call<T>,
-) -> Answer<T> {
+) -> Outcome<T> {
     match call {
-        Call::Push(item) => Answer::Bool(queue.push(*item)),
-        Call::PushWithOverflow(item) => Answer::Item(queue.push_with_overflow(*item)),
-        Call::Pop => Answer::Item(queue.pop()),
-        Call::Write(item) => Answer::Item(write(queue, *item)),
-        Call::ReplaceOldest(item) => Answer::Item(replace_oldest(queue, *item)),
+        Call::Push(item) => Outcome::Bool(queue.push(*item)),
+        Call::PushWithOverflow(item) => Outcome::Item(queue.push_with_overflow(*item)),
+        Call::Pop => Outcome::Item(queue.pop()),
+        Call::Write(item) => Outcome::Item(write(queue, *item)),
+        Call::ReplaceFront(item) => Outcome::Item(replace_front(queue, *item)),
         Call::Clear => {
             queue.clear();
-            Answer::Done
+            Outcome::Done
         }
         _ => read(queue, call),
     }
 }
 
-/// Makes the calls one after the other, and compares the answers.
+/// Makes the calls in turn and compares their results.
 fn check_rows<T: Copy + PartialEq + Debug, S: Table<T>>(
     findings: &Findings,
     queue: &mut MetaQueue<T, S>,
     rows: &[Row<T>],
     place: &str,
 ) {
-    for (number, (call, answer)) in rows.iter().enumerate() {
-        let found = answer_of(queue, call);
-        findings.expect_same_at(&found, answer, number, place);
+    for (number, (call, outcome)) in rows.iter().enumerate() {
+        let found = outcome_of(queue, call);
+        findings.expect_same_at(&found, outcome, number, place);
     }
 }
 
-/// Makes the calls on a queue that needs no memory.
+/// Makes the calls on a fixed queue.
 pub fn check_fixed<T: Copy + PartialEq + Debug, S: Table<T>>(
     findings: &Findings,
     mut queue: MetaQueue<T, S>,
@@ -111,7 +111,7 @@ pub fn check_fixed<T: Copy + PartialEq + Debug, S: Table<T>>(
     check_rows(findings, &mut queue, rows, "fixed");
 }
 
-/// Makes the calls of each table on one queue, which there was memory for.
+/// Makes the calls of each table in turn on one queue, whose making did not fail.
 pub fn check_made<T: Copy + PartialEq + Debug, S: Table<T>, E: Drop>(
     findings: &Findings,
     made: Result<MetaQueue<T, S>, E>,
@@ -128,7 +128,7 @@ pub fn check_made<T: Copy + PartialEq + Debug, S: Table<T>, E: Drop>(
     }
 }
 
-/// Makes the calls of each table on one queue of each kind in memory of `alloc`.
+/// Makes the calls of each table in turn on one queue of each kind, allocated from `alloc`.
 pub fn check_in<T: Copy + PartialEq + Debug, A: Allocator + Copy>(
     findings: &Findings,
     alloc: A,

@@ -1,4 +1,4 @@
-//! When items are dropped: each one once, and the oldest one first.
+//! When items are dropped: each one once, the front item first.
 use crate::drop_tests::Call::{Clear, Pop, Push, PushWithOverflow, Write};
 use ix_cells::{RelocatableContainer, Table};
 use ix_expect::{Findings, Noted, Notes};
@@ -6,28 +6,28 @@ use ix_maps::{FixedSizeQueue, MetaQueue, Queue, RelocatableQueue};
 use std::alloc::{AllocError, Global};
 use std::test::Fail;
 
-/// One call. New items have the name that stands in their place.
+/// A call. The number is the name of the new item.
 enum Call {
     Push(u64),
     PushWithOverflow(u64),
     Pop,
-    /// Writes an item over the oldest one.
+    /// Replaces the front item through `peek_mut`.
     Write(u64),
     Clear,
 }
 
-/// A call, and the names of all items that are dropped behind it: before and after that is dropped which it hands out.
+/// A call, the names of all items that are dropped so far, and those once the returned item is dropped too.
 type Row = (Call, u64, u64);
 
-/// Writes an item over the oldest one.
+/// Replaces the front item.
 fn write<'a, S: Table<Noted<'a>>>(queue: &mut MetaQueue<Noted<'a>, S>, item: Noted<'a>) {
-    if let Some(oldest) = queue.peek_mut() {
-        *oldest = item;
+    if let Some(front) = queue.peek_mut() {
+        *front = item;
     }
 }
 
-/// Makes a call, and answers the item that it hands out.
-fn handed_out<'a, S: Table<Noted<'a>>>(
+/// Makes a call and returns the item that it returns.
+fn returned_by<'a, S: Table<Noted<'a>>>(
     queue: &mut MetaQueue<Noted<'a>, S>,
     call: &Call,
     notes: &'a Notes,
@@ -44,7 +44,7 @@ fn handed_out<'a, S: Table<Noted<'a>>>(
     None
 }
 
-/// Makes the calls one after the other on `queue`, which is empty.
+/// Makes the calls in turn on `queue`, which is empty at first.
 fn check_rows<'a, S: Table<Noted<'a>>>(
     findings: &Findings,
     queue: &mut MetaQueue<Noted<'a>, S>,
@@ -52,14 +52,14 @@ fn check_rows<'a, S: Table<Noted<'a>>>(
     rows: &[Row],
 ) {
     for (number, (call, before, after)) in rows.iter().enumerate() {
-        let item = handed_out(queue, call, notes);
+        let item = returned_by(queue, call, notes);
         findings.expect_same_at(notes.drops(), *before, number, "by the queue");
         drop(item);
         findings.expect_same_at(notes.drops(), *after, number, "by the caller");
     }
 }
 
-/// Makes the calls, at whose end `end` tells which items are dropped. There was memory for the queue.
+/// Makes the calls on a queue whose making did not fail. `end` has the names that are dropped once it is dropped.
 fn check_made<'a, S: Table<Noted<'a>>, E: Drop>(
     findings: &Findings,
     made: Result<MetaQueue<Noted<'a>, S>, E>,
@@ -71,13 +71,13 @@ fn check_made<'a, S: Table<Noted<'a>>, E: Drop>(
         Ok(mut queue) => {
             check_rows(findings, &mut queue, notes, rows);
             drop(queue);
-            findings.expect_same(notes.drops(), *end, "at the end");
+            findings.expect_same(notes.drops(), *end, "dropped with the queue");
         }
         Err(_) => findings.miss("there is memory"),
     }
 }
 
-/// Calls of a queue with room for three items.
+/// Calls of a queue of capacity 3.
 const REFUSALS: &[Row] = &[
     (Push(1), 0, 0),
     (Push(2), 0, 0),
@@ -88,7 +88,7 @@ const REFUSALS: &[Row] = &[
     (PushWithOverflow(6), 15, 152),
 ];
 
-/// Calls of a queue with room for three items.
+/// Calls of a queue of capacity 3.
 const CLEARS: &[Row] = &[
     (Push(1), 0, 0),
     (Push(2), 0, 0),
@@ -100,7 +100,7 @@ const CLEARS: &[Row] = &[
     (Push(5), 1234, 1234),
 ];
 
-/// Calls of a queue with room for three items.
+/// Calls of a queue of capacity 3.
 const WRITES: &[Row] = &[
     (Push(1), 0, 0),
     (Push(2), 0, 0),
@@ -110,11 +110,11 @@ const WRITES: &[Row] = &[
     (Write(7), 12, 12),
 ];
 
-/// Calls of a queue with room for three items, and which are dropped behind its end.
+/// Calls of queues of capacity 3, and the names that are dropped once the queue is dropped.
 const OF_THREE: &[(&[Row], u64)] = &[(REFUSALS, 152_346), (CLEARS, 12_345), (WRITES, 12_734)];
 
-/// Calls of a queue without room.
-const WITHOUT_ROOM: (&[Row], u64) = (
+/// Calls of a queue of capacity 0.
+const OF_NONE: (&[Row], u64) = (
     &[
         (Push(1), 1, 1),
         (PushWithOverflow(2), 1, 12),
@@ -123,7 +123,7 @@ const WITHOUT_ROOM: (&[Row], u64) = (
     12,
 );
 
-/// Makes the calls on a queue of each kind in memory.
+/// Makes the calls on a queue of each kind, allocated from `alloc`.
 fn check_in_memory(
     findings: &Findings,
     notes: &Notes,
@@ -146,27 +146,27 @@ fn each_kind(rt: HostRuntime) -> Result<(), Fail> {
         check_in_memory(&findings, &notes, rt.alloc(), 3, example);
     }
     let fixed = Ok::<_, AllocError>(FixedSizeQueue::<Noted, 0>::new());
-    check_made(&findings, fixed, &notes, &WITHOUT_ROOM);
-    check_in_memory(&findings, &notes, rt.alloc(), 0, &WITHOUT_ROOM);
+    check_made(&findings, fixed, &notes, &OF_NONE);
+    check_in_memory(&findings, &notes, rt.alloc(), 0, &OF_NONE);
     findings.verdict()
 }
 
-/// Fills a queue, which ends with this function.
+/// Appends five items to a queue, which is dropped at the end of this function.
 fn fill<'a>(findings: &Findings, notes: &'a Notes, mut queue: Queue<Noted<'a>>) {
     for name in 1..6 {
         findings.expect(queue.push(Noted::new(name, notes)), "there is room");
     }
-    findings.expect_same(notes.drops(), 0, "all are held");
+    findings.expect_same(notes.drops(), 0, "no item is dropped yet");
 }
 
 #[test]
-fn scopes_end_queues(rt: HostRuntime) -> Result<(), Fail> {
+fn dropped_at_the_end_of_a_scope(rt: HostRuntime) -> Result<(), Fail> {
     let findings = Findings::new();
     let notes = Notes::new(0);
     match Queue::new(rt.alloc(), 9) {
         Ok(queue) => fill(&findings, &notes, queue),
         Err(AllocError) => findings.miss("there is memory"),
     }
-    findings.expect_same(notes.drops(), 12_345, "the queue ended");
+    findings.expect_same(notes.drops(), 12_345, "the queue is dropped");
     findings.verdict()
 }

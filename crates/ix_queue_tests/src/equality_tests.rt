@@ -1,6 +1,6 @@
-//! Equality of queues: of their items in order, wherever these stand in the ring.
+//! Equality of queues: of their items in order, wherever these lie in the ring.
 use crate::calls::Call::{self, Clear, Len, Pop, Push};
-use crate::calls::answer_of;
+use crate::calls::outcome_of;
 use crate::equality_tests::Side::{One, Other};
 use crate::turning::{TURNS, Turn};
 use ix_cells::{RelocatableContainer, Table};
@@ -15,10 +15,10 @@ enum Side {
     Other,
 }
 
-/// A call of one of two queues, and whether they are equal behind it.
+/// A call of one of two queues, and whether they are equal after it.
 type Row = (Side, Call<u64>, bool);
 
-/// Makes the calls, and compares the queues behind each.
+/// Makes the calls in turn and compares the queues after each.
 fn check_rows<S: Table<u64>>(
     findings: &Findings,
     one: &mut MetaQueue<u64, S>,
@@ -28,15 +28,15 @@ fn check_rows<S: Table<u64>>(
 ) {
     for (number, (side, call, equal)) in rows.iter().enumerate() {
         match side {
-            One => answer_of(one, call),
-            Other => answer_of(other, call),
+            One => outcome_of(one, call),
+            Other => outcome_of(other, call),
         };
         let found = (*one == *other, *one != *other);
         findings.expect_same_at(found, (*equal, !*equal), number, turned);
     }
 }
 
-/// Turns `other`, and makes the calls. There was memory for both, which are empty.
+/// Turns `other` and makes the calls. The queues are empty at first, and their makings did not fail.
 fn check_made<S: Table<u64>, E: Drop, F: Drop>(
     findings: &Findings,
     one: Result<MetaQueue<u64, S>, E>,
@@ -47,7 +47,7 @@ fn check_made<S: Table<u64>, E: Drop, F: Drop>(
     if let Ok(mut one) = one {
         if let Ok(mut other) = other {
             for (call, _) in *turn {
-                answer_of(&mut other, call);
+                outcome_of(&mut other, call);
             }
             check_rows(findings, &mut one, &mut other, rows, turned);
             return;

@@ -1,16 +1,18 @@
-//! Every function of queues once, with ample memory, and worked examples: queues of one item and of none.
-use crate::calls::Answer::{Bool, Done, Item, Number};
+//! Each function of queues once, and worked examples: queues of capacity 1 and 0.
 use crate::calls::Call::{
-    Capacity, Clear, Get, IsEmpty, IsFull, Len, Peek, Pop, Push, PushWithOverflow, ReplaceOldest,
+    Capacity, Clear, Get, IsEmpty, IsFull, Len, Peek, Pop, Push, PushWithOverflow, ReplaceFront,
     Write,
 };
+use crate::calls::Outcome::{Bool, Done, Item, Number};
 use crate::calls::{Row, check_fixed, check_in};
+use crate::own_table::CountedPuts;
 use bumpalo::Bump;
-use ix_cells::{InitError, RelocatableContainer, Table};
+use ix_cells::{InitError, InlineTable, RelocatableContainer, Table};
 use ix_expect::Findings;
-use ix_maps::{FixedSizeQueue, MetaQueue, RelocatableQueue, UninitQueue};
+use ix_maps::{FixedSizeQueue, MetaQueue, Queue, RelocatableQueue, UninitQueue};
 use linked_list_allocator::LocalHeap;
-use std::alloc::{Allocator, Global};
+use std::alloc::{AllocError, Allocator, Global};
+use std::fmt::{Debug, InlineText};
 use std::test::Fail;
 
 const SIZES: &[Row<u64>] = &[
@@ -68,10 +70,10 @@ const CHANGES: &[Row<u64>] = &[
 ];
 
 const REPLACEMENTS: &[Row<u64>] = &[
-    (ReplaceOldest(1), Item(None)),
+    (ReplaceFront(1), Item(None)),
     (Push(2), Bool(true)),
     (Push(3), Bool(true)),
-    (ReplaceOldest(4), Item(Some(2))),
+    (ReplaceFront(4), Item(Some(2))),
     (Pop, Item(Some(4))),
     (Pop, Item(Some(3))),
     (Pop, Item(None)),
@@ -91,7 +93,7 @@ const NONE: &[Row<u64>] = &[
     (Pop, Item(None)),
 ];
 
-/// Calls of a queue with room for two items.
+/// Calls of a queue of capacity 2.
 const OF_TWO: &[&[Row<u64>]] = &[SIZES, PUSHES, READS, CHANGES, REPLACEMENTS];
 
 #[test]
@@ -105,7 +107,48 @@ fn in_the_value_itself() -> Result<(), Fail> {
     findings.verdict()
 }
 
-/// Makes the calls on a queue of each kind in memory of `alloc`.
+#[test]
+fn from_table() -> Result<(), Fail> {
+    let findings = Findings::new();
+    for rows in OF_TWO {
+        let table = CountedPuts::new(InlineTable::<u64, 2>::new());
+        check_fixed(&findings, MetaQueue::from_table(table), rows);
+    }
+    findings.verdict()
+}
+
+/// Checks the `Debug` text of a value.
+fn check_text<T: Debug>(findings: &Findings, value: &T, text: &str) {
+    let found = InlineText::<80>::of(format_args!("{value:?}"));
+    findings.expect_same(found.as_str(), text, "the text");
+}
+
+/// Appends 1, 2 and 3 to an empty queue of capacity 2, so that its items lie round the end of the ring.
+fn append_three<S: Table<u64>>(queue: &mut MetaQueue<u64, S>) {
+    for n in 1..4 {
+        let _ = queue.push_with_overflow(n);
+    }
+}
+
+#[test]
+fn texts(rt: HostRuntime) -> Result<(), Fail> {
+    let findings = Findings::new();
+    let mut fixed = FixedSizeQueue::<u64, 2>::new();
+    check_text(&findings, &fixed, "[]");
+    append_three(&mut fixed);
+    check_text(&findings, &fixed, "[2, 3]");
+    match Queue::<u64>::new(rt.alloc(), 2) {
+        Ok(mut queue) => {
+            check_text(&findings, &queue, "[]");
+            append_three(&mut queue);
+            check_text(&findings, &queue, "[2, 3]");
+        }
+        Err(AllocError) => findings.miss("there is memory"),
+    }
+    findings.verdict()
+}
+
+/// Checks each example on a queue of each kind, allocated from `alloc`.
 fn check_examples<A: Allocator + Copy>(findings: &Findings, alloc: A, memory: &str) {
     for rows in OF_TWO {
         check_in(findings, alloc, 2, &[*rows], memory);
@@ -114,10 +157,10 @@ fn check_examples<A: Allocator + Copy>(findings: &Findings, alloc: A, memory: &s
     check_in(findings, alloc, 0, &[NONE], memory);
 }
 
-/// As above. All of the memory comes back.
+/// Does what `check_examples` does. All of the memory is deallocated.
 fn check_heap(findings: &Findings, heap: &LocalHeap) {
     check_examples(findings, heap, "a heap");
-    findings.expect_same(heap.used(), 0, "the heap has all of its memory back");
+    findings.expect_same(heap.used(), 0, "bytes of the heap in use");
 }
 
 #[test]
@@ -132,7 +175,7 @@ fn in_each_memory(rt: HostRuntime) -> Result<(), Fail> {
     findings.verdict()
 }
 
-/// `made` is empty, and there was memory for it.
+/// Checks the capacity of a queue whose making did not fail.
 fn check_capacity<T: Drop, S: Table<T>, E: Drop>(
     findings: &Findings,
     made: Result<MetaQueue<T, S>, E>,

@@ -1,5 +1,5 @@
-//! Tests of queues beside their contracts: worked examples, every function once, refused memory, when items are dropped,
-//! and the turns of the ring. And a function over any queue, as a user would write it.
+//! Tests of queues beside their contracts: worked examples, each function once, too little memory, when items are
+//! dropped, the turns of the ring, and a queue over a user's own table.
 #![tactic(auto)]
 
 #[cfg(test)]
@@ -12,6 +12,8 @@ mod equality_tests;
 mod function_tests;
 #[cfg(test)]
 mod memory_tests;
+#[cfg(test)]
+mod own_table;
 #[cfg(test)]
 mod replacing;
 #[cfg(test)]

@@ -1,4 +1,4 @@
-//! Queues whose memory is refused: nothing stays taken.
+//! Queues for which there is not enough memory: nothing stays allocated.
 use bumpalo::Bump;
 use ix_cells::{InitError, RelocatableContainer, Table};
 use ix_expect::Findings;
@@ -7,7 +7,7 @@ use linked_list_allocator::LocalHeap;
 use std::alloc::{Allocator, Global};
 use std::test::Fail;
 
-/// `queue` is empty, and takes an item if it has room.
+/// Checks a queue that is empty: an item can be appended unless the capacity is 0.
 fn check_ready<S: Table<u64>>(
     findings: &Findings,
     mut queue: MetaQueue<u64, S>,
@@ -18,7 +18,8 @@ fn check_ready<S: Table<u64>>(
     findings.expect_same(found, (capacity, 0, capacity > 0), place);
 }
 
-/// The heap had memory for a queue with room for `capacity` numbers if `found`, and `used` of it were used before.
+/// Checks a making of a queue of `capacity` numbers, which succeeds if `found`. Before it `used` bytes of the heap were
+/// in use.
 fn check_made<S: Table<u64>, E: Drop>(
     findings: &Findings,
     heap: &LocalHeap,
@@ -28,16 +29,19 @@ fn check_made<S: Table<u64>, E: Drop>(
 ) {
     match made {
         Ok(queue) => {
-            findings.expect(found, "memory is refused");
-            findings.expect((heap.used() > used) == (capacity > 0), "memory is taken");
+            findings.expect(found, "the making succeeds");
+            findings.expect(
+                (heap.used() > used) == (capacity > 0),
+                "bytes in use with it",
+            );
             check_ready(findings, queue, capacity, "in the heap");
         }
-        Err(_) => findings.expect(!found, "memory is found"),
+        Err(_) => findings.expect(!found, "the making fails"),
     }
-    findings.expect_same(heap.used(), used, "nothing stays taken");
+    findings.expect_same(heap.used(), used, "bytes in use after it");
 }
 
-/// A refusal hands back what finds memory in `ample` then.
+/// Checks that a refused value can be initialised from `ample`.
 fn check_again(
     findings: &Findings,
     refused: Option<InitError<UninitQueue<u64>>>,
@@ -47,12 +51,12 @@ fn check_again(
     if let Some(error) = refused {
         match error.into_uninit().init(ample) {
             Ok(queue) => check_ready(findings, queue, capacity, "in ample memory"),
-            Err(_) => findings.miss("there is memory now"),
+            Err(_) => findings.miss("from ample memory"),
         }
     }
 }
 
-/// The heap has memory for a queue with room for `capacity` numbers if `found`. `ample` finds memory.
+/// Checks makings of queues of `capacity` numbers, which succeed if `found`. `ample` has enough memory.
 fn check_heap(findings: &Findings, heap: &LocalHeap, ample: Global, capacity: usize, found: bool) {
     let used = heap.used();
     let wanted = (capacity, found);
@@ -61,11 +65,11 @@ fn check_heap(findings: &Findings, heap: &LocalHeap, ample: Global, capacity: us
     check_made(findings, heap, used, ready, wanted);
     let refused = UninitQueue::new_uninit(capacity).init(heap).err();
     findings.expect_same(refused.is_none(), found, "in two steps");
-    findings.expect_same(heap.used(), used, "nothing stays taken by a refusal");
+    findings.expect_same(heap.used(), used, "bytes in use after a refusal");
     check_again(findings, refused, ample, capacity);
 }
 
-/// A block of the heap is taken, and of the others each one is room for one number.
+/// Allocates a block of the heap, and checks makings of queues. Each of the other `blocks` is enough for one number.
 fn check_blocks(findings: &Findings, heap: &LocalHeap, ample: Global, blocks: usize) {
     let held = Box::new(heap, 0u64);
     findings.expect(held.is_ok(), "a block");
@@ -85,7 +89,7 @@ fn makings_refused(rt: HostRuntime) -> Result<(), Fail> {
     findings.verdict()
 }
 
-/// No memory holds `capacity` numbers.
+/// Checks makings of queues of more numbers than any memory has.
 fn check_past_all_memory<A: Allocator + Copy>(findings: &Findings, alloc: A, capacity: usize) {
     let refused = Queue::<u64, A>::new(alloc, capacity).is_err();
     findings.expect(refused, "`new` refuses");
@@ -93,12 +97,12 @@ fn check_past_all_memory<A: Allocator + Copy>(findings: &Findings, alloc: A, cap
         Ok(_queue) => findings.miss("`init` refuses"),
         Err(error) => {
             let again = error.into_uninit().init(alloc);
-            findings.expect(again.is_err(), "the capacity came back");
+            findings.expect(again.is_err(), "the capacity is kept");
         }
     }
 }
 
-/// `heap` has 64 bytes.
+/// Checks makings that fail; `heap` has 64 bytes.
 fn check_too_little(findings: &Findings, alloc: Global, heap: &LocalHeap) {
     let bump = Bump::new(alloc);
     for capacity in &[usize::MAX, usize::MAX / 16 + 1, usize::MAX / 32 + 1] {
@@ -107,7 +111,7 @@ fn check_too_little(findings: &Findings, alloc: Global, heap: &LocalHeap) {
         check_past_all_memory(findings, heap, *capacity);
     }
     check_heap(findings, heap, alloc, 1000, false);
-    findings.expect_same(heap.used(), 0, "past all memory");
+    findings.expect_same(heap.used(), 0, "bytes in use after all");
 }
 
 #[test]

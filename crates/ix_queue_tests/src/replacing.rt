@@ -6,15 +6,13 @@ use ix_cells::Table;
 use ix_maps::MetaQueue;
 use std::mem;
 
-/// Puts `item` in the place of the oldest one, which is the answer. An empty queue drops `item`.
-pub fn replace_oldest<T: Drop, S: Table<T>>(queue: &mut MetaQueue<T, S>, item: T) -> Option<T>
-    // It answers the head.
+/// Replaces the front item by `item` and returns the old one; or drops `item` and returns `None` if the queue is empty.
+pub fn replace_front<T: Drop, S: Table<T>>(queue: &mut MetaQueue<T, S>, item: T) -> Option<T>
     ensures value { result ≡ queue_front queue.old }
-    // The item is the head, where there was one, and every other item is as it was.
     ensures queue { queue.new ≡ queue_set_front queue.old item }
 {
     match queue.peek_mut() {
-        Some(oldest) => Some(mem::replace(oldest, item)),
+        Some(front) => Some(mem::replace(front, item)),
         None => None,
     }
 }

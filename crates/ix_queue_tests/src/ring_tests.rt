@@ -1,6 +1,6 @@
-//! Turns of the ring: items go round past the last place, from every first place.
-use crate::calls::Answer::{Bool, Done, Item, Number};
+//! Turns of the ring: the first place follows the last, wherever the front item lies.
 use crate::calls::Call::{Clear, Get, Len, Pop, Push, PushWithOverflow, Write};
+use crate::calls::Outcome::{Bool, Done, Item, Number};
 use crate::calls::{Row, check_fixed, check_in, check_made};
 use crate::turning::TURNS;
 use ix_expect::Findings;
@@ -32,7 +32,7 @@ const PUSHES_AND_POPS: &[Row<u64>] = &[
     (Pop, Item(None)),
 ];
 
-const WRITES_OF_THE_OLDEST: &[Row<u64>] = &[
+const WRITES_OF_THE_FRONT: &[Row<u64>] = &[
     (Push(1), Bool(true)),
     (Push(2), Bool(true)),
     (Push(3), Bool(true)),
@@ -51,10 +51,10 @@ const WRITES_OF_THE_OLDEST: &[Row<u64>] = &[
     (Pop, Item(None)),
 ];
 
-/// Calls of a queue with room for three items.
-const OF_THREE: &[&[Row<u64>]] = &[OVERFLOWS, PUSHES_AND_POPS, WRITES_OF_THE_OLDEST];
+/// Calls of a queue of capacity 3.
+const OF_THREE: &[&[Row<u64>]] = &[OVERFLOWS, PUSHES_AND_POPS, WRITES_OF_THE_FRONT];
 
-/// Makes the calls on a queue of each kind behind those that turn it.
+/// Makes the calls of each table in turn on a queue of each kind.
 fn check_turned(findings: &Findings, alloc: Global, tables: &[&[Row<u64>]], turned: &str) {
     let fixed = Ok::<_, AllocError>(FixedSizeQueue::<u64, 3>::new());
     check_made(findings, fixed, tables, turned);
@@ -72,7 +72,7 @@ fn turns(rt: HostRuntime) -> Result<(), Fail> {
     findings.verdict()
 }
 
-/// Calls of a queue with room for three items.
+/// Calls of a queue of capacity 3.
 const OF_SIZE_ZERO: &[Row<()>] = &[
     (Push(()), Bool(true)),
     (Push(()), Bool(true)),

@@ -1,6 +1,6 @@
-//! Turns of the ring before a test.
-use crate::calls::Answer::{Bool, Item};
+//! Turns of the ring before a test: calls after which the front item will lie at another place.
 use crate::calls::Call::{Pop, Push};
+use crate::calls::Outcome::{Bool, Item};
 use crate::calls::Row;
 
 const BY_THREE: &[Row<u64>] = &[
@@ -21,7 +21,7 @@ const BY_TWO: &[Row<u64>] = &[
 
 const BY_ONE: &[Row<u64>] = &[(Push(0), Bool(true)), (Pop, Item(Some(0)))];
 
-/// Calls of an empty queue with room for one item, behind which its next items stand further on, and the name of that.
+/// Calls of an empty queue, after which it is empty and its next items lie further on; and a name.
 pub type Turn<'a> = (&'a [Row<u64>], &'a str);
 
 pub const TURNS: &[Turn] = &[

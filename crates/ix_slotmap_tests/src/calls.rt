@@ -1,11 +1,11 @@
-//! Calls of slot maps as values, so that an example is a list of calls and their answers.
+//! Calls of slot maps as values, so that an example is a list of calls and their results.
 use ix_cells::Table;
 use ix_expect::Findings;
 use ix_maps::{Link, MetaSlotMap, SlotMapKey};
 use std::fmt::Debug;
 use std::mem;
 
-/// A call of a slot map. Keys stand by their numbers.
+/// A call of a slot map. Keys are given by their numbers.
 pub enum Call<T> {
     Insert(T),
     InsertAt(usize, T),
@@ -13,7 +13,7 @@ pub enum Call<T> {
     NextFreeKey,
     Contains(usize),
     Get(usize),
-    /// Writes a value in the place of the one that `get_mut` lends. The answer is the one before.
+    /// Replaces a value through `get_mut`. The result is the old value.
     Write(usize, T),
     Capacity,
     Len,
@@ -21,19 +21,19 @@ pub enum Call<T> {
     IsFull,
 }
 
-/// What a call answers.
+/// The result of a call.
 #[derive(PartialEq, Debug, Drop)]
-pub enum Answer<T> {
+pub enum Outcome<T> {
     Bool(bool),
     Number(usize),
     Key(Option<usize>),
     Value(Option<T>),
 }
 
-/// A call and its answer.
-pub type Line<T> = (Call<T>, Answer<T>);
+/// A call and its result.
+pub type Line<T> = (Call<T>, Outcome<T>);
 
-/// Writes a value in the place of the one under `key`, and answers that.
+/// Replaces the value at `key` and returns the old one.
 fn write<T: Copy, S: Table<T>, L: Table<Link>>(
     map: &mut MetaSlotMap<T, S, L>,
     key: usize,
@@ -45,7 +45,7 @@ fn write<T: Copy, S: Table<T>, L: Table<Link>>(
     }
 }
 
-/// The number of a key.
+/// Returns the number of a key.
 fn number_of(key: Option<SlotMapKey>) -> Option<usize> {
     match key {
         Some(key) => Some(key.value()),
@@ -53,40 +53,42 @@ fn number_of(key: Option<SlotMapKey>) -> Option<usize> {
     }
 }
 
-/// Makes a call.
-fn answer_of<T: Copy, S: Table<T>, L: Table<Link>>(
+/// Makes a call and returns its result.
+fn outcome_of<T: Copy, S: Table<T>, L: Table<Link>>(
     map: &mut MetaSlotMap<T, S, L>,
     call: &Call<T>,
-) -> Answer<T> {
+) -> Outcome<T> {
     match call {
-        Call::Insert(value) => Answer::Key(number_of(map.insert(*value))),
-        Call::InsertAt(key, value) => { Answer::Bool(map.insert_at(SlotMapKey::new(*key), *value)) }
-        Call::Remove(key) => Answer::Value(map.remove(SlotMapKey::new(*key))),
-        Call::Write(key, value) => Answer::Value(write(map, *key, *value)),
-        Call::NextFreeKey => Answer::Key(number_of(map.next_free_key())),
-        Call::Contains(key) => Answer::Bool(map.contains(SlotMapKey::new(*key))),
-        Call::Get(key) => Answer::Value(map.get(SlotMapKey::new(*key)).copied()),
-        Call::Capacity => Answer::Number(map.capacity()),
-        Call::Len => Answer::Number(map.len()),
-        Call::IsEmpty => Answer::Bool(map.is_empty()),
-        Call::IsFull => Answer::Bool(map.is_full()),
+        Call::Insert(value) => Outcome::Key(number_of(map.insert(*value))),
+        Call::InsertAt(key, value) => {
+            Outcome::Bool(map.insert_at(SlotMapKey::new(*key), *value))
+        }
+        Call::Remove(key) => Outcome::Value(map.remove(SlotMapKey::new(*key))),
+        Call::Write(key, value) => Outcome::Value(write(map, *key, *value)),
+        Call::NextFreeKey => Outcome::Key(number_of(map.next_free_key())),
+        Call::Contains(key) => Outcome::Bool(map.contains(SlotMapKey::new(*key))),
+        Call::Get(key) => Outcome::Value(map.get(SlotMapKey::new(*key)).copied()),
+        Call::Capacity => Outcome::Number(map.capacity()),
+        Call::Len => Outcome::Number(map.len()),
+        Call::IsEmpty => Outcome::Bool(map.is_empty()),
+        Call::IsFull => Outcome::Bool(map.is_full()),
     }
 }
 
-/// Makes each call, and compares its answer.
+/// Makes each call and compares its result.
 pub fn check_calls<T: Copy + PartialEq + Debug, S: Table<T>, L: Table<Link>>(
     findings: &Findings,
     mut map: MetaSlotMap<T, S, L>,
     lines: &[Line<T>],
     place: &str,
 ) {
-    for (number, (call, answer)) in lines.iter().enumerate() {
-        let found = answer_of(&mut map, call);
-        findings.expect_same_at(&found, answer, number, place);
+    for (number, (call, outcome)) in lines.iter().enumerate() {
+        let found = outcome_of(&mut map, call);
+        findings.expect_same_at(&found, outcome, number, place);
     }
 }
 
-/// As `check_calls`, on a map for which there was memory.
+/// Does what `check_calls` does, with a map whose making did not fail.
 pub fn check_made<T: Copy + PartialEq + Debug, S: Table<T>, L: Table<Link>, E: Drop>(
     findings: &Findings,
     made: Result<MetaSlotMap<T, S, L>, E>,

@@ -1,14 +1,16 @@
-//! How often a call reaches a table, whatever the capacity.
-ghost use Rattle.std.specs.Prelude.{◌≡◌, ℕ, refl};
+//! How many calls of its tables a call of a slot map makes, at capacity 1,000, and how many a counted table makes.
+ghost use Rattle.std.specs.Prelude.{◌≡◌, ℕ};
 
-use ix_cells::{HeapTable, Table, Touches};
+use crate::counting_tests::Change::{Insert, InsertAt, Remove};
+use crate::counting_tests::Outcome::{Inserted, Key, Removed};
+use ix_cells::{Counted, HeapTable, InlineTable, Table, Touches};
 use ix_expect::Findings;
 use ix_maps::{Link, MetaSlotMap, SlotMapKey};
 use std::alloc::{AllocError, Global};
 use std::cell::Cell;
 use std::test::Fail;
 
-/// Adds numbers up.
+/// A sum of numbers.
 trait Tally {
     fn add(&self, calls: u64);
 }
@@ -19,7 +21,7 @@ impl Tally for &Cell<u64> {
     }
 }
 
-/// A table that tells a tally of each call that reaches a place; one that is lent for writing counts two.
+/// A table that adds its calls to a tally; a mutable reference to an item counts as two.
 struct Counting<S, C> {
     table: S,
     calls: C,
@@ -30,7 +32,7 @@ impl<T, S: Table<T>, C: Tally + Drop> Table<T> for Counting<S, C> {
 
     ghost with_item = { λ counting i x. record counting { table = S.with_item counting.table i x } };
 
-    ghost writes = { λ counting i x. S.writes counting.table i x };
+    ghost places_with_item = { λ counting i x. S.places_with_item counting.table i x };
 
     fn len(&self) -> usize {
         self.table.len()
@@ -62,13 +64,13 @@ impl<T, S: Table<T>, C: Tally + Drop> Table<T> for Counting<S, C> {
     }
 }
 
-/// A table in the machine's memory that tells `calls`.
+/// A table in the machine's memory that adds its calls to a tally.
 type CountingTable<'a, T> = Counting<HeapTable<T, Global>, &'a Cell<u64>>;
 
-/// A map over tables that tell their calls.
+/// A map over tables that add their calls to a tally.
 type CountingMap<'a> = MetaSlotMap<u64, CountingTable<'a, u64>, CountingTable<'a, Link>>;
 
-/// An empty map whose tables tell `calls`.
+/// Returns an empty map with `capacity` keys, whose tables add their calls to `calls`.
 fn counting_map(
     alloc: Global,
     capacity: usize,
@@ -93,74 +95,157 @@ fn counting_map(
     Ok(MetaSlotMap::from_tables(values, links))
 }
 
-/// A map with 1,000 keys, of which those below 500 are held. No call is counted yet.
-fn half_full(alloc: Global, calls: &Cell<u64>) -> Result<CountingMap<'_>, AllocError> {
+/// Returns a map with 1,000 keys, of which those less than `held` have their own numbers as values. The tally is 0.
+fn map_with_values(
+    alloc: Global,
+    held: u64,
+    calls: &Cell<u64>,
+) -> Result<CountingMap<'_>, AllocError> {
     let mut map = counting_map(alloc, 1000, calls)?;
-    for n in 0..500 {
+    for n in 0..held {
         let _ = map.insert(n);
     }
     calls.set(0);
     Ok(map)
 }
 
-/// A call that changes a map.
+/// A call that changes a map. Keys are given by their numbers.
+#[derive(Drop)]
 enum Change {
     Insert,
-    InsertCounted,
-    InsertAt,
-    InsertAtCounted,
-    Remove,
-    RemoveCounted,
+    InsertAt(usize),
+    Remove(usize),
 }
 
-const CHANGES: &[Change] = &[
-    Change::Insert,
-    Change::InsertCounted,
-    Change::InsertAt,
-    Change::InsertAtCounted,
-    Change::Remove,
-    Change::RemoveCounted,
-];
+/// The result of such a call.
+#[derive(PartialEq, Debug, Drop)]
+enum Outcome {
+    Key(Option<SlotMapKey>),
+    Inserted(bool),
+    Removed(Option<u64>),
+}
 
-/// Makes a call on a half full map. Says whether the answer is right.
-fn is_answered(map: &mut CountingMap, change: &Change) -> bool {
-    let first_free = Some(SlotMapKey::new(500));
-    let last = SlotMapKey::new(999);
-    let held = SlotMapKey::new(250);
-    let mut touches = Touches::new();
+/// Makes a call and returns its result.
+fn plain(map: &mut CountingMap, change: &Change) -> Outcome {
     match change {
-        Change::Insert => map.insert(7) == first_free,
-        Change::InsertCounted => map.insert_counted(7, &mut touches) == first_free,
-        Change::InsertAt => map.insert_at(last, 7),
-        Change::InsertAtCounted => map.insert_at_counted(last, 7, &mut touches),
-        Change::Remove => map.remove(held) == Some(250),
-        Change::RemoveCounted => map.remove_counted(held, &mut touches) == Some(250),
+        Insert => Key(map.insert(7)),
+        InsertAt(key) => Inserted(map.insert_at(SlotMapKey::new(*key), 7)),
+        Remove(key) => Removed(map.remove(SlotMapKey::new(*key))),
     }
 }
 
-/// The call reaches the tables of `map`, which tell `calls`, once at least and 16 times at most.
-fn check_few(
+/// Makes the counted form of a call and returns its result.
+fn counted(map: &mut CountingMap, change: &Change) -> Outcome {
+    let mut touches = Touches::new();
+    match change {
+        Insert => Key(map.insert_counted(7, &mut touches)),
+        InsertAt(key) => Inserted(map.insert_at_counted(SlotMapKey::new(*key), 7, &mut touches)),
+        Remove(key) => Removed(map.remove_counted(SlotMapKey::new(*key), &mut touches)),
+    }
+}
+
+/// The number of held keys, and the key that `insert` returns.
+const INSERTS: &[(u64, usize)] = &[(0, 0), (1, 1), (500, 500), (999, 999)];
+
+/// The number of held keys, a key in range, and its value.
+const KEYS: &[(u64, usize, Option<u64>)] = &[
+    (500, 250, Some(250)),
+    (500, 0, Some(0)),
+    (500, 499, Some(499)),
+    (500, 500, None),
+    (500, 501, None),
+    (500, 750, None),
+    (500, 999, None),
+    (0, 0, None),
+    (0, 999, None),
+    (1000, 0, Some(0)),
+    (1000, 999, Some(999)),
+];
+
+/// Keys that are out of range.
+const OUT_OF_RANGE: &[usize] = &[1000, 1001, usize::MAX];
+
+/// Makes the plain and the counted form of a call, each on a fresh map of which the first `held` keys have values. Each
+/// returns `wanted` and calls the tables `least` to 16 times, both equally often.
+fn check_change(
     findings: &Findings,
-    calls: &Cell<u64>,
-    map: &mut CountingMap,
+    alloc: Global,
+    held: u64,
     change: &Change,
-    row: usize,
+    (least, wanted): (u64, &Outcome),
 ) {
-    findings.expect_at(is_answered(map, change), row, "the answer");
-    let count = calls.get();
-    findings.expect_at(1 <= count, row, "at least one call");
-    findings.expect_at(count <= 16, row, "at most 16 calls");
+    let calls = Cell::new(0);
+    if let Ok(mut map) = map_with_values(alloc, held, &calls) {
+        findings.expect_same(&plain(&mut map, change), wanted, "the plain call");
+        let plain_calls = calls.get();
+        findings.expect(plain_calls >= least, "calls of tables, at least");
+        findings.expect(plain_calls <= 16, "calls of tables, at most");
+        if let Ok(mut map) = map_with_values(alloc, held, &calls) {
+            findings.expect_same(&counted(&mut map, change), wanted, "the counted call");
+            findings.expect_same(calls.get(), plain_calls, "calls of tables, counted");
+            return;
+        }
+    }
+    findings.miss("there is memory");
 }
 
 #[test]
-fn each_call_on_a_fresh_map(rt: HostRuntime) -> Result<(), Fail> {
+fn inserts(rt: HostRuntime) -> Result<(), Fail> {
     let findings = Findings::new();
-    let calls = Cell::new(0);
-    for (row, change) in CHANGES.iter().enumerate() {
-        match half_full(rt.alloc(), &calls) {
-            Ok(mut map) => check_few(&findings, &calls, &mut map, change, row),
-            Err(AllocError) => findings.miss("there is memory"),
+    for (held, key) in INSERTS {
+        let wanted = Key(Some(SlotMapKey::new(*key)));
+        check_change(&findings, rt.alloc(), *held, &Insert, (1, &wanted));
+    }
+    check_change(&findings, rt.alloc(), 1000, &Insert, (0, &Key(None)));
+    findings.verdict()
+}
+
+#[test]
+fn calls_on_a_key(rt: HostRuntime) -> Result<(), Fail> {
+    let findings = Findings::new();
+    for (held, key, value) in KEYS {
+        let wanted = (1, &Inserted(true));
+        check_change(&findings, rt.alloc(), *held, &InsertAt(*key), wanted);
+        let wanted = (1, &Removed(*value));
+        check_change(&findings, rt.alloc(), *held, &Remove(*key), wanted);
+    }
+    findings.verdict()
+}
+
+#[test]
+fn calls_out_of_range(rt: HostRuntime) -> Result<(), Fail> {
+    let findings = Findings::new();
+    for key in OUT_OF_RANGE {
+        for held in &[0, 500, 1000] {
+            let wanted = (0, &Inserted(false));
+            check_change(&findings, rt.alloc(), *held, &InsertAt(*key), wanted);
+            let wanted = (0, &Removed(None));
+            check_change(&findings, rt.alloc(), *held, &Remove(*key), wanted);
         }
     }
+    findings.verdict()
+}
+
+/// Each call of a counted table makes as many calls of its table as its contract counts.
+#[test]
+fn counted_tables() -> Result<(), Fail> {
+    let findings = Findings::new();
+    let calls = Cell::new(0);
+    let mut touches = Touches::new();
+    let mut table = Counted::new(Counting {
+        table: InlineTable::<u64, 3>::new(),
+        calls: &calls,
+    });
+    table.put(2, 5, &mut touches);
+    findings.expect_same(calls.replace(0), 1, "put");
+    findings.expect_same(*table.get(2, &mut touches), 5, "the item");
+    findings.expect_same(calls.replace(0), 1, "get");
+    *table.get_mut(2, &mut touches) = 6;
+    findings.expect_same(calls.replace(0), 2, "get_mut");
+    findings.expect_same(table.take(2, &mut touches), 6, "the item");
+    findings.expect_same(calls.replace(0), 1, "take");
+    findings.expect_same(table.len(), 3, "the number of places");
+    table.end();
+    findings.expect_same(calls.get(), 0, "len and end");
     findings.verdict()
 }

@@ -1,4 +1,4 @@
-//! When values are dropped: each one once, and at the end of a map that of the least key first.
+//! When values are dropped: each one once, and by the drop of a map that of the least key first.
 use crate::drop_tests::Call::{Insert, InsertAt, Remove, Write};
 use ix_cells::{RelocatableContainer, Table};
 use ix_expect::{Findings, Noted, Notes};
@@ -6,19 +6,19 @@ use ix_maps::{FixedSizeSlotMap, Link, MetaSlotMap, SlotMap, SlotMapKey, UninitSl
 use std::alloc::{AllocError, Global};
 use std::test::Fail;
 
-/// One call. New values have the name that stands last.
+/// One call. The name of a new value is the last number.
 enum Call {
     Insert(u64),
     InsertAt(usize, u64),
-    /// Writes a value in the place of the one that `get_mut` lends.
+    /// Replaces a value through `get_mut`.
     Write(usize, u64),
     Remove(usize),
 }
 
-/// A call, the names that it drops, and the name of the value that it hands out.
+/// A call, the names of the values that it drops, and the name of the value that it returns.
 type Row = (Call, u64, Option<u64>);
 
-/// Writes a value in the place of the one under `key`.
+/// Replaces the value at `key`.
 fn write<'a, S: Table<Noted<'a>>, L: Table<Link>>(
     map: &mut MetaSlotMap<Noted<'a>, S, L>,
     key: usize,
@@ -29,8 +29,8 @@ fn write<'a, S: Table<Noted<'a>>, L: Table<Link>>(
     }
 }
 
-/// Makes a call, and answers the value that it hands out.
-fn handed_out<'a, S: Table<Noted<'a>>, L: Table<Link>>(
+/// Makes a call and returns the value that it returns.
+fn returned_by<'a, S: Table<Noted<'a>>, L: Table<Link>>(
     map: &mut MetaSlotMap<Noted<'a>, S, L>,
     call: &Call,
     notes: &'a Notes,
@@ -48,13 +48,13 @@ fn handed_out<'a, S: Table<Noted<'a>>, L: Table<Link>>(
     None
 }
 
-/// The value's name, which it notes here.
+/// Returns the name of the value, which is dropped.
 fn name_of(value: Option<Noted>) -> Option<u64> {
     let value = value?;
     Some(value.name)
 }
 
-/// Makes the calls one after the other on `map`, which is empty at first.
+/// Makes the calls in turn on `map`, which is empty at first.
 fn check_rows<'a, S: Table<Noted<'a>>, L: Table<Link>>(
     findings: &Findings,
     map: &mut MetaSlotMap<Noted<'a>, S, L>,
@@ -62,15 +62,15 @@ fn check_rows<'a, S: Table<Noted<'a>>, L: Table<Link>>(
     rows: &[Row],
 ) {
     for (number, (call, dropped, name)) in rows.iter().enumerate() {
-        let value = handed_out(map, call, notes);
+        let value = returned_by(map, call, notes);
         findings.expect_same_at(notes.take_drops(), *dropped, number, "dropped by the map");
-        findings.expect_same_at(name_of(value), *name, number, "handed out");
+        findings.expect_same_at(name_of(value), *name, number, "returned");
         let dropped = notes.take_drops();
         findings.expect_same_at(dropped, name.unwrap_or(0), number, "dropped by the caller");
     }
 }
 
-/// Makes the calls, at whose end `end` tells which values are dropped. There was memory for the map.
+/// Makes the calls on a map whose making did not fail. `end` has the names that are dropped with the map.
 fn check_made<'a, S: Table<Noted<'a>>, L: Table<Link>, E: Drop>(
     findings: &Findings,
     made: Result<MetaSlotMap<Noted<'a>, S, L>, E>,
@@ -81,13 +81,13 @@ fn check_made<'a, S: Table<Noted<'a>>, L: Table<Link>, E: Drop>(
         Ok(mut map) => {
             check_rows(findings, &mut map, notes, rows);
             drop(map);
-            findings.expect_same(notes.take_drops(), *end, "at the end");
+            findings.expect_same(notes.take_drops(), *end, "dropped with the map");
         }
         Err(_) => findings.miss("there is memory"),
     }
 }
 
-/// Values that maps with three keys take, replace and refuse.
+/// Values that a map with three keys takes, replaces and refuses.
 const PUTS: &[Row] = &[
     (InsertAt(2, 1), 0, None),
     (InsertAt(0, 2), 0, None),
@@ -103,13 +103,13 @@ const PUTS: &[Row] = &[
 /// A map that is not full.
 const HALF_FULL: &[Row] = &[(InsertAt(2, 1), 0, None), (Insert(2), 0, None)];
 
-/// The caller drops what is handed out, and the map held nothing else.
+/// The caller drops what is returned, and the map has no other value.
 const REMOVALS: &[Row] = &[(Insert(1), 0, None), (Remove(0), 0, Some(1))];
 
-/// The value before is dropped, and that which was written at the end.
+/// The old value is dropped by the write, and the new one with the map.
 const WRITES: &[Row] = &[(Insert(1), 0, None), (Write(0, 2), 1, None)];
 
-/// Calls of a map with three keys, and what its end drops.
+/// Calls of a map with three keys, and the names that are dropped with it.
 const EXAMPLES: &[(&[Row], u64)] = &[(PUTS, 973), (HALF_FULL, 21), (REMOVALS, 0), (WRITES, 2)];
 
 #[test]

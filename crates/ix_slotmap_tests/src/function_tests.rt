@@ -1,12 +1,30 @@
-//! Every function once.
+//! Each function once.
 use crate::calls::{check_calls, check_made};
+use crate::inserting::{insert_and_get, insert_at_next};
 use crate::rows::EVERY_CALL;
-use ix_cells::{Counted, HeapTable, InitError, InlineTable, RelocatableContainer, Table, Touches};
+use ix_cells::{HeapTable, InitError, InlineTable, RelocatableContainer, Table, Touches};
 use ix_expect::Findings;
-use ix_maps::{FixedSizeSlotMap, Link, MetaSlotMap, RelocatableSlotMap, SlotMapKey, UninitSlotMap};
+use ix_maps::{
+    FixedSizeSlotMap, Link, MetaSlotMap, RelocatableSlotMap, SlotMap, SlotMapKey, UninitSlotMap,
+};
 use std::alloc::{AllocError, Global};
+use std::cmp::Ordering;
+use std::fmt::{Debug, InlineText};
+use std::hash::{DefaultHasher, Hash, Hasher};
 use std::mem::size_of;
 use std::test::Fail;
+
+/// Returns the hash of a value, by the trait alone.
+fn hash_of<K: Hash>(value: &K) -> u64 {
+    let mut hasher = DefaultHasher::new();
+    value.hash(&mut hasher);
+    hasher.finish()
+}
+
+/// Returns the order of two values, by the trait alone.
+fn order_of<K: Ord>(value: &K, other: &K) -> Ordering {
+    value.cmp(other)
+}
 
 #[test]
 fn keys() -> Result<(), Fail> {
@@ -19,7 +37,58 @@ fn keys() -> Result<(), Fail> {
     findings.expect_same(below, (true, true), "keys");
     let above = (greatest > least, least >= least);
     findings.expect_same(above, (true, true), "keys");
-    findings.expect_same(least.cmp(&greatest), std::cmp::Ordering::Less, "keys");
+    findings.verdict()
+}
+
+#[test]
+fn keys_by_their_bounds() -> Result<(), Fail> {
+    let findings = Findings::new();
+    let numbers = [0, 1, 2, 255, 256, usize::MAX];
+    for number in &numbers {
+        let hash = hash_of(&SlotMapKey::new(*number));
+        findings.expect_same(hash, hash_of(number), "the hash of the number");
+        for other in &numbers {
+            let order = order_of(&SlotMapKey::new(*number), &SlotMapKey::new(*other));
+            findings.expect_same(order, number.cmp(other), "the order of the numbers");
+            let equal = hash == hash_of(&SlotMapKey::new(*other));
+            findings.expect_same(equal, number == other, "two keys, two hashes");
+        }
+    }
+    findings.verdict()
+}
+
+/// Checks the `Debug` text of a value.
+fn check_text<T: Debug>(findings: &Findings, value: &T, text: &str) {
+    let found = InlineText::<80>::of(format_args!("{value:?}"));
+    findings.expect_same(found.as_str(), text, "the text");
+}
+
+/// Inserts values at the keys 0 and 2 of an empty map with three keys.
+fn insert_two<S: Table<u64>, L: Table<Link>>(map: &mut MetaSlotMap<u64, S, L>) {
+    let _ = map.insert_at(SlotMapKey::new(2), 7);
+    let _ = map.insert(5);
+}
+
+#[test]
+fn texts(rt: HostRuntime) -> Result<(), Fail> {
+    let findings = Findings::new();
+    let mut fixed = FixedSizeSlotMap::<u64, 3>::new();
+    check_text(&findings, &fixed, "{}");
+    insert_two(&mut fixed);
+    check_text(&findings, &fixed, "{0: 5, 2: 7}");
+    match SlotMap::<u64>::new(rt.alloc(), 3) {
+        Ok(mut map) => {
+            check_text(&findings, &map, "{}");
+            insert_two(&mut map);
+            check_text(&findings, &map, "{0: 5, 2: 7}");
+        }
+        Err(AllocError) => findings.miss("there is memory"),
+    }
+    let mut walk = fixed.iter();
+    check_text(&findings, &walk, "[(0, 5), (2, 7)]");
+    findings.expect(walk.next().is_some(), "the first item");
+    check_text(&findings, &walk, "[(2, 7)]");
+    check_text(&findings, &SlotMapKey::new(7), "SlotMapKey { number: 7 }");
     findings.verdict()
 }
 
@@ -41,7 +110,7 @@ fn two_steps(rt: HostRuntime) -> Result<(), Fail> {
     let findings = Findings::new();
     let uninit = InitError::new(RelocatableSlotMap::<char, Global>::new_uninit(2)).into_uninit();
     let made = uninit.init(rt.alloc());
-    check_made(&findings, made, EVERY_CALL, "by the ready kind");
+    check_made(&findings, made, EVERY_CALL, "by the type of the ready map");
     let uninit = <UninitSlotMap<char> as RelocatableContainer<Global>>::new_uninit(2);
     let made = uninit.init(rt.alloc());
     check_made(&findings, made, EVERY_CALL, "by the trait");
@@ -74,7 +143,7 @@ fn counted_calls() -> Result<(), Fail> {
     findings.verdict()
 }
 
-/// Each key and its value below 10, as two digits.
+/// Returns each key and its value, both less than 10, as two digits.
 fn digits_of<S: Table<u64>, L: Table<Link>>(map: &MetaSlotMap<u64, S, L>) -> u64 {
     let mut digits = 0u64;
     for (key, value) in map.iter() {
@@ -103,23 +172,27 @@ fn walks_end() -> Result<(), Fail> {
     let mut map = FixedSizeSlotMap::<u64, 2>::new();
     let _ = map.insert_at(SlotMapKey::new(1), 5);
     let mut walk = map.iter();
-    let is_told = walk.next() == Some((SlotMapKey::new(1), &5));
-    findings.expect(is_told, "the only value");
+    let is_first = walk.next() == Some((SlotMapKey::new(1), &5));
+    findings.expect(is_first, "the only value");
     findings.expect(walk.next().is_none(), "the end");
     findings.verdict()
 }
 
 #[test]
-fn counted_tables() -> Result<(), Fail> {
+fn functions_of_a_user() -> Result<(), Fail> {
     let findings = Findings::new();
-    findings.expect_same(size_of::<Touches>(), 0, "counted tables");
-    let mut touches = Touches::new();
-    let mut table = Counted::new(InlineTable::<u64, 3>::new());
-    findings.expect_same(table.len(), 3, "counted tables");
-    table.put(2, 5, &mut touches);
-    findings.expect_same(*table.get(2, &mut touches), 5, "counted tables");
-    *table.get_mut(2, &mut touches) = 6;
-    findings.expect_same(table.take(2, &mut touches), 6, "counted tables");
-    table.end();
+    let mut map = FixedSizeSlotMap::<u64, 2>::new();
+    findings.expect_same(insert_and_get(&mut map, 5), Some(5), "insert and get");
+    findings.expect(insert_at_next(&mut map, 6), "insert at the next free key");
+    findings.expect_same(map.get(SlotMapKey::new(1)).copied(), Some(6), "the value");
+    findings.expect_same(insert_and_get(&mut map, 7), None, "a full map");
+    findings.expect(!insert_at_next(&mut map, 7), "a full map");
+    findings.verdict()
+}
+
+#[test]
+fn counters_have_no_bytes() -> Result<(), Fail> {
+    let findings = Findings::new();
+    findings.expect_same(size_of::<Touches>(), 0, "the size of a counter");
     findings.verdict()
 }

@@ -1,5 +1,6 @@
-//! Tests of slot maps beside their contracts: worked examples at each kind and in each memory, every function once, how
-//! often tables are touched, when values are dropped, refusals of memory, and random walks beside a plain slow map.
+//! Tests of slot maps beside their contracts: worked examples on each kind of map and in each memory, each function once,
+//! how often tables are called, when values are dropped, too little memory, and random calls beside a plain slow map. And
+//! functions over any slot map, as a user would write them.
 #![tactic(auto)]
 
 #[cfg(test)]
@@ -10,6 +11,8 @@ mod counting_tests;
 mod drop_tests;
 #[cfg(test)]
 mod function_tests;
+#[cfg(test)]
+mod inserting;
 #[cfg(test)]
 mod memory_tests;
 #[cfg(test)]

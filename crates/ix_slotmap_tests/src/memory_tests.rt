@@ -1,4 +1,4 @@
-//! Maps whose memory is refused, at the first request and at the second: nothing stays taken.
+//! Maps for which there is not enough memory, at the first allocation or at the second: nothing stays allocated.
 use ix_cells::{HeapTable, InitError, RelocatableContainer, Table};
 use ix_expect::Findings;
 use ix_maps::{Link, MetaSlotMap, SlotMap, UninitSlotMap};
@@ -6,7 +6,7 @@ use linked_list_allocator::LocalHeap;
 use std::alloc::{AllocError, Global};
 use std::test::Fail;
 
-/// Whether the heap has memory for the values of two keys.
+/// Returns `true` if the heap has memory for the values of two keys.
 fn has_first(heap: &LocalHeap) -> bool {
     match HeapTable::<u64, &LocalHeap>::new(heap, 2) {
         Ok(table) => {
@@ -17,7 +17,8 @@ fn has_first(heap: &LocalHeap) -> bool {
     }
 }
 
-/// The heap had memory for an empty map with `capacity` keys if `found`, and `used` of it were used before.
+/// Checks a making of a map with `capacity` keys, which succeeds if `found`. Before it `used` bytes of the heap were in
+/// use.
 fn check_made<S: Table<u64>, L: Table<Link>, E: Drop>(
     findings: &Findings,
     heap: &LocalHeap,
@@ -27,16 +28,16 @@ fn check_made<S: Table<u64>, L: Table<Link>, E: Drop>(
 ) {
     match made {
         Ok(map) => {
-            findings.expect(found, "memory is refused");
+            findings.expect(found, "the making succeeds");
             let sizes = (map.capacity(), map.len(), map.is_full());
             findings.expect_same(sizes, (capacity, 0, capacity == 0), "in the heap");
         }
-        Err(_) => findings.expect(!found, "memory is found"),
+        Err(_) => findings.expect(!found, "the making fails"),
     }
-    findings.expect_same(heap.used(), used, "nothing stays taken");
+    findings.expect_same(heap.used(), used, "bytes in use after it");
 }
 
-/// A refusal hands back what finds memory in `ample` then.
+/// Checks that a refused value can be initialised from `ample`.
 fn check_again(findings: &Findings, refused: Option<InitError<UninitSlotMap<u64>>>, ample: Global) {
     if let Some(error) = refused {
         match error.into_uninit().init(ample) {
@@ -44,12 +45,12 @@ fn check_again(findings: &Findings, refused: Option<InitError<UninitSlotMap<u64>
                 let sizes = (map.capacity(), map.len());
                 findings.expect_same(sizes, (2, 0), "in ample memory");
             }
-            Err(_) => findings.miss("there is memory now"),
+            Err(_) => findings.miss("from ample memory"),
         }
     }
 }
 
-/// The heap has memory for a map with two keys if `found`. `ample` finds memory.
+/// Checks makings of maps with two keys, which succeed if `found`. `ample` has enough memory.
 fn check_heap(findings: &Findings, heap: &LocalHeap, ample: Global, found: bool) {
     let used = heap.used();
     check_made(findings, heap, used, SlotMap::new(heap, 2), (2, found));
@@ -57,20 +58,21 @@ fn check_heap(findings: &Findings, heap: &LocalHeap, ample: Global, found: bool)
     check_made(findings, heap, used, made, (2, found));
     let refused = UninitSlotMap::new_uninit(2).init(heap).err();
     findings.expect_same(refused.is_none(), found, "in two steps");
-    findings.expect_same(heap.used(), used, "nothing stays taken by a refusal");
+    findings.expect_same(heap.used(), used, "bytes in use after a refusal");
     check_again(findings, refused, ample);
     check_made(findings, heap, used, SlotMap::new(heap, 0), (0, true));
 }
 
-/// A block of the heap is taken. It has memory for the first request of a map if `first`, and for both if `both`.
+/// Allocates a block of the heap, and checks makings of maps. The first allocation of a map succeeds if `first`, both
+/// if `both`.
 fn check_blocks(findings: &Findings, heap: &LocalHeap, ample: Global, (first, both): (bool, bool)) {
     let held = Box::new(heap, 0u64);
     findings.expect(held.is_ok(), "a block");
-    findings.expect_same(has_first(heap), first, "the first request");
+    findings.expect_same(has_first(heap), first, "the first allocation");
     check_heap(findings, heap, ample, both);
 }
 
-/// How many blocks a heap has, and whether it finds memory for the first request, and for both.
+/// The number of blocks of a heap, and whether the first allocation succeeds, and both.
 const BLOCKS: &[(usize, bool, bool)] = &[(2, false, false), (3, true, false), (8, true, true)];
 
 #[test]
@@ -95,7 +97,7 @@ fn past_all_memory(rt: HostRuntime) -> Result<(), Fail> {
             Ok(_map) => findings.miss("`init` refuses"),
             Err(error) => {
                 let again = error.into_uninit().init(rt.alloc());
-                findings.expect(again.is_err(), "the capacity came back");
+                findings.expect(again.is_err(), "the capacity is kept");
             }
         }
     }

@@ -1,8 +1,8 @@
-//! The worked examples at each kind and in each memory.
+//! The worked examples on each kind of map and in each memory.
 use crate::calls::{Line, check_calls, check_made};
 use crate::rows::{
-    BY_ITS_NAME, EVERY_CALL, FIRST_KEY_TAKEN, KEYS_BEHIND_THE_FIRST, KEYS_PAST_THE_END,
-    MIDDLE_KEY_TAKEN, NO_KEY, REMOVED_COMES_FIRST, SIZE_ZERO, VALUE_REPLACED,
+    EVERY_CALL, FIRST_KEY_INSERTED, KEYS_AFTER_THE_FIRST, KEYS_OUT_OF_RANGE, MIDDLE_KEY_INSERTED,
+    NO_KEY, REMOVED_KEY_IS_FIRST, REMOVED_KEY_IS_NEXT, SIZE_ZERO, VALUE_REPLACED,
 };
 use bumpalo::Bump;
 use ix_cells::RelocatableContainer;
@@ -14,15 +14,15 @@ use std::fmt::Debug;
 use std::test::Fail;
 
 /// Examples on a map with two keys.
-const OF_TWO: &[&[Line<char>]] = &[KEYS_PAST_THE_END, EVERY_CALL];
+const OF_TWO: &[&[Line<char>]] = &[KEYS_OUT_OF_RANGE, EVERY_CALL];
 
 /// Examples on a map with three keys.
 const OF_THREE: &[&[Line<char>]] = &[
-    REMOVED_COMES_FIRST,
-    FIRST_KEY_TAKEN,
+    REMOVED_KEY_IS_FIRST,
+    FIRST_KEY_INSERTED,
     VALUE_REPLACED,
-    KEYS_BEHIND_THE_FIRST,
-    BY_ITS_NAME,
+    KEYS_AFTER_THE_FIRST,
+    REMOVED_KEY_IS_NEXT,
 ];
 
 #[test]
@@ -45,7 +45,7 @@ fn in_the_value_itself() -> Result<(), Fail> {
         );
     }
     let four = FixedSizeSlotMap::<char, 4>::new();
-    check_calls(&findings, four, MIDDLE_KEY_TAKEN, "of four");
+    check_calls(&findings, four, MIDDLE_KEY_INSERTED, "of four");
     let none = FixedSizeSlotMap::<char, 0>::new();
     check_calls(&findings, none, NO_KEY, "of none");
     let units = FixedSizeSlotMap::<(), 3>::new();
@@ -53,7 +53,7 @@ fn in_the_value_itself() -> Result<(), Fail> {
     findings.verdict()
 }
 
-/// The example on a map with `capacity` keys of each kind in memory of `alloc`.
+/// Checks the example on a map of each kind with `capacity` keys, allocated from `alloc`.
 fn check_example<T: Copy + PartialEq + Debug, A: Allocator + Copy>(
     findings: &Findings,
     alloc: A,
@@ -67,6 +67,7 @@ fn check_example<T: Copy + PartialEq + Debug, A: Allocator + Copy>(
     check_made(findings, relocatable, lines, memory);
 }
 
+/// Checks each example on a map of each kind, allocated from `alloc`.
 fn check_examples<A: Allocator + Copy>(findings: &Findings, alloc: A, memory: &str) {
     for lines in OF_THREE {
         check_example(findings, alloc, 3, lines, memory);
@@ -74,15 +75,15 @@ fn check_examples<A: Allocator + Copy>(findings: &Findings, alloc: A, memory: &s
     for lines in OF_TWO {
         check_example(findings, alloc, 2, lines, memory);
     }
-    check_example(findings, alloc, 4, MIDDLE_KEY_TAKEN, memory);
+    check_example(findings, alloc, 4, MIDDLE_KEY_INSERTED, memory);
     check_example(findings, alloc, 0, NO_KEY, memory);
     check_example(findings, alloc, 3, SIZE_ZERO, memory);
 }
 
-/// As above. All of the memory comes back.
+/// Does what `check_examples` does. All of the memory is deallocated.
 fn check_heap(findings: &Findings, heap: &LocalHeap) {
     check_examples(findings, heap, "a heap");
-    findings.expect_same(heap.used(), 0, "the heap has all of its memory back");
+    findings.expect_same(heap.used(), 0, "bytes of the heap in use");
 }
 
 #[test]

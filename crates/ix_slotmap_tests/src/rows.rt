@@ -1,12 +1,12 @@
-//! Worked examples: calls on an empty map, and what they answer.
-use crate::calls::Answer::{Bool, Key, Number, Value};
+//! Worked examples: calls on an empty map, and their results.
 use crate::calls::Call::{
     Capacity, Contains, Get, Insert, InsertAt, IsEmpty, IsFull, Len, NextFreeKey, Remove, Write,
 };
 use crate::calls::Line;
+use crate::calls::Outcome::{Bool, Key, Number, Value};
 
 /// On a map with three keys.
-pub const REMOVED_COMES_FIRST: &[Line<char>] = &[
+pub const REMOVED_KEY_IS_FIRST: &[Line<char>] = &[
     (Insert('a'), Key(Some(0))),
     (Insert('b'), Key(Some(1))),
     (Remove(0), Value(Some('a'))),
@@ -17,7 +17,7 @@ pub const REMOVED_COMES_FIRST: &[Line<char>] = &[
 ];
 
 /// On a map with three keys.
-pub const FIRST_KEY_TAKEN: &[Line<char>] = &[
+pub const FIRST_KEY_INSERTED: &[Line<char>] = &[
     (InsertAt(0, 'a'), Bool(true)),
     (NextFreeKey, Key(Some(1))),
     (Insert('b'), Key(Some(1))),
@@ -25,7 +25,7 @@ pub const FIRST_KEY_TAKEN: &[Line<char>] = &[
 ];
 
 /// On a map with four keys.
-pub const MIDDLE_KEY_TAKEN: &[Line<char>] = &[
+pub const MIDDLE_KEY_INSERTED: &[Line<char>] = &[
     (InsertAt(2, 'x'), Bool(true)),
     (Insert('a'), Key(Some(0))),
     (Insert('b'), Key(Some(1))),
@@ -45,7 +45,7 @@ pub const VALUE_REPLACED: &[Line<char>] = &[
 ];
 
 /// On a map with three keys.
-pub const KEYS_BEHIND_THE_FIRST: &[Line<char>] = &[
+pub const KEYS_AFTER_THE_FIRST: &[Line<char>] = &[
     (Insert('a'), Key(Some(0))),
     (Insert('b'), Key(Some(1))),
     (Remove(0), Value(Some('a'))),
@@ -73,7 +73,7 @@ pub const NO_KEY: &[Line<char>] = &[
 const GREATEST: usize = 18_446_744_073_709_551_615;
 
 /// On a map with two keys.
-pub const KEYS_PAST_THE_END: &[Line<char>] = &[
+pub const KEYS_OUT_OF_RANGE: &[Line<char>] = &[
     (Contains(2), Bool(false)),
     (Get(2), Value(None)),
     (Write(2, 'x'), Value(None)),
@@ -127,7 +127,7 @@ pub const SIZE_ZERO: &[Line<()>] = &[
 ];
 
 /// On a map with three keys.
-pub const BY_ITS_NAME: &[Line<char>] = &[
+pub const REMOVED_KEY_IS_NEXT: &[Line<char>] = &[
     (Insert('a'), Key(Some(0))),
     (InsertAt(2, 'b'), Bool(true)),
     (Remove(0), Value(Some('a'))),

@@ -1,4 +1,5 @@
-//! Random walks of slot maps beside the plain slow map: every answer, and from time to time the whole content.
+//! Random calls of slot maps and of the plain slow map: every result, and from time to time the whole content. Maps in
+//! memory have each capacity from 0 to 40, fixed ones 0, 1, 2, 7 and 40.
 ghost use Rattle.std.specs.Prelude.{◌≤◌};
 
 use crate::slow_map::SlowMap;
@@ -8,7 +9,7 @@ use ix_maps::{FixedSizeSlotMap, Link, MetaSlotMap, SlotMap, SlotMapKey, UninitSl
 use std::alloc::{AllocError, Global};
 use std::test::Fail;
 
-/// How many calls a walk makes on one map.
+/// The number of calls that a walk makes on one map.
 const CALLS: u64 = 1000;
 
 /// Numbers that look random: each follows from the one before.
@@ -18,7 +19,7 @@ struct Numbers {
 }
 
 impl Numbers {
-    /// The next number, which is below 65,536.
+    /// Returns the next number, which is less than 65,536.
     fn next(&mut self) -> usize {
         let product = self.last.wrapping_mul(6_364_136_223_846_793_005);
         self.last = product.wrapping_add(1_442_695_040_888_963_407);
@@ -26,13 +27,13 @@ impl Numbers {
     }
 }
 
-/// The key that `number` tells: one of the map's, the least out of range, or the greatest number.
+/// Returns a key by `number`: one in range, the least out of range, or the greatest number.
 fn key_of(number: usize, capacity: usize) -> usize {
     let key = number % capacity.saturating_add(2);
     if key > capacity { usize::MAX } else { key }
 }
 
-/// Makes one call on both, and compares the answers.
+/// Makes one call on both maps and compares the results.
 fn check_call<S: Table<u64>, L: Table<Link>>(
     findings: &Findings,
     map: &mut MetaSlotMap<u64, S, L>,
@@ -43,21 +44,21 @@ fn check_call<S: Table<u64>, L: Table<Link>>(
     let slot = SlotMapKey::new(key);
     match kind % 5 {
         0 | 1 => {
-            let answer = slow.insert(value).map(SlotMapKey::new);
-            findings.expect_same(map.insert(value), answer, "insert");
+            let outcome = slow.insert(value).map(SlotMapKey::new);
+            findings.expect_same(map.insert(value), outcome, "insert");
         }
         2 => {
-            let answer = slow.insert_at(key, value);
-            findings.expect_same(map.insert_at(slot, value), answer, "insert at");
+            let outcome = slow.insert_at(key, value);
+            findings.expect_same(map.insert_at(slot, value), outcome, "insert at");
         }
         _ => {
-            let answer = slow.remove(key);
-            findings.expect_same(Ok(map.remove(slot)), answer, "remove");
+            let outcome = slow.remove(key);
+            findings.expect_same(Ok(map.remove(slot)), outcome, "remove");
         }
     }
 }
 
-/// Compares what both tell of their keys.
+/// Compares what both maps return for a key, and their first free keys.
 fn check_reads<S: Table<u64>, L: Table<Link>>(
     findings: &Findings,
     map: &MetaSlotMap<u64, S, L>,
@@ -70,10 +71,10 @@ fn check_reads<S: Table<u64>, L: Table<Link>>(
     findings.expect_same(found, (first, first.is_none()), "the free keys");
     let held = slow.get(key);
     let found = (map.contains(slot), map.get(slot).copied());
-    findings.expect_same(found, (held.is_some(), held), "the value under a key");
+    findings.expect_same(found, (held.is_some(), held), "the value at a key");
 }
 
-/// Compares all that both hold.
+/// Compares the entries of both maps.
 fn check_content<S: Table<u64>, L: Table<Link>>(
     findings: &Findings,
     map: &MetaSlotMap<u64, S, L>,
@@ -88,10 +89,10 @@ fn check_content<S: Table<u64>, L: Table<Link>>(
         count = count.wrapping_add(1);
     }
     let len = slow.len();
-    findings.expect_same((map.len(), count), (len, len), "every held key was there");
+    findings.expect_same((map.len(), count), (len, len), "the number of entries");
 }
 
-/// Walks both maps, which are empty.
+/// Makes random calls on both maps, which are empty.
 fn walk_both<S: Table<u64>, L: Table<Link>>(
     findings: &Findings,
     map: &mut MetaSlotMap<u64, S, L>,
@@ -111,7 +112,7 @@ fn walk_both<S: Table<u64>, L: Table<Link>>(
     }
 }
 
-/// Walks a map, which is empty and for which there was memory.
+/// Makes random calls on an empty map, whose making did not fail, and on a slow one.
 fn walk<S: Table<u64>, L: Table<Link>, E: Drop>(
     findings: &Findings,
     alloc: Global,
@@ -125,6 +126,7 @@ fn walk<S: Table<u64>, L: Table<Link>, E: Drop>(
     findings.miss("there is memory");
 }
 
+/// Makes random calls on a fixed map.
 fn walk_fixed<const CAPACITY: usize>(findings: &Findings, alloc: Global)
     requires { CAPACITY ≤ 40 }
 {

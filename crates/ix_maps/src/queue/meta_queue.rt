@@ -232,8 +232,8 @@ impl<T, S: Table<T>> MetaQueue<T, S> {
     /// ```
     #[inline]
     pub fn peek_mut(&mut self) -> Option<&mut T>
-        ensures* writes_back { sem 𝓛 (LendsIf (the_row T.row S.row S.Table) T.row self.entry result
-            (queue_set_front self.old) self.old) }
+        ensures* writes_back { sem 𝓛 (LendsIf (the_row T.row S.row S.Table)
+            T.row self.entry result (queue_set_front self.old) self.old) }
         ensures value { option_copied_mut result ≡ queue_front self.old }
         ensures empty { IsNone result ↔ (self.old.items ≡ []) }
     {
@@ -280,8 +280,8 @@ impl<T, S: Table<T>> MetaQueue<T, S> {
     #[inline]
     fn front_mut(&mut self) -> &mut T
         requires { 0 < length self.old.items }
-        ensures* writes_back { sem 𝓛 (Lends (the_row T.row S.row S.Table) T.row self.entry result
-            (queue_set_front self.old)) }
+        ensures* writes_back { sem 𝓛 (Lends (the_row T.row S.row S.Table)
+            T.row self.entry result (queue_set_front self.old)) }
         ensures value { queue_front self.old ≡ Some result.now }
     {
         self.table.get_mut(self.start)

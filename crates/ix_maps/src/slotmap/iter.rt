@@ -5,6 +5,7 @@ ghost use Rattle.ix_maps.specs.SlotState.{entries};
 
 use crate::slotmap::{Link, MetaSlotMap, SlotMapKey};
 use ix_cells::Table;
+use std::fmt::{self, Debug, Formatter, Write};
 use std::marker::Model;
 
 /// An iterator over the held keys of a slot map in rising order, each with its value, as [`MetaSlotMap::iter`] returns
@@ -72,5 +73,21 @@ impl<'a, T, S: Table<T>, L: Table<Link>> Iterator for Iter<'a, T, S, L> {
         self.key = key + 1;
         self.left -= 1;
         Some((SlotMapKey::new(key), self.map.held_value(key)))
+    }
+}
+
+/// Prints a list of the items that are still to come, each the number of its key and its value. O(capacity).
+impl<'a, T: Debug, S: Table<T>, L: Table<Link>> Debug for Iter<'a, T, S, L> {
+    fn fmt<W: Write>(&self, f: &mut Formatter<W>) -> fmt::Result {
+        let rest = Iter {
+            map: self.map,
+            key: self.key,
+            left: self.left,
+        };
+        let mut list = f.debug_list();
+        for (key, value) in rest {
+            list.entry(&(key.value(), value));
+        }
+        list.finish()
     }
 }

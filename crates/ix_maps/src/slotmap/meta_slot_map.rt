@@ -68,6 +68,13 @@ impl<T, S: Table<T>, L: Table<Link>> MetaSlotMap<T, S, L> {
     /// Returns an empty map over two tables of the same length, which is the capacity. O(capacity).
     ///
     /// Every place of both tables is empty. A table of any kind will do, one of your own too.
+    ///
+    /// ```text
+    /// let values = InlineTable::<char, 2>::new();
+    /// let links = InlineTable::<Link, 2>::new();
+    /// let mut map = MetaSlotMap::from_tables(values, links);
+    /// map.capacity();                       // 2
+    /// ```
     pub fn from_tables(values: S, links: L) -> Self
         requires values { IsVacant (S.places values) }
         requires links { L.places links ≡ replicate (length (S.places values)) None }
@@ -160,8 +167,8 @@ impl<T, S: Table<T>, L: Table<Link>> MetaSlotMap<T, S, L> {
     /// Returns a mutable reference to the value at `key`, or `None` if `key` is free or out of range.
     #[inline]
     pub fn get_mut(&mut self, key: SlotMapKey) -> Option<&mut T>
-        ensures* writes_back { sem 𝓛 (LendsIf (the_row T.row S.row L.row S.Table L.Table) T.row self.entry result
-            (slot_set self.old key) self.old) }
+        ensures* writes_back { sem 𝓛 (LendsIf (the_row T.row S.row L.row S.Table L.Table)
+            T.row self.entry result (slot_set self.old key) self.old) }
         ensures value { option_copied_mut result ≡ value_at self.old key }
     {
         if self.contains(key) {
@@ -312,8 +319,8 @@ impl<T, S: Table<T>, L: Table<Link>> MetaSlotMap<T, S, L> {
     #[inline]
     fn value_mut(&mut self, key: usize) -> &mut T
         requires { IsHeld self.old key }
-        ensures* writes_back { sem 𝓛 (Lends (the_row T.row S.row L.row S.Table L.Table) T.row self.entry result
-            (slot_set self.old key)) }
+        ensures* writes_back { sem 𝓛 (Lends (the_row T.row S.row L.row S.Table L.Table)
+            T.row self.entry result (slot_set self.old key)) }
         ensures value { value_at self.old key ≡ Some result.now }
     {
         self.values.get_mut(key, &mut Touches::new())

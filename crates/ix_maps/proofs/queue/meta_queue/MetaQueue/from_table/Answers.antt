@@ -1,8 +1,8 @@
-use Rattle.ix_maps.proofs.Rings.{ring_empty}
+use Rattle.ix_maps.proofs.Rings.{Shows-bounded_new}
 use Rattle.ix_maps.proofs.queue.meta_queue.MetaQueue.from_table.Goals as goal
 
 pub invariant_of-result : goal.invariant_of-result
-invariant_of-result g c = (ring_empty _ _ c.requires).sound
+invariant_of-result g c = (Shows-bounded_new _ _ c.requires).sound
 
 pub returns : goal.returns
-returns g c = (ring_empty _ _ c.requires).is
+returns g c = (Shows-bounded_new _ _ c.requires).is

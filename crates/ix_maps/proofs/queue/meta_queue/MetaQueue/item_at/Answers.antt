@@ -1,11 +1,11 @@
 use Rattle.std.proofs.Common.{sym, ◌∙◌}
-use Rattle.ix_maps.proofs.Rings.{ring_held, ring_read}
+use Rattle.ix_maps.proofs.Rings.{IsHeldAt-item, place_at-item}
 use Rattle.ix_maps.proofs.queue.meta_queue.MetaQueue.item_at.Goals as goal
 
 pub get-requires : goal.get-requires
 get-requires g c =
-    ring_held _ _ _ _ c.args.index _ _ (record { sound = c.self.invariant; is = c.self.view_is }) c.requires c.len.ensures c.place_after.ensures
+    IsHeldAt-item _ _ _ _ c.args.index _ _ (record { sound = c.self.invariant; is = c.self.view_is }) c.requires c.len.ensures c.place_after.ensures
 
 pub returns : goal.returns
 returns g c =
-    sym (ring_read _ _ _ _ c.args.index _ _ (record { sound = c.self.invariant; is = c.self.view_is }) c.requires c.len.ensures c.place_after.ensures) ∙ c.get.ensures
+    sym (place_at-item _ _ _ _ c.args.index _ _ (record { sound = c.self.invariant; is = c.self.view_is }) c.requires c.len.ensures c.place_after.ensures) ∙ c.get.ensures

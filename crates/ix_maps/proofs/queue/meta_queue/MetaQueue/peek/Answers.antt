@@ -1,5 +1,5 @@
-use Rattle.ix_maps.proofs.Rings.{ring_first}
+use Rattle.ix_maps.proofs.Rings.{IsHeldAt-front}
 use Rattle.ix_maps.proofs.queue.meta_queue.MetaQueue.peek.Goals as goal
 
 pub get-requires : goal.get-requires
-get-requires g c = ring_first _ _ _ _ (record { sound = c.self.invariant; is = c.self.view_is }) c.if-self-eq0.false
+get-requires g c = IsHeldAt-front _ _ _ _ (record { sound = c.self.invariant; is = c.self.view_is }) c.if-self-eq0.false

@@ -1,12 +1,12 @@
 use Rattle.std.proofs.Common.{sym}
 use Rattle.std.proofs.lemmas.Bool.{not-true, not-false}
-use Rattle.ix_maps.proofs.Pairs.{pair_equal, pair_other}
+use Rattle.ix_maps.proofs.Pairs.{pointwise-next, pointwise-false}
 use Rattle.ix_maps.proofs.queue.meta_queue.MetaQueuePartialEq.eq.Goals as goal
 
 pub returns-then-ne : goal.returns-then-ne
 returns-then-ne g c =
-    pair_other g.T.PartialEq.eq _ _ c.loop-i.i _ _ c.item_at.ensures c.item_at-in-loop-i.ensures (not-true _ (sym c.if-ne.ensures)) c.loop-i.invariant
+    pointwise-false g.T.PartialEq.eq _ _ c.loop-i.i _ _ c.item_at.ensures c.item_at-in-loop-i.ensures (not-true _ (sym c.if-ne.ensures)) c.loop-i.invariant
 
 pub loop-i-preserved : goal.loop-i-preserved
 loop-i-preserved g c =
-    pair_equal g.T.PartialEq.eq _ _ c.loop-i.i _ _ c.item_at.ensures c.item_at-in-loop-i.ensures (not-false _ (sym c.if-ne.ensures)) c.loop-i.invariant
+    pointwise-next g.T.PartialEq.eq _ _ c.loop-i.i _ _ c.item_at.ensures c.item_at-in-loop-i.ensures (not-false _ (sym c.if-ne.ensures)) c.loop-i.invariant

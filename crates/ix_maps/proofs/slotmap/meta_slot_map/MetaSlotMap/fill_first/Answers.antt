@@ -1,13 +1,13 @@
-use Rattle.ix_maps.proofs.SlotMaps.{links_of, key_of}
+use Rattle.ix_maps.proofs.SlotMaps.{IsLinkTable-shown, key_within}
 use Rattle.ix_maps.proofs.SlotSteps.{first_is_free, next_within, Shows-slot_insert}
 use Rattle.ix_maps.proofs.slotmap.meta_slot_map.MetaSlotMap.fill_first.Goals as goal
 
 pub remove_first-requires-clause-links : goal.remove_first-requires-clause-links
-remove_first-requires-clause-links g c = links_of _ _ _ _ _ (record { sound = c.self.invariant; is = c.self.view_is })
+remove_first-requires-clause-links g c = IsLinkTable-shown _ _ _ _ _ (record { sound = c.self.invariant; is = c.self.view_is })
 
 pub remove_first-requires-clause-key : goal.remove_first-requires-clause-key
 remove_first-requires-clause-key g c =
-    key_of _ _ _ _ _ _ (record { sound = c.self.invariant; is = c.self.view_is }) (first_is_free _ _ _ _ _ c.args.value (record { sound = c.self.invariant; is = c.self.view_is }) c.requires)
+    key_within _ _ _ _ _ _ (record { sound = c.self.invariant; is = c.self.view_is }) (first_is_free _ _ _ _ _ c.args.value (record { sound = c.self.invariant; is = c.self.view_is }) c.requires)
 
 pub remove_first-requires-clause-next : goal.remove_first-requires-clause-next
 remove_first-requires-clause-next g c =

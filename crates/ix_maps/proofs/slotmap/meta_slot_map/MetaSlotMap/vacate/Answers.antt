@@ -1,13 +1,13 @@
 use Rattle.std.proofs.Common.{refl}
-use Rattle.ix_maps.proofs.SlotMaps.{links_of, first_of_links}
+use Rattle.ix_maps.proofs.SlotMaps.{IsLinkTable-shown, IsKeyOrNone-shown_first}
 use Rattle.ix_maps.proofs.SlotSteps.{Shows-slot_vacate}
 use Rattle.ix_maps.proofs.slotmap.meta_slot_map.MetaSlotMap.vacate.Goals as goal
 
 pub insert_first-requires-clause-links : goal.insert_first-requires-clause-links
-insert_first-requires-clause-links g c = links_of _ _ _ _ _ (record { sound = c.self.invariant; is = c.self.view_is })
+insert_first-requires-clause-links g c = IsLinkTable-shown _ _ _ _ _ (record { sound = c.self.invariant; is = c.self.view_is })
 
 pub insert_first-requires-clause-first : goal.insert_first-requires-clause-first
-insert_first-requires-clause-first g c = first_of_links _ _ _ _ _ (record { sound = c.self.invariant; is = c.self.view_is })
+insert_first-requires-clause-first g c = IsKeyOrNone-shown_first _ _ _ _ _ (record { sound = c.self.invariant; is = c.self.view_is })
 
 pub invariant_of-self : goal.invariant_of-self
 invariant_of-self g c =
