@@ -1,4 +1,6 @@
 //! The string in memory of an allocator.
+//!
+//! The impls of comparisons, hashes and printed texts do not call the trait `String`, whose laws cite them.
 ghost use Rattle.std.specs.Prelude.{◌≡◌, ◌==◌, ℕ, List, ◌∷◌, [], refl, Some};
 ghost use Rattle.std.specs.Cmp.Lexicographic.{pointwise, slice_cmp};
 ghost use Rattle.std.specs.Cmp.Rules.{comparing, hashing};

@@ -1,4 +1,6 @@
 //! Conversions into fixed strings, and how these are compared, hashed and printed.
+//!
+//! None of these impls calls the trait `String`, whose laws cite them.
 ghost use Rattle.std.specs.Prelude.{◌≡◌, ◌==◌, ◌∷◌, [], Some};
 ghost use Rattle.std.specs.Cmp.{partial_order_from_own_ties};
 ghost use Rattle.std.specs.Cmp.Lexicographic.{pointwise, slice_cmp};
