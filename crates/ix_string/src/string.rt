@@ -10,6 +10,7 @@
 mod escape;
 mod gaps;
 mod heap_string;
+mod heap_string_kind;
 mod modification_error;
 mod nul;
 mod polymorphic_string;
@@ -22,11 +23,12 @@ mod uninit_string;
 mod vector_text;
 
 pub use escape::as_escaped_string;
-pub use heap_string::{HeapString, HeapStringKind};
+pub use heap_string::HeapString;
+pub use heap_string_kind::{HeapStringKind, Polymorphic, Relocatable};
 pub use modification_error::StringModificationError;
 pub use nul::strnlen;
-pub use polymorphic_string::{Polymorphic, PolymorphicString};
-pub use relocatable_string::{Relocatable, RelocatableString};
+pub use polymorphic_string::PolymorphicString;
+pub use relocatable_string::RelocatableString;
 pub use static_string::StaticString;
 pub use string_trait::String;
 pub use uninit_string::{StringFamily, UninitString};

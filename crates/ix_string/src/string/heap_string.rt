@@ -1,7 +1,7 @@
 //! The string in memory of an allocator.
 //!
 //! The impls of comparisons, hashes and printed texts do not call the trait `String`, whose laws cite them.
-ghost use Rattle.std.specs.Prelude.{◌≡◌, ◌==◌, ℕ, List, ◌∷◌, [], refl, Some};
+ghost use Rattle.std.specs.Prelude.{◌≡◌, ◌==◌, ◌∷◌, [], refl, Some};
 ghost use Rattle.std.specs.Cmp.Lexicographic.{pointwise, slice_cmp};
 ghost use Rattle.std.specs.Cmp.Rules.{comparing, hashing};
 ghost use Rattle.std.specs.Cmp.{partial_order_from_own_ties};
@@ -13,6 +13,7 @@ ghost use Rattle.ix_string.specs.Escape.{escaped_text};
 
 use crate::string::String;
 use crate::string::escape::Escaped;
+use crate::string::heap_string_kind::HeapStringKind;
 use crate::string::vector_text::{insert_into, remove_from, retain_in};
 use ix_cells::{PolymorphicVec, Vector};
 use std::alloc::{Allocator, Global};
@@ -20,16 +21,6 @@ use std::cmp::Ordering;
 use std::fmt;
 use std::hash::{Hash, Hasher};
 use std::marker::{Model, PhantomData};
-
-/// The kind of a [`HeapString`], whose name its `Debug` text begins with.
-pub trait HeapStringKind {
-    /// The name of the kind's type.
-    ghost text: { List ℕ };
-
-    /// Returns the name of the kind's type.
-    fn name() -> &'static str
-        ensures { result.now ≡ text };
-}
 
 /// A string in memory of the allocator `A`. It is allocated once, when the string is made, and deallocated when the
 /// string is dropped. Contracts see the string as a bounded list.

@@ -1,24 +1,12 @@
 //! The string that is made in one step.
-ghost use Rattle.std.specs.Prelude.{◌≡◌, IsOk, IfOk, codes};
+ghost use Rattle.std.specs.Prelude.{◌≡◌, IsOk, IfOk};
 ghost use Rattle.ix_cells.specs.Bounded.{bounded_new};
 
-use crate::string::heap_string::{HeapString, HeapStringKind};
+use crate::string::heap_string::HeapString;
+use crate::string::heap_string_kind::Polymorphic;
 use ix_cells::PolymorphicVec;
 use std::alloc::{AllocError, Allocator, Global};
 use std::marker::PhantomData;
-
-/// The kind of [`PolymorphicString`].
-#[derive(Drop)]
-pub struct Polymorphic;
-
-impl HeapStringKind for Polymorphic {
-    ghost text = { codes "PolymorphicString" };
-
-    #[inline]
-    fn name() -> &'static str {
-        "PolymorphicString"
-    }
-}
 
 /// A string in memory of the allocator `A`, which is allocated when the string is made.
 ///
@@ -40,7 +28,7 @@ impl<A: Allocator> PolymorphicString<A> {
     /// Returns `AllocError` if there is no memory for `capacity` bytes, and always if `capacity` is greater than
     /// `isize::MAX`.
     pub fn new(alloc: A, capacity: usize) -> Result<Self, AllocError>
-        ensures string { IfOk result (λ string. string ≡ bounded_new capacity) }
+        ensures value { IfOk result (λ string. string ≡ bounded_new capacity) }
         ensures memory { capacity ≡ 0 → IsOk result }
     {
         Ok(HeapString::in_vector(PolymorphicVec::new(alloc, capacity)?))
@@ -53,7 +41,7 @@ impl<A: Allocator + Copy> PolymorphicString<A> {
     ///
     /// Returns `AllocError` if there is no memory.
     pub fn try_clone(&self) -> Result<Self, AllocError>
-        ensures string { IfOk result (λ string. string ≡ self.now) }
+        ensures value { IfOk result (λ string. string ≡ self.now) }
         ensures memory { self.now.capacity ≡ 0 → IsOk result }
     {
         Ok(HeapString {

@@ -1,22 +1,10 @@
 //! The string that is made in two steps.
-ghost use Rattle.std.specs.Prelude.{◌≡◌, codes};
+ghost use Rattle.std.specs.Prelude.{◌≡◌};
 
 use crate::string::UninitString;
-use crate::string::heap_string::{HeapString, HeapStringKind};
+use crate::string::heap_string::HeapString;
+use crate::string::heap_string_kind::Relocatable;
 use std::alloc::{Allocator, Global};
-
-/// The kind of [`RelocatableString`].
-#[derive(Drop)]
-pub struct Relocatable;
-
-impl HeapStringKind for Relocatable {
-    ghost text = { codes "RelocatableString" };
-
-    #[inline]
-    fn name() -> &'static str {
-        "RelocatableString"
-    }
-}
 
 /// A string that is made in two steps: an [`UninitString`] has a capacity, and its `init` allocates the memory from the
 /// allocator `A`.
