@@ -1,6 +1,7 @@
 pub mod Pairs
 pub mod Rings
 mod WorkedQueues
+mod WorkedSlotMaps
 pub mod FreeKeys
 pub mod Chains
 pub mod SlotMaps

@@ -1,6 +1,6 @@
-//! Tests of slot maps beside their contracts: worked examples on each kind of map and in each memory, each function once,
-//! how often tables are called, when values are dropped, too little memory, and random calls beside a plain slow map. And
-//! functions over any slot map, as a user would write them.
+//! Tests of slot maps beside their contracts: worked examples on each kind of map and in each memory, each function
+//! once, how often tables are called, when values are dropped, too little memory, and random calls beside a plain slow
+//! map. And functions over any slot map, as a user would write them.
 #![tactic(auto)]
 
 #[cfg(test)]
