@@ -1,5 +1,6 @@
 //! A message that owns all its memory.
-ghost use Rattle.std.specs.Prelude.{◌≡◌, ◌≤◌, length, IsOk, IfOk};
+ghost use Rattle.std.specs.Prelude.{◌≡◌, ◌≤◌, length, IsOk, IsOkUnless, IfOk};
+ghost use Rattle.ix_examples.specs.declared.message.MessageError.TheVariants.{Values};
 ghost use Rattle.ix_string.specs.Text.{IsText};
 
 use ix_cells::StaticVec;
@@ -24,7 +25,8 @@ impl Message {
     pub fn new(topic: &str, values: &[u64]) -> Result<Message, MessageError>
         ensures topic { IfOk result (λ message. message.topic ≡ topic.now) }
         ensures values { IfOk result (λ message. message.values ≡ values.now) }
-        ensures fits { IsText topic.now → length topic.now ≤ 32 → length values.now ≤ 8
+        ensures topic_fits { IsText topic.now → length topic.now ≤ 32 → IsOkUnless result Values }
+        ensures both_fit { IsText topic.now → length topic.now ≤ 32 → length values.now ≤ 8
             → IsOk result }
     {
         let Ok(topic) = StaticString::try_from(topic) else {

@@ -1,5 +1,5 @@
 //! A registry of services with stable handles.
-ghost use Rattle.std.specs.Prelude.{◌≡◌, ℕ, Some, IfSome, IfNone, option_map};
+ghost use Rattle.std.specs.Prelude.{◌≡◌, ◌↔◌, ℕ, [], Some, IfSome, IsNone, option_map};
 ghost use Rattle.ix_maps.specs.SlotState.{value_at, IsHeld};
 
 use ix_maps::{FixedSizeSlotMap, SlotMapKey};
@@ -20,7 +20,7 @@ pub fn register(registry: &mut Registry, service: Service) -> Option<SlotMapKey>
     ensures found { IfSome result (λ handle. value_at registry.new handle ≡ Some service) }
     ensures kept { (other : ℕ) → IsHeld registry.old other
         → value_at registry.new other ≡ value_at registry.old other }
-    ensures full { IfNone result (registry.new ≡ registry.old) }
+    ensures full { IsNone result ↔ (registry.old.free ≡ []) }
 {
     registry.insert(service)
 }

@@ -1,5 +1,5 @@
 //! A table of sessions, whose numbers are used again.
-ghost use Rattle.std.specs.Prelude.{◌≡◌, ◌↔◌, ℕ, Some, IsTrue, IfSome, slice_get};
+ghost use Rattle.std.specs.Prelude.{◌≡◌, ◌≢◌, ◌↔◌, ℕ, Some, IsTrue, IfSome, slice_get};
 ghost use Rattle.ix_maps.specs.SlotState.{value_at, IsHeld};
 
 use ix_maps::{SlotMap, SlotMapKey};
@@ -18,6 +18,7 @@ pub type SessionTable<A> = SlotMap<Session, A>;
 /// Opens a session and returns its number, or `None` if the table is full.
 pub fn open<A: Allocator>(table: &mut SessionTable<A>, session: Session) -> Option<SlotMapKey>
     ensures number { result ≡ slice_get table.old.free 0 }
+    ensures opened { IfSome result (λ number. value_at table.new number ≡ Some session) }
     ensures kept { (other : ℕ) → IsHeld table.old other
         → value_at table.new other ≡ value_at table.old other }
 {
@@ -27,7 +28,9 @@ pub fn open<A: Allocator>(table: &mut SessionTable<A>, session: Session) -> Opti
 /// Notes that the peer of a session was heard at `time`. Returns `false` if no session has this number.
 pub fn note_heard<A: Allocator>(table: &mut SessionTable<A>, number: SlotMapKey, time: u64) -> bool
     ensures value { IsTrue result ↔ IsHeld table.old number }
-    ensures table { IfSome (value_at table.new number) (λ session. session.last_heard ≡ time) }
+    ensures heard { IfSome (value_at table.new number) (λ session. session.last_heard ≡ time) }
+    ensures kept { (other : ℕ) → other ≢ number
+        → value_at table.new other ≡ value_at table.old other }
 {
     match table.get_mut(number) {
         Some(session) => {
