@@ -1,5 +1,5 @@
 //! Items that note their drops.
-ghost use Rattle.std.specs.Prelude.{◌≡◌};
+ghost use Rattle.std.specs.Prelude.{◌≡◌, ◌+◌, ◌*◌, ◌%◌, ◌^◌, fold};
 
 use std::alloc::AllocError;
 use std::cell::Cell;
@@ -97,8 +97,10 @@ impl Clone for Noted<'_> {
     }
 }
 
-/// Returns the names of items, as digits in their order.
-pub fn names_of(items: &[Noted]) -> u64 {
+/// Returns the names of items, as the digits of a number modulo 2^64. O(`items.len()`).
+pub fn names_of(items: &[Noted]) -> u64
+    ensures { result ≡ fold (λ names item. (names * 10 % 2 ^ 64 + item.name) % 2 ^ 64) 0 items.now }
+{
     let mut names = 0u64;
     for item in items {
         names = names.wrapping_mul(10).wrapping_add(item.name);
