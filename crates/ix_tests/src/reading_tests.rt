@@ -3,7 +3,28 @@ use ix_expect::Findings;
 use ix_run::run::{
     FixedCapacity, QueueCommand, QueueLine, read_header, read_number, read_queue_line,
 };
+use std::fmt::Debug;
 use std::test::Fail;
+
+/// Reads the text of each row, which gives its value, and each of the other texts, which gives nothing.
+fn check_reading<T: Copy + PartialEq + Debug + Drop, F: FnMut(&[u8]) -> Option<T>>(
+    mut read: F,
+    rows: &[(&str, T)],
+    unreadable: &[&str],
+) -> Result<(), Fail>
+    requires { F.IsAlwaysCallable read }
+{
+    let findings = Findings::new();
+    for (row, (text, value)) in rows.iter().enumerate() {
+        let found = read(text.as_bytes());
+        findings.expect_same_at(found, Some(*value), row, "a text that is read");
+    }
+    for (row, text) in unreadable.iter().enumerate() {
+        let found = read(text.as_bytes());
+        findings.expect_same_at(found, None, row, "a text that is not read");
+    }
+    findings.verdict()
+}
 
 /// Words that are the text of no number.
 const UNREADABLE_NUMBERS: &[&str] = &[
@@ -49,16 +70,7 @@ const NUMBERS: &[(&str, u64)] = &[
 
 #[test]
 fn numbers() -> Result<(), Fail> {
-    let findings = Findings::new();
-    for (row, (word, number)) in NUMBERS.iter().enumerate() {
-        let found = read_number(word.as_bytes());
-        findings.expect_same_at(found, Some(*number), row, "a number");
-    }
-    for (row, word) in UNREADABLE_NUMBERS.iter().enumerate() {
-        let found = read_number(word.as_bytes());
-        findings.expect_same_at(found, None, row, "no number");
-    }
-    findings.verdict()
+    check_reading(|text: &[u8]| read_number(text), NUMBERS, UNREADABLE_NUMBERS)
 }
 
 /// Lines that are no header.
@@ -94,16 +106,7 @@ const HEADERS: &[(&str, FixedCapacity)] = &[
 
 #[test]
 fn headers() -> Result<(), Fail> {
-    let findings = Findings::new();
-    for (row, (line, capacity)) in HEADERS.iter().enumerate() {
-        let found = read_header(line.as_bytes());
-        findings.expect_same_at(found, Some(*capacity), row, "a header");
-    }
-    for (row, line) in UNREADABLE_HEADERS.iter().enumerate() {
-        let found = read_header(line.as_bytes());
-        findings.expect_same_at(found, None, row, "no header");
-    }
-    findings.verdict()
+    check_reading(|text: &[u8]| read_header(text), HEADERS, UNREADABLE_HEADERS)
 }
 
 /// Lines that ask nothing of a queue.
@@ -159,14 +162,9 @@ const QUEUE_LINES: &[(&str, QueueLine)] = &[
 
 #[test]
 fn queue_lines() -> Result<(), Fail> {
-    let findings = Findings::new();
-    for (row, (line, asked)) in QUEUE_LINES.iter().enumerate() {
-        let found = read_queue_line(line.as_bytes());
-        findings.expect_same_at(found, Some(*asked), row, "a line");
-    }
-    for (row, line) in UNREADABLE_QUEUE_LINES.iter().enumerate() {
-        let found = read_queue_line(line.as_bytes());
-        findings.expect_same_at(found, None, row, "no line");
-    }
-    findings.verdict()
+    check_reading(
+        |text: &[u8]| read_queue_line(text),
+        QUEUE_LINES,
+        UNREADABLE_QUEUE_LINES,
+    )
 }

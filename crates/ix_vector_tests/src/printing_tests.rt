@@ -1,4 +1,4 @@
-//! Printed vectors and errors, and what users of `unwrap` and `assert_eq!` need of them.
+//! Printed vectors and errors, and what users of `expect` and `assert_eq!` need of them.
 use bumpalo::Bump;
 use ix_cells::{InitError, PolymorphicVec, RelocatableContainer, StaticVec, UninitVec, Vector};
 use ix_expect::Findings;
@@ -49,10 +49,12 @@ fn uninitialised_vectors_and_errors_print(rt: HostRuntime) -> Result<(), Fail> {
 }
 
 #[test]
-fn vectors_are_unwrapped_and_compared(rt: HostRuntime) -> Result<(), Fail> {
-    let mut ready = UninitVec::<u64>::new_uninit(2).init(rt.alloc()).unwrap();
-    ready.push(7).unwrap();
-    let made = PolymorphicVec::from_fn(rt.alloc(), 1, |_| 7).unwrap();
+fn results_are_expected_and_vectors_compared(rt: HostRuntime) -> Result<(), Fail> {
+    let uninit = UninitVec::<u64>::new_uninit(2);
+    let mut ready = uninit.init(rt.alloc()).expect(&rt, "there is memory");
+    ready.push(7).expect(&rt, "there is room");
+    let made = PolymorphicVec::from_fn(rt.alloc(), 1, |_| 7);
+    let made = made.expect(&rt, "there is memory");
     assert_eq!(rt; ready, made);
     Ok(())
 }

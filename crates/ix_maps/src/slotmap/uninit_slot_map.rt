@@ -7,6 +7,17 @@ use ix_cells::{ContainerFamily, Uninit};
 use std::alloc::{AllocError, Allocator};
 use std::marker::PhantomData;
 
+/// An uninitialised slot map: a capacity without memory.
+/// [`RelocatableContainer::init`](ix_cells::RelocatableContainer::init) makes it a [`RelocatableSlotMap`].
+///
+/// ```text
+/// match UninitSlotMap::<u64>::new_uninit(3).init(alloc) {
+///     Ok(mut map) => drop(map.insert(1)),
+///     Err(error) => retry_with(error.into_uninit()),
+/// }
+/// ```
+pub type UninitSlotMap<T> = Uninit<SlotMapFamily<T>>;
+
 /// The relocatable slot maps of `T`, one type for each allocator.
 #[derive(Drop)]
 pub struct SlotMapFamily<T> {
@@ -24,14 +35,3 @@ impl<T: Drop, A: Allocator + Copy> ContainerFamily<A> for SlotMapFamily<T> {
         SlotMap::new(alloc, capacity)
     }
 }
-
-/// An uninitialised slot map: a capacity without memory.
-/// [`RelocatableContainer::init`](ix_cells::RelocatableContainer::init) makes it a [`RelocatableSlotMap`].
-///
-/// ```text
-/// match UninitSlotMap::<u64>::new_uninit(3).init(alloc) {
-///     Ok(mut map) => drop(map.insert(1)),
-///     Err(error) => retry_with(error.into_uninit()),
-/// }
-/// ```
-pub type UninitSlotMap<T> = Uninit<SlotMapFamily<T>>;
