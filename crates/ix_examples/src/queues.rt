@@ -6,7 +6,7 @@ use ix_cells::{InitError, RelocatableContainer};
 use ix_maps::{FixedSizeQueue, Queue, RelocatableQueue, UninitQueue};
 use std::alloc::{AllocError, Allocator};
 
-/// A fixed queue lies in the value itself. Returns the item that left at an overflow, and the queue.
+/// A fixed queue is stored inline. Returns the item that an overflow removed, and the queue.
 pub fn fixed() -> (Option<u64>, FixedSizeQueue<u64, 2>)
     ensures overflow { result.0 ≡ Some 1 }
     ensures queue { result.1.items ≡ 2 ∷ 3 ∷ [] }

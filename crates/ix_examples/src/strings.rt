@@ -9,7 +9,7 @@ use ix_string::{
 };
 use std::alloc::Allocator;
 
-/// A fixed string lies in the value itself. It holds bytes from 1 to 127.
+/// A fixed string is stored inline. It holds bytes from 1 to 127.
 pub fn fixed() -> Result<StaticString<8>, StringModificationError>
     ensures { result ≡ Ok (codes "hello") }
 {

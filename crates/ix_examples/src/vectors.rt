@@ -9,7 +9,7 @@ use ix_cells::{
 };
 use std::alloc::{AllocError, Allocator};
 
-/// A fixed vector lies in the value itself.
+/// A fixed vector is stored inline.
 pub fn fixed() -> Result<StaticVec<u64, 2>, VectorModificationError>
     ensures { result ≡ Ok (2 ∷ 1 ∷ []) }
 {

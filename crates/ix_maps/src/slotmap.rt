@@ -1,6 +1,6 @@
 //! Slot maps: bounded maps that choose the key of each value, by which it is found in constant time.
 //!
-//! [`FixedSizeSlotMap`] is in the value itself, [`SlotMap`] and [`RelocatableSlotMap`] are in memory of an allocator.
+//! [`FixedSizeSlotMap`] is stored inline, [`SlotMap`] and [`RelocatableSlotMap`] allocate once, when they are made.
 //!
 //! ```text
 //! let mut map = FixedSizeSlotMap::<char, 3>::new();

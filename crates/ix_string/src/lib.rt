@@ -1,8 +1,8 @@
 //! Strings with a capacity that is set when they are made: bounded lists of bytes from 1 to 127.
 //!
-//! The calls of every kind of string are those of the trait [`String`]. [`StaticString`] lies in the value itself,
-//! [`PolymorphicString`] in memory of an allocator, and [`RelocatableString`] too, but it is made in two steps.
-//! Contracts see a string as a bounded list of its bytes, in each kind of memory.
+//! The calls of every kind of string are those of the trait [`String`]. [`StaticString`] is stored inline,
+//! [`PolymorphicString`] allocates once, when it is made, and [`RelocatableString`] is made in two steps. Contracts see a
+//! string as a bounded list of its bytes, whatever its kind.
 //!
 //! ```text
 //! let mut string = PolymorphicString::new(alloc, 8)?;

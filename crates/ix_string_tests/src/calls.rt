@@ -46,7 +46,7 @@ pub enum Returned {
     Changed(Result<(), StringModificationError>),
     /// The first index and the last one.
     Found(Option<usize>, Option<usize>),
-    /// How many bytes were written, and the four bytes, each 9 before, of which the first were handed in.
+    /// How many bytes were written, and the four bytes, each 9 before, of which the first were passed in.
     Copied(Option<usize>, [u8; 4]),
     /// The order, and what both equalities return.
     Order(Ordering, bool, bool),

@@ -1,11 +1,11 @@
-//! Queues in the value itself.
+//! Queues that are stored inline.
 ghost use Rattle.std.specs.Prelude.{◌≡◌, ◌≤◌};
 ghost use Rattle.ix_cells.specs.Bounded.{bounded_new};
 
 use crate::queue::MetaQueue;
 use ix_cells::{InlineTable, MAX_FIXED_CAPACITY};
 
-/// A queue of at most `CAPACITY` items, in the value itself. It never allocates.
+/// A queue of at most `CAPACITY` items that is stored inline and does not allocate.
 ///
 /// ```text
 /// let mut queue = FixedSizeQueue::<u64, 2>::new();
@@ -20,7 +20,7 @@ use ix_cells::{InlineTable, MAX_FIXED_CAPACITY};
 pub type FixedSizeQueue<T, const CAPACITY: usize> = MetaQueue<T, InlineTable<T, CAPACITY>>;
 
 impl<T: Drop, const CAPACITY: usize> FixedSizeQueue<T, CAPACITY> {
-    /// Returns an empty queue.
+    /// Creates an empty queue.
     ///
     /// O(`CAPACITY`). `CAPACITY` is at most [`MAX_FIXED_CAPACITY`].
     pub fn new() -> Self

@@ -36,12 +36,12 @@ pub type Queue<T, A = Global> = MetaQueue<T, HeapTable<T, A>>;
 pub type RelocatableQueue<T, A = Global> = MetaQueue<T, HeapTable<T, A>>;
 
 impl<T: Drop, A: Allocator> Queue<T, A> {
-    /// Returns an empty queue with memory for `capacity` items.
+    /// Creates an empty queue with memory for `capacity` items.
     ///
     /// O(`capacity`). Allocates from `alloc` at most once. Returns `AllocError` if there is not enough memory, and for
     /// any capacity whose items would fill more than `isize::MAX` bytes. A capacity of 0 needs no memory.
     pub fn new(alloc: A, capacity: usize) -> Result<Self, AllocError>
-        ensures queue { IfOk result (λ queue. queue ≡ bounded_new capacity) }
+        ensures value { IfOk result (λ queue. queue ≡ bounded_new capacity) }
         ensures memory { capacity ≡ 0 → IsOk result }
     {
         Ok(MetaQueue::from_table(HeapTable::new(alloc, capacity)?))
@@ -49,7 +49,7 @@ impl<T: Drop, A: Allocator> Queue<T, A> {
 }
 
 impl<T: Drop, A: Allocator> RelocatableQueue<T, A> {
-    /// Returns an uninitialised queue for `capacity` items. Does not allocate. O(1).
+    /// Creates an uninitialised queue for `capacity` items. Does not allocate. O(1).
     #[inline]
     pub fn new_uninit(capacity: usize) -> UninitQueue<T>
         ensures { result ≡ capacity }

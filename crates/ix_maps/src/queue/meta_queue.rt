@@ -81,7 +81,7 @@ fn next_after(place: usize, capacity: usize) -> usize
 impl<T, S: Table<T>> MetaQueue<T, S> {
     ghost use Rattle.ix_maps.specs.contracts.queue.meta_queue.MetaQueue.{the_row};
 
-    /// Returns an empty queue over `table`, whose length is the capacity.
+    /// Creates an empty queue over `table`, whose length is the capacity.
     ///
     /// Every place of `table` is empty. A table of any kind will do, one of your own too.
     ///

@@ -1,11 +1,11 @@
-//! Slot maps in the value itself.
+//! Slot maps that are stored inline.
 ghost use Rattle.std.specs.Prelude.{◌≡◌, ◌≤◌};
 ghost use Rattle.ix_maps.specs.SlotState.{slot_new};
 
 use crate::slotmap::{Link, MetaSlotMap};
 use ix_cells::{InlineTable, MAX_FIXED_CAPACITY};
 
-/// A slot map with `CAPACITY` keys, in the value itself. It never allocates.
+/// A slot map with `CAPACITY` keys that is stored inline and does not allocate.
 ///
 /// ```text
 /// let mut map = FixedSizeSlotMap::<char, 3>::new();
@@ -24,7 +24,7 @@ pub type FixedSizeSlotMap<T, const CAPACITY: usize> = MetaSlotMap<
 >;
 
 impl<T: Drop, const CAPACITY: usize> FixedSizeSlotMap<T, CAPACITY> {
-    /// Returns an empty map.
+    /// Creates an empty map.
     ///
     /// O(`CAPACITY`). `CAPACITY` is at most [`MAX_FIXED_CAPACITY`].
     pub fn new() -> Self

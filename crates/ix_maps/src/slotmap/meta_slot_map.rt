@@ -65,7 +65,7 @@ impl<T, S: Table<T>, L: Table<Link>> Model for MetaSlotMap<T, S, L> {
 impl<T, S: Table<T>, L: Table<Link>> MetaSlotMap<T, S, L> {
     ghost use Rattle.ix_maps.specs.contracts.slotmap.meta_slot_map.MetaSlotMap.{the_row};
 
-    /// Returns an empty map over two tables of the same length, which is the capacity. O(capacity).
+    /// Creates an empty map over two tables of the same length, which is the capacity. O(capacity).
     ///
     /// Every place of both tables is empty. A table of any kind will do, one of your own too.
     ///

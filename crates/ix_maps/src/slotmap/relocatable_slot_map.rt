@@ -17,7 +17,7 @@ use std::alloc::{Allocator, Global};
 pub type RelocatableSlotMap<T, A = Global> = SlotMap<T, A>;
 
 impl<T: Drop, A: Allocator + Copy> RelocatableSlotMap<T, A> {
-    /// Returns an uninitialised map with `capacity` keys. Does not allocate. O(1).
+    /// Creates an uninitialised map with `capacity` keys. Does not allocate. O(1).
     #[inline]
     pub fn new_uninit(capacity: usize) -> UninitSlotMap<T>
         ensures { result ≡ capacity }

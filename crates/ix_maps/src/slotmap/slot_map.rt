@@ -19,12 +19,12 @@ use std::alloc::{AllocError, Allocator, Global};
 pub type SlotMap<T, A = Global> = MetaSlotMap<T, HeapTable<T, A>, HeapTable<Link, A>>;
 
 impl<T: Drop, A: Allocator + Copy> SlotMap<T, A> {
-    /// Returns an empty map with `capacity` keys.
+    /// Creates an empty map with `capacity` keys.
     ///
     /// O(`capacity`). Allocates from `alloc` at most twice. Returns `AllocError` if there is not enough memory; what
     /// was allocated is deallocated then. A capacity of 0 needs no memory.
     pub fn new(alloc: A, capacity: usize) -> Result<Self, AllocError>
-        ensures map { IfOk result (λ map. map ≡ slot_new capacity) }
+        ensures value { IfOk result (λ map. map ≡ slot_new capacity) }
         ensures memory { capacity ≡ 0 → IsOk result }
     {
         let values = HeapTable::new(alloc, capacity)?;

@@ -22,7 +22,7 @@ use std::marker::PhantomData;
 pub type PolymorphicString<A = Global> = HeapString<Polymorphic, A>;
 
 impl<A: Allocator> PolymorphicString<A> {
-    /// Returns an empty string that can hold `capacity` bytes. Allocates from `alloc` once, or not at all if `capacity`
+    /// Creates an empty string that can hold `capacity` bytes. Allocates from `alloc` once, or not at all if `capacity`
     /// is 0. O(1).
     ///
     /// Returns `AllocError` if there is no memory for `capacity` bytes, and always if `capacity` is greater than

@@ -19,7 +19,7 @@ use std::alloc::{Allocator, Global};
 pub type RelocatableString<A = Global> = HeapString<Relocatable, A>;
 
 impl<A: Allocator> RelocatableString<A> {
-    /// Returns an uninitialised string for `capacity` bytes. Does not allocate. O(1).
+    /// Creates an uninitialised string for `capacity` bytes. Does not allocate. O(1).
     #[inline]
     pub fn new_uninit(capacity: usize) -> UninitString
         ensures { result ≡ capacity }

@@ -1,4 +1,4 @@
-//! The string in the value itself.
+//! The string that is stored inline.
 ghost use Rattle.std.specs.Prelude.{◌≡◌, ◌≤◌, ◌↔◌, [], length, take, refl, IsOk, IfOk, IfErr};
 ghost use Rattle.ix_string.specs.Text.{IsText, before_nul};
 ghost use Rattle.ix_string.specs.TextSteps.{StringFromBytes};
@@ -9,7 +9,7 @@ use crate::string::retaining::move_kept_back;
 use crate::string::{String, StringModificationError, strnlen};
 use std::marker::Model;
 
-/// A string of at most `CAPACITY` bytes, in the value itself. It can be copied, and it does not allocate. Contracts see
+/// A string of at most `CAPACITY` bytes that is stored inline, can be copied and does not allocate. Contracts see
 /// it as the list of its bytes.
 ///
 /// `CAPACITY` can be any number, 0 too. The unused bytes of the value are zeros.
@@ -48,7 +48,7 @@ impl<const CAPACITY: usize> Model for StaticString<CAPACITY> {
 }
 
 impl<const CAPACITY: usize> StaticString<CAPACITY> {
-    /// Returns an empty string. O(`CAPACITY`).
+    /// Creates an empty string. O(`CAPACITY`).
     pub fn new() -> Self
         ensures { result ≡ [] }
     {
