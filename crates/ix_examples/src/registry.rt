@@ -1,5 +1,5 @@
 //! A registry of services with stable handles.
-ghost use Rattle.std.specs.Prelude.{◌≡◌, ◌↔◌, ℕ, [], Some, IfSome, IsNone, option_map};
+ghost use Rattle.std.specs.Prelude.{◌≡◌, ◌≢◌, ◌↔◌, ℕ, [], None, Some, IfSome, IsNone, option_map};
 ghost use Rattle.ix_maps.specs.SlotState.{value_at, IsHeld};
 
 use ix_maps::{FixedSizeSlotMap, SlotMapKey};
@@ -35,7 +35,10 @@ pub fn port_of(registry: &Registry, handle: SlotMapKey) -> Option<u16>
 
 /// Removes the service with this handle and returns it, or `None` if there is no such service.
 pub fn unregister(registry: &mut Registry, handle: SlotMapKey) -> Option<Service>
-    ensures { result ≡ value_at registry.old handle }
+    ensures value { result ≡ value_at registry.old handle }
+    ensures gone { value_at registry.new handle ≡ None }
+    ensures kept { (other : ℕ) → other ≢ handle
+        → value_at registry.new other ≡ value_at registry.old other }
 {
     registry.remove(handle)
 }

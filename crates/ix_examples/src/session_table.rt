@@ -45,6 +45,8 @@ pub fn note_heard<A: Allocator>(table: &mut SessionTable<A>, number: SlotMapKey,
 pub fn close<A: Allocator>(table: &mut SessionTable<A>, number: SlotMapKey) -> Option<Session>
     ensures value { result ≡ value_at table.old number }
     ensures free { IfSome result (λ _. slice_get table.new.free 0 ≡ Some number) }
+    ensures kept { (other : ℕ) → other ≢ number
+        → value_at table.new other ≡ value_at table.old other }
 {
     table.remove(number)
 }
