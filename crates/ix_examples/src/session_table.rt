@@ -1,5 +1,6 @@
 //! A table of sessions, whose numbers are used again.
-ghost use Rattle.std.specs.Prelude.{◌≡◌, ◌≢◌, ◌↔◌, ℕ, Some, IsTrue, IfSome, slice_get};
+ghost use Rattle.std.specs.Prelude.{◌≡◌, ◌≢◌, ◌↔◌, ℕ, Some, IsTrue, IfSome, slice_get, option_map};
+ghost use Rattle.ix_examples.specs.declared.session_table.Session.{Session};
 ghost use Rattle.ix_maps.specs.SlotState.{value_at, IsHeld};
 
 use ix_maps::{SlotMap, SlotMapKey};
@@ -29,6 +30,8 @@ pub fn open<A: Allocator>(table: &mut SessionTable<A>, session: Session) -> Opti
 pub fn note_heard<A: Allocator>(table: &mut SessionTable<A>, number: SlotMapKey, time: u64) -> bool
     ensures value { IsTrue result ↔ IsHeld table.old number }
     ensures heard { IfSome (value_at table.new number) (λ session. session.last_heard ≡ time) }
+    ensures peer { option_map (λ (session : Session). session.peer) (value_at table.new number)
+        ≡ option_map (λ (session : Session). session.peer) (value_at table.old number) }
     ensures kept { (other : ℕ) → other ≢ number
         → value_at table.new other ≡ value_at table.old other }
 {
