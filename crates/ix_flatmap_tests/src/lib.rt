@@ -20,6 +20,8 @@ mod keys;
 #[cfg(test)]
 mod memory_tests;
 #[cfg(test)]
+mod noted_calls;
+#[cfg(test)]
 mod row_tests;
 #[cfg(test)]
 mod rows;
