@@ -22,6 +22,8 @@ mod memory_tests;
 #[cfg(test)]
 mod noted_calls;
 #[cfg(test)]
+mod refusal_tests;
+#[cfg(test)]
 mod row_tests;
 #[cfg(test)]
 mod rows;
