@@ -20,7 +20,9 @@ impl PartialEq for Caseless {
     ghost laws = { Prim.search (comparing, rules) };
 
     fn eq(&self, other: &Self) -> bool {
-        self.text.as_bytes().eq_ignore_ascii_case(other.text.as_bytes())
+        self.text
+            .as_bytes()
+            .eq_ignore_ascii_case(other.text.as_bytes())
     }
 }
 

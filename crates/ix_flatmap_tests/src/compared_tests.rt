@@ -94,13 +94,22 @@ fn read<'a, S: Table<Pair<Compared<'a>, u64>>, L: Table<Link>>(
 ) {
     match call {
         Get(number) => {
-            let _ = map.get(&Compared { number: *number, sum });
+            let _ = map.get(&Compared {
+                number: *number,
+                sum,
+            });
         }
         GetRef(number) => {
-            let _ = map.get_ref(&Compared { number: *number, sum });
+            let _ = map.get_ref(&Compared {
+                number: *number,
+                sum,
+            });
         }
         Contains(number) => {
-            let _ = map.contains(&Compared { number: *number, sum });
+            let _ = map.contains(&Compared {
+                number: *number,
+                sum,
+            });
         }
         Len => {
             let _ = map.len();
@@ -123,13 +132,25 @@ fn make<'a, S: Table<Pair<Compared<'a>, u64>>, L: Table<Link>>(
 ) {
     match call {
         Insert(number) => {
-            let _ = map.insert(Compared { number: *number, sum }, 0);
+            let _ = map.insert(
+                Compared {
+                    number: *number,
+                    sum,
+                },
+                0,
+            );
         }
         GetMutRef(number) => {
-            let _ = map.get_mut_ref(&Compared { number: *number, sum });
+            let _ = map.get_mut_ref(&Compared {
+                number: *number,
+                sum,
+            });
         }
         Remove(number) => {
-            let _ = map.remove(&Compared { number: *number, sum });
+            let _ = map.remove(&Compared {
+                number: *number,
+                sum,
+            });
         }
         _ => read(map, call, sum),
     }

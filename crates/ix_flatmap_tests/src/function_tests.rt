@@ -55,11 +55,18 @@ fn texts() -> Result<(), Fail> {
     let findings = Findings::new();
     check_debug(&findings, &KeyAlreadyExists, "KeyAlreadyExists");
     check_debug(&findings, &IsFull, "IsFull");
-    check_display(&findings, &KeyAlreadyExists, "FlatMapError::KeyAlreadyExists");
+    check_display(
+        &findings,
+        &KeyAlreadyExists,
+        "FlatMapError::KeyAlreadyExists",
+    );
     check_display(&findings, &IsFull, "FlatMapError::IsFull");
     check_debug(&findings, &CallbackProgression::Continue, "Continue");
     check_debug(&findings, &CallbackProgression::Stop, "Stop");
-    let pair = Pair { key: 1u64, value: 'a' };
+    let pair = Pair {
+        key: 1u64,
+        value: 'a',
+    };
     findings.expect_same((pair.key, pair.value), (1, 'a'), "a pair");
     findings.verdict()
 }

@@ -153,7 +153,10 @@ pub const TEXTS: &[Line<&str, char>] = &[
     (GetRef("ab"), Value(Some('x'))),
     (Remove("ab"), Value(Some('x'))),
     (GetRef(""), Value(Some('y'))),
-    (ListKeys(None), Keys("StaticString<16> { len: 0, data: \"\" };")),
+    (
+        ListKeys(None),
+        Keys("StaticString<16> { len: 0, data: \"\" };"),
+    ),
 ];
 
 /// On a map of 3, with keys of two parts.
@@ -165,7 +168,10 @@ pub const PORTS: &[Line<(u16, bool), u64>] = &[
     (GetRef((80, false)), Value(Some(2))),
     (GetRef((443, false)), Value(None)),
     (Remove((80, true)), Value(Some(1))),
-    (ListKeys(Some(1)), Keys("Port { number: 80, is_open: false };")),
+    (
+        ListKeys(Some(1)),
+        Keys("Port { number: 80, is_open: false };"),
+    ),
 ];
 
 /// On a map of 2, whose keys and values have size zero: there is only one key.
