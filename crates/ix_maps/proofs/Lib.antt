@@ -7,3 +7,5 @@ pub mod Chains
 pub mod SlotMaps
 pub mod SlotSteps
 pub mod Entries
+pub mod FlatMaps
+pub mod FlatCalls

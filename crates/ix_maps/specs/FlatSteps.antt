@@ -37,7 +37,7 @@ module _ {K V : Type 0} where
   -- the value of the key, if the map has it
   abbrev pub flat_set : (K → K → Bool) → SlotState (Pair K V) → K → V → SlotState (Pair K V)
   flat_set eq s key value =
-      option_map_or (λ entry. slot_set s entry.0 (record entry.1 { value = value })) (flat_entry eq s key) s
+      option_map_or (λ entry. pair_set s entry.0 value) (flat_entry eq s key) s
 
   -- no pair at the place of the key, if the map has it
   abbrev pub flat_remove : (K → K → Bool) → SlotState (Pair K V) → K → SlotState (Pair K V)
@@ -49,4 +49,4 @@ module _ {F K : Type 0} (calls : Mut F (Bor K × Unit {0}) CallbackProgression) 
   abbrev pub ListsUntilStop : F → List K → F → Type 0
   ListsUntilStop f [] last = f ≡ last
   ListsUntilStop f (key ∷ keys) last =
-      (next : F) × (CalledAt calls f key Stop next × (next ≡ last)) ⊎ (CalledAt calls f key Continue next × ListsUntilStop next keys last)
+      (next : F) × ((CalledAt calls f key Stop next × (next ≡ last)) ⊎ (CalledAt calls f key Continue next × ListsUntilStop next keys last))

@@ -6,7 +6,7 @@ ghost use Rattle.ix_cells.specs.Cloning.{AreEqualClones};
 ghost use Rattle.ix_maps.specs.SlotState.{IsWellFormed, IsHeld, value_at, held_count};
 ghost use Rattle.ix_maps.specs.FlatState.{HasDistinctKeys, flat_entry, flat_value, flat_keys};
 ghost use Rattle.ix_maps.specs.FlatSteps.{flat_insert_result, flat_insert, pair_set, flat_set, flat_remove, ListsUntilStop};
-ghost use Rattle.ix_maps.specs.SlotSteps.{slot_set};
+ghost use Rattle.ix_maps.specs.SlotSteps.{slot_set, SlotRemove};
 ghost use Rattle.ix_maps.specs.contracts.slotmap.meta_slot_map.MetaSlotMap as slot_map;
 
 use crate::flatmap::{CallbackProgression, FlatMapError, Pair};
@@ -126,8 +126,8 @@ impl<K: Eq + Drop, V: Drop, S: Table<Pair<K, V>>, L: Table<Link>> MetaFlatMap<K,
             V.row self.entry result (flat_set K.eq self.old key.now) self.old) }
         ensures value { option_copied_mut result ≡ flat_value K.eq self.old key.now }
     {
-        match self.find(key) {
-            Some((place, _)) => Some(self.value_mut(place)),
+        match self.place(key) {
+            Some(place) => Some(self.value_mut(place)),
             None => None,
         }
     }
@@ -142,13 +142,8 @@ impl<K: Eq + Drop, V: Drop, S: Table<Pair<K, V>>, L: Table<Link>> MetaFlatMap<K,
             → flat_value K.eq self.new other ≡ flat_value K.eq self.old other }
         ensures distinct { HasDistinctKeys K.eq self.new }
     {
-        let Some((place, _)) = self.find(key) else {
-            return None;
-        };
-        match self.pairs.remove(place) {
-            Some(Pair { key: _, value }) => Some(value),
-            None => None,
-        }
+        let place = self.place(key)?;
+        Some(remove_pair(&mut self.pairs, place).value)
     }
 
     /// Returns `true` if the map has no key. O(1).
@@ -211,7 +206,8 @@ impl<K: Eq + Drop, V: Drop, S: Table<Pair<K, V>>, L: Table<Link>> MetaFlatMap<K,
     /// Returns the place of the key that equals `key`, and the pair there.
     #[inline]
     fn find(&self, key: &K) -> Option<(SlotMapKey, &Pair<K, V>)>
-        ensures { option_map (λ entry. (entry.0, entry.1.now)) result ≡ flat_entry K.eq self.now key.now }
+        ensures value { option_map (λ entry. (entry.0, entry.1.now)) result ≡ flat_entry K.eq self.now key.now }
+        ensures distinct { HasDistinctKeys K.eq self.now }
     {
         for (place, pair) in self.pairs.iter() {
             if pair.key == *key {
@@ -219,6 +215,17 @@ impl<K: Eq + Drop, V: Drop, S: Table<Pair<K, V>>, L: Table<Link>> MetaFlatMap<K,
             }
         }
         None
+    }
+
+    /// Returns the place of the key that equals `key`.
+    #[inline]
+    fn place(&self, key: &K) -> Option<SlotMapKey>
+        ensures { result ≡ option_map (λ entry. entry.0) (flat_entry K.eq self.now key.now) }
+    {
+        match self.find(key) {
+            Some((place, _)) => Some(place),
+            None => None,
+        }
     }
 
     /// Returns a mutable reference to the value at a place that has a pair.
@@ -235,7 +242,10 @@ impl<K: Eq + Drop, V: Drop, S: Table<Pair<K, V>>, L: Table<Link>> MetaFlatMap<K,
 
 /// Returns a mutable reference to the value at a held key.
 #[inline]
-fn pair_mut<T, S: Table<T>, L: Table<Link>>(map: &mut MetaSlotMap<T, S, L>, key: SlotMapKey) -> &mut T
+fn pair_mut<T, S: Table<T>, L: Table<Link>>(
+    map: &mut MetaSlotMap<T, S, L>,
+    key: SlotMapKey,
+) -> &mut T
     requires { IsHeld map.old key }
     ensures* writes_back { sem 𝓛 (Lends (slot_map.the_row T.row S.row L.row S.Table L.Table)
         T.row map.entry result (slot_set map.old key)) }
@@ -247,8 +257,21 @@ fn pair_mut<T, S: Table<T>, L: Table<Link>>(map: &mut MetaSlotMap<T, S, L>, key:
     }
 }
 
+/// Removes the value at a held key and returns it.
+#[inline]
+fn remove_pair<T, S: Table<T>, L: Table<Link>>(map: &mut MetaSlotMap<T, S, L>, key: SlotMapKey) -> T
+    requires { IsHeld map.old key }
+    ensures { SlotRemove map.old key map.new (Some result) }
+{
+    match map.remove(key) {
+        Some(value) => value,
+        None => unreachable!(),
+    }
+}
+
 /// Prints a map from the keys to their values, in slot order. O(capacity).
-impl<K: Eq + Debug, V: Debug, S: Table<Pair<K, V>>, L: Table<Link>> Debug for MetaFlatMap<K, V, S, L> {
+impl<K: Eq + Debug, V: Debug, S: Table<Pair<K, V>>, L: Table<Link>> Debug
+    for MetaFlatMap<K, V, S, L> {
     fn fmt<W: Write>(&self, f: &mut Formatter<W>) -> fmt::Result {
         let mut map = f.debug_map();
         for (_, pair) in self.pairs.iter() {
