@@ -102,10 +102,10 @@ fn outcome_of<'a, K: Key, V: Copy, S: Table<Pair<K, V>>, L: Table<Link>>(
     }
 }
 
-/// Makes each call and compares its result.
+/// Makes each call on an empty map, and compares its result.
 pub fn check_calls<K: Key, V: Copy + PartialEq + Debug, S: Table<Pair<K, V>>, L: Table<Link>>(
     findings: &Findings,
-    mut map: MetaFlatMap<K, V, S, L>,
+    map: &mut MetaFlatMap<K, V, S, L>,
     lines: &[Line<K::Name, V>],
     place: &str,
 )
@@ -113,28 +113,7 @@ pub fn check_calls<K: Key, V: Copy + PartialEq + Debug, S: Table<Pair<K, V>>, L:
 {
     for (number, (call, outcome)) in lines.iter().enumerate() {
         let mut listed = Listed::new();
-        let found = outcome_of(&mut map, call, &mut listed);
+        let found = outcome_of(map, call, &mut listed);
         findings.expect_same_at(&found, outcome, number, place);
-    }
-}
-
-/// Does what `check_calls` does, with a map whose making did not fail.
-pub fn check_made<
-    K: Key,
-    V: Copy + PartialEq + Debug,
-    S: Table<Pair<K, V>>,
-    L: Table<Link>,
-    E: Drop,
->(
-    findings: &Findings,
-    made: Result<MetaFlatMap<K, V, S, L>, E>,
-    lines: &[Line<K::Name, V>],
-    place: &str,
-)
-    requires { AreEqualClones V.is_clone }
-{
-    match made {
-        Ok(map) => check_calls(findings, map, lines, place),
-        Err(_) => findings.miss(place),
     }
 }

@@ -1,7 +1,8 @@
 //! Keys that differ as values and are equal by their `Eq`.
 ghost use Rattle.std.specs.Cmp.Lexicographic.{pointwise};
 ghost use Rattle.std.specs.Cmp.Rules.{comparing};
-ghost use Rattle.std.specs.Ordering.{nat_eq, on};
+ghost use Rattle.std.specs.Ordering.{on};
+ghost use Rattle.std.specs.Prelude.{nat_eq};
 ghost use Rattle.std.specs.Str.{str_to_ascii_lowercase};
 ghost use Rattle.std.proofs.Common.{rules};
 

@@ -2,7 +2,8 @@
 //! equal one, or with all keys if there is no equal one. Other calls compare none.
 ghost use Rattle.std.proofs.Common.{rules};
 ghost use Rattle.std.specs.Cmp.Rules.{comparing};
-ghost use Rattle.std.specs.Ordering.{nat_eq, on};
+ghost use Rattle.std.specs.Ordering.{on};
+ghost use Rattle.std.specs.Prelude.{nat_eq};
 
 use crate::compared_tests::Call::{
     Contains, Get, GetMutRef, GetRef, Insert, IsEmpty, IsFull, Len, ListKeys, Remove,

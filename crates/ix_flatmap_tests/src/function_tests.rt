@@ -1,5 +1,5 @@
 //! Each function once, by its bound where it has one.
-use crate::calls::check_made;
+use crate::calls::check_calls;
 use crate::rows::EVERY_CALL;
 use ix_cells::{InitError, RelocatableContainer, Table};
 use ix_expect::Findings;
@@ -25,26 +25,27 @@ fn check_display<T: Display>(findings: &Findings, value: &T, text: &str) {
     findings.expect_same(found.as_str(), text, "the `Display` text");
 }
 
-/// Changes an empty map of 3, so that slot order is not the order of the insertions. Checks its `Debug` texts.
-fn check_map_texts<S: Table<Pair<u64, char>>, L: Table<Link>>(
-    findings: &Findings,
-    map: &mut MetaFlatMap<u64, char, S, L>,
-) {
-    check_debug(findings, &*map, "{}");
-    let _ = map.insert(80, 'a');
-    check_debug(findings, &*map, "{80: 'a'}");
-    let _ = map.insert(443, 'b');
+/// Changes an empty map of 3, so that slot order is not the order of the insertions.
+fn insert_two<S: Table<Pair<u64, u64>>, L: Table<Link>>(map: &mut MetaFlatMap<u64, u64, S, L>) {
+    let _ = map.insert(80, 1);
+    let _ = map.insert(443, 2);
     let _ = map.remove(&80);
-    let _ = map.insert(8080, 'c');
-    check_debug(findings, &*map, "{8080: 'c', 443: 'b'}");
+    let _ = map.insert(8080, 3);
 }
 
 #[test]
 fn texts_of_maps(rt: HostRuntime) -> Result<(), Fail> {
     let findings = Findings::new();
-    check_map_texts(&findings, &mut FixedSizeFlatMap::<u64, char, 3>::new());
-    match FlatMap::<u64, char>::new(rt.alloc(), 3) {
-        Ok(mut map) => check_map_texts(&findings, &mut map),
+    let mut fixed = FixedSizeFlatMap::<u64, u64, 3>::new();
+    check_debug(&findings, &fixed, "{}");
+    insert_two(&mut fixed);
+    check_debug(&findings, &fixed, "{8080: 3, 443: 2}");
+    match FlatMap::<u64, u64>::new(rt.alloc(), 3) {
+        Ok(mut map) => {
+            check_debug(&findings, &map, "{}");
+            insert_two(&mut map);
+            check_debug(&findings, &map, "{8080: 3, 443: 2}");
+        }
         Err(AllocError) => findings.miss("there is memory"),
     }
     findings.verdict()
@@ -78,20 +79,19 @@ fn hash_of<K: Hash>(value: &K) -> u64 {
     hasher.finish()
 }
 
-/// Checks that each value equals its copy and no other value.
-fn check_equality<T: Copy + Eq + Debug>(findings: &Findings, values: &[T; 2]) {
-    let [one, other] = *values;
-    let same = [one, other];
-    findings.expect(same[0] == one && same[1] == other, "a copy is equal");
-    findings.expect(one != other && other != one, "others are not");
+/// Checks that two values are equal to their copies and not to one another.
+fn check_equality<T: Copy + Eq + Debug>(findings: &Findings, one: &T, other: &T) {
+    let (first, second) = (*one, *other);
+    findings.expect(first == *one && second == *other, "a copy is equal");
+    findings.expect(*one != *other && *other != *one, "others are not");
 }
 
 #[test]
 fn errors_and_progressions() -> Result<(), Fail> {
     let findings = Findings::new();
-    check_equality(&findings, &[KeyAlreadyExists, IsFull]);
-    let progressions = [CallbackProgression::Continue, CallbackProgression::Stop];
-    check_equality(&findings, &progressions);
+    check_equality(&findings, &KeyAlreadyExists, &IsFull);
+    let (go, stop) = (CallbackProgression::Continue, CallbackProgression::Stop);
+    check_equality(&findings, &go, &stop);
     let error: FlatMapError = KeyAlreadyExists;
     findings.expect_same(hash_of(&error), hash_of(&KeyAlreadyExists), "one hash");
     findings.expect(hash_of(&error) != hash_of(&IsFull), "two hashes");
@@ -102,10 +102,14 @@ fn errors_and_progressions() -> Result<(), Fail> {
 fn two_steps(rt: HostRuntime) -> Result<(), Fail> {
     let findings = Findings::new();
     let uninit = RelocatableFlatMap::<u64, u64, Global>::new_uninit(2);
-    let made = InitError::new(uninit).into_uninit().init(rt.alloc());
-    check_made(&findings, made, EVERY_CALL, "by the type of the ready map");
+    match InitError::new(uninit).into_uninit().init(rt.alloc()) {
+        Ok(mut map) => check_calls(&findings, &mut map, EVERY_CALL, "by the ready type"),
+        Err(_) => findings.miss("there is memory"),
+    }
     let uninit = <UninitFlatMap<u64, u64> as RelocatableContainer<Global>>::new_uninit(2);
-    let made = uninit.init(rt.alloc());
-    check_made(&findings, made, EVERY_CALL, "by the trait");
+    match uninit.init(rt.alloc()) {
+        Ok(mut map) => check_calls(&findings, &mut map, EVERY_CALL, "by the trait"),
+        Err(_) => findings.miss("there is memory"),
+    }
     findings.verdict()
 }

@@ -1,7 +1,8 @@
 //! Calls of maps whose keys and values note their drops.
 ghost use Rattle.std.proofs.Common.{rules};
 ghost use Rattle.std.specs.Cmp.Rules.{comparing};
-ghost use Rattle.std.specs.Ordering.{nat_eq, on};
+ghost use Rattle.std.specs.Ordering.{on};
+ghost use Rattle.std.specs.Prelude.{nat_eq};
 
 use ix_cells::Table;
 use ix_expect::{Noted, Notes};

@@ -1,8 +1,7 @@
 //! The worked examples on each kind of map and in each memory.
-ghost use Rattle.std.specs.Prelude.{◌≤◌};
 ghost use Rattle.ix_cells.specs.Cloning.{AreEqualClones};
 
-use crate::calls::{Line, check_calls, check_made};
+use crate::calls::{Line, check_calls};
 use crate::caseless::Caseless;
 use crate::keys::{Key, Port};
 use crate::rows::{
@@ -15,7 +14,7 @@ use ix_expect::Findings;
 use ix_maps::{FixedSizeFlatMap, FlatMap, UninitFlatMap};
 use ix_string::StaticString;
 use linked_list_allocator::LocalHeap;
-use std::alloc::Allocator;
+use std::alloc::{AllocError, Allocator};
 use std::fmt::Debug;
 use std::test::Fail;
 
@@ -25,67 +24,74 @@ const OF_TWO: &[Example] = &[VALUE_WRITTEN, EVERY_CALL];
 /// Examples on a map of 3.
 const OF_THREE: &[Example] = &[SLOT_ORDER, LISTINGS, LAST_REMOVED_FIRST];
 
-/// Checks the example on a fixed map of `CAPACITY`.
-fn check_fixed<K: Key, V: Copy + PartialEq + Debug, const CAPACITY: usize>(
-    findings: &Findings,
-    lines: &[Line<K::Name, V>],
-)
-    requires small { CAPACITY ≤ 3 }
-    requires clones { AreEqualClones V.is_clone }
-{
-    let fixed = FixedSizeFlatMap::<K, V, CAPACITY>::new();
-    check_calls(findings, fixed, lines, "in the value itself");
-}
-
 #[test]
 fn in_the_value_itself() -> Result<(), Fail> {
     let findings = Findings::new();
-    check_fixed::<u64, u64, 0>(&findings, NO_PLACE);
-    check_fixed::<u64, u64, 1>(&findings, HELD_BEFORE_FULL);
+    let place = "in the value itself";
+    let mut none = FixedSizeFlatMap::<u64, u64, 0>::new();
+    check_calls(&findings, &mut none, NO_PLACE, place);
+    let mut one = FixedSizeFlatMap::<u64, u64, 1>::new();
+    check_calls(&findings, &mut one, HELD_BEFORE_FULL, place);
     for lines in OF_TWO {
-        check_fixed::<u64, u64, 2>(&findings, lines);
+        let mut two = FixedSizeFlatMap::<u64, u64, 2>::new();
+        check_calls(&findings, &mut two, lines, place);
     }
     for lines in OF_THREE {
-        check_fixed::<u64, u64, 3>(&findings, lines);
+        let mut three = FixedSizeFlatMap::<u64, u64, 3>::new();
+        check_calls(&findings, &mut three, lines, place);
     }
-    check_fixed::<Caseless, u64, 2>(&findings, CASE_IGNORED);
-    check_fixed::<StaticString<16>, char, 2>(&findings, TEXTS);
-    check_fixed::<Port, u64, 3>(&findings, PORTS);
-    check_fixed::<(), (), 2>(&findings, SIZE_ZERO);
+    findings.verdict()
+}
+
+#[test]
+fn other_keys_in_the_value_itself() -> Result<(), Fail> {
+    let findings = Findings::new();
+    let place = "in the value itself";
+    let mut caseless = FixedSizeFlatMap::<Caseless, u64, 2>::new();
+    check_calls(&findings, &mut caseless, CASE_IGNORED, place);
+    let mut texts = FixedSizeFlatMap::<StaticString<16>, char, 2>::new();
+    check_calls(&findings, &mut texts, TEXTS, place);
+    let mut ports = FixedSizeFlatMap::<Port, u64, 3>::new();
+    check_calls(&findings, &mut ports, PORTS, place);
+    let mut units = FixedSizeFlatMap::<(), (), 2>::new();
+    check_calls(&findings, &mut units, SIZE_ZERO, place);
     findings.verdict()
 }
 
 /// Checks the example on a map of `capacity` of each kind that allocates from `alloc`.
 fn check_example<K: Key, V: Copy + PartialEq + Debug, A: Allocator + Copy>(
     findings: &Findings,
-    place: (A, &str),
+    alloc: A,
     capacity: usize,
     lines: &[Line<K::Name, V>],
+    memory: &str,
 )
     requires { AreEqualClones V.is_clone }
 {
-    let (alloc, memory) = place;
-    let allocated = FlatMap::<K, V, A>::new(alloc, capacity);
-    check_made(findings, allocated, lines, memory);
-    let relocatable = UninitFlatMap::<K, V>::new_uninit(capacity).init(alloc);
-    check_made(findings, relocatable, lines, memory);
+    match FlatMap::<K, V, A>::new(alloc, capacity) {
+        Ok(mut map) => check_calls(findings, &mut map, lines, memory),
+        Err(AllocError) => findings.miss(memory),
+    }
+    match UninitFlatMap::<K, V>::new_uninit(capacity).init(alloc) {
+        Ok(mut map) => check_calls(findings, &mut map, lines, memory),
+        Err(_) => findings.miss(memory),
+    }
 }
 
 /// Checks each example on a map of each kind that allocates from `alloc`.
 fn check_examples<A: Allocator + Copy>(findings: &Findings, alloc: A, memory: &str) {
-    let place = (alloc, memory);
-    check_example::<u64, u64, A>(findings, place, 0, NO_PLACE);
-    check_example::<u64, u64, A>(findings, place, 1, HELD_BEFORE_FULL);
+    check_example::<u64, u64, A>(findings, alloc, 0, NO_PLACE, memory);
+    check_example::<u64, u64, A>(findings, alloc, 1, HELD_BEFORE_FULL, memory);
     for lines in OF_TWO {
-        check_example::<u64, u64, A>(findings, place, 2, lines);
+        check_example::<u64, u64, A>(findings, alloc, 2, lines, memory);
     }
     for lines in OF_THREE {
-        check_example::<u64, u64, A>(findings, place, 3, lines);
+        check_example::<u64, u64, A>(findings, alloc, 3, lines, memory);
     }
-    check_example::<Caseless, u64, A>(findings, place, 2, CASE_IGNORED);
-    check_example::<StaticString<16>, char, A>(findings, place, 2, TEXTS);
-    check_example::<Port, u64, A>(findings, place, 3, PORTS);
-    check_example::<(), (), A>(findings, place, 2, SIZE_ZERO);
+    check_example::<Caseless, u64, A>(findings, alloc, 2, CASE_IGNORED, memory);
+    check_example::<StaticString<16>, char, A>(findings, alloc, 2, TEXTS, memory);
+    check_example::<Port, u64, A>(findings, alloc, 3, PORTS, memory);
+    check_example::<(), (), A>(findings, alloc, 2, SIZE_ZERO, memory);
 }
 
 /// Does what `check_examples` does. All of the memory is deallocated.
