@@ -85,8 +85,14 @@ fn check_blocks(findings: &Findings, heap: &LocalHeap, ample: Global, (first, bo
     check_heap(findings, heap, ample, both);
 }
 
-/// The number of blocks of a heap, and whether the first allocation succeeds, and both.
-const BLOCKS: &[(usize, bool, bool)] = &[(3, false, false), (4, true, false), (9, true, true)];
+/// The number of blocks of 16 bytes of a heap, and whether the first allocation succeeds, and both. One block is held,
+/// two pairs take three, and two links four.
+const BLOCKS: &[(usize, bool, bool)] = &[
+    (3, false, false),
+    (4, true, false),
+    (7, true, false),
+    (8, true, true),
+];
 
 #[test]
 fn makings_refused(rt: HostRuntime) -> Result<(), Fail> {
