@@ -2,9 +2,9 @@
 use crate::noted_calls::Call::{
     Contains, Get, GetRef, Insert, IsEmpty, IsFull, Len, ListKeys, Remove, Write,
 };
-use crate::noted_calls::{BothNotes, Call, NotedKey, returned_by};
+use crate::noted_calls::{AllNotes, Call, NotedKey, returned_by};
 use ix_cells::{RelocatableContainer, Table};
-use ix_expect::{Findings, Noted, Notes};
+use ix_expect::{Findings, Noted};
 use ix_maps::{FixedSizeFlatMap, FlatMap, Link, MetaFlatMap, Pair, UninitFlatMap};
 use std::alloc::{AllocError, Global};
 use std::test::Fail;
@@ -36,7 +36,7 @@ const ROWS: &[(Call, u64)] = &[
 fn check_made<'a, S: Table<Pair<NotedKey<'a>, Noted<'a>>>, L: Table<Link>, E: Drop>(
     findings: &Findings,
     made: Result<MetaFlatMap<NotedKey<'a>, Noted<'a>, S, L>, E>,
-    notes: &'a BothNotes,
+    notes: &'a AllNotes,
 ) {
     let Ok(mut map) = made else {
         return findings.miss("there is memory");
@@ -52,10 +52,7 @@ fn check_made<'a, S: Table<Pair<NotedKey<'a>, Noted<'a>>>, L: Table<Link>, E: Dr
 #[test]
 fn clones_are_counted(rt: HostRuntime) -> Result<(), Fail> {
     let findings = Findings::new();
-    let notes = BothNotes {
-        keys: Notes::new(0),
-        values: Notes::new(0),
-    };
+    let notes = AllNotes::new(0);
     let fixed = Ok::<_, AllocError>(FixedSizeFlatMap::<NotedKey, Noted, 2>::new());
     check_made(&findings, fixed, &notes);
     let allocated = FlatMap::<NotedKey, Noted, Global>::new(rt.alloc(), 2);

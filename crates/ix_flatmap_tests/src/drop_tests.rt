@@ -1,8 +1,8 @@
 //! When keys and values are dropped: each one once, and by the drop of a map in slot order.
 use crate::noted_calls::Call::{Contains, Get, GetRef, Insert, ListKeys, Remove, Write};
-use crate::noted_calls::{BothNotes, Call, NotedKey, returned_by};
+use crate::noted_calls::{AllNotes, Call, NotedKey, returned_by};
 use ix_cells::{RelocatableContainer, Table};
-use ix_expect::{Findings, Noted, Notes};
+use ix_expect::{Findings, Noted};
 use ix_maps::{FixedSizeFlatMap, FlatMap, Link, MetaFlatMap, Pair, UninitFlatMap};
 use std::alloc::{AllocError, Global};
 use std::test::Fail;
@@ -59,7 +59,7 @@ const EXAMPLES: &[Example] = &[
 ];
 
 /// Returns the names of the dropped keys and those of the dropped values, and forgets them.
-fn take_drops(notes: &BothNotes) -> (u64, u64) {
+fn take_drops(notes: &AllNotes) -> (u64, u64) {
     (notes.keys.take_drops(), notes.values.take_drops())
 }
 
@@ -73,7 +73,7 @@ fn name_of(value: Option<Noted>) -> Option<u64> {
 fn check_rows<'a, S: Table<Pair<NotedKey<'a>, Noted<'a>>>, L: Table<Link>>(
     findings: &Findings,
     map: &mut MetaFlatMap<NotedKey<'a>, Noted<'a>, S, L>,
-    notes: &'a BothNotes,
+    notes: &'a AllNotes,
     rows: &[Row],
 ) {
     for (number, (call, keys, values, name)) in rows.iter().enumerate() {
@@ -89,7 +89,7 @@ fn check_rows<'a, S: Table<Pair<NotedKey<'a>, Noted<'a>>>, L: Table<Link>>(
 fn check_made<'a, S: Table<Pair<NotedKey<'a>, Noted<'a>>>, L: Table<Link>, E: Drop>(
     findings: &Findings,
     made: Result<MetaFlatMap<NotedKey<'a>, Noted<'a>, S, L>, E>,
-    notes: &'a BothNotes,
+    notes: &'a AllNotes,
     (rows, keys, values): &Example,
 ) {
     match made {
@@ -105,10 +105,7 @@ fn check_made<'a, S: Table<Pair<NotedKey<'a>, Noted<'a>>>, L: Table<Link>, E: Dr
 #[test]
 fn each_kind(rt: HostRuntime) -> Result<(), Fail> {
     let findings = Findings::new();
-    let notes = BothNotes {
-        keys: Notes::new(0),
-        values: Notes::new(9),
-    };
+    let notes = AllNotes::new(9);
     for example in EXAMPLES {
         let fixed = Ok::<_, AllocError>(FixedSizeFlatMap::<NotedKey, Noted, 3>::new());
         check_made(&findings, fixed, &notes, example);

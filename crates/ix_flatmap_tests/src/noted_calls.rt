@@ -1,4 +1,4 @@
-//! Calls of maps whose keys and values note their drops.
+//! Calls of maps whose keys and values note what happens to them.
 ghost use Rattle.std.proofs.Common.{rules};
 ghost use Rattle.std.specs.Cmp.Rules.{comparing};
 ghost use Rattle.std.specs.Ordering.{on};
@@ -7,25 +7,52 @@ ghost use Rattle.std.specs.Prelude.{nat_eq};
 use ix_cells::Table;
 use ix_expect::{Noted, Notes};
 use ix_maps::{CallbackProgression, Link, MetaFlatMap, Pair};
+use std::cell::Cell;
 
-/// A key that notes its drop. Keys are equal if their numbers are.
+/// The notes of the keys, those of the values, and the number of comparisons of keys.
+#[derive(Drop)]
+pub struct AllNotes {
+    pub keys: Notes,
+    pub values: Notes,
+    pub comparisons: Cell<u64>,
+}
+
+impl AllNotes {
+    /// Returns notes of nothing. The next `clones` clones of values succeed, and none of a key.
+    pub fn new(clones: u64) -> AllNotes {
+        AllNotes {
+            keys: Notes::new(0),
+            values: Notes::new(clones),
+            comparisons: Cell::new(0),
+        }
+    }
+}
+
+/// A key that notes its drop and its comparisons. Keys are equal if their numbers are.
 #[derive(Drop)]
 pub struct NotedKey<'a> {
     number: u64,
     noted: Noted<'a>,
+    comparisons: &'a Cell<u64>,
 }
 
 impl<'a> NotedKey<'a> {
     /// Returns a key that notes its drop by `name`.
-    fn new(number: u64, name: u64, notes: &'a Notes) -> NotedKey<'a> {
-        let noted = Noted::new(name, notes);
-        NotedKey { number, noted }
+    fn new(number: u64, name: u64, notes: &'a AllNotes) -> NotedKey<'a> {
+        NotedKey {
+            number,
+            noted: Noted::new(name, &notes.keys),
+            comparisons: &notes.comparisons,
+        }
     }
 
-    /// Returns a key that notes nothing, to look for an equal one.
-    fn to_find(number: u64) -> NotedKey<'a> {
-        let noted = Noted::default();
-        NotedKey { number, noted }
+    /// Returns a key that notes no drop, to look for an equal one.
+    fn to_find(number: u64, notes: &'a AllNotes) -> NotedKey<'a> {
+        NotedKey {
+            number,
+            noted: Noted::default(),
+            comparisons: &notes.comparisons,
+        }
     }
 }
 
@@ -35,6 +62,8 @@ impl PartialEq for NotedKey<'_> {
     ghost laws = { Prim.search (comparing, rules) };
 
     fn eq(&self, other: &Self) -> bool {
+        let comparisons = self.comparisons.get();
+        self.comparisons.set(comparisons.wrapping_add(1));
         self.number == other.number
     }
 }
@@ -58,13 +87,6 @@ pub enum Call {
     ListKeys,
 }
 
-/// The notes of the keys and those of the values.
-#[derive(Drop)]
-pub struct BothNotes {
-    pub keys: Notes,
-    pub values: Notes,
-}
-
 /// Replaces the value of `key`.
 fn write<'a, S: Table<Pair<NotedKey<'a>, Noted<'a>>>, L: Table<Link>>(
     map: &mut MetaFlatMap<NotedKey<'a>, Noted<'a>, S, L>,
@@ -80,13 +102,14 @@ fn write<'a, S: Table<Pair<NotedKey<'a>, Noted<'a>>>, L: Table<Link>>(
 fn read<'a, S: Table<Pair<NotedKey<'a>, Noted<'a>>>, L: Table<Link>>(
     map: &MetaFlatMap<NotedKey<'a>, Noted<'a>, S, L>,
     call: &Call,
+    notes: &'a AllNotes,
 ) {
     match call {
         Call::GetRef(key) => {
-            let _ = map.get_ref(&NotedKey::to_find(*key));
+            let _ = map.get_ref(&NotedKey::to_find(*key, notes));
         }
         Call::Contains(key) => {
-            let _ = map.contains(&NotedKey::to_find(*key));
+            let _ = map.contains(&NotedKey::to_find(*key, notes));
         }
         Call::Len => {
             let _ = map.len();
@@ -105,23 +128,23 @@ fn read<'a, S: Table<Pair<NotedKey<'a>, Noted<'a>>>, L: Table<Link>>(
 pub fn returned_by<'a, S: Table<Pair<NotedKey<'a>, Noted<'a>>>, L: Table<Link>>(
     map: &mut MetaFlatMap<NotedKey<'a>, Noted<'a>, S, L>,
     call: &Call,
-    notes: &'a BothNotes,
+    notes: &'a AllNotes,
 ) -> Option<Noted<'a>> {
     match call {
         Call::Insert(key, name) => {
-            let key = NotedKey::new(*key, *name, &notes.keys);
+            let key = NotedKey::new(*key, *name, notes);
             let _ = map.insert(key, Noted::new(*name, &notes.values));
             None
         }
         Call::Write(key, name) => {
             let value = Noted::new(*name, &notes.values);
-            write(map, &NotedKey::to_find(*key), value);
+            write(map, &NotedKey::to_find(*key, notes), value);
             None
         }
-        Call::Remove(key) => map.remove(&NotedKey::to_find(*key)),
-        Call::Get(key) => map.get(&NotedKey::to_find(*key)).ok().flatten(),
+        Call::Remove(key) => map.remove(&NotedKey::to_find(*key, notes)),
+        Call::Get(key) => map.get(&NotedKey::to_find(*key, notes)).ok().flatten(),
         _ => {
-            read(map, call);
+            read(map, call, notes);
             None
         }
     }
