@@ -1,5 +1,5 @@
 -- The steps of a flat map: the state after each call, the result of inserting, and the calls that listing the keys makes.
-use Rattle.std.specs.Prelude.{◌≡◌, ℕ, ◌⊎◌, List, [], ◌∷◌, Bool, if◌then◌else◌, is_some, slice_get, Option, Result, Ok, Err, codes}
+use Rattle.std.specs.Prelude.{◌≡◌, ℕ, ◌⊎◌, List, [], ◌∷◌, Bool, if◌then◌else◌, is_some, slice_get, Result, Ok, Err, codes}
 use Rattle.std.specs.Option.{option_map_or}
 use Rattle.std.specs.Fn.{Mut, CalledAt}
 use Rattle.std.specs.Borrow.{Bor}

@@ -125,6 +125,11 @@ impl<K: Eq + Drop, V: Drop, S: Table<Pair<K, V>>, L: Table<Link>> MetaFlatMap<K,
         ensures* writes_back { sem 𝓛 (LendsIf (the_row K.row V.row S.row L.row K.PartialEq S.Table L.Table)
             V.row self.entry result (flat_set K.eq self.old key.now) self.old) }
         ensures value { option_copied_mut result ≡ flat_value K.eq self.old key.now }
+        // Whatever value is written, the key has it, and any other key keeps its own.
+        ensures holds { (written : V) → IsSome (flat_value K.eq self.old key.now)
+            → flat_value K.eq (flat_set K.eq self.old key.now written) key.now ≡ Some written }
+        ensures kept { (written : V) (other : K) → K.eq other key.now ≡ false
+            → flat_value K.eq (flat_set K.eq self.old key.now written) other ≡ flat_value K.eq self.old other }
     {
         match self.place(key) {
             Some(place) => Some(self.value_mut(place)),
@@ -220,7 +225,8 @@ impl<K: Eq + Drop, V: Drop, S: Table<Pair<K, V>>, L: Table<Link>> MetaFlatMap<K,
     /// Returns the place of the key that equals `key`.
     #[inline]
     fn place(&self, key: &K) -> Option<SlotMapKey>
-        ensures { result ≡ option_map (λ entry. entry.0) (flat_entry K.eq self.now key.now) }
+        ensures value { result ≡ option_map (λ entry. entry.0) (flat_entry K.eq self.now key.now) }
+        ensures distinct { HasDistinctKeys K.eq self.now }
     {
         match self.find(key) {
             Some((place, _)) => Some(place),

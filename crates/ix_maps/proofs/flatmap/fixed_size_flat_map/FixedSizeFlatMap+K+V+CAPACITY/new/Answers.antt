@@ -1,4 +1,4 @@
-use Rattle.ix_maps.proofs.FlatMaps.{HasDistinctKeys-slot_new}
+use Rattle.ix_maps.proofs.FlatEntries.{HasDistinctKeys-slot_new}
 use Rattle.ix_maps.proofs.flatmap.fixed_size_flat_map.FixedSizeFlatMap+K+V+CAPACITY.new.Goals as goal
 
 pub invariant_of-result : goal.invariant_of-result

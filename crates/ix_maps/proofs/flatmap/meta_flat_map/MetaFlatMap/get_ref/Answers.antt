@@ -1,6 +1,6 @@
-use Rattle.std.proofs.Common.{ap, sym, ◌∙◌}
+use Rattle.std.proofs.Common.{ap, ◌∙◌}
 use Rattle.std.specs.Prelude.{option_map}
-use Rattle.ix_maps.proofs.FlatMaps.{flat_value-IsEntry, IsNone-flat_value}
+use Rattle.ix_maps.proofs.FlatEntries.{flat_value-IsEntry, IsNone-flat_value}
 use Rattle.ix_maps.proofs.flatmap.meta_flat_map.MetaFlatMap.get_ref.Goals as goal
 
 pub returns-in-Some-clause-found : goal.returns-in-Some-clause-found

@@ -2,9 +2,10 @@ use Rattle.std.proofs.Common.{◌≡◌, None, IsSome, refl, sym, ap, ◌∙◌,
 use Rattle.std.specs.Prelude.{IsOk}
 use Rattle.std.proofs.lemmas.Bool.{iff_false}
 use Rattle.ix_maps.specs.SlotState.{SlotState}
-use Rattle.ix_maps.specs.FlatState.{HasDistinctKeys, flat_entry, flat_value}
+use Rattle.ix_maps.specs.FlatState.{flat_entry, flat_value}
 use Rattle.ix_maps.specs.declared.flatmap.pair.Pair.{Pair}
-use Rattle.ix_maps.proofs.FlatMaps.{flat_entry-absent, HasDistinctKeys-inserted, flat_value-inserted, flat_value-inserted_other}
+use Rattle.ix_maps.proofs.FlatEntries.{flat_entry-absent}
+use Rattle.ix_maps.proofs.FlatSteps.{HasDistinctKeys-inserted, flat_value-inserted, flat_value-inserted_other}
 use Rattle.ix_maps.proofs.flatmap.meta_flat_map.MetaFlatMap.insert.Goals as goal
 use Rattle.ix_maps.proofs.flatmap.meta_flat_map.MetaFlatMap.insert.Goals.{in-Some, in-None}
 

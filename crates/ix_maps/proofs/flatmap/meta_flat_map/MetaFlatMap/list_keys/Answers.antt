@@ -1,4 +1,4 @@
-use Rattle.std.proofs.Common.{rules, of_calls, ℕ, List, map, sym, ap, subst, inl, inr, refl}
+use Rattle.std.proofs.Common.{rules, of_calls, ℕ, List, map, sym, subst, refl}
 use Rattle.ix_maps.specs.FlatSteps.{ListsUntilStop}
 use Rattle.ix_maps.specs.declared.flatmap.pair.Pair.{Pair}
 use Rattle.ix_maps.proofs.FlatCalls.{ListsUntilStop-continue, ListsUntilStop-stop}
