@@ -1,0 +1,4 @@
+//! Byte cells.
+#![tactic(auto)]
+
+pub mod byte_atomic;
