@@ -1,5 +1,5 @@
 -- What the walks over steps compute. No public contract cites this module.
-use Rattle.std.specs.Prelude.{ℕ, ◌+◌, Bool, true, false, not, ◌&&◌, ◌||◌, List, [], ◌∷◌, if◌then◌else◌, nat_eq, nat_lt, Option, Some, None, unwrap_or}
+use Rattle.std.specs.Prelude.{ℕ, ◌+◌, Bool, true, false, not, ◌&&◌, ◌||◌, List, [], ◌∷◌, if◌then◌else◌, nat_eq, nat_lt, Option, Some, None, is_none, unwrap_or}
 use Rattle.ix_atomic.specs.declared.byte_atomic.steps.plain.Act.{Act}
 use Rattle.ix_atomic.specs.declared.byte_atomic.steps.plain.Act.TheVariants as act
 use Rattle.ix_atomic.specs.declared.byte_atomic.steps.versioned.VersionedStep.{VersionedStep}
@@ -36,13 +36,14 @@ abbrev pub loads_agree : ℕ → ℕ → List Act → Bool
 loads_agree place first acts = walk (load_agrees place) (next_byte place) first acts
 
 -- the writer's steps are in turn; the state is the number of bytes that the write in progress has stored
+abbrev pub has_stored : ℕ → Option ℕ → Bool
+has_stored count None = false
+has_stored count (Some stored) = nat_eq stored count
+
 abbrev pub is_in_turn : ℕ → Option ℕ → VersionedStep → Bool
-is_in_turn len None Begin = true
-is_in_turn len (Some stored) Begin = false
-is_in_turn len None (Store place byte) = false
-is_in_turn len (Some stored) (Store place byte) = nat_eq place stored && nat_lt place len
-is_in_turn len None End = false
-is_in_turn len (Some stored) End = nat_eq stored len
+is_in_turn len stored Begin = is_none stored
+is_in_turn len stored (Store place byte) = has_stored place stored && nat_lt place len
+is_in_turn len stored End = has_stored len stored
 is_in_turn len stored (LoadVersion reader version) = true
 is_in_turn len stored (LoadByte reader place byte) = true
 

@@ -62,7 +62,7 @@ fn writes_are_in_turn(len: usize, steps: &[VersionedStep]) -> bool
     for step in steps {
         match (*step, stored) {
             (VersionedStep::Begin, None) => stored = Some(0),
-            (VersionedStep::Store { place, .. }, Some(next)) if place == next && place < len => {
+            (VersionedStep::Store { place, .. }, Some(next)) if next == place && place < len => {
                 stored = Some(place + 1);
             }
             (VersionedStep::End, Some(next)) if next == len => stored = None,
