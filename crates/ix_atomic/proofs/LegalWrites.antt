@@ -1,7 +1,8 @@
 -- The walk over the writer's steps tells whether they are whole writes in turn.
 use Rattle.std.proofs.Common.{◌≡◌, ℕ, suc, ◌+◌, ◌-◌, ◌≤◌, List, [], ◌∷◌, ◌++◌, length, replicate, Option, Some, None, Bool, true, refl, sym, ap, ◌∙◌, arith, lt-ltb, ltb-true, eq-eqb, eqb-true}
-use Rattle.std.specs.List.{AllByRecursion, filter, flat_map}
+use Rattle.std.specs.List.{All, filter, flat_map}
 use Rattle.std.proofs.lemmas.List.{length-replicate}
+use Rattle.std.proofs.lemmas.List.Elements.{All-nil, All-cons, All-head, All-tail}
 use Rattle.std.proofs.lemmas.Bool.{and_parts, and_from}
 use Rattle.ix_atomic.specs.declared.byte_atomic.steps.versioned.VersionedStep.{VersionedStep}
 use Rattle.ix_atomic.specs.declared.byte_atomic.steps.versioned.VersionedStep.TheVariants.{Begin, Store, End, LoadVersion, LoadByte}
@@ -18,8 +19,8 @@ abbrev pub Completes : ℕ → Option ℕ → List ℕ → Type 0
 Completes len None bytes = Unit {0}
 Completes len (Some stored) bytes = stored + length bytes ≡ len
 
-abbrev AreOfLength : ℕ → List (List ℕ) → Type 0
-AreOfLength len values = AllByRecursion (λ value. length value ≡ len) values
+abbrev IsOfLength : ℕ → List ℕ → Type 0
+IsOfLength len value = length value ≡ len
 
 -- the writer's steps are the rest of the write in progress, and then writes, the last of which may be cut short
 pub record GoesOn (len : ℕ) (stored : Option ℕ) (steps : List VersionedStep) : Type 0 where
@@ -27,7 +28,7 @@ pub record GoesOn (len : ℕ) (stored : Option ℕ) (steps : List VersionedStep)
   pub values : List (List ℕ)
   pub missing : List VersionedStep
   pub completes : Completes len stored bytes
-  pub sizes : AreOfLength len values
+  pub sizes : All (IsOfLength len) values
   pub in_turn : filter is_of_writer steps ++ missing ≡ rest_of stored bytes ++ flat_map write_of values
 
 abbrev IsWithin : ℕ → Option ℕ → Type 0
@@ -35,14 +36,14 @@ IsWithin len None = Unit {0}
 IsWithin len (Some stored) = stored ≤ len
 
 goes_on : (len : ℕ) (stored : Option ℕ) (steps : List VersionedStep) → IsWithin len stored → are_in_turn len stored steps ≡ true → GoesOn len stored steps
-goes_on len None [] within passes = record { bytes = []; values = []; missing = []; completes = tt; sizes = tt; in_turn = refl }
+goes_on len None [] within passes = record { bytes = []; values = []; missing = []; completes = tt; sizes = All-nil (IsOfLength len); in_turn = refl }
 goes_on len (Some stored) [] within passes =
     let zeros : List ℕ = replicate (len - stored) 0 in
     let count : length zeros ≡ len - stored = length-replicate _ _ in
-    record { bytes = zeros; values = []; missing = rest_of (Some stored) zeros ++ []; completes = omega arith; sizes = tt; in_turn = refl }
+    record { bytes = zeros; values = []; missing = rest_of (Some stored) zeros ++ []; completes = omega arith; sizes = All-nil (IsOfLength len); in_turn = refl }
 goes_on len None (Begin ∷ steps) within passes =
     let r = goes_on len (Some 0) steps (omega arith) passes in
-    record { bytes = []; values = r.bytes ∷ r.values; missing = r.missing; completes = tt; sizes = (omega (arith, r.completes), r.sizes); in_turn = ap (λ l. Begin ∷ l) r.in_turn }
+    record { bytes = []; values = r.bytes ∷ r.values; missing = r.missing; completes = tt; sizes = All-cons (IsOfLength len) r.bytes r.values (omega (arith, r.completes)) r.sizes; in_turn = ap (λ l. Begin ∷ l) r.in_turn }
 goes_on len (Some stored) (Begin ∷ steps) within passes = absurd (cc)
 goes_on len None (Store place byte ∷ steps) within passes = absurd (cc)
 goes_on len (Some stored) (Store place byte ∷ steps) within passes =
@@ -69,11 +70,11 @@ pub AreWrites-walk : (len : ℕ) (steps : List VersionedStep) → are_in_turn le
 AreWrites-walk len steps passes = let r = goes_on len None steps tt passes in (r.values, record { sizes = r.sizes; missing = r.missing; in_turn = r.in_turn })
 
 passes_on : (len : ℕ) (stored : Option ℕ) (steps : List VersionedStep) (bytes : List ℕ) (values : List (List ℕ)) (missing : List VersionedStep)
-    → Completes len stored bytes → AreOfLength len values → filter is_of_writer steps ++ missing ≡ rest_of stored bytes ++ flat_map write_of values
+    → Completes len stored bytes → All (IsOfLength len) values → filter is_of_writer steps ++ missing ≡ rest_of stored bytes ++ flat_map write_of values
     → are_in_turn len stored steps ≡ true
 passes_on len stored [] bytes values missing completes sizes e = refl
 passes_on len None (Begin ∷ steps) bytes [] missing completes sizes e = absurd (cc)
-passes_on len None (Begin ∷ steps) bytes (value ∷ values) missing completes sizes e = passes_on len (Some 0) steps value values missing (omega (arith, sizes.0)) sizes.1 (cc)
+passes_on len None (Begin ∷ steps) bytes (value ∷ values) missing completes sizes e = passes_on len (Some 0) steps value values missing (omega (arith, All-head (IsOfLength len) value values sizes)) (All-tail (IsOfLength len) value values sizes) (cc)
 passes_on len (Some stored) (Begin ∷ steps) [] values missing completes sizes e = absurd (cc)
 passes_on len (Some stored) (Begin ∷ steps) (b ∷ bytes) values missing completes sizes e = absurd (cc)
 passes_on len None (Store place byte ∷ steps) bytes [] missing completes sizes e = absurd (cc)

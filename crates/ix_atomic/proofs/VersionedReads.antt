@@ -1,10 +1,10 @@
 -- What a reader has loaded between two loads of one even version.
 use Rattle.std.proofs.Common.{◌≡◌, ℕ, zero, suc, ◌+◌, ◌*◌, ◌<◌, ◌≤◌, ◌⊎◌, List, [], ◌∷◌, ◌++◌, length, take, get_or, Option, Some, None, Bool, true, false, cond, nat_eq, refl, sym, ap, ap₂, ◌∙◌, inl, inr, arith, ne_eqb, eq-eqb, append_assoc}
 use Rattle.std.specs.Option.{option_to_list}
-use Rattle.std.specs.List.{AllByRecursion, filter, filter_map, flat_map, cons_option, last_or, slice_get}
+use Rattle.std.specs.List.{All, filter, filter_map, flat_map, cons_option, last_or, slice_get}
 use Rattle.std.proofs.lemmas.Bool.{cases_Bool}
 use Rattle.std.proofs.lemmas.List.{append-nil, append_cancel_left, ext_get_or}
-use Rattle.std.proofs.lemmas.List.Elements.{filter-append, filter_map-append}
+use Rattle.std.proofs.lemmas.List.Elements.{All-head, All-tail, filter-append, filter_map-append}
 use Rattle.std.proofs.lemmas.Option.{slice_get-get_or, slice_get_past, slice_get_cases, get_or_from_slice_get}
 use Rattle.ix_atomic.specs.declared.byte_atomic.steps.plain.Act.{Act}
 use Rattle.ix_atomic.specs.declared.byte_atomic.steps.plain.Act.TheVariants as act
@@ -137,16 +137,17 @@ record ValueAfter (size : ℕ) (first : List ℕ) (values : List (List ℕ)) (co
   pub whole : length value ≡ size
   pub bytes : (i : ℕ) → byte_after first (acts (flat_map write_of (take count values))) i ≡ slice_get value i
 
-value_after : (size : ℕ) (first : List ℕ) (values : List (List ℕ)) (count : ℕ) → length first ≡ size → AllByRecursion (λ value. length value ≡ size) values → count ≤ length values → ValueAfter size first values count
+value_after : (size : ℕ) (first : List ℕ) (values : List (List ℕ)) (count : ℕ) → length first ≡ size → All (λ value. length value ≡ size) values → count ≤ length values → ValueAfter size first values count
 value_after size first values zero whole sizes inside = record { value = first; stands = refl; whole = whole; bytes = λ i. refl }
 value_after size first [] (suc count) whole sizes inside = absurd (omega arith)
 value_after size first (value ∷ values) (suc count) whole sizes inside =
-    let h = value_after size value values count sizes.0 sizes.1 (omega arith) in
+    let size_here = All-head (λ v. length v ≡ size) value values sizes in
+    let h = value_after size value values count size_here (All-tail (λ v. length v ≡ size) value values sizes) (omega arith) in
     record {
       value = h.value;
       stands = h.stands;
       whole = h.whole;
-      bytes = λ i. byte_after-write first value (flat_map write_of (take count values)) i (sizes.0 ∙ sym whole) ∙ h.bytes i;
+      bytes = λ i. byte_after-write first value (flat_map write_of (take count values)) i (size_here ∙ sym whole) ∙ h.bytes i;
     }
 
 -- only the writer stores

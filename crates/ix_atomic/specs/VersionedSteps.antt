@@ -1,6 +1,6 @@
 -- Lists of versioned steps that are possible, and reads between two loads of the version.
-use Rattle.std.specs.Prelude.{◌≡◌, ◌≢◌, ℕ, List, [], ◌∷◌, ◌++◌, length, map, Option, Some, None, Bool, true, false, nat_eq, filter, filter_map, flat_map, count_by}
-use Rattle.std.specs.List.{AllByRecursion, enumerate_from}
+use Rattle.std.specs.Prelude.{◌≡◌, ◌≢◌, ℕ, List, [], ◌∷◌, ◌++◌, length, map, Option, Some, None, Bool, true, false, nat_eq, filter, filter_map, flat_map, count_by, All}
+use Rattle.std.specs.List.{enumerate_from}
 use Rattle.ix_atomic.specs.declared.byte_atomic.steps.plain.Act.{Act}
 use Rattle.ix_atomic.specs.declared.byte_atomic.steps.plain.Act.TheVariants as act
 use Rattle.ix_atomic.specs.declared.byte_atomic.steps.versioned.VersionedStep.{VersionedStep}
@@ -51,7 +51,7 @@ write_of value = Begin ∷ (byte_steps Store 0 value ++ End ∷ [])
 
 -- the writer's steps are the writes of these values, one after another, the last of which may be cut short anywhere
 pub record AreWrites (size : ℕ) (steps : List VersionedStep) (values : List (List ℕ)) : Type 0 where
-  pub sizes : AllByRecursion (λ value. length value ≡ size) values
+  pub sizes : All (λ value. length value ≡ size) values
   pub missing : List VersionedStep
   pub in_turn : filter is_of_writer steps ++ missing ≡ flat_map write_of values
 
