@@ -42,11 +42,13 @@ AreLegal-walks first acts within agree before after act e =
         (λ before len act is. is)
         (λ before len act is passes. ltb-true _ _ (sym (ap (nat_lt (act_place act)) is) ∙ passes))
         (length first) acts refl within
+
     agrees : (place : ℕ) → place < length first → EachAfter (AgreesAt first place) acts
     agrees place below = EachAfter-walk (load_agrees place) (next_byte place) (λ before byte. byte_after first before place ≡ Some byte) (AgreesAt first place)
         (λ before byte act is. byte_after-push first before act place byte is)
         (λ before byte act is passes. load_agrees-tells first place before byte act is passes)
         (slice_index first place) acts (first_byte first place below) (agree place below)
+
     legal : (act : Act) → act_place act < length first → ((place : ℕ) → place < length first → AgreesAt first place before act) → IsLegalAfter first before act
     legal (Store place byte) below each = below
     legal (Load place byte) below each = (below, each place below byte refl)

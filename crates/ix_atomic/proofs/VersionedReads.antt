@@ -193,27 +193,35 @@ versioned_read first steps values reader k bytes legal writes read =
   where
     load : VersionedStep
     load = LoadVersion reader (2 * k)
+
     -- the steps before the second load of the version
     until : List VersionedStep
     until = read.before ++ load ∷ read.between
+
     begins : steps ≡ read.before ++ load ∷ (read.between ++ load ∷ read.after)
     begins = read.loads_versions ∙ append_assoc read.before (load ∷ read.between) (load ∷ read.after)
+
     written : AreFirstWrites (filter is_of_writer read.before) k values
     written = writes_before (length first) steps values k read.before (load ∷ (read.between ++ load ∷ read.after)) begins writes (legal.versions read.before (read.between ++ load ∷ read.after) load begins)
+
     still_written : AreFirstWrites (filter is_of_writer until) k values
     still_written = writes_before (length first) steps values k until (load ∷ read.after) read.loads_versions writes (legal.versions until read.after load read.loads_versions)
+
     -- the writer takes no step between the two
     still : filter is_of_writer read.between ≡ []
     still = append_cancel_left (filter is_of_writer read.before) (filter is_of_writer read.between) []
         (sym (filter-append is_of_writer read.before (load ∷ read.between)) ∙ (still_written.0 ∙ (sym written.0 ∙ sym (append-nil (filter is_of_writer read.before)))))
+
     value : ValueAfter (length first) first values k
     value = value_after (length first) first values k refl writes.sizes written.1
+
     unchanged : (front back : List VersionedStep) → read.between ≡ front ++ back → (i : ℕ) → byte_after first (acts (read.before ++ load ∷ front)) i ≡ slice_get value.value i
     unchanged front back e i =
         let none : filter is_of_writer front ≡ [] = front_of_none (filter is_of_writer front) (filter is_of_writer back) (sym (filter-append is_of_writer front back) ∙ (sym (ap (filter is_of_writer) e) ∙ still)) in
         let all : filter is_of_writer (read.before ++ load ∷ front) ≡ flat_map write_of (take k values) =
         filter-append is_of_writer read.before (load ∷ front) ∙ (ap (λ l. filter is_of_writer read.before ++ l) none ∙ (append-nil (filter is_of_writer read.before) ∙ written.0)) in
         ap (last_or (slice_get first i)) (sym (stores-filter i (read.before ++ load ∷ front)) ∙ ap (stores i) all) ∙ value.bytes i
+
     loaded : (i byte : ℕ) → slice_get bytes i ≡ Some byte → slice_get value.value i ≡ Some byte
     loaded i byte e =
         let at = split_at (is_of_reader reader) read.between i (LoadByte reader (0 + i) byte) (ap (λ l. slice_get l i) read.loads_bytes ∙ slice_get-byte_steps (LoadByte reader) 0 bytes i byte e) in

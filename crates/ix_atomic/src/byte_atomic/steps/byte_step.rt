@@ -28,7 +28,9 @@ fn places_are_within<S: ByteStep>(len: usize, steps: &[S]) -> bool
     ensures { result ≡ all_within len (filter_map S.act_of steps.now) }
 {
     for step in steps {
-        if let Some(Act::Store { place, .. } | Act::Load { place, .. }) = step.act() && place >= len {
+        if let Some(Act::Store { place, .. } | Act::Load { place, .. }) = step.act()
+            && place >= len
+        {
             return false;
         }
     }

@@ -64,5 +64,4 @@ pub fn plain_read_law()
         → IsFinishedRead first steps read → OverlapsNoWrite first steps read
         → HasNoWriteBefore first steps read
         → Takes steps read (Load place byte) → slice_get first place ≡ Some byte }
-{
-}
+{}

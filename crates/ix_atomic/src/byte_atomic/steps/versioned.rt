@@ -82,7 +82,10 @@ fn versions_are_right(steps: &[VersionedStep]) -> bool
         match *step {
             VersionedStep::Begin if version == LAST_VERSION => return false,
             VersionedStep::Begin | VersionedStep::End => version += 1,
-            VersionedStep::LoadVersion { version: loaded, .. } if loaded != version => return false,
+            VersionedStep::LoadVersion {
+                version: loaded,
+                ..
+            } if loaded != version => return false,
             _ => {}
         }
     }
@@ -99,5 +102,4 @@ pub fn versioned_read_law()
         → IsLegalVersioned first steps → AreWrites (length first) steps values
         → IsVersionedRead (length first) steps reader (2 * k) bytes (2 * k)
         → slice_get (first ∷ values) k ≡ Some bytes }
-{
-}
+{}
