@@ -6,3 +6,5 @@ pub mod LegalWrites
 pub mod VersionedReads
 pub mod LastGiven
 pub mod PlainReads
+mod WorkedSteps
+mod WorkedReads
