@@ -1,28 +1,10 @@
 -- Where items stand in a list: the last one that gives a value, and those that are counted.
-use Rattle.std.proofs.Common.{◌≡◌, ℕ, zero, suc, ◌+◌, ◌<◌, ◌⊎◌, List, [], ◌∷◌, ◌++◌, take, drop, Option, Some, None, Bool, true, false, cond, refl, sym, ap, ◌∙◌, subst, inl, inr, arith}
+use Rattle.std.proofs.Common.{◌≡◌, ℕ, zero, suc, ◌+◌, ◌<◌, ◌⊎◌, List, [], ◌∷◌, Option, Some, None, Bool, true, cond, refl, ap, ◌∙◌, subst, inl, inr, arith}
 use Rattle.std.specs.List.{count_by, filter_map, cons_option, last_or, slice_get}
 use Rattle.std.proofs.lemmas.List.Sums.{sum_by-cons}
 use Rattle.std.proofs.lemmas.Bool.{cases_Bool}
 
 module _ {S : Type 0} where
-  pub split_at : (xs : List S) (i : ℕ) (x : S) → slice_get xs i ≡ Some x → xs ≡ take i xs ++ x ∷ drop (suc i) xs
-  split_at [] i x e = absurd (cc)
-  split_at (y ∷ xs) zero x e = let same : y ≡ x = cc in ap (λ z. z ∷ xs) same
-  split_at (y ∷ xs) (suc i) x e = ap (λ l. y ∷ l) (split_at xs i x e)
-
-  pub in_take : (xs : List S) (j i : ℕ) (x : S) → slice_get (take j xs) i ≡ Some x → (slice_get xs i ≡ Some x) × (i < j)
-  in_take [] zero i x e = absurd (cc)
-  in_take [] (suc j) i x e = absurd (cc)
-  in_take (y ∷ xs) zero i x e = absurd (cc)
-  in_take (y ∷ xs) (suc j) zero x e = (e, omega arith)
-  in_take (y ∷ xs) (suc j) (suc i) x e = let h = in_take xs j i x e in (h.0, omega (arith, h.1))
-
-  pub to_take : (xs : List S) (j i : ℕ) (x : S) → slice_get xs i ≡ Some x → i < j → slice_get (take j xs) i ≡ Some x
-  to_take [] j i x e below = absurd (cc)
-  to_take (y ∷ xs) zero i x e below = absurd (omega arith)
-  to_take (y ∷ xs) (suc j) zero x e below = e
-  to_take (y ∷ xs) (suc j) (suc i) x e below = to_take xs j i x e (omega arith)
-
   -- an item that is counted, and that a counted item counts
   pub count_by_item : (test : S → Bool) (xs : List S) → 0 < count_by test xs → (i : ℕ) × (x : S) × (slice_get xs i ≡ Some x) × (test x ≡ true)
   count_by_item test [] some = absurd (omega arith)

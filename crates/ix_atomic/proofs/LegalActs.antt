@@ -1,6 +1,6 @@
 -- The walks over acts tell whether they are legal.
-use Rattle.std.proofs.Common.{◌≡◌, ℕ, ◌<◌, List, [], ◌∷◌, ◌++◌, length, map, Some, Bool, true, get_or, slice_index, refl, sym, ap, ◌∙◌, subst, inl, inr, arith, nat_lt, lt-ltb, ltb-true, eq-eqb, eqb-true}
-use Rattle.std.specs.List.{slice_get, filter_map}
+use Rattle.std.proofs.Common.{◌≡◌, ℕ, ◌<◌, List, [], ◌∷◌, length, map, Some, true, slice_index, refl, sym, ap, ◌∙◌, subst, inl, inr, arith, nat_lt, lt-ltb, ltb-true, eq-eqb, eqb-true}
+use Rattle.std.specs.List.{filter_map}
 use Rattle.std.proofs.lemmas.Bool.{or_left, or_right, or_cases, not_from_false, not-true, both_ways}
 use Rattle.std.proofs.lemmas.Bool.Decides.{eqb_tells}
 use Rattle.std.proofs.lemmas.Option.{slice_get-get_or}

@@ -1,10 +1,11 @@
 pub mod EachStep
+pub mod Splits
 pub mod LastStored
-pub mod LegalActs
-pub mod Versions
-pub mod LegalWrites
-pub mod VersionedReads
 pub mod LastGiven
+pub mod LegalActs
+pub mod LegalWrites
+pub mod Versions
 pub mod PlainReads
-mod WorkedSteps
+pub mod VersionedReads
 mod WorkedReads
+mod WorkedSteps

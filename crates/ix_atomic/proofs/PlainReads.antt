@@ -1,18 +1,18 @@
 -- What a read loads that overlaps no write.
-use Rattle.std.proofs.Common.{◌≡◌, ◌≢◌, ℕ, zero, suc, ◌+◌, ◌<◌, ◌≤◌, ◌⊎◌, List, [], ◌∷◌, ◌++◌, length, map, take, drop, Option, Some, None, is_some, Bool, true, false, cond, nat_eq, ◌&&◌, refl, sym, ap, ◌∙◌, subst, inl, inr, arith, eq-eqb, eqb-true}
-use Rattle.std.specs.List.{count_by, filter_map, cons_option, last_or, slice_get}
+use Rattle.std.proofs.Common.{◌≡◌, ℕ, suc, ◌<◌, ◌≤◌, List, [], ◌∷◌, length, map, take, drop, Option, Some, None, is_some, Bool, true, cond, nat_eq, ◌&&◌, refl, sym, ap, ◌∙◌, subst, inl, inr, arith, eq-eqb, eqb-true}
+use Rattle.std.specs.List.{filter_map, cons_option, last_or, slice_get}
 use Rattle.std.proofs.lemmas.Option.{slice_get_within}
 use Rattle.std.proofs.lemmas.List.{map-append}
-use Rattle.std.proofs.lemmas.List.Sums.{sum_by-cons}
-use Rattle.std.proofs.lemmas.Bool.{cases_lt, cases_eq, cases_order, cases_Bool, and_parts, and_from}
+use Rattle.std.proofs.lemmas.Bool.{cases_lt, cases_eq, cases_order, and_parts, and_from}
 use Rattle.std.proofs.lemmas.Bool.Decides.{eqb_tells}
 use Rattle.ix_atomic.specs.declared.byte_atomic.steps.plain.Act.{Act}
 use Rattle.ix_atomic.specs.declared.byte_atomic.steps.plain.Act.TheVariants.{Store, Load}
 use Rattle.ix_atomic.specs.declared.byte_atomic.steps.plain.Step.{Step}
-use Rattle.ix_atomic.specs.ByteActs.{stored_at, byte_after}
+use Rattle.ix_atomic.specs.ByteActs.{stored_at}
 use Rattle.ix_atomic.specs.PlainSteps.{IsLegal}
-use Rattle.ix_atomic.specs.Operations.{TakesAt, Takes, IsStepOf, times_stored, IsWrite, IsFinishedRead, IsUnfinishedWrite, AreReadsAndWrites, Lasts, Overlap, OverlapsNoWrite, IsBefore, HasNoWriteBefore, IsLastWriteBefore}
-use Rattle.ix_atomic.proofs.LastGiven.{split_at, in_take, to_take, NothingGiven, LastGiven, last_given, count_by_item, item_counted}
+use Rattle.ix_atomic.specs.Operations.{TakesAt, Takes, times_stored, IsWrite, IsFinishedRead, IsUnfinishedWrite, AreReadsAndWrites, Lasts, Overlap, OverlapsNoWrite, IsBefore, HasNoWriteBefore, IsLastWriteBefore}
+use Rattle.ix_atomic.proofs.Splits.{split_at, in_take, to_take}
+use Rattle.ix_atomic.proofs.LastGiven.{last_given, count_by_item, item_counted}
 
 -- what a step stores at a place
 abbrev step_stores : ℕ → Step → Option ℕ

@@ -1,8 +1,7 @@
 -- What a reader has loaded between two loads of one even version.
-use Rattle.std.proofs.Common.{◌≡◌, ℕ, zero, suc, ◌+◌, ◌*◌, ◌<◌, ◌≤◌, ◌⊎◌, List, [], ◌∷◌, ◌++◌, length, take, get_or, Option, Some, None, Bool, true, false, cond, nat_eq, refl, sym, ap, ap₂, ◌∙◌, inl, inr, arith, ne_eqb, eq-eqb, append_assoc}
+use Rattle.std.proofs.Common.{◌≡◌, ℕ, zero, suc, ◌+◌, ◌*◌, ◌<◌, ◌≤◌, List, [], ◌∷◌, ◌++◌, length, take, get_or, Some, None, cond, refl, sym, ap, ap₂, ◌∙◌, inl, inr, arith, ne_eqb, eq-eqb, append_assoc}
 use Rattle.std.specs.Option.{option_to_list}
 use Rattle.std.specs.List.{All, filter, filter_map, flat_map, cons_option, last_or, slice_get}
-use Rattle.std.proofs.lemmas.Bool.{cases_Bool}
 use Rattle.std.proofs.lemmas.List.{append-nil, append_cancel_left, ext_get_or}
 use Rattle.std.proofs.lemmas.List.Elements.{All-head, All-tail, filter-append, filter_map-append}
 use Rattle.std.proofs.lemmas.Option.{slice_get-get_or, slice_get_past, slice_get_cases, get_or_from_slice_get}
@@ -12,6 +11,7 @@ use Rattle.ix_atomic.specs.declared.byte_atomic.steps.versioned.VersionedStep.{V
 use Rattle.ix_atomic.specs.declared.byte_atomic.steps.versioned.VersionedStep.TheVariants.{Begin, Store, End, LoadVersion, LoadByte}
 use Rattle.ix_atomic.specs.ByteActs.{stored_at, byte_after}
 use Rattle.ix_atomic.specs.VersionedSteps.{byte_act, is_of_writer, is_of_reader, byte_steps, write_of, AreWrites, version_after, IsLegalVersioned, IsVersionedRead}
+use Rattle.ix_atomic.proofs.Splits.{split_append, split_filter, front_of_none}
 use Rattle.ix_atomic.proofs.LastStored.{byte_after-append}
 use Rattle.ix_atomic.proofs.Versions.{version_after-cons, version_after-append, version_after-filter}
 
@@ -24,19 +24,6 @@ abbrev stores : ℕ → List VersionedStep → List ℕ
 stores place steps = filter_map (stored_at place) (acts steps)
 
 -- at an even version the writer's steps are whole writes
-module _ {S : Type 0} where
-  -- two ways to split one list: the first front is the shorter one, or it is not
-  splits : (xs ys us vs : List S) → xs ++ ys ≡ us ++ vs → ((x : S) × (rest : List S) × (us ≡ xs ++ x ∷ rest)) ⊎ ((rest : List S) × (xs ≡ us ++ rest) × (rest ++ ys ≡ vs))
-  splits xs ys [] vs e = inr (xs, refl, e)
-  splits [] ys (u ∷ us) vs e = inl (u, us, refl)
-  splits (x ∷ xs) ys (u ∷ us) vs e =
-      let same : x ≡ u = cc in
-      let rest : xs ++ ys ≡ us ++ vs = cc in
-      elim (splits xs ys us vs rest) [
-        | inl h ↦ inl (h.0, h.1, ap₂ ◌∷◌ (sym same) h.2)
-        | inr h ↦ inr (h.0, ap₂ ◌∷◌ same h.1, h.2)
-      ]
-
 version_after-rest : (place : ℕ) (bytes : List ℕ) → version_after (byte_steps Store place bytes ++ End ∷ []) ≡ 1
 version_after-rest place [] = let a = version_after-cons End [] in omega arith
 version_after-rest place (byte ∷ bytes) = let a = version_after-cons (Store place byte) (byte_steps Store (place + 1) bytes ++ End ∷ []) in omega (arith, version_after-rest (place + 1) bytes)
@@ -86,7 +73,7 @@ first_writes : (front back : List VersionedStep) (values : List (List ℕ)) (k :
 first_writes [] back [] zero e even = (refl, omega arith)
 first_writes [] back [] (suc k) e even = absurd (omega arith)
 first_writes (x ∷ front) back [] k e even = absurd (cc)
-first_writes front back (value ∷ values) k e even = elim (splits front back (write_of value) (flat_map write_of values) e) [
+first_writes front back (value ∷ values) k e even = elim (split_append front back (write_of value) (flat_map write_of values) e) [
   | inl h ↦ cut_short front value values k h.0 h.1 h.2 even
   | inr h ↦ one_more front h.0 value values k h.1 even (λ j more. first_writes h.0 back values j h.2 more)
 ]
@@ -170,23 +157,6 @@ slice_get-byte_steps step start (b ∷ bytes) (suc i) byte e =
     let same : (start + 1) + i ≡ start + suc i = omega arith in
     slice_get-byte_steps step (start + 1) bytes i byte e ∙ ap (λ p. Some (step p byte)) same
 
-module _ {S : Type 0} where
-  -- an item of a filtered list stands somewhere in the list
-  split_at : (test : S → Bool) (xs : List S) (i : ℕ) (x : S) → slice_get (filter test xs) i ≡ Some x → (front : List S) × (back : List S) × (xs ≡ front ++ x ∷ back)
-  split_at test [] i x e = absurd (cc)
-  split_at test (y ∷ xs) i x e = elim (cases_Bool (test y)) [
-    | inl kept ↦ here i (sym (ap (λ b. slice_get (cond b (y ∷ filter test xs) (filter test xs)) i) kept) ∙ e) (λ j h. split_at test xs j x h)
-    | inr passed ↦ let h = split_at test xs i x (sym (ap (λ b. slice_get (cond b (y ∷ filter test xs) (filter test xs)) i) passed) ∙ e) in (y ∷ h.0, h.1, ap (λ l. y ∷ l) h.2)
-  ]
-    where
-      here : (i : ℕ) → slice_get (y ∷ filter test xs) i ≡ Some x → ((j : ℕ) → slice_get (filter test xs) j ≡ Some x → (front : List S) × (back : List S) × (xs ≡ front ++ x ∷ back)) → (front : List S) × (back : List S) × (y ∷ xs ≡ front ++ x ∷ back)
-      here zero e later = let same : y ≡ x = cc in ([], xs, ap (λ z. z ∷ xs) same)
-      here (suc j) e later = let h = later j e in (y ∷ h.0, h.1, ap (λ l. y ∷ l) h.2)
-
-  front_of_none : (xs ys : List S) → xs ++ ys ≡ [] → xs ≡ []
-  front_of_none [] ys e = refl
-  front_of_none (x ∷ xs) ys e = absurd (cc)
-
 pub versioned_read : (first : List ℕ) (steps : List VersionedStep) (values : List (List ℕ)) (reader k : ℕ) (bytes : List ℕ) → IsLegalVersioned first steps → AreWrites (length first) steps values → IsVersionedRead (length first) steps reader (2 * k) bytes (2 * k) → slice_get (first ∷ values) k ≡ Some bytes
 versioned_read first steps values reader k bytes legal writes read =
     value.stands ∙ ap Some (sym (ext_get_or 0 bytes value.value (read.whole ∙ sym value.whole) (λ i below. sym (get_or_from_slice_get value.value i (get_or bytes i 0) 0 (loaded i (get_or bytes i 0) (slice_get-get_or bytes i 0 below))))))
@@ -224,7 +194,7 @@ versioned_read first steps values reader k bytes legal writes read =
 
     loaded : (i byte : ℕ) → slice_get bytes i ≡ Some byte → slice_get value.value i ≡ Some byte
     loaded i byte e =
-        let at = split_at (is_of_reader reader) read.between i (LoadByte reader (0 + i) byte) (ap (λ l. slice_get l i) read.loads_bytes ∙ slice_get-byte_steps (LoadByte reader) 0 bytes i byte e) in
+        let at = split_filter (is_of_reader reader) read.between i (LoadByte reader (0 + i) byte) (ap (λ l. slice_get l i) read.loads_bytes ∙ slice_get-byte_steps (LoadByte reader) 0 bytes i byte e) in
         let before : List VersionedStep = read.before ++ load ∷ at.0 in
         let after : List VersionedStep = at.1 ++ load ∷ read.after in
         let here : steps ≡ before ++ LoadByte reader (0 + i) byte ∷ after = begins ∙ (ap (λ l. read.before ++ load ∷ (l ++ load ∷ read.after)) at.2 ∙ simp append_assoc) in

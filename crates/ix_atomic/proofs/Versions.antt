@@ -1,12 +1,11 @@
 -- Versions count the begins and ends of writes.
-use Rattle.std.proofs.Common.{◌≡◌, ◌≢◌, ℕ, ◌+◌, List, [], ◌∷◌, ◌++◌, Bool, true, false, cond, refl, sym, ap, ◌∙◌, arith, ne_eqb, eq-eqb, eqb-true}
-use Rattle.std.specs.List.{filter, count_by}
+use Rattle.std.proofs.Common.{◌≡◌, ℕ, ◌+◌, List, [], ◌∷◌, ◌++◌, Bool, true, false, cond, refl, sym, ap, ◌∙◌, arith, ne_eqb, eq-eqb, eqb-true}
+use Rattle.std.specs.List.{filter}
 use Rattle.std.proofs.lemmas.List.Sums.{sum_by-cons, sum_by-append}
 use Rattle.std.proofs.lemmas.Bool.{eqb-false, not-true, not_from_false}
 use Rattle.ix_atomic.specs.declared.byte_atomic.steps.versioned.VersionedStep.{VersionedStep}
 use Rattle.ix_atomic.specs.declared.byte_atomic.steps.versioned.VersionedStep.TheVariants.{Begin, Store, End, LoadVersion, LoadByte}
 use Rattle.ix_atomic.specs.EachStep.{EachAfter}
-use Rattle.ix_atomic.specs.Versions.{last_version}
 use Rattle.ix_atomic.specs.VersionedSteps.{is_of_writer, is_begin_or_end, version_after, HasVersion}
 use Rattle.ix_atomic.specs.StepWalks.{version_agrees, next_version, versions_agree}
 use Rattle.ix_atomic.proofs.EachStep.{EachAfter-walk, walk-EachAfter}

@@ -1,11 +1,9 @@
 -- A worked example: a read after a write meets the premises of the law on plain reads.
-use Rattle.std.proofs.Common.{◌≡◌, ℕ, zero, suc, ◌<◌, ◌≤◌, ◌⊎◌, List, [], ◌∷◌, Some, true, slice_index, refl, sym, ap, ◌∙◌, subst, inl, inr, arith}
-use Rattle.std.specs.List.{slice_get}
-use Rattle.ix_atomic.specs.declared.byte_atomic.steps.plain.Act.{Act}
+use Rattle.std.proofs.Common.{◌≡◌, ℕ, zero, suc, ◌<◌, ◌≤◌, ◌⊎◌, List, [], ◌∷◌, true, slice_index, refl, sym, ap, subst, inl, inr, arith}
 use Rattle.ix_atomic.specs.declared.byte_atomic.steps.plain.Act.TheVariants.{Store, Load}
 use Rattle.ix_atomic.specs.declared.byte_atomic.steps.plain.Step.{Step}
 use Rattle.ix_atomic.specs.PlainSteps.{IsLegal}
-use Rattle.ix_atomic.specs.Operations.{Takes, IsStepOf, times_stored, times_loaded, IsWrite, IsRead, IsFinishedRead, AreReadsAndWrites, Lasts, OverlapsNoWrite, IsBefore, IsLastWriteBefore}
+use Rattle.ix_atomic.specs.Operations.{Takes, IsStepOf, times_stored, times_loaded, IsWrite, IsRead, AreReadsAndWrites, Lasts, OverlapsNoWrite, IsBefore, IsLastWriteBefore}
 use Rattle.ix_atomic.specs.StepWalks.{loads_agree}
 use Rattle.ix_atomic.proofs.LegalActs.{AreLegal-walks}
 use Rattle.ix_atomic.proofs.PlainReads.{after_last_write}
@@ -92,10 +90,10 @@ IsLastWriteBefore-1-2 = record {
   is_write = IsWrite-1;
   before = IsBefore-1-2;
   last = λ other write after before.
-    let itself = subst (λ (o : ℕ). IsBefore first_value steps 1 o) (writes other write) after in
-    let lasts : Lasts first_value steps 1 0 = record { inside = omega arith; begun = (0, omega arith, (Store 0 5, refl)); goes_on = inl (0, omega arith, (Store 0 5, refl)) } in
-    let wrong = itself 0 0 lasts lasts in
-    omega arith;
+      let itself = subst (λ (o : ℕ). IsBefore first_value steps 1 o) (writes other write) after in
+      let lasts : Lasts first_value steps 1 0 = record { inside = omega arith; begun = (0, omega arith, (Store 0 5, refl)); goes_on = inl (0, omega arith, (Store 0 5, refl)) } in
+      let wrong = itself 0 0 lasts lasts in
+      omega arith;
 }
 
 AreReadsAndWrites-steps : AreReadsAndWrites first_value steps

@@ -1,19 +1,20 @@
 -- Worked examples: what the definitions say of small lists.
-use Rattle.std.proofs.Common.{◌≡◌, ℕ, zero, suc, ◌<◌, ◌⊎◌, List, [], ◌∷◌, length, Some, None, true, slice_index, refl, ap, inl, inr, arith}
-use Rattle.std.specs.List.{All, filter_map}
+use Rattle.std.proofs.Common.{◌≡◌, ℕ, zero, suc, ◌<◌, List, [], ◌∷◌, length, Some, None, true, slice_index, refl, inl, arith}
+use Rattle.std.specs.List.{All, filter_map, slice_get}
 use Rattle.std.proofs.lemmas.List.Elements.{All-nil, All-cons}
 use Rattle.ix_atomic.specs.declared.byte_atomic.steps.plain.Act.{Act}
 use Rattle.ix_atomic.specs.declared.byte_atomic.steps.plain.Act.TheVariants as act
 use Rattle.ix_atomic.specs.declared.byte_atomic.steps.plain.Step.{Step}
 use Rattle.ix_atomic.specs.declared.byte_atomic.steps.versioned.VersionedStep.{VersionedStep}
 use Rattle.ix_atomic.specs.declared.byte_atomic.steps.versioned.VersionedStep.TheVariants.{Begin, Store, End, LoadVersion, LoadByte}
-use Rattle.ix_atomic.specs.ByteActs.{byte_after, AreLegal}
+use Rattle.ix_atomic.specs.ByteActs.{byte_after}
 use Rattle.ix_atomic.specs.PlainSteps.{IsLegal}
 use Rattle.ix_atomic.specs.Operations.{Overlap}
 use Rattle.ix_atomic.specs.StepWalks.{loads_agree}
 use Rattle.ix_atomic.specs.VersionedSteps.{byte_act, write_of, AreWrites, version_after, IsLegalVersioned, IsVersionedRead}
 use Rattle.ix_atomic.proofs.LegalActs.{AreLegal-walks}
 use Rattle.ix_atomic.proofs.Versions.{HasVersion-walk}
+use Rattle.ix_atomic.proofs.VersionedReads.{versioned_read}
 
 -- of two bytes 3 and 4 the first is replaced twice
 abbrev replaced : List Act
@@ -72,9 +73,12 @@ AreWrites-written = record { sizes = All-two (λ value. length value ≡ 2) (7 �
 abbrev read : List VersionedStep
 read = Begin ∷ Store 0 7 ∷ LoadByte 5 0 7 ∷ End ∷ LoadVersion 4 2 ∷ LoadVersion 5 2 ∷ LoadByte 4 0 7 ∷ LoadVersion 4 2 ∷ Begin ∷ []
 
+AreWrites-read : AreWrites 1 read ((7 ∷ []) ∷ (1 ∷ []) ∷ [])
+AreWrites-read = record { sizes = All-two (λ value. length value ≡ 1) (7 ∷ []) (1 ∷ []) refl refl; missing = Store 0 1 ∷ End ∷ []; in_turn = refl }
+
 IsLegalVersioned-read : IsLegalVersioned (0 ∷ []) read
 IsLegalVersioned-read = record {
-  writes = ((7 ∷ []) ∷ (1 ∷ []) ∷ [], record { sizes = All-two (λ value. length value ≡ 1) (7 ∷ []) (1 ∷ []) refl refl; missing = Store 0 1 ∷ End ∷ []; in_turn = refl });
+  writes = ((7 ∷ []) ∷ (1 ∷ []) ∷ [], AreWrites-read);
   versions = HasVersion-walk read refl;
   bytes = AreLegal-walks (0 ∷ []) _ refl one_place;
 }
@@ -92,3 +96,7 @@ IsVersionedRead-read = record {
   loads_bytes = refl;
   whole = refl;
 }
+
+-- so the law says what is true of it: reader 4 has the value of the first write
+slice_get-read : slice_get {X = List ℕ} ((0 ∷ []) ∷ (7 ∷ []) ∷ (1 ∷ []) ∷ []) 1 ≡ Some (7 ∷ [])
+slice_get-read = versioned_read (0 ∷ []) read ((7 ∷ []) ∷ (1 ∷ []) ∷ []) 4 1 (7 ∷ []) IsLegalVersioned-read AreWrites-read IsVersionedRead-read

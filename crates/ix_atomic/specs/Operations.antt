@@ -29,13 +29,13 @@ times_stored steps op place = count_by (λ step. nat_eq step.op op && is_some (s
 abbrev pub times_loaded : List Step → ℕ → ℕ → ℕ
 times_loaded steps op place = count_by (λ step. nat_eq step.op op && is_some (loaded_at place step.act)) steps
 
--- a write stores each place at most once, and loads nothing
+-- a write, finished or not: it stores each place at most once, and loads nothing
 pub record IsWrite (first : List ℕ) (steps : List Step) (op : ℕ) : Type 0 where
   pub has_step : (index : ℕ) × IsStepOf steps op index
   pub stores : (place : ℕ) → place < length first → times_stored steps op place ≤ 1
   pub loads : (place : ℕ) → times_loaded steps op place ≡ 0
 
--- a read loads each place at most once, and stores nothing
+-- a read, finished or not: it loads each place at most once, and stores nothing
 pub record IsRead (first : List ℕ) (steps : List Step) (op : ℕ) : Type 0 where
   pub has_step : (index : ℕ) × IsStepOf steps op index
   pub loads : (place : ℕ) → place < length first → times_loaded steps op place ≤ 1
@@ -55,8 +55,8 @@ pub record IsUnfinishedWrite (first : List ℕ) (steps : List Step) (op : ℕ) :
 abbrev pub AreReadsAndWrites : List ℕ → List Step → Type 0
 AreReadsAndWrites first steps = (op index : ℕ) → IsStepOf steps op index → IsRead first steps op ⊎ IsWrite first steps op
 
--- An operation lasts from its first step to its last one, an unfinished write to the end of the list. This says that it
--- lasts at an index of the list.
+-- The operation lasts at this index: it has begun there, and goes on or takes its last step. An unfinished write goes on
+-- to the end of the list.
 pub record Lasts (first : List ℕ) (steps : List Step) (op index : ℕ) : Type 0 where
   pub inside : index < length steps
   pub begun : (from : ℕ) × (from ≤ index) × IsStepOf steps op from

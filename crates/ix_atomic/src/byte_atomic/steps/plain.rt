@@ -17,8 +17,8 @@ pub enum Act {
 
 /// A step of an operation.
 ///
-/// Steps with the same number are one operation. An operation that stores each place once is a write, one that loads
-/// each place once is a read.
+/// Steps with the same number are one operation. A write is an operation that stores each place once and loads nothing,
+/// a read is one that loads each place once and stores nothing. Either may be unfinished.
 #[derive(Clone, Copy, Debug, PartialEq, Eq)]
 pub struct Step {
     /// The number of the operation.
@@ -35,10 +35,17 @@ impl ByteStep for Step {
     }
 }
 
-/// Returns whether `steps` are possible on a value that has the bytes `first`, in this order.
+/// Returns whether `steps` are legal, in this order, on a value whose first bytes are `first`.
 ///
 /// They are if each place is less than the length of `first`, and each load has the byte that was stored at its place
 /// last, or the byte of `first` if none was. O(n * m) for n bytes and m steps.
+///
+/// ```text
+/// let store = Step { op: 1, act: Act::Store { place: 0, byte: 5 } };
+/// let load = Step { op: 2, act: Act::Load { place: 0, byte: 5 } };
+/// replay(&[0, 0], &[store, load]);          // true
+/// replay(&[0, 0], &[load, store]);          // false: the first byte is 0
+/// ```
 pub fn replay(first: &[u8], steps: &[Step]) -> bool
     ensures { IsTrue result ↔ IsLegal first.now steps.now }
 {
@@ -47,12 +54,12 @@ pub fn replay(first: &[u8], steps: &[Step]) -> bool
 
 /// States what a read loads that overlaps no write. Does nothing.
 ///
-/// Of steps that [`replay`] accepts, and whose operations are all reads or writes, finished or not, it states: a
-/// finished read that overlaps no write loads the bytes of the last write before it, if that write overlapped no other
-/// write; it loads the first bytes if no write came before it.
+/// It is about steps that [`replay`] accepts, and whose operations are all reads or writes, finished or not: a
+/// finished read that overlaps no write loads the bytes of the last write before it, if that write overlaps no other
+/// write. If no write is before it, it loads the first bytes.
 ///
-/// An operation lasts from its first step to its last one, a write that still misses a place to the end of the list.
-/// Two operations overlap if both last at some step.
+/// An operation lasts from its first step to its last one, but a write that still misses a place lasts to the end of the
+/// list. Two operations overlap if both last at some step.
 pub fn plain_read_law()
     ensures last_write { (first : List ℕ) (steps : List Step) (read write place byte : ℕ)
         → IsLegal first steps → AreReadsAndWrites first steps

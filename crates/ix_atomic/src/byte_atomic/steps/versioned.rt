@@ -34,14 +34,16 @@ impl ByteStep for VersionedStep {
     }
 }
 
-/// Returns whether `steps` are possible on a value that has the bytes `first` at version 0, in this order.
+/// Returns whether `steps` are legal, in this order, on a value whose first bytes, at version 0, are `first`.
 ///
 /// They are if
 ///
 /// - the writer's steps are writes, one after another: a [`VersionedStep::Begin`], a [`VersionedStep::Store`] at each
 ///   place from 0 to the last one of `first`, a [`VersionedStep::End`]. The last write may be cut short anywhere;
-/// - each loaded version is that of its moment: 0 at first, one more after each begin and each end;
-/// - each byte is loaded from a place of `first`, and is the one that was stored there last, or that of `first`;
+/// - each loaded version is that of its moment: each begin and each end raises it by one, so it is twice the number of
+///   ends, and one more during a write;
+/// - each byte is loaded from a place less than the length of `first`, and is the one that was stored there last, or that
+///   of `first`;
 /// - no write begins at a version that [`next_versions`](super::next_versions) refuses.
 ///
 /// O(n * m) for n bytes and m steps.
@@ -73,7 +75,7 @@ fn writes_are_in_turn(len: usize, steps: &[VersionedStep]) -> bool
     true
 }
 
-// Returns whether each loaded version is that of its moment, and no write begins at the last version.
+// Returns whether each loaded version is that of its moment, and no write begins at the last even version.
 fn versions_are_right(steps: &[VersionedStep]) -> bool
     ensures { result ≡ versions_agree 0 steps.now }
 {
@@ -94,9 +96,9 @@ fn versions_are_right(steps: &[VersionedStep]) -> bool
 
 /// States what a reader has loaded between two loads of the same even version. Does nothing.
 ///
-/// Of steps that [`replay_versioned`] accepts, it states: where a reader loads the even version 2 * k, then each byte,
-/// then the version 2 * k again, the bytes are the value of the write whose end made that version, or the first value
-/// at version 0. That is item k of the list of the first value and then the values that are written, in their order.
+/// It is about steps that [`replay_versioned`] accepts: where a reader loads the even version 2 * k, then the byte of each
+/// place in rising order, then the version 2 * k again, the bytes are the value of the write whose end made that version,
+/// or the first value at version 0. That is item k of a list: the first value, then the written ones in their order.
 pub fn versioned_read_law()
     ensures { (first : List ℕ) (steps : List VersionedStep) (values : List (List ℕ)) (reader k : ℕ) (bytes : List ℕ)
         → IsLegalVersioned first steps → AreWrites (length first) steps values
