@@ -44,248 +44,239 @@ fn read(place: usize, byte: u8) -> VersionedStep {
     }
 }
 
-/// Steps, and whether they are legal.
-type Row<'a, S> = (&'a [S], bool);
-
-/// Checks what `replay` returns for each row.
-fn check_plain(findings: &Findings, first: &[u8], rows: &[Row<Step>], place: &str) {
-    for (row, (steps, legal)) in rows.iter().enumerate() {
-        findings.expect_same_at(replay(first, steps), *legal, row, place);
+/// Checks that `replay` returns `legal` for each of these lists.
+fn check_plain(findings: &Findings, first: &[u8], lists: &[&[Step]], legal: bool) {
+    let place = if legal { "legal" } else { "illegal" };
+    for (row, steps) in lists.iter().enumerate() {
+        findings.expect_same_at(replay(first, steps), legal, row, place);
     }
 }
 
-/// Checks what `replay_versioned` returns for each row.
-fn check_versioned(findings: &Findings, first: &[u8], rows: &[Row<VersionedStep>], place: &str) {
-    for (row, (steps, legal)) in rows.iter().enumerate() {
-        findings.expect_same_at(replay_versioned(first, steps), *legal, row, place);
+/// Checks that `replay_versioned` returns `legal` for each of these lists.
+fn check_versioned(findings: &Findings, first: &[u8], lists: &[&[VersionedStep]], legal: bool) {
+    let place = if legal { "legal" } else { "illegal" };
+    for (row, steps) in lists.iter().enumerate() {
+        findings.expect_same_at(replay_versioned(first, steps), legal, row, place);
     }
 }
 
 #[test]
-fn plain_steps() -> Result<(), Fail> {
+fn plain_examples() -> Result<(), Fail> {
     let findings = Findings::new();
-    let of_two: &[Row<Step>] = &[
-        (&[store(0, 5), load(0, 5), load(1, 0)], true),
-        (&[store(0, 5), load(0, 0)], false),
-        (&[load(2, 0)], false),
-        (&[], true),
-    ];
-    check_plain(&findings, &[0, 0], of_two, "examples");
-    let places: &[Row<Step>] = &[
-        (&[store(1, 5), load(1, 5)], true),
-        (&[store(2, 5)], false),
-        (&[store(2, 5), load(2, 5)], false),
-        (&[load(1, 0), load(2, 0)], false),
-        (&[store(usize::MAX, 5)], false),
-        (&[load(usize::MAX, 0)], false),
-    ];
-    check_plain(&findings, &[0, 0], places, "places of a value");
-    let bytes: &[Row<Step>] = &[
-        (&[load(0, 3), load(1, 4)], true),
-        (&[load(0, 4)], false),
-        (&[load(0, 3), load(1, 3)], false),
-        (&[load(0, 3), store(0, 5)], true),
-        (&[load(0, 5), store(0, 5)], false),
-        (&[store(0, 5), store(0, 7), load(0, 7)], true),
-        (&[store(0, 5), store(0, 7), load(0, 5)], false),
-        (&[store(0, 5), store(0, 7), load(0, 3)], false),
-        (&[store(0, 5), load(0, 5), store(0, 7), load(0, 7)], true),
-        (&[store(0, 5), load(0, 5), store(0, 7), load(0, 5)], false),
-        (&[store(1, 5), load(0, 3), load(1, 5)], true),
-        (&[store(1, 5), load(0, 5)], false),
-        (
-            &[store(0, 255), store(1, 0), load(1, 0), load(0, 255)],
-            true,
-        ),
-        (&[load(0, 4), store(0, 3), load(0, 3)], false),
-    ];
-    check_plain(&findings, &[3, 4], bytes, "the latest byte");
-    let operations: &[Row<Step>] = &[
-        (
-            &[
-                store(0, 5),
-                by(3, store(0, 7)),
-                store(1, 6),
-                load(0, 7),
-                load(1, 6),
-            ],
-            true,
-        ),
-        (
-            &[store(0, 5), by(3, store(0, 7)), store(1, 6), load(0, 5)],
-            false,
-        ),
-        (
-            &[
-                by(0, store(0, 5)),
-                by(0, load(0, 5)),
-                by(u64::MAX, load(0, 5)),
-            ],
-            true,
-        ),
-        (
-            &[
-                by(0, store(0, 5)),
-                by(0, load(0, 5)),
-                by(u64::MAX, load(0, 0)),
-            ],
-            false,
-        ),
-        (&[load(0, 0), store(0, 5), store(1, 6), load(1, 6)], true),
-    ];
-    check_plain(&findings, &[0, 0], operations, "any operation");
-    let of_none: &[Row<Step>] = &[(&[], true), (&[store(0, 0)], false), (&[load(0, 0)], false)];
-    check_plain(&findings, &[], of_none, "no byte");
+    let legal: &[&[Step]] = &[&[store(0, 5), load(0, 5), load(1, 0)], &[]];
+    let illegal: &[&[Step]] = &[&[store(0, 5), load(0, 0)], &[load(2, 0)]];
+    check_plain(&findings, &[0, 0], legal, true);
+    check_plain(&findings, &[0, 0], illegal, false);
     findings.verdict()
 }
 
 #[test]
-fn versioned_steps() -> Result<(), Fail> {
+fn plain_places() -> Result<(), Fail> {
     let findings = Findings::new();
-    let examples: &[Row<VersionedStep>] = &[
-        (
-            &[Begin, version(1), write(0, 7), read(0, 7), End, version(2)],
-            true,
-        ),
-        (&[Begin, version(0)], false),
-        (&[Begin, End], false),
-        (&[Begin], true),
+    let illegal: &[&[Step]] = &[
+        &[store(2, 5)],
+        &[store(2, 5), load(2, 5)],
+        &[load(1, 0), load(2, 0)],
+        &[store(usize::MAX, 5)],
+        &[load(usize::MAX, 0)],
     ];
-    check_versioned(&findings, &[0], examples, "examples");
-    let versions: &[Row<VersionedStep>] = &[
-        (&[version(0)], true),
-        (&[version(1)], false),
-        (&[version(2)], false),
-        (&[version(u64::MAX)], false),
-        (&[Begin, version(1), write(0, 7), version(1)], true),
-        (&[Begin, version(2)], false),
-        (&[Begin, write(0, 7), version(0)], false),
-        (&[Begin, write(0, 7), End, version(2), version(2)], true),
-        (&[Begin, write(0, 7), End, version(0)], false),
-        (&[Begin, write(0, 7), End, version(1)], false),
-        (&[Begin, write(0, 7), End, Begin, version(3)], true),
-        (&[Begin, write(0, 7), End, Begin, version(2)], false),
-        (
-            &[Begin, write(0, 7), End, Begin, write(0, 8), End, version(4)],
-            true,
-        ),
-        (
-            &[Begin, write(0, 7), End, Begin, write(0, 8), End, version(2)],
-            false,
-        ),
+    check_plain(&findings, &[0, 0], &[&[store(1, 5), load(1, 5)]], true);
+    check_plain(&findings, &[0, 0], illegal, false);
+    check_plain(&findings, &[], &[&[]], true);
+    check_plain(&findings, &[], &[&[store(0, 0)], &[load(0, 0)]], false);
+    findings.verdict()
+}
+
+#[test]
+fn plain_bytes() -> Result<(), Fail> {
+    let findings = Findings::new();
+    let legal: &[&[Step]] = &[
+        &[load(0, 3), load(1, 4)],
+        &[load(0, 3), store(0, 5)],
+        &[store(0, 5), store(0, 7), load(0, 7)],
+        &[store(0, 5), load(0, 5), store(0, 7), load(0, 7)],
+        &[store(1, 5), load(0, 3), load(1, 5)],
+        &[store(0, 255), load(1, 4), store(1, 0), load(1, 0)],
     ];
-    check_versioned(&findings, &[0], versions, "the version of the moment");
-    let bytes: &[Row<VersionedStep>] = &[
-        (&[read(0, 3), read(1, 4)], true),
-        (&[read(0, 4)], false),
-        (&[read(2, 0)], false),
-        (&[read(usize::MAX, 0)], false),
-        (
-            &[Begin, read(0, 3), write(0, 7), read(0, 7), read(1, 4)],
-            true,
-        ),
-        (&[Begin, read(0, 7), write(0, 7)], false),
-        (&[Begin, write(0, 7), read(0, 3)], false),
-        (&[Begin, write(0, 7), read(1, 7)], false),
-        (
-            &[read(0, 3), Begin, write(0, 7), write(1, 8), End, read(1, 8)],
-            true,
-        ),
-        (
-            &[
-                Begin,
-                write(0, 7),
-                write(1, 8),
-                End,
-                Begin,
-                read(0, 7),
-                write(0, 9),
-                read(0, 9),
-            ],
-            true,
-        ),
-        (
-            &[
-                Begin,
-                write(0, 7),
-                write(1, 8),
-                End,
-                Begin,
-                write(0, 9),
-                read(0, 7),
-            ],
-            false,
-        ),
+    let illegal: &[&[Step]] = &[
+        &[load(0, 4)],
+        &[load(0, 3), load(1, 3)],
+        &[load(0, 5), store(0, 5)],
+        &[store(0, 5), store(0, 7), load(0, 5)],
+        &[store(0, 5), store(0, 7), load(0, 3)],
+        &[store(0, 5), load(0, 5), store(0, 7), load(0, 5)],
+        &[store(1, 5), load(0, 5)],
+        &[store(1, 0), load(0, 3), load(1, 4)],
+        &[load(0, 4), store(0, 3), load(0, 3)],
     ];
-    check_versioned(&findings, &[3, 4], bytes, "the latest byte");
+    check_plain(&findings, &[3, 4], legal, true);
+    check_plain(&findings, &[3, 4], illegal, false);
+    findings.verdict()
+}
+
+#[test]
+fn plain_operations() -> Result<(), Fail> {
+    let findings = Findings::new();
+    let legal: &[&[Step]] = &[
+        &[store(0, 5), by(3, store(0, 7)), load(0, 7)],
+        &[by(0, store(0, 5)), by(0, load(0, 5)), load(0, 5)],
+        &[by(u64::MAX, store(0, 5)), load(0, 5), load(0, 5)],
+        &[load(0, 0), store(0, 5), store(1, 6), load(1, 6)],
+    ];
+    let illegal: &[&[Step]] = &[
+        &[store(0, 5), by(3, store(0, 7)), load(0, 5)],
+        &[by(0, store(0, 5)), by(0, load(0, 0))],
+        &[by(u64::MAX, store(0, 5)), load(0, 0)],
+    ];
+    check_plain(&findings, &[0, 0], legal, true);
+    check_plain(&findings, &[0, 0], illegal, false);
+    findings.verdict()
+}
+
+#[test]
+fn versioned_examples() -> Result<(), Fail> {
+    let findings = Findings::new();
+    let whole = [Begin, version(1), write(0, 7), read(0, 7), End, version(2)];
+    check_versioned(&findings, &[0], &[&whole, &[Begin]], true);
+    let illegal: &[&[VersionedStep]] = &[&[Begin, version(0)], &[Begin, End]];
+    check_versioned(&findings, &[0], illegal, false);
+    findings.verdict()
+}
+
+#[test]
+fn loaded_versions() -> Result<(), Fail> {
+    let findings = Findings::new();
+    let legal: &[&[VersionedStep]] = &[
+        &[version(0), Begin, version(1), version(1)],
+        &[Begin, version(1), write(0, 7), version(1)],
+        &[Begin, write(0, 7), End, version(2), version(2)],
+        &[Begin, write(0, 7), End, Begin, version(3)],
+        &[
+            Begin,
+            write(0, 7),
+            End,
+            Begin,
+            write(0, 8),
+            version(3),
+            End,
+            version(4),
+        ],
+    ];
+    let illegal: &[&[VersionedStep]] = &[
+        &[version(1)],
+        &[version(2)],
+        &[version(u64::MAX)],
+        &[Begin, version(2)],
+        &[Begin, write(0, 7), version(0)],
+        &[Begin, write(0, 7), End, version(0)],
+        &[Begin, write(0, 7), End, version(1)],
+        &[Begin, write(0, 7), End, version(4)],
+        &[Begin, write(0, 7), End, Begin, version(2)],
+        &[Begin, write(0, 7), End, Begin, write(0, 8), End, version(2)],
+    ];
+    check_versioned(&findings, &[0], legal, true);
+    check_versioned(&findings, &[0], illegal, false);
+    findings.verdict()
+}
+
+#[test]
+fn loaded_bytes() -> Result<(), Fail> {
+    let findings = Findings::new();
+    let legal: &[&[VersionedStep]] = &[
+        &[read(0, 3), read(1, 4)],
+        &[Begin, read(0, 3), write(0, 7), read(0, 7), read(1, 4)],
+        &[read(0, 3), Begin, write(0, 7), write(1, 8), End, read(1, 8)],
+        &[
+            Begin,
+            write(0, 7),
+            write(1, 8),
+            End,
+            Begin,
+            write(0, 9),
+            read(0, 9),
+            read(1, 8),
+        ],
+    ];
+    let illegal: &[&[VersionedStep]] = &[
+        &[read(0, 4)],
+        &[read(2, 0)],
+        &[read(usize::MAX, 0)],
+        &[Begin, read(0, 7), write(0, 7)],
+        &[Begin, write(0, 7), read(0, 3)],
+        &[Begin, write(0, 7), read(1, 7)],
+        &[Begin, write(0, 7), write(1, 8), End, read(0, 3)],
+        &[
+            Begin,
+            write(0, 7),
+            write(1, 8),
+            End,
+            Begin,
+            write(0, 9),
+            read(0, 7),
+        ],
+    ];
+    check_versioned(&findings, &[3, 4], legal, true);
+    check_versioned(&findings, &[3, 4], illegal, false);
     findings.verdict()
 }
 
 #[test]
 fn writes_in_turn() -> Result<(), Fail> {
     let findings = Findings::new();
-    let of_two: &[Row<VersionedStep>] = &[
-        (&[], true),
-        (&[Begin], true),
-        (&[Begin, write(0, 7)], true),
-        (&[Begin, write(0, 7), write(1, 8)], true),
-        (&[Begin, write(0, 7), write(1, 8), End], true),
-        (
-            &[Begin, write(0, 7), write(1, 8), End, Begin, write(0, 7)],
-            true,
-        ),
-        (
-            &[
-                Begin,
-                write(0, 7),
-                write(1, 8),
-                End,
-                Begin,
-                write(0, 7),
-                write(1, 8),
-                End,
-            ],
-            true,
-        ),
-        (&[write(0, 7)], false),
-        (&[End], false),
-        (&[Begin, Begin], false),
-        (&[Begin, write(1, 8)], false),
-        (&[Begin, write(0, 7), write(0, 7)], false),
-        (&[Begin, write(0, 7), End], false),
-        (&[Begin, write(0, 7), Begin], false),
-        (&[Begin, write(0, 7), write(1, 8), Begin], false),
-        (&[Begin, write(0, 7), write(1, 8), write(2, 9)], false),
-        (&[Begin, write(0, 7), write(1, 8), write(0, 9)], false),
-        (&[Begin, write(0, 7), write(1, 8), End, End], false),
-        (&[Begin, write(0, 7), write(1, 8), End, write(0, 7)], false),
-        (&[Begin, write(usize::MAX, 7)], false),
-        (
-            &[
-                Begin,
-                read(0, 0),
-                write(0, 7),
-                version(1),
-                write(1, 8),
-                read(1, 8),
-                End,
-            ],
-            true,
-        ),
+    let two = [
+        Begin,
+        write(0, 7),
+        write(1, 8),
+        End,
+        Begin,
+        write(0, 9),
+        write(1, 6),
+        End,
     ];
-    check_versioned(&findings, &[0, 0], of_two, "two bytes");
-    let of_none: &[Row<VersionedStep>] = &[
-        (&[Begin, End], true),
-        (
-            &[Begin, End, version(2), Begin, version(3), End, version(4)],
-            true,
-        ),
-        (&[Begin, write(0, 0)], false),
-        (&[Begin, Begin], false),
-        (&[End], false),
-        (&[read(0, 0)], false),
+    for count in 0..=8 {
+        check_versioned(&findings, &[0, 0], &[&two[..count]], true);
+    }
+    let read_meanwhile = [
+        Begin,
+        read(0, 0),
+        write(0, 7),
+        version(1),
+        write(1, 8),
+        read(1, 8),
+        End,
     ];
-    check_versioned(&findings, &[], of_none, "no byte");
+    check_versioned(&findings, &[0, 0], &[&read_meanwhile], true);
+    let illegal: &[&[VersionedStep]] = &[
+        &[write(0, 7)],
+        &[End],
+        &[Begin, Begin],
+        &[Begin, write(1, 8)],
+        &[Begin, write(0, 7), write(0, 7)],
+        &[Begin, write(0, 7), End],
+        &[Begin, write(0, 7), Begin],
+        &[Begin, write(0, 7), write(1, 8), Begin],
+        &[Begin, write(0, 7), write(1, 8), write(2, 9)],
+        &[Begin, write(0, 7), write(1, 8), write(0, 9)],
+        &[Begin, write(0, 7), write(1, 8), End, End],
+        &[Begin, write(0, 7), write(1, 8), End, write(0, 7)],
+        &[Begin, write(usize::MAX, 7)],
+    ];
+    check_versioned(&findings, &[0, 0], illegal, false);
+    findings.verdict()
+}
+
+#[test]
+fn writes_of_no_byte() -> Result<(), Fail> {
+    let findings = Findings::new();
+    let two = [Begin, End, version(2), Begin, version(3), End, version(4)];
+    check_versioned(&findings, &[], &[&two, &[Begin, End], &[Begin], &[]], true);
+    let illegal: &[&[VersionedStep]] = &[
+        &[Begin, write(0, 0)],
+        &[Begin, Begin],
+        &[End],
+        &[read(0, 0)],
+    ];
+    check_versioned(&findings, &[], illegal, false);
     findings.verdict()
 }
 
