@@ -1,4 +1,4 @@
--- Lists of plain steps that are possible.
+-- Lists of plain steps that are legal.
 use Rattle.std.specs.Prelude.{ℕ, List, map}
 use Rattle.ix_atomic.specs.declared.byte_atomic.steps.plain.Step.{Step}
 use Rattle.ix_atomic.specs.ByteActs.{AreLegal}

@@ -3,7 +3,7 @@ use Rattle.std.specs.Prelude.{ℕ, ◌+◌, Bool, true, false, not, ◌&&◌, �
 use Rattle.ix_atomic.specs.declared.byte_atomic.steps.plain.Act.{Act}
 use Rattle.ix_atomic.specs.declared.byte_atomic.steps.plain.Act.TheVariants as act
 use Rattle.ix_atomic.specs.declared.byte_atomic.steps.versioned.VersionedStep.{VersionedStep}
-use Rattle.ix_atomic.specs.declared.byte_atomic.steps.versioned.VersionedStep.TheVariants.{Begin, Store, End, LoadVersion, LoadByte}
+use Rattle.ix_atomic.specs.declared.byte_atomic.steps.versioned.VersionedStep.TheVariants.{Begin, Store, End, LoadVersion}
 use Rattle.ix_atomic.specs.ByteActs.{stored_at}
 use Rattle.ix_atomic.specs.VersionedSteps.{is_begin_or_end}
 use Rattle.ix_atomic.specs.Versions.{last_version}
@@ -44,15 +44,13 @@ abbrev pub is_in_turn : ℕ → Option ℕ → VersionedStep → Bool
 is_in_turn len stored Begin = is_none stored
 is_in_turn len stored (Store place byte) = has_stored place stored && nat_lt place len
 is_in_turn len stored End = has_stored len stored
-is_in_turn len stored (LoadVersion reader version) = true
-is_in_turn len stored (LoadByte reader place byte) = true
+is_in_turn len stored step = true
 
 abbrev pub next_stored : Option ℕ → VersionedStep → Option ℕ
 next_stored stored Begin = Some 0
 next_stored stored (Store place byte) = Some (place + 1)
 next_stored stored End = None
-next_stored stored (LoadVersion reader version) = stored
-next_stored stored (LoadByte reader place byte) = stored
+next_stored stored step = stored
 
 abbrev pub are_in_turn : ℕ → Option ℕ → List VersionedStep → Bool
 are_in_turn len stored steps = walk (is_in_turn len) next_stored stored steps
@@ -60,10 +58,8 @@ are_in_turn len stored steps = walk (is_in_turn len) next_stored stored steps
 -- the loaded versions are right, and no write begins at the last version
 abbrev pub version_agrees : ℕ → VersionedStep → Bool
 version_agrees version Begin = not (nat_eq version last_version)
-version_agrees version (Store place byte) = true
-version_agrees version End = true
 version_agrees version (LoadVersion reader loaded) = nat_eq loaded version
-version_agrees version (LoadByte reader place byte) = true
+version_agrees version step = true
 
 abbrev pub next_version : ℕ → VersionedStep → ℕ
 next_version version step = if is_begin_or_end step then version + 1 else version

@@ -1,4 +1,4 @@
--- Lists of versioned steps that are possible, and reads between two loads of the version.
+-- Lists of versioned steps that are legal, and reads between two loads of the version.
 use Rattle.std.specs.Prelude.{◌≡◌, ◌≢◌, ℕ, List, [], ◌∷◌, ◌++◌, length, map, Option, Some, None, Bool, true, false, nat_eq, filter, filter_map, flat_map, count_by, All}
 use Rattle.std.specs.List.{enumerate_from}
 use Rattle.ix_atomic.specs.declared.byte_atomic.steps.plain.Act.{Act}
@@ -11,35 +11,27 @@ use Rattle.ix_atomic.specs.Versions.{last_version}
 
 -- the store or load of a byte that a step is
 abbrev pub byte_act : VersionedStep → Option Act
-byte_act Begin = None
 byte_act (Store place byte) = Some (act.Store place byte)
-byte_act End = None
-byte_act (LoadVersion reader version) = None
 byte_act (LoadByte reader place byte) = Some (act.Load place byte)
+byte_act step = None
 
 -- the step is the writer's
 abbrev pub is_of_writer : VersionedStep → Bool
-is_of_writer Begin = true
-is_of_writer (Store place byte) = true
-is_of_writer End = true
 is_of_writer (LoadVersion reader version) = false
 is_of_writer (LoadByte reader place byte) = false
+is_of_writer step = true
 
 -- the step is this reader's
 abbrev pub is_of_reader : ℕ → VersionedStep → Bool
-is_of_reader reader Begin = false
-is_of_reader reader (Store place byte) = false
-is_of_reader reader End = false
 is_of_reader reader (LoadVersion by version) = nat_eq by reader
 is_of_reader reader (LoadByte by place byte) = nat_eq by reader
+is_of_reader reader step = false
 
 -- the step begins or ends a write
 abbrev pub is_begin_or_end : VersionedStep → Bool
 is_begin_or_end Begin = true
-is_begin_or_end (Store place byte) = false
 is_begin_or_end End = true
-is_begin_or_end (LoadVersion reader version) = false
-is_begin_or_end (LoadByte reader place byte) = false
+is_begin_or_end step = false
 
 -- a step for each of these bytes, in rising order of their places; the first byte's place is the number
 abbrev pub byte_steps : (ℕ → ℕ → VersionedStep) → ℕ → List ℕ → List VersionedStep
@@ -49,7 +41,8 @@ byte_steps step place bytes = map (λ entry. step entry.0 entry.1) (enumerate_fr
 abbrev pub write_of : List ℕ → List VersionedStep
 write_of value = Begin ∷ (byte_steps Store 0 value ++ End ∷ [])
 
--- the writer's steps are the writes of these values, one after another, the last of which may be cut short anywhere
+-- The writer's steps are a beginning of the writes of these values, one after another. So the last write that is begun
+-- may be cut short anywhere.
 pub record AreWrites (size : ℕ) (steps : List VersionedStep) (values : List (List ℕ)) : Type 0 where
   pub sizes : All (λ value. length value ≡ size) values
   pub missing : List VersionedStep
@@ -60,15 +53,13 @@ pub record AreWrites (size : ℕ) (steps : List VersionedStep) (values : List (L
 abbrev pub version_after : List VersionedStep → ℕ
 version_after steps = count_by is_begin_or_end steps
 
--- a step whose version is right after these steps: a write begins at none but the last, and a load has that of its moment
+-- the version is right for a step after these steps: no write begins at the last one, and a load has that of its moment
 abbrev pub HasVersion : List VersionedStep → VersionedStep → Type 0
 HasVersion before Begin = version_after before ≢ last_version
-HasVersion before (Store place byte) = Unit {0}
-HasVersion before End = Unit {0}
 HasVersion before (LoadVersion reader version) = version ≡ version_after before
-HasVersion before (LoadByte reader place byte) = Unit {0}
+HasVersion before step = Unit {0}
 
--- steps that are possible on a value that has these first bytes
+-- steps that are legal on a value that has these first bytes
 pub record IsLegalVersioned (first : List ℕ) (steps : List VersionedStep) : Type 0 where
   pub writes : (values : List (List ℕ)) × AreWrites (length first) steps values
   pub versions : EachAfter HasVersion steps

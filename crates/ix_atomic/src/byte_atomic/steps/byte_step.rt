@@ -16,14 +16,15 @@ pub(crate) trait ByteStep: Copy {
         ensures { result ≡ act_of self };
 }
 
-/// Returns whether the stores and loads are legal, in this order, on a value whose first bytes are `first`.
+/// Returns whether the stores and loads are legal, in this order, on a value whose first bytes are `first`. O(n * m) for n
+/// bytes and m steps.
 pub(crate) fn acts_are_legal<S: ByteStep>(first: &[u8], steps: &[S]) -> bool
     ensures { IsTrue result ↔ AreLegal first.now (filter_map S.act_of steps.now) }
 {
     places_are_within(first.len(), steps) && all_loads_agree(first, steps)
 }
 
-// Returns whether each place is less than the length.
+/// Returns whether each place is less than the length.
 fn places_are_within<S: ByteStep>(len: usize, steps: &[S]) -> bool
     ensures { result ≡ all_within len (filter_map S.act_of steps.now) }
 {
@@ -37,7 +38,7 @@ fn places_are_within<S: ByteStep>(len: usize, steps: &[S]) -> bool
     true
 }
 
-// Returns whether each load has the byte that its place has by then.
+/// Returns whether each load has the byte that its place has by then.
 fn all_loads_agree<S: ByteStep>(first: &[u8], steps: &[S]) -> bool
     ensures { IsTrue result ↔ ((place : ℕ) → place < length first.now
         → loads_agree place (slice_index first.now place) (filter_map S.act_of steps.now) ≡ true) }
@@ -50,7 +51,7 @@ fn all_loads_agree<S: ByteStep>(first: &[u8], steps: &[S]) -> bool
     true
 }
 
-// Returns whether each load from one place has the byte that it has by then, where `first` is the first one.
+/// Returns whether each load from one place has the byte that it has by then, where `first` is the first one.
 fn loads_agree_at<S: ByteStep>(place: usize, first: u8, steps: &[S]) -> bool
     ensures { result ≡ loads_agree place first (filter_map S.act_of steps.now) }
 {

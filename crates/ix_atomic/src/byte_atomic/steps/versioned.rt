@@ -55,7 +55,7 @@ pub fn replay_versioned(first: &[u8], steps: &[VersionedStep]) -> bool
         && acts_are_legal(first, steps)
 }
 
-// Returns whether the writer's steps are writes of `len` bytes, of which the last may be cut short.
+/// Returns whether the writer's steps are writes of `len` bytes, of which the last may be cut short.
 fn writes_are_in_turn(len: usize, steps: &[VersionedStep]) -> bool
     ensures { result ≡ are_in_turn len None steps.now }
 {
@@ -75,7 +75,7 @@ fn writes_are_in_turn(len: usize, steps: &[VersionedStep]) -> bool
     true
 }
 
-// Returns whether each loaded version is that of its moment, and no write begins at the last even version.
+/// Returns whether each loaded version is that of its moment, and no write begins at the last even version.
 fn versions_are_right(steps: &[VersionedStep]) -> bool
     ensures { result ≡ versions_agree 0 steps.now }
 {
