@@ -1,10 +1,15 @@
 //! The cell that is made in two steps.
-ghost use Rattle.std.specs.Prelude.{◌≡◌, length, IfErr};
+ghost use Rattle.std.specs.Prelude.{◌≡◌, ◌≤◌, length, IfErr};
+ghost use Rattle.ix_atomic.specs.declared.byte_atomic.relocatable_byte_atomic.TheConstants.{MAX_SIZE};
 
 use crate::byte_atomic::{AtomicCopy, FixedSizeByteAtomic, MaybeTorn};
 use ix_cells::InitError;
 use std::alloc::{Allocator, Global};
 use std::marker::PhantomData;
+use std::sync::atomic::AtomicU8;
+
+/// No allocation has more bytes than `isize::MAX`.
+const MAX_SIZE: usize = isize::MAX as usize / size_of::<AtomicU8>();
 
 /// A [`FixedSizeByteAtomic`] in memory of an allocator `A`. It is made in two steps, the second of which allocates.
 ///
@@ -18,6 +23,7 @@ use std::marker::PhantomData;
 #[derive(Drop)]
 pub struct RelocatableByteAtomic<T, const SIZE: usize, A: Allocator = Global> {
     cell: Box<FixedSizeByteAtomic<T, SIZE>, A>,
+    ghost allocated: { SIZE ≤ MAX_SIZE },
 }
 
 impl<T, const SIZE: usize, A: Allocator> RelocatableByteAtomic<T, SIZE, A> {
@@ -79,6 +85,9 @@ impl<T: AtomicCopy, const SIZE: usize> UninitByteAtomic<T, SIZE> {
         requires { SIZE ≡ T.SIZE }
         ensures { IfErr result (λ error. error ≡ self) }
     {
+        if SIZE > MAX_SIZE {
+            return Err(InitError::new(self));
+        }
         match Box::new(alloc, FixedSizeByteAtomic::new(value)) {
             Ok(cell) => Ok(RelocatableByteAtomic { cell }),
             Err(_) => Err(InitError::new(self)),
