@@ -1,9 +1,10 @@
 //! What one thread reads from a cell is what it wrote, in each kind of cell and in each memory.
-ghost use Rattle.std.specs.Prelude.{◌≡◌};
+ghost use Rattle.std.specs.Prelude.{◌≡◌, ◌<◌};
 
 use crate::foo::Foo;
 use bumpalo::Bump;
 use ix_atomic::{AtomicCopy, FixedSizeByteAtomic, RelocatableByteAtomic, UninitByteAtomic};
+use ix_cells::InitError;
 use ix_expect::Findings;
 use ix_string::StaticString;
 use linked_list_allocator::LocalHeap;
@@ -18,7 +19,8 @@ fn check_fixed<T: AtomicCopy + PartialEq + Debug, const SIZE: usize>(
     second: T,
     place: &str,
 )
-    requires { SIZE ≡ T.SIZE }
+    requires size { SIZE ≡ T.SIZE }
+    requires fits { SIZE < 256 }
 {
     let cell = FixedSizeByteAtomic::<T, SIZE>::new(first);
     findings.expect_same(cell.read().assume_consistent(), Some(first), place);
@@ -26,17 +28,17 @@ fn check_fixed<T: AtomicCopy + PartialEq + Debug, const SIZE: usize>(
     findings.expect_same(cell.read().assume_consistent(), Some(second), place);
 }
 
-/// As `check_fixed`, of a relocatable cell in memory of `alloc`.
-fn check_relocatable<T: AtomicCopy + PartialEq + Debug, const SIZE: usize, A: Allocator>(
+/// As `check_fixed`, of a relocatable cell that was made.
+fn check_made<T: AtomicCopy + PartialEq + Debug, const SIZE: usize, A: Allocator>(
     findings: &Findings,
-    alloc: A,
-    values: (T, T),
+    made: Result<RelocatableByteAtomic<T, SIZE, A>, InitError<UninitByteAtomic<T, SIZE>>>,
+    first: T,
+    second: T,
     place: &str,
 )
     requires { SIZE ≡ T.SIZE }
 {
-    let (first, second) = values;
-    match UninitByteAtomic::<T, SIZE>::new_uninit().init(alloc, first) {
+    match made {
         Ok(cell) => {
             findings.expect_same(cell.read().assume_consistent(), Some(first), place);
             cell.write(second);
@@ -67,23 +69,19 @@ fn a_fixed_cell() -> Result<(), Fail> {
     findings.verdict()
 }
 
-/// Checks cells in memory of `alloc`.
-fn check_in<A: Allocator + Copy>(findings: &Findings, alloc: A, place: &str) {
-    check_relocatable::<Foo, 9, A>(findings, alloc, (FIRST, SECOND), place);
-    check_relocatable::<(), 0, A>(findings, alloc, ((), ()), place);
-    check_relocatable::<u64, 8, A>(findings, alloc, (0, u64::MAX), place);
-}
-
 #[test]
 fn a_relocatable_cell(rt: HostRuntime) -> Result<(), Fail> {
     let findings = Findings::new();
-    check_in(&findings, rt.alloc(), "in the machine's memory");
+    let in_memory = UninitByteAtomic::<Foo, 9>::new_uninit().init(rt.alloc(), FIRST);
+    check_made(&findings, in_memory, FIRST, SECOND, "in memory");
     let arena = Bump::new(rt.alloc());
-    check_in(&findings, &arena, "in an arena");
+    let in_arena = UninitByteAtomic::<Foo, 9>::new_uninit().init(&arena, FIRST);
+    check_made(&findings, in_arena, FIRST, SECOND, "in an arena");
     match LocalHeap::new(rt.alloc(), 4096) {
         Ok(heap) => {
-            check_in(&findings, &heap, "in a heap");
-            findings.expect_same(heap.used(), 0, "after the cells");
+            let in_heap = UninitByteAtomic::<Foo, 9>::new_uninit().init(&heap, FIRST);
+            check_made(&findings, in_heap, FIRST, SECOND, "in a heap");
+            findings.expect_same(heap.used(), 0, "after the cell");
         }
         Err(_) => findings.miss("a heap"),
     }
@@ -91,11 +89,11 @@ fn a_relocatable_cell(rt: HostRuntime) -> Result<(), Fail> {
 }
 
 #[test]
-fn made_by_the_type(rt: HostRuntime) -> Result<(), Fail> {
+fn a_relocatable_cell_of_each_size(rt: HostRuntime) -> Result<(), Fail> {
     let findings = Findings::new();
-    match RelocatableByteAtomic::<u64, 8>::new_uninit().init(rt.alloc(), 7) {
-        Ok(cell) => findings.expect_same(cell.read().assume_consistent(), Some(7), "a cell"),
-        Err(_) => findings.miss("there is memory"),
-    }
+    let empty = RelocatableByteAtomic::<(), 0>::new_uninit().init(rt.alloc(), ());
+    check_made(&findings, empty, (), (), "no bytes");
+    let eight = RelocatableByteAtomic::<u64, 8>::new_uninit().init(rt.alloc(), 0);
+    check_made(&findings, eight, 0, u64::MAX, "eight bytes");
     findings.verdict()
 }

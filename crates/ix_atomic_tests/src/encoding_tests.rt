@@ -1,5 +1,5 @@
 //! The encoding of each type, both ways, and bytes that encode no value.
-ghost use Rattle.std.specs.Prelude.{◌≡◌};
+ghost use Rattle.std.specs.Prelude.{◌≡◌, ◌<◌};
 
 use crate::foo::Foo;
 use ix_atomic::{AtomicCopy, MaybeTorn};
@@ -91,7 +91,9 @@ fn other_values() -> Result<(), Fail> {
 }
 
 /// Checks that the string of `text` is encoded as `bytes`.
-fn check_string<const SIZE: usize>(findings: &Findings, text: &str, bytes: [u8; SIZE]) {
+fn check_string<const SIZE: usize>(findings: &Findings, text: &str, bytes: [u8; SIZE])
+    requires { SIZE < 256 }
+{
     match StaticString::<SIZE>::try_from(text) {
         Ok(string) => check(findings, string, bytes, text),
         Err(_) => findings.miss(text),
