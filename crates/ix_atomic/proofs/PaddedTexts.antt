@@ -1,6 +1,6 @@
 -- Lemmas on reading a text that is padded with zeros.
-use Rattle.std.proofs.Common.{ℕ, ◌≡◌, ◌↔◌, ◌-◌, ◌≤◌, List, [], ◌∷◌, ◌++◌, suc, length, take, drop, refl, ap, sym, subst, ◌∙◌, arith, rules}
-use Rattle.std.specs.Prelude.{◌==◌, not, min, All, replicate, Option, Some, None, Result, Ok, Err}
+use Rattle.std.proofs.Common.{ℕ, ◌≡◌, ◌↔◌, ◌-◌, ◌≤◌, List, [], ◌∷◌, ◌++◌, suc, length, take, drop, refl, ap, sym, subst, ◌∙◌, arith}
+use Rattle.std.specs.Prelude.{◌==◌, not, min, All, replicate, Some, Result, Ok, Err}
 use Rattle.std.specs.Result.{result_ok}
 use Rattle.std.proofs.lemmas.Grind.{common_steps}
 use Rattle.std.proofs.lemmas.List.{take-append-drop}
@@ -11,7 +11,7 @@ use Rattle.ix_string.specs.Text.{IsText, padded_text, nul_position, before_nul}
 use Rattle.ix_string.specs.TextSteps.{StringFromBytes}
 use Rattle.ix_string.specs.declared.string.modification_error.StringModificationError.{StringModificationError}
 use Rattle.ix_string.specs.declared.string.modification_error.StringModificationError.TheVariants.{InvalidCharacter, InsertWouldExceedCapacity}
-use Rattle.ix_atomic.specs.OneValue.{nul_position-padded_text, before_nul-padded_text}
+use Rattle.ix_atomic.specs.EncodingLaws.{nul_position-padded_text, before_nul-padded_text}
 
 abbrev pub AreZeros : List ℕ → Type 0
 AreZeros bytes = All (λ b. b ≡ 0) bytes

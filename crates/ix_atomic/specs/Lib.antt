@@ -1,2 +1,2 @@
 pub mod Encoding
-pub mod OneValue
+pub mod EncodingLaws

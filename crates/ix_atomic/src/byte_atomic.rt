@@ -11,10 +11,11 @@
 
 mod atomic_copy;
 mod fixed_size_byte_atomic;
+mod fixed_strings;
 mod integers;
 mod maybe_torn;
-mod other_values;
 mod relocatable_byte_atomic;
+mod unit_and_bool;
 
 pub use atomic_copy::AtomicCopy;
 pub use fixed_size_byte_atomic::FixedSizeByteAtomic;

@@ -6,22 +6,9 @@ ghost use Rattle.std.specs.Prelude.{◌≡◌, ◌↔◌, ℕ, List, length, Som
 /// Each value has one encoding, and no two values have the same. The bytes of an encoding do not depend on the machine.
 ///
 /// ```text
-/// #[derive(Clone, Copy)]
-/// struct Flags {
-///     bits: u8,
-/// }
-///
-/// impl AtomicCopy for Flags {
-///     const SIZE: usize = 1;
-///
-///     fn encode(&self, out: &mut [u8]) {
-///         out[0] = self.bits;
-///     }
-///
-///     fn decode(bytes: &[u8]) -> Option<Flags> {
-///         Some(Flags { bits: bytes[0] })
-///     }
-/// }
+/// let mut bytes = [0; 2];
+/// 258u16.encode(&mut bytes);      // [2, 1]
+/// u16::decode(&bytes);            // Some(258)
 /// ```
 ///
 /// This is `AtomicCopy` of iceoryx2-bb-elementary-traits, with an encoding in the place of the bytes in memory.
@@ -48,7 +35,9 @@ pub trait AtomicCopy: Copy {
         requires { length bytes.now ≡ SIZE }
         ensures { (v : Self) → (result ≡ Some v) ↔ (is_value v × (bytes.now ≡ encoding v)) };
 
+    /// An encoding has `SIZE` bytes.
     ghost encoding_len: { (v : Self) → is_value v → length (encoding v) ≡ SIZE };
 
+    /// No two values have the same encoding.
     ghost one_value: { (v w : Self) → is_value v → is_value w → encoding v ≡ encoding w → v ≡ w };
 }

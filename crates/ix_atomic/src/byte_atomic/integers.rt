@@ -4,7 +4,7 @@ ghost use Rattle.std.specs.Int.{w16, w32, w64, to_le_bytes, from_le_bytes};
 ghost use Rattle.std.proofs.Common.{sym, ◌∙◌, ap};
 ghost use Rattle.std.proofs.lemmas.Nat.{from_le_bytes-to_le_bytes_2, from_le_bytes-to_le_bytes_4, from_le_bytes-to_le_bytes_8};
 ghost use Rattle.ix_atomic.specs.Encoding.{i64_encoding};
-ghost use Rattle.ix_atomic.specs.OneValue.{i64_encoding-one_value};
+ghost use Rattle.ix_atomic.specs.EncodingLaws.{i64_encoding-one_value};
 
 use crate::byte_atomic::AtomicCopy;
 
@@ -56,7 +56,7 @@ impl AtomicCopy for u16 {
 
     #[inline]
     fn encode(&self, out: &mut [u8]) {
-        out.copy_from_slice(&self.to_le_bytes());
+        out.copy_from_slice(&u16::to_le_bytes(*self));
     }
 
     #[inline]
@@ -82,7 +82,7 @@ impl AtomicCopy for u32 {
 
     #[inline]
     fn encode(&self, out: &mut [u8]) {
-        out.copy_from_slice(&self.to_le_bytes());
+        out.copy_from_slice(&u32::to_le_bytes(*self));
     }
 
     #[inline]
@@ -108,7 +108,7 @@ impl AtomicCopy for u64 {
 
     #[inline]
     fn encode(&self, out: &mut [u8]) {
-        out.copy_from_slice(&self.to_le_bytes());
+        out.copy_from_slice(&u64::to_le_bytes(*self));
     }
 
     #[inline]
@@ -134,7 +134,7 @@ impl AtomicCopy for i64 {
 
     #[inline]
     fn encode(&self, out: &mut [u8]) {
-        out.copy_from_slice(&self.to_le_bytes());
+        out.copy_from_slice(&i64::to_le_bytes(*self));
     }
 
     #[inline]

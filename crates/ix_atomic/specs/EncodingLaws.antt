@@ -1,5 +1,5 @@
--- Lemmas on encodings: they have the size of their type, and no two values have the same. Laws of impls cite them.
-use Rattle.std.specs.Prelude.{◌≡◌, ℕ, ℤ, ◌-◌, ◌≤◌, FitsSigned, Bool, true, false, List, ◌++◌, length, take, replicate, refl, ◌==◌}
+-- Lemmas on encodings that the laws of impls cite: an encoding has the size of its type, and no two values have the same.
+use Rattle.std.specs.Prelude.{◌≡◌, ℕ, ℤ, ◌-◌, ◌≤◌, FitsSigned, Bool, true, false, List, length, take, replicate, refl, ◌==◌}
 use Rattle.std.proofs.Common.{sym, ◌∙◌, ap, arith}
 use Rattle.std.specs.Int.{w64, cast_signed, cast_unsigned, from_le_bytes}
 use Rattle.std.proofs.Math.Facts.{Fits-of_z}

@@ -1,7 +1,7 @@
 use Rattle.std.proofs.Common.{◌≡◌, take, drop, ap, refl, sym, ◌∙◌, rules}
 use Rattle.ix_string.specs.Text.{nul_position, before_nul}
 use Rattle.ix_atomic.proofs.PaddedTexts.{AreZeros, AreZeros-padded_text, min-nul_position, text_decoding}
-use Rattle.ix_atomic.proofs.byte_atomic.other_values.StaticStringAtomicCopy.decode.Goals as goal
+use Rattle.ix_atomic.proofs.byte_atomic.fixed_strings.StaticStringAtomicCopy.decode.Goals as goal
 
 pub returns-then-not-are_zeros : goal.returns-then-not-are_zeros
 returns-then-not-are_zeros g c v =
