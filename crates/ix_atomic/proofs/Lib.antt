@@ -1,3 +1,6 @@
+pub mod LittleEndian
+pub mod PaddedTexts
+mod WorkedEncodings
 pub mod EachStep
 pub mod Splits
 pub mod LastStored

@@ -1,3 +1,5 @@
+pub mod Encoding
+pub mod EncodingLaws
 pub mod EachStep
 pub mod ByteActs
 pub mod PlainSteps
