@@ -1,0 +1,14 @@
+pub mod LittleEndian
+pub mod PaddedTexts
+mod WorkedEncodings
+pub mod EachStep
+pub mod Splits
+pub mod LastStored
+pub mod LastGiven
+pub mod LegalActs
+pub mod LegalWrites
+pub mod Versions
+pub mod PlainReads
+pub mod VersionedReads
+mod WorkedReads
+mod WorkedSteps

@@ -1,0 +1,24 @@
+//! Values with an encoding of a fixed number of bytes, and cells that store it byte by byte.
+//!
+//! [`FixedSizeByteAtomic`] is stored inline, [`RelocatableByteAtomic`] is made in two steps and allocates once.
+//!
+//! ```text
+//! let mut bytes = [0; 8];
+//! 1u64.encode(&mut bytes);    // [1, 0, 0, 0, 0, 0, 0, 0]
+//! u64::decode(&bytes);        // Some(1)
+//! bool::decode(&[2]);         // None
+//! ```
+
+mod atomic_copy;
+mod fixed_size_byte_atomic;
+mod fixed_strings;
+mod integers;
+mod maybe_torn;
+mod relocatable_byte_atomic;
+pub mod steps;
+mod unit_and_bool;
+
+pub use atomic_copy::AtomicCopy;
+pub use fixed_size_byte_atomic::FixedSizeByteAtomic;
+pub use maybe_torn::MaybeTorn;
+pub use relocatable_byte_atomic::{RelocatableByteAtomic, UninitByteAtomic};

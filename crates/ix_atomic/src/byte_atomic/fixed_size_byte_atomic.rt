@@ -1,0 +1,58 @@
+//! The cell that is stored inline.
+ghost use Rattle.std.specs.Prelude.{◌≡◌, length};
+
+use crate::byte_atomic::{AtomicCopy, MaybeTorn};
+use std::array;
+use std::marker::PhantomData;
+use std::sync::atomic::{AtomicU8, Ordering};
+
+/// A cell that is stored inline and holds the encoding of a `T` in `SIZE` atomic bytes. `SIZE` is the size of `T`.
+///
+/// Threads share it by reference. Each byte is read and written atomically, but not all of them at once: reads and writes
+/// may be torn if a thread writes while others read or write. Contracts say nothing of its bytes, since any thread
+/// may change them at any time.
+///
+/// ```text
+/// let cell = FixedSizeByteAtomic::<u64, 8>::new(1);
+/// cell.write(2);
+/// cell.read().assume_consistent();    // Some(2), unless another thread writes too
+/// ```
+///
+/// This is `FixedSizeByteAtomic` of iceoryx2-bb-container.
+#[derive(Drop)]
+pub struct FixedSizeByteAtomic<T, const SIZE: usize> {
+    bytes: [AtomicU8; SIZE],
+    of: PhantomData<T>,
+}
+
+impl<T: AtomicCopy, const SIZE: usize> FixedSizeByteAtomic<T, SIZE> {
+    /// Creates a cell that holds `value`. Does not allocate. O(`SIZE`).
+    pub fn new(value: T) -> Self
+        requires { SIZE ≡ T.SIZE }
+    {
+        let mut bytes = [0; SIZE];
+        value.encode(&mut bytes);
+        FixedSizeByteAtomic {
+            bytes: array::from_fn(|i| AtomicU8::new(bytes[i])),
+            of: PhantomData,
+        }
+    }
+
+    /// Returns the bytes, each read atomically, from the first to the last. O(`SIZE`).
+    pub fn read(&self) -> MaybeTorn<T, SIZE>
+        ensures { length result ≡ SIZE }
+    {
+        MaybeTorn::new(array::from_fn(|i| self.bytes[i].load(Ordering::Relaxed)))
+    }
+
+    /// Writes the encoding of `value`, each byte atomically, from the first to the last. O(`SIZE`).
+    pub fn write(&self, value: T)
+        requires { SIZE ≡ T.SIZE }
+    {
+        let mut encoding = [0; SIZE];
+        value.encode(&mut encoding);
+        for (cell, byte) in self.bytes.iter().zip(&encoding) {
+            cell.store(*byte, Ordering::Relaxed);
+        }
+    }
+}

@@ -1,0 +1,96 @@
+//! The cell that is made in two steps.
+ghost use Rattle.std.specs.Prelude.{◌≡◌, ◌≤◌, length, IfErr};
+ghost use Rattle.ix_atomic.specs.declared.byte_atomic.relocatable_byte_atomic.TheConstants.{MAX_SIZE};
+
+use crate::byte_atomic::{AtomicCopy, FixedSizeByteAtomic, MaybeTorn};
+use ix_cells::InitError;
+use std::alloc::{Allocator, Global};
+use std::marker::PhantomData;
+use std::sync::atomic::AtomicU8;
+
+/// No allocation has more bytes than `isize::MAX`.
+const MAX_SIZE: usize = isize::MAX as usize / size_of::<AtomicU8>();
+
+/// A [`FixedSizeByteAtomic`] in memory of an allocator `A`. It is made in two steps, the second of which allocates.
+///
+/// ```text
+/// let cell = RelocatableByteAtomic::<u64, 8>::new_uninit().init(alloc, 1)?;
+/// cell.write(2);
+/// cell.read().assume_consistent();    // Some(2), unless another thread writes too
+/// ```
+///
+/// This is `RelocatableByteAtomic` of iceoryx2-bb-container.
+#[derive(Drop)]
+pub struct RelocatableByteAtomic<T, const SIZE: usize, A: Allocator = Global> {
+    cell: Box<FixedSizeByteAtomic<T, SIZE>, A>,
+    ghost allocated: { SIZE ≤ MAX_SIZE },
+}
+
+impl<T, const SIZE: usize, A: Allocator> RelocatableByteAtomic<T, SIZE, A> {
+    /// Creates an uninitialised cell. Does not allocate. O(1).
+    #[inline]
+    pub fn new_uninit() -> UninitByteAtomic<T, SIZE> {
+        UninitByteAtomic::new_uninit()
+    }
+}
+
+impl<T: AtomicCopy, const SIZE: usize, A: Allocator> RelocatableByteAtomic<T, SIZE, A> {
+    /// As [`FixedSizeByteAtomic::read`]. O(`SIZE`).
+    #[inline]
+    pub fn read(&self) -> MaybeTorn<T, SIZE>
+        ensures { length result ≡ SIZE }
+    {
+        self.cell.read()
+    }
+
+    /// As [`FixedSizeByteAtomic::write`]. O(`SIZE`).
+    #[inline]
+    pub fn write(&self, value: T)
+        requires { SIZE ≡ T.SIZE }
+    {
+        self.cell.write(value);
+    }
+}
+
+/// An uninitialised [`RelocatableByteAtomic`]: it has no memory yet, and offers [`UninitByteAtomic::init`] alone.
+///
+/// ```text
+/// match UninitByteAtomic::<u64, 8>::new_uninit().init(alloc, 1) {
+///     Ok(cell) => cell.write(2),
+///     Err(error) => retry_later(error.into_uninit()),
+/// }
+/// ```
+#[derive(Drop)]
+pub struct UninitByteAtomic<T, const SIZE: usize> {
+    of: PhantomData<T>,
+}
+
+impl<T, const SIZE: usize> UninitByteAtomic<T, SIZE> {
+    /// Creates an uninitialised cell. Does not allocate. O(1).
+    #[inline]
+    pub fn new_uninit() -> Self {
+        UninitByteAtomic { of: PhantomData }
+    }
+}
+
+impl<T: AtomicCopy, const SIZE: usize> UninitByteAtomic<T, SIZE> {
+    /// Allocates from `alloc` once and returns a cell that holds `value`. O(`SIZE`).
+    ///
+    /// If the allocation fails, the error holds `self`.
+    pub fn init<A: Allocator>(
+        self,
+        alloc: A,
+        value: T,
+    ) -> Result<RelocatableByteAtomic<T, SIZE, A>, InitError<Self>>
+        requires { SIZE ≡ T.SIZE }
+        ensures { IfErr result (λ error. error ≡ self) }
+    {
+        if SIZE > MAX_SIZE {
+            return Err(InitError::new(self));
+        }
+        match Box::new(alloc, FixedSizeByteAtomic::new(value)) {
+            Ok(cell) => Ok(RelocatableByteAtomic { cell }),
+            Err(_) => Err(InitError::new(self)),
+        }
+    }
+}

@@ -1,0 +1,18 @@
+//! Tests of byte-wise atomic cells beside their contracts: the encoding of each type, bytes that are torn, each function
+//! once, too little memory, and threads that share a cell. And a type with an encoding, as a user would write it.
+#![tactic(auto)]
+
+#[cfg(test)]
+mod cell_tests;
+#[cfg(test)]
+mod encoding_tests;
+#[cfg(test)]
+mod foo;
+#[cfg(test)]
+mod memory_tests;
+#[cfg(test)]
+mod steps;
+#[cfg(test)]
+mod thread_tests;
+#[cfg(test)]
+mod torn_tests;
