@@ -31,8 +31,9 @@ decoded_foo bytes None baz first rest foo is = absurd (cc)
 
 pub foo_decoding : (bytes : List ℕ) (bar baz : Option ℕ) (o : Option Foo) → IsDecodedAs (λ n. n ∷ []) (2 ^ 8) (take 1 bytes) bar → IsDecodedAs (to_le_bytes w64) (2 ^ 64) (drop 1 bytes) baz → o ≡ foo_of bar baz → (foo : Foo) → (o ≡ Some foo) ↔ EncodesFoo bytes foo
 foo_decoding bytes bar baz o first rest made foo = (
-    λ is. decoded_foo bytes bar baz first rest foo (sym made ∙ is),
-    λ is.
+  λ is. decoded_foo bytes bar baz first rest foo (sym made ∙ is),
+  λ is.
       let front : bar ≡ Some foo.bar = (first foo.bar).1 (is.0.0, ap (take 1) is.1) in
       let back : baz ≡ Some foo.baz = (rest foo.baz).1 (is.0.1, ap (drop 1) is.1) in
-      made ∙ (λ i. foo_of (front i) (back i)))
+      made ∙ (λ i. foo_of (front i) (back i)),
+)
