@@ -214,8 +214,11 @@ impl<K: Eq + Drop, V: Drop, S: Table<Pair<K, V>>, L: Table<Link>> MetaFlatMap<K,
         ensures value { option_map (λ entry. (entry.0, entry.1.now)) result ≡ flat_entry K.eq self.now key.now }
         ensures distinct { HasDistinctKeys K.eq self.now }
     {
-        for (place, pair) in self.pairs.iter() {
-            if pair.key == *key {
+        for place in 0..self.pairs.capacity() {
+            let place = SlotMapKey::new(place);
+            if let Some(pair) = self.pairs.get(place)
+                && pair.key == *key
+            {
                 return Some((place, pair));
             }
         }
