@@ -299,7 +299,8 @@ impl<T, S: Table<T>, L: Table<Link>> MetaSlotMap<T, S, L> {
         ensures { option_copied result ≡ value_at self.now key }
     {
         let mut touches = Touches::new();
-        if self.is_free(key, &mut touches) {
+        // A full map has no free key, so that its links need not be looked at.
+        if self.first != NO_KEY && self.is_free(key, &mut touches) {
             None
         } else {
             Some(self.values.get(key, &mut touches))
