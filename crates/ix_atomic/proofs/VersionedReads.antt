@@ -23,7 +23,7 @@ acts steps = filter_map byte_act steps
 abbrev stores : ℕ → List VersionedStep → List ℕ
 stores place steps = filter_map (stored_at place) (acts steps)
 
--- at an even version the writer's steps are whole writes
+-- the versions in and after a write
 version_after-rest : (place : ℕ) (bytes : List ℕ) → version_after (byte_steps Store place bytes ++ End ∷ []) ≡ 1
 version_after-rest place [] = let a = version_after-cons End [] in omega arith
 version_after-rest place (byte ∷ bytes) = let a = version_after-cons (Store place byte) (byte_steps Store (place + 1) bytes ++ End ∷ []) in omega (arith, version_after-rest (place + 1) bytes)
@@ -50,7 +50,7 @@ version_after-begun value x front step back e =
     let b = version_after-cons Begin front in
     omega (arith, version_after-stores 0 value front step back rest)
 
--- the steps are the first writes, as many as this
+-- at an even version the writer's steps are the first writes, as many as this
 abbrev AreFirstWrites : List VersionedStep → ℕ → List (List ℕ) → Type 0
 AreFirstWrites steps count values = (steps ≡ flat_map write_of (take count values)) × (count ≤ length values)
 
