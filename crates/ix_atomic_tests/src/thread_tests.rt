@@ -1,5 +1,5 @@
 //! Threads that write to one cell and read from it at once.
-use ix_atomic::FixedSizeByteAtomic;
+use ix_atomic::{FixedSizeByteAtomic, RelocatableByteAtomic};
 use ix_expect::Findings;
 use std::test::Fail;
 use std::thread;
@@ -47,5 +47,21 @@ fn bytes_of_two_writers(rt: HostRuntime) -> Result<(), Fail> {
     );
     findings.expect(expected, "a byte that no thread wrote");
     findings.expect(reads_zeros_and_ones(&cell), "the last bytes");
+    findings.verdict()
+}
+
+/// Only the first byte changes, so each read gives what was written before or after it.
+#[test]
+fn a_relocatable_cell_is_shared(rt: HostRuntime) -> Result<(), Fail> {
+    let findings = Findings::new();
+    match RelocatableByteAtomic::<u64, 8>::new_uninit().init(rt.alloc(), 0) {
+        Ok(cell) => {
+            let (_, torn) = thread::join(&rt, || cell.write(1), || cell.read());
+            let value = torn.assume_consistent();
+            findings.expect(value == Some(0) || value == Some(1), "beside a write");
+            findings.expect_same(cell.read().assume_consistent(), Some(1), "after it");
+        }
+        Err(_) => findings.miss("there is memory"),
+    }
     findings.verdict()
 }

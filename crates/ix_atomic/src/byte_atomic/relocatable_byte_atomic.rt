@@ -8,7 +8,7 @@ use std::alloc::{Allocator, Global};
 use std::marker::PhantomData;
 use std::sync::atomic::AtomicU8;
 
-/// No allocation has more bytes than `isize::MAX`.
+/// The maximum number of atomic bytes of an allocation, which has at most `isize::MAX` bytes.
 const MAX_SIZE: usize = isize::MAX as usize / size_of::<AtomicU8>();
 
 /// A [`FixedSizeByteAtomic`] in memory of an allocator `A`. It is made in two steps, the second of which allocates.
@@ -76,7 +76,8 @@ impl<T, const SIZE: usize> UninitByteAtomic<T, SIZE> {
 impl<T: AtomicCopy, const SIZE: usize> UninitByteAtomic<T, SIZE> {
     /// Allocates from `alloc` once and returns a cell that holds `value`. O(`SIZE`).
     ///
-    /// If the allocation fails, the error holds `self`.
+    /// If the allocation fails, nothing stays allocated and the error holds `self`. No allocation has more than
+    /// `isize::MAX` bytes.
     pub fn init<A: Allocator>(
         self,
         alloc: A,
