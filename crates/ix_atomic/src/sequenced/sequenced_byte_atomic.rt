@@ -2,6 +2,7 @@
 ghost use Rattle.std.specs.Prelude.{◌≡◌, ℕ, ◌<◌, ◌⊎◌, ◌↔◌, true, [], ◌∷◌, ◌++◌, length, slice_index, Some, IsOk, IsErr, IfOk, IfErr};
 ghost use Rattle.ix_atomic.specs.Versions.{last_version};
 ghost use Rattle.ix_atomic.specs.History.{Loads, LoadsTwice, version_of, value_at, last_value, IsEven, IsOdd};
+ghost use Rattle.ix_atomic.specs.SequencedRule.{Encodes};
 ghost use Rattle.ix_atomic.specs.SequencedSteps.{seated_stage};
 ghost use Rattle.ix_atomic.specs.declared.sequenced.rule.Stage.TheVariants.{Reading, Writing};
 
@@ -105,7 +106,7 @@ impl<T: AtomicCopy, const SIZE: usize> SequencedByteAtomic<T, SIZE> {
         let mut bytes = [0u8; SIZE];
         value.encode(&mut bytes);
         shared.store::<Begin>(&mut seat.seat, 0, odd);
-        self.store_bytes(&mut seat.seat, &value, &bytes);
+        self.store_bytes(&mut seat.seat, &bytes);
         shared.store::<End>(&mut seat.seat, 0, even);
         seat.version = even;
         Ok(())
@@ -123,9 +124,10 @@ impl<T: AtomicCopy, const SIZE: usize> SequencedByteAtomic<T, SIZE> {
         ensures value { IfOk result (λ value. (version : ℕ) × LoadsTwice seat.old seat.new version version × IsEven version × (value_at seat.new.known version ≡ Some value)) }
         ensures interfered { IfErr result (λ error. LoadsTwice seat.old seat.new error.first error.last × (IsOdd error.first ⊎ (error.first < error.last))) }
     {
-        let first = self.table.shared.load::<LoadVersion>(&mut seat.seat, 0);
+        let shared = &self.table.shared;
+        let first = shared.load::<LoadVersion>(&mut seat.seat, 0);
         let bytes = self.load_bytes(&mut seat.seat, first);
-        let last = self.table.shared.load::<LoadVersion>(&mut seat.seat, 0);
+        let last = shared.load::<LoadVersion>(&mut seat.seat, 0);
         if first == last && first % 2 == 0 {
             match T::decode(&bytes) {
                 Some(value) => Ok(value),
@@ -151,9 +153,10 @@ impl<T: AtomicCopy, const SIZE: usize> SequencedByteAtomic<T, SIZE> {
         ensures value { last_value seat.old.history ≡ Some result }
         ensures seat { seat.new ≡ seat.old }
     {
-        let first = self.table.shared.load::<LoadVersion>(&mut seat.seat, 0);
-        let bytes = self.load_bytes(&mut seat.seat, first);
-        self.table.shared.load::<LoadVersion>(&mut seat.seat, 0);
+        let shared = &self.table.shared;
+        let version = shared.load::<LoadVersion>(&mut seat.seat, 0);
+        let bytes = self.load_bytes(&mut seat.seat, version);
+        shared.load::<LoadVersion>(&mut seat.seat, 0);
         match T::decode(&bytes) {
             Some(value) => value,
             None => unreachable!(),
@@ -172,9 +175,8 @@ impl<T: AtomicCopy, const SIZE: usize> SequencedByteAtomic<T, SIZE> {
         ensures seat { seat.new ≡ seat.old }
         ensures memory { IsOk result }
     {
-        Ok(ReaderSeat {
-            seat: self.table.shared.split_seat::<NewReader>(&mut seat.seat),
-        })
+        let reader = self.table.shared.split_seat::<NewReader>(&mut seat.seat);
+        Ok(ReaderSeat { seat: reader })
     }
 
     /// Deallocates the cell and returns the last finished value. O(`SIZE`).
@@ -197,14 +199,13 @@ impl<T: AtomicCopy, const SIZE: usize> SequencedByteAtomic<T, SIZE> {
     }
 
     /// Stores the bytes of a value, from the first to the last. O(`SIZE`).
-    fn store_bytes(&self, seat: &mut Seat<(), SeatView<T>>, value: &T, bytes: &[u8; SIZE])
+    fn store_bytes(&self, seat: &mut Seat<(), SeatView<T>>, bytes: &[u8; SIZE])
         requires cell { seat.old.table_id ≡ self.now }
-        requires bytes { T.is_value value.now × (bytes.now ≡ T.encoding value.now) }
+        requires bytes { (value : T) × Encodes T.is_value T.encoding value bytes.now }
         requires writer { (seat.old.me.0.is_writer ≡ true) × (seat.old.me.0.stage ≡ Writing []) }
         ensures place { (seat.new.table_id ≡ seat.old.table_id) × (seat.new.id ≡ seat.old.id) }
         ensures seat { seat.new.me ≡ seated_stage (Writing bytes.now) seat.old.me }
     {
-        let _ = value;
         for i in 0..SIZE {
             self.table
                 .shared
@@ -220,7 +221,6 @@ impl<T: AtomicCopy, const SIZE: usize> SequencedByteAtomic<T, SIZE> {
         ensures seat { seat.new.me ≡ seated_stage (Reading first result) seat.old.me }
         ensures length { length result ≡ SIZE }
     {
-        let _ = first;
         let mut bytes = [0u8; SIZE];
         for i in 0..SIZE {
             bytes[i] = self.table.shared.load::<LoadByte>(seat, i + 1) as u8;
