@@ -1,5 +1,5 @@
 -- The history of a sequenced cell: its finished values in order, the opening one first. And what the holder of a seat knows of it.
-use Rattle.std.specs.Prelude.{◌≡◌, ℕ, ◌+◌, ◌-◌, ◌*◌, ◌/◌, ◌%◌, ◌≤◌, List, [], ◌∷◌, ◌++◌, length, Option, slice_get, All}
+use Rattle.std.specs.Prelude.{◌≡◌, ℕ, ◌+◌, ◌-◌, ◌*◌, ◌/◌, ◌%◌, ◌≤◌, List, [], ◌∷◌, ◌++◌, length, Option, slice_get, All, codes}
 use Rattle.atomic_table.specs.Seated.{TableId}
 
 -- the version after the last finished value
@@ -51,3 +51,6 @@ pub record LoadsTwice {T : Type 0} (before after : Reader T) (first last : ℕ) 
   pub first_load : Loads before between first
   pub last_load : Loads between after last
   pub order : first ≤ last
+
+abbrev pub interfered_text : List ℕ
+interfered_text = codes "a write interfered with the read"

@@ -206,10 +206,9 @@ impl<T: AtomicCopy, const SIZE: usize> SequencedByteAtomic<T, SIZE> {
         ensures place { (seat.new.table_id ≡ seat.old.table_id) × (seat.new.id ≡ seat.old.id) }
         ensures seat { seat.new.me ≡ seated_stage (Writing bytes.now) seat.old.me }
     {
+        let shared = &self.table.shared;
         for i in 0..SIZE {
-            self.table
-                .shared
-                .store::<Store>(seat, i + 1, u64::from(bytes[i]));
+            shared.store::<Store>(seat, i + 1, u64::from(bytes[i]));
         }
     }
 
@@ -221,9 +220,10 @@ impl<T: AtomicCopy, const SIZE: usize> SequencedByteAtomic<T, SIZE> {
         ensures seat { seat.new.me ≡ seated_stage (Reading first result) seat.old.me }
         ensures length { length result ≡ SIZE }
     {
+        let shared = &self.table.shared;
         let mut bytes = [0u8; SIZE];
         for i in 0..SIZE {
-            bytes[i] = self.table.shared.load::<LoadByte>(seat, i + 1) as u8;
+            bytes[i] = shared.load::<LoadByte>(seat, i + 1) as u8;
         }
         bytes
     }
