@@ -12,3 +12,7 @@ pub mod PlainReads
 pub mod VersionedReads
 mod WorkedReads
 mod WorkedSteps
+pub mod Beginnings
+pub mod Encodes
+pub mod SequencedKeeps
+pub mod SequencedCalls

@@ -7,3 +7,6 @@ pub mod Operations
 pub mod Versions
 pub mod VersionedSteps
 pub mod StepWalks
+pub mod History
+pub mod SequencedRule
+pub mod SequencedSteps

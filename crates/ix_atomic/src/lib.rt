@@ -8,10 +8,14 @@
 //! cell.write(2);
 //! cell.read().assume_consistent();    // Some(2), unless another thread writes too
 //! ```
+//!
+//! A sequenced cell ([`sequenced`]) has a version beside the bytes, so that its readers can tell whether a value is whole.
 #![tactic(auto)]
 
 pub mod byte_atomic;
+pub mod sequenced;
 
 pub use byte_atomic::{
     AtomicCopy, FixedSizeByteAtomic, MaybeTorn, RelocatableByteAtomic, UninitByteAtomic,
 };
+pub use sequenced::{Interfered, ReaderSeat, SequencedByteAtomic, WriterSeat};

@@ -1,5 +1,6 @@
-//! Tests of byte-wise atomic cells beside their contracts: the encoding of each type, bytes that are torn, each function
-//! once, too little memory, and threads that share a cell. And a type with an encoding, as a user would write it.
+//! Tests of byte-wise atomic cells and sequenced cells beside their contracts: the encoding of each type, bytes that are
+//! torn, each function once, too little memory, and threads that share a cell. And a type with an encoding, as a user would
+//! write it.
 #![tactic(auto)]
 
 #[cfg(test)]
@@ -10,6 +11,10 @@ mod encoding_tests;
 mod foo;
 #[cfg(test)]
 mod memory_tests;
+#[cfg(test)]
+mod sequenced_tests;
+#[cfg(test)]
+mod sequenced_threads;
 #[cfg(test)]
 mod steps;
 #[cfg(test)]

@@ -1,0 +1,57 @@
+-- The rule of a sequenced cell: what its words and its seats are between any two steps. Word 0 is the version, each other word one byte.
+use Rattle.std.specs.Prelude.{◌≡◌, ℕ, ◌+◌, ◌/◌, ◌%◌, ◌<◌, ◌≤◌, List, [], ◌∷◌, ◌++◌, true, All, length, take, drop, slice_index}
+use mathlib.Core.Option.{some}
+use lib.ListN.{get_elem?}
+use Rattle.atomic_table.specs.Table.{State}
+use Rattle.ix_atomic.specs.declared.sequenced.rule.SeatView.{SeatView}
+use Rattle.ix_atomic.specs.declared.sequenced.rule.Stage.{Stage}
+use Rattle.ix_atomic.specs.declared.sequenced.rule.Stage.TheVariants.{Idle, Reading, Writing}
+use Rattle.ix_atomic.specs.History.{Begins, IsEven, IsOdd}
+
+-- the bytes are the encoding of the value
+abbrev pub Encodes : {T : Type 0} → (T → Type 0) → (T → List ℕ) → T → List ℕ → Type 0
+Encodes is_value encoding value bytes = is_value value × (bytes ≡ encoding value)
+
+-- what the words stand for
+pub record Content (T : Type 0) : Type 0 where
+  pub earlier : List T  -- the history but its last value
+  pub last : T
+  pub bytes : List ℕ  -- the encoding of the last value
+  pub front : List ℕ  -- the bytes that the write in progress has stored
+  pub writer : ℕ  -- the number of the writer's seat
+
+abbrev pub history : {T : Type 0} → Content T → List T
+history content = content.earlier ++ content.last ∷ []
+
+-- A front of the words is of the write in progress, the rest still of the last value.
+abbrev pub byte_words : {T : Type 0} → Content T → List ℕ
+byte_words content = content.front ++ drop (length content.front) content.bytes
+
+-- 1 during a write
+abbrev pub parity : Stage → ℕ
+parity Idle = 0
+parity (Reading first loaded) = 0
+parity (Writing stored) = 1
+
+-- what a seat has loaded or stored. A read whose first version is even and still stands has loaded a front of the last value.
+abbrev pub Holds : {T : Type 0} → ℕ → Content T → ℕ → Stage → Type 0
+Holds version content seat Idle = Unit {0}
+Holds version content seat (Reading first loaded) = (first ≤ version) × (first ≡ version → IsEven first → loaded ≡ take (length loaded) content.bytes)
+Holds version content seat (Writing stored) = (seat ≡ content.writer) × (stored ≡ content.front)
+
+-- what the seat of this number has seen and knows; the writer's knows all
+pub record Knows {T : Type 0} (version : ℕ) (content : Content T) (seat : ℕ) (view : SeatView T) : Type 0 where
+  pub known : Begins view.known (history content)
+  pub seen : All (λ earlier. earlier ≤ version) view.seen
+  pub writer : view.is_writer ≡ true → (seat ≡ content.writer) × (view.known ≡ history content) × (version % 2 ≡ parity view.stage)
+  pub stage : Holds version content seat view.stage
+
+pub record SequencedRule {T : Type 0} (IsEncoding : T → List ℕ → Type 0) (table : State (Unit {0}) (SeatView T)) : Type 0 where
+  pub content : Content T
+  pub words : table.words ≡ slice_index table.words 0 ∷ byte_words content
+  pub version : length (history content) ≡ slice_index table.words 0 / 2 + 1
+  pub last : IsEncoding content.last content.bytes
+  pub between_writes : IsEven (slice_index table.words 0) → content.front ≡ []
+  pub during_a_write : IsOdd (slice_index table.words 0) → (value : T) × (bytes : List ℕ) × IsEncoding value bytes × Begins content.front bytes
+  pub byte_range : (index : ℕ) → slice_index (byte_words content) index < 256
+  pub seats : (seat : ℕ) (view : SeatView T) → get_elem? table.views seat ≡ some view → Knows (slice_index table.words 0) content seat view

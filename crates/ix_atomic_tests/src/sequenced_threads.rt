@@ -1,0 +1,238 @@
+//! Sequenced cells that one thread writes while another reads.
+ghost use Rattle.std.specs.Prelude.{◌≡◌};
+
+use ix_atomic::{Interfered, ReaderSeat, SequencedByteAtomic, WriterSeat};
+use ix_expect::Findings;
+use ix_string::{StaticString, String};
+use std::fmt::InlineText;
+use std::test::Fail;
+use std::thread;
+use std::thread::Threads;
+
+/// How many values are written beside a reader.
+const WRITES: u32 = 1_000;
+
+/// How often a reader tries to read the texts that are written beside it.
+const READS: u32 = 10_000;
+
+/// The most tries of a reader that waits for a value.
+const TURNS: u32 = 10_000_000;
+
+/// A cell of no bytes: its version alone changes.
+type Counter = SequencedByteAtomic<(), 0>;
+
+/// Writes `WRITES` times, and returns whether each write succeeds.
+fn count_up(cell: &Counter, writer: &mut WriterSeat<()>) -> bool
+    requires { writer.old.cell ≡ cell.now }
+    ensures { writer.new.cell ≡ writer.old.cell }
+{
+    let mut succeeded = true;
+    for _ in 0..WRITES {
+        succeeded &= cell.write(writer, ()).is_ok();
+    }
+    succeeded
+}
+
+/// Loads the version `WRITES` times, and returns whether none is less than the one before, and all are at most 2,000.
+fn rises(cell: &Counter, reader: &mut ReaderSeat<()>) -> bool
+    requires { reader.old.cell ≡ cell.now }
+    ensures { reader.new.cell ≡ reader.old.cell }
+{
+    let mut latest = 0;
+    let mut expected = true;
+    for _ in 0..WRITES {
+        let version = cell.version(reader);
+        expected &= latest <= version && version <= 2_000;
+        latest = version;
+    }
+    expected
+}
+
+fn count_in_threads<R: Threads>(
+    rt: &R,
+    cell: &Counter,
+    writer: &mut WriterSeat<()>,
+    reader: &mut ReaderSeat<()>,
+) -> (bool, bool)
+    requires writer { writer.old.cell ≡ cell.now }
+    requires reader { reader.old.cell ≡ cell.now }
+    ensures writer { writer.new.cell ≡ writer.old.cell }
+    ensures reader { reader.new.cell ≡ reader.old.cell }
+{
+    thread::join_mut(
+        rt,
+        &mut || count_up(cell, writer),
+        &mut || rises(cell, reader),
+    )
+}
+
+#[test]
+fn versions_beside_writes(rt: HostRuntime) -> Result<(), Fail> {
+    let (cell, mut writer, mut reader) = Counter::new(rt.alloc(), ())?;
+    let findings = Findings::new();
+    let (succeeded, expected) = count_in_threads(&rt, &cell, &mut writer, &mut reader);
+    findings.expect(succeeded, "the writes");
+    findings.expect(expected, "the versions beside them");
+    findings.expect_same(cell.version(&mut reader), 2_000, "the version after them");
+    match cell.reader(rt.alloc(), &mut writer) {
+        Ok(mut other) => findings.expect_same(cell.version(&mut other), 2_000, "to a new seat"),
+        Err(_) => findings.miss("a new seat"),
+    }
+    cell.close(writer);
+    findings.verdict()
+}
+
+type Flag = SequencedByteAtomic<u8, 1>;
+
+/// Writes 1 to `own`, and reads `other` until it finds 1. Returns whether it does.
+fn meet(own: &Flag, writer: &mut WriterSeat<u8>, other: &Flag, reader: &mut ReaderSeat<u8>) -> bool
+    requires own { writer.old.cell ≡ own.now }
+    requires other { reader.old.cell ≡ other.now }
+    ensures own { writer.new.cell ≡ writer.old.cell }
+    ensures other { reader.new.cell ≡ reader.old.cell }
+{
+    if own.write(writer, 1).is_err() {
+        return false;
+    }
+    for _ in 0..TURNS {
+        if other.try_read(reader) == Ok(1) {
+            return true;
+        }
+    }
+    false
+}
+
+/// Two threads that each wait for what the other has written: one after the other, the first would not find it.
+#[test]
+fn two_threads_meet(rt: HostRuntime) -> Result<(), Fail> {
+    let (left, mut left_writer, mut left_reader) = Flag::new(rt.alloc(), 0)?;
+    let right = Flag::new(rt.alloc(), 0);
+    let met = match right {
+        Ok((right, mut right_writer, mut right_reader)) => {
+            let met = thread::join_mut(
+                &rt,
+                &mut || meet(&left, &mut left_writer, &right, &mut right_reader),
+                &mut || meet(&right, &mut right_writer, &left, &mut left_reader),
+            );
+            right.close(right_writer);
+            met
+        }
+        Err(_) => (false, false),
+    };
+    left.close(left_writer);
+    let findings = Findings::new();
+    findings.expect_same(met, (true, true), "each reads the other's 1");
+    findings.verdict()
+}
+
+type Text = StaticString<24>;
+
+type TextCell = SequencedByteAtomic<Text, 24>;
+
+/// Returns `number` as eight digits, three times in a row.
+fn three_times(number: u32) -> Text {
+    let text = InlineText::<24>::of(format_args!("{number:08}{number:08}{number:08}"));
+    match Text::try_from(text.as_str()) {
+        Ok(text) => text,
+        Err(_) => Text::new(),
+    }
+}
+
+/// Returns whether the text is three equal groups of eight bytes, or empty, as the first one is.
+fn is_whole(text: &Text) -> bool {
+    let bytes = text.as_bytes();
+    match (bytes.get(..8), bytes.get(8..16), bytes.get(16..)) {
+        (Some(first), Some(second), Some(third)) => first == second && second == third,
+        _ => bytes.is_empty(),
+    }
+}
+
+fn write_texts(cell: &TextCell, writer: &mut WriterSeat<Text>) -> bool
+    requires { writer.old.cell ≡ cell.now }
+    ensures { writer.new.cell ≡ writer.old.cell }
+{
+    let mut succeeded = true;
+    for number in 1..=WRITES {
+        succeeded &= cell.write(writer, three_times(number)).is_ok();
+    }
+    succeeded
+}
+
+/// What a reader has found so far.
+#[derive(Drop)]
+struct Readings {
+    latest: Text,
+    last: u64,
+    are_expected: bool,
+}
+
+impl Readings {
+    fn new() -> Self {
+        Readings {
+            latest: Text::new(),
+            last: 0,
+            are_expected: true,
+        }
+    }
+
+    /// Texts of eight digits are ordered as their numbers are, and the empty one is the least.
+    fn note(&mut self, read: Result<Text, Interfered>) {
+        match read {
+            Ok(text) => {
+                self.are_expected &= is_whole(&text) && self.latest <= text;
+                self.latest = text;
+            }
+            Err(Interfered { first, last }) => {
+                self.are_expected &= (first % 2 == 1 || first < last) && self.last <= first;
+                self.last = last;
+            }
+        }
+    }
+}
+
+fn read_texts(cell: &TextCell, reader: &mut ReaderSeat<Text>) -> bool
+    requires { reader.old.cell ≡ cell.now }
+    ensures { reader.new.cell ≡ reader.old.cell }
+{
+    let mut readings = Readings::new();
+    for _ in 0..READS {
+        readings.note(cell.try_read(reader));
+    }
+    readings.are_expected
+}
+
+fn read_in_threads<R: Threads>(
+    rt: &R,
+    cell: &TextCell,
+    writer: &mut WriterSeat<Text>,
+    reader: &mut ReaderSeat<Text>,
+) -> (bool, bool)
+    requires writer { writer.old.cell ≡ cell.now }
+    requires reader { reader.old.cell ≡ cell.now }
+    ensures writer { writer.new.cell ≡ writer.old.cell }
+    ensures reader { reader.new.cell ≡ reader.old.cell }
+{
+    thread::join_mut(
+        rt,
+        &mut || write_texts(cell, writer),
+        &mut || read_texts(cell, reader),
+    )
+}
+
+#[test]
+fn texts_are_whole(rt: HostRuntime) -> Result<(), Fail> {
+    let (cell, mut writer, mut reader) = TextCell::new(rt.alloc(), Text::new())?;
+    let findings = Findings::new();
+    let (succeeded, expected) = read_in_threads(&rt, &cell, &mut writer, &mut reader);
+    findings.expect(succeeded, "the writes");
+    findings.expect(expected, "the reads beside them");
+    let last = three_times(WRITES);
+    findings.expect_same(
+        last.as_bytes(),
+        b"000010000000100000001000".as_slice(),
+        "the last text",
+    );
+    findings.expect_same(cell.try_read(&mut reader), Ok(last), "the read after them");
+    findings.expect_same(cell.close(writer), last, "the last value");
+    findings.verdict()
+}
