@@ -1,6 +1,7 @@
 //! Examples of the library, each in a file of its own. The README quotes them.
 #![tactic(auto)]
 
+pub mod configuration;
 pub mod directory;
 pub mod message;
 pub mod queues;

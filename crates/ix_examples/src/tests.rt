@@ -1,4 +1,5 @@
 //! Each example once, with values worked by hand.
+use crate::configuration::{Limit, limit_or, set_limit};
 use crate::directory::{Directory, change_port, port_of as published_port, publish, withdraw};
 use crate::message::{Message, MessageError};
 use crate::registry::{Registry, Service, port_of, register, unregister};
@@ -10,6 +11,7 @@ use ix_cells::Vector;
 use ix_maps::{FlatMapError, SlotMapKey};
 use ix_string::{StaticString, String};
 use std::alloc::AllocError;
+use std::thread;
 
 #[test]
 fn queues_of_each_kind(rt: HostRuntime) {
@@ -46,6 +48,30 @@ fn strings_of_each_kind(rt: HostRuntime) {
     assert!(rt; none.is_none());
     let relocatable = strings::relocatable(rt.alloc(), rt.alloc(), 5);
     assert_eq!(rt; relocatable.map(|string| string.capacity()).ok(), Some(5));
+}
+
+#[test]
+fn one_sets_and_two_read(rt: HostRuntime) {
+    let (limit, mut writer, mut first) = Limit::new(rt.alloc(), 100).expect(&rt, "there is memory");
+    let mut second = limit
+        .reader(rt.alloc(), &mut writer)
+        .expect(&rt, "a seat takes no memory");
+    let (set, (at_first, at_second)) = thread::join_mut(
+        &rt,
+        &mut || set_limit(&limit, &mut writer, 200),
+        &mut || {
+            thread::join_mut(
+                &rt,
+                &mut || limit_or(&limit, &mut first, 150),
+                &mut || limit_or(&limit, &mut second, 150),
+            )
+        },
+    );
+    assert_eq!(rt; set, Ok(()));
+    assert!(rt; at_first == 100 || at_first == 150 || at_first == 200);
+    assert!(rt; at_second == 100 || at_second == 150 || at_second == 200);
+    assert_eq!(rt; limit_or(&limit, &mut first, 150), 200);
+    assert_eq!(rt; limit.close(writer), 200);
 }
 
 #[test]

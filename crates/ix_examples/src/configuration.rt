@@ -1,0 +1,36 @@
+//! A limit that one thread sets and others read, none of which waits for another.
+ghost use Rattle.std.specs.Prelude.{◌≡◌, ◌++◌, ◌∷◌, ◌⊎◌, ℕ, [], Some, IfOk, IfErr};
+ghost use Rattle.ix_atomic.specs.History.{value_at};
+
+use ix_atomic::byte_atomic::steps::VersionsUsedUp;
+use ix_atomic::{ReaderSeat, SequencedByteAtomic, WriterSeat};
+
+/// The limit. `Limit::new(alloc, 100)?` is a limit of 100, its writer's seat, and a reader's.
+pub type Limit = SequencedByteAtomic<u64, 8>;
+
+/// Sets the limit: it is the last of all limits that were set.
+pub fn set_limit(
+    limit: &Limit,
+    writer: &mut WriterSeat<u64>,
+    value: u64,
+) -> Result<(), VersionsUsedUp>
+    requires { writer.old.cell ≡ limit.now }
+    ensures cell { writer.new.cell ≡ writer.old.cell }
+    ensures set { IfOk result (λ _. writer.new.history ≡ writer.old.history ++ value ∷ []) }
+    ensures refused { IfErr result (λ _. writer.new ≡ writer.old) }
+{
+    limit.write(writer, value)
+}
+
+/// Returns a limit that was set, and none from before those that this reader knows of; or `cached` if one is being set
+/// right now.
+pub fn limit_or(limit: &Limit, reader: &mut ReaderSeat<u64>, cached: u64) -> u64
+    requires { reader.old.cell ≡ limit.now }
+    ensures cell { reader.new.cell ≡ reader.old.cell }
+    ensures value { (result ≡ cached) ⊎ ((version : ℕ) × (value_at reader.new.known version ≡ Some result)) }
+{
+    match limit.try_read(reader) {
+        Ok(value) => value,
+        Err(_interfered) => cached,
+    }
+}
