@@ -46,9 +46,6 @@ module _ {T : Type 0} where
   pub take-all : (k : ℕ) (xs ys : List T) → length xs ≡ k → length ys ≡ k → take k xs ≡ take k ys → xs ≡ ys
   take-all k xs ys of_xs of_ys same = sym (take-length xs) ∙ ap (λ n. take n xs) of_xs ∙ same ∙ ap (λ n. take n ys) (sym of_ys) ∙ take-length ys
 
-  pub some-value : {x y : T} → Some x ≡ Some y → x ≡ y
-  some-value e = cc
-
   pub set-tail : (x : T) (xs list : List T) (k : ℕ) (y : T) → list ≡ x ∷ xs → set list (k + 1) y ≡ x ∷ set xs k y
   set-tail x xs list k y e = λ i. set (e i) (add-one k i) y
 

@@ -16,3 +16,4 @@ pub mod Beginnings
 pub mod Encodes
 pub mod SequencedKeeps
 pub mod SequencedCalls
+mod WorkedHistory

@@ -3,7 +3,7 @@ use Rattle.std.specs.Slots.{slots_items}
 use Rattle.std.proofs.lemmas.List.{take_more, take_more_set}
 use Rattle.ix_atomic.specs.History.{Writer, last_value}
 use Rattle.ix_atomic.specs.SequencedRule.{Encodes}
-use Rattle.ix_atomic.proofs.Beginnings.{get_elem-tail, take-all, some-value}
+use Rattle.ix_atomic.proofs.Beginnings.{get_elem-tail, take-all}
 use Rattle.ix_atomic.proofs.Encodes.{Encodes-length}
 use Rattle.ix_atomic.proofs.SequencedKeeps.{finished}
 use Rattle.ix_atomic.proofs.sequenced.sequenced_byte_atomic.SequencedByteAtomic.close.Goals as goal
@@ -40,6 +40,6 @@ returns g c =
     let same : g.row.SIZE ≡ size = c.self.invariant.2 in let walk = c.loop-i.invariant in
     let done : c.loop-i.i ≡ g.row.SIZE = search rules in
     let bytes : c.loop-i.bytes ≡ encoding at_rest.value = take-all c.loop-i.i c.loop-i.bytes (drop 1 words) (omega arith) (omega arith) walk.1 ∙ at_rest.encoding.1 in
-    let value : c.in-Some.value ≡ at_rest.value = some-value ((c.in-Some.ensures at_rest.value).1 (at_rest.encoding.0, bytes)) in
+    let found = (c.in-Some.ensures at_rest.value).1 (at_rest.encoding.0, bytes) in let value : c.in-Some.value ≡ at_rest.value = cc in
     let last = at_rest.is_last ∙ ap Some (sym value) in
     record { value = subst (λ (w : Writer g.row.T.Denot). last_value w.history ≡ Some c.in-Some.value) c.seat.view_is last }
