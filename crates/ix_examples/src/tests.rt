@@ -1,4 +1,6 @@
 //! Each example once, with values worked by hand.
+ghost use Rattle.std.specs.Prelude.{◌≡◌};
+
 use crate::configuration::{Limit, limit_or, set_limit};
 use crate::directory::{Directory, change_port, port_of as published_port, publish, withdraw};
 use crate::message::{Message, MessageError};
@@ -7,11 +9,13 @@ use crate::rolling_window::last_samples;
 use crate::scripts::replies;
 use crate::session_table::{Session, SessionTable, close, note_heard, open};
 use crate::{queues, strings, vectors};
+use ix_atomic::ReaderSeat;
 use ix_cells::Vector;
 use ix_maps::{FlatMapError, SlotMapKey};
 use ix_string::{StaticString, String};
 use std::alloc::AllocError;
 use std::thread;
+use std::thread::Threads;
 
 #[test]
 fn queues_of_each_kind(rt: HostRuntime) {
@@ -50,6 +54,25 @@ fn strings_of_each_kind(rt: HostRuntime) {
     assert_eq!(rt; relocatable.map(|string| string.capacity()).ok(), Some(5));
 }
 
+/// Reads the limit in two threads.
+fn both_read<R: Threads>(
+    rt: &R,
+    limit: &Limit,
+    first: &mut ReaderSeat<u64>,
+    second: &mut ReaderSeat<u64>,
+) -> (u64, u64)
+    requires first { first.old.cell ≡ limit.now }
+    requires second { second.old.cell ≡ limit.now }
+    ensures first { first.new.cell ≡ first.old.cell }
+    ensures second { second.new.cell ≡ second.old.cell }
+{
+    thread::join_mut(
+        rt,
+        &mut || limit_or(limit, first, 150),
+        &mut || limit_or(limit, second, 150),
+    )
+}
+
 #[test]
 fn one_sets_and_two_read(rt: HostRuntime) {
     let (limit, mut writer, mut first) = Limit::new(rt.alloc(), 100).expect(&rt, "there is memory");
@@ -59,13 +82,7 @@ fn one_sets_and_two_read(rt: HostRuntime) {
     let (set, (at_first, at_second)) = thread::join_mut(
         &rt,
         &mut || set_limit(&limit, &mut writer, 200),
-        &mut || {
-            thread::join_mut(
-                &rt,
-                &mut || limit_or(&limit, &mut first, 150),
-                &mut || limit_or(&limit, &mut second, 150),
-            )
-        },
+        &mut || both_read(&rt, &limit, &mut first, &mut second),
     );
     assert_eq!(rt; set, Ok(()));
     assert!(rt; at_first == 100 || at_first == 150 || at_first == 200);
