@@ -1,18 +1,19 @@
 //! The kernels of the library `ix_bench`, each with its peer.
 use crate::{plain, Operation};
 
-/// Declares the library's kernels, and lists them beside their peers.
+/// Lists the library's kernels, of which one may serve several operations, beside their peers.
 macro_rules! operations {
     ($($name:ident = $linked:ident, $param:expr, $peer:literal, $theirs:path;)*) => {
-        extern "C" {
-            $(fn $linked(rounds: u64, param: u64) -> u64;)*
-        }
-
         pub const OPERATIONS: &[Operation] = &[$(Operation {
             name: stringify!($name),
             param: $param,
-            // SAFETY: the library proves that its kernels are safe for all numbers.
-            ours: |rounds, param| unsafe { $linked(rounds, param) },
+            ours: |rounds, param| {
+                extern "C" {
+                    fn $linked(rounds: u64, param: u64) -> u64;
+                }
+                // SAFETY: the library proves that its kernels are safe for all numbers.
+                unsafe { $linked(rounds, param) }
+            },
             peer: $peer,
             theirs: $theirs,
         }),*];
@@ -30,6 +31,12 @@ operations! {
     slot_churn_heap = ix_bench_slot_churn_heap, 512, "HashMap", plain::slot_churn;
     slot_at = ix_bench_slot_at, 512, "HashMap", plain::slot_at;
     slot_iter = ix_bench_slot_iter, 512, "HashMap", plain::slot_iter;
+    flat_get_8 = ix_bench_flat_get, 8, "Vec of pairs", plain::flat_get;
+    flat_get_64 = ix_bench_flat_get, 64, "Vec of pairs", plain::flat_get;
+    flat_get_512 = ix_bench_flat_get, 512, "Vec of pairs", plain::flat_get;
+    flat_miss_8 = ix_bench_flat_miss, 8, "Vec of pairs", plain::flat_miss;
+    flat_miss_64 = ix_bench_flat_miss, 64, "Vec of pairs", plain::flat_miss;
+    flat_miss_512 = ix_bench_flat_miss, 512, "Vec of pairs", plain::flat_miss;
     vec_push_pop = ix_bench_vec_push_pop, 64, "Vec", plain::vec_push_pop;
     vec_ins_rem = ix_bench_vec_ins_rem, 64, "Vec", plain::vec_ins_rem;
     vec_extend = ix_bench_vec_extend, 64, "Vec", plain::vec_extend;

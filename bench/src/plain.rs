@@ -131,6 +131,53 @@ pub fn slot_iter(rounds: u64, capacity: u64) -> u64 {
     sum
 }
 
+/// Pairs of which no two have equal keys, which can only be compared.
+struct Pairs {
+    pairs: Vec<(u64, u64)>,
+}
+
+impl Pairs {
+    /// As many as `capacity`, with the keys 1, 4, 7 and so on.
+    fn full(capacity: u64) -> Pairs {
+        let mut map = Pairs { pairs: Vec::with_capacity(capacity as usize) };
+        for i in 0..capacity {
+            map.insert(i * 3 + 1, i);
+        }
+        map
+    }
+
+    fn insert(&mut self, key: u64, value: u64) -> bool {
+        let is_new = self.get(key).is_none();
+        if is_new {
+            self.pairs.push((key, value));
+        }
+        is_new
+    }
+
+    fn get(&self, key: u64) -> Option<u64> {
+        self.pairs.iter().find(|pair| pair.0 == key).map(|pair| pair.1)
+    }
+}
+
+fn flat_look_up(rounds: u64, capacity: u64, more: u64) -> u64 {
+    let map = Pairs::full(capacity);
+    let (mut x, mut sum) = (1u64, 0u64);
+    for _ in 0..rounds {
+        x = step(x);
+        let key = (x >> 33) % capacity * 3 + more;
+        sum = sum.wrapping_add(map.get(key).unwrap_or(1));
+    }
+    sum
+}
+
+pub fn flat_get(rounds: u64, capacity: u64) -> u64 {
+    flat_look_up(rounds, capacity, 1)
+}
+
+pub fn flat_miss(rounds: u64, capacity: u64) -> u64 {
+    flat_look_up(rounds, capacity, 0)
+}
+
 fn vec_push(vec: &mut Vec<u64>, capacity: usize, item: u64) -> bool {
     let has_room = vec.len() < capacity;
     if has_room {

@@ -2,6 +2,7 @@
 //! bench program can link them beside other libraries and compare both times and results.
 #![tactic(auto)]
 
+mod flat_maps;
 mod generator;
 mod queues;
 mod slot_maps;
@@ -68,6 +69,18 @@ pub extern "C" fn ix_bench_slot_at(alloc: Global, rounds: u64, param: u64) -> u6
 #[unsafe(no_mangle)]
 pub extern "C" fn ix_bench_slot_iter(alloc: Global, rounds: u64, param: u64) -> u64 {
     slot_maps::walk(alloc, rounds, param as usize)
+}
+
+/// Looks up a key of a full allocated flat map of `param`.
+#[unsafe(no_mangle)]
+pub extern "C" fn ix_bench_flat_get(alloc: Global, rounds: u64, param: u64) -> u64 {
+    flat_maps::hits(alloc, rounds, param)
+}
+
+/// Looks up a key that a full allocated flat map of `param` does not have.
+#[unsafe(no_mangle)]
+pub extern "C" fn ix_bench_flat_miss(alloc: Global, rounds: u64, param: u64) -> u64 {
+    flat_maps::misses(alloc, rounds, param)
 }
 
 /// Two pushes and a pop on a fixed vector of 64.

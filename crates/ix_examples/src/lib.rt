@@ -1,6 +1,7 @@
 //! Examples of the library, each in a file of its own. The README quotes them.
 #![tactic(auto)]
 
+pub mod directory;
 pub mod message;
 pub mod queues;
 pub mod registry;

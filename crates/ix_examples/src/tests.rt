@@ -1,4 +1,5 @@
 //! Each example once, with values worked by hand.
+use crate::directory::{Directory, change_port, port_of as published_port, publish, withdraw};
 use crate::message::{Message, MessageError};
 use crate::registry::{Registry, Service, port_of, register, unregister};
 use crate::rolling_window::last_samples;
@@ -6,7 +7,7 @@ use crate::scripts::replies;
 use crate::session_table::{Session, SessionTable, close, note_heard, open};
 use crate::{queues, strings, vectors};
 use ix_cells::Vector;
-use ix_maps::SlotMapKey;
+use ix_maps::{FlatMapError, SlotMapKey};
 use ix_string::{StaticString, String};
 use std::alloc::AllocError;
 
@@ -45,6 +46,31 @@ fn strings_of_each_kind(rt: HostRuntime) {
     assert!(rt; none.is_none());
     let relocatable = strings::relocatable(rt.alloc(), rt.alloc(), 5);
     assert_eq!(rt; relocatable.map(|string| string.capacity()).ok(), Some(5));
+}
+
+#[test]
+fn names_are_distinct(rt: HostRuntime) {
+    let camera = StaticString::<16>::from_bytes(b"camera").expect(&rt, "it fits");
+    let radar = StaticString::from_bytes(b"radar").expect(&rt, "it fits");
+    let mut directory = Directory::new();
+    assert_eq!(rt; publish(&mut directory, camera, 80), Ok(()));
+    assert_eq!(rt;
+        publish(&mut directory, camera, 81),
+        Err(FlatMapError::KeyAlreadyExists)
+    );
+    assert_eq!(rt; published_port(&directory, &camera), Some(80));
+    assert!(rt; change_port(&mut directory, &camera, 82));
+    assert!(rt; !change_port(&mut directory, &radar, 83));
+    assert_eq!(rt; withdraw(&mut directory, &camera), Some(82));
+    assert_eq!(rt; published_port(&directory, &camera), None);
+    for number in 1..33u8 {
+        let name = StaticString::from_bytes(&[number]).expect(&rt, "it fits");
+        assert_eq!(rt; publish(&mut directory, name, 1), Ok(()));
+    }
+    assert_eq!(rt;
+        publish(&mut directory, radar, 84),
+        Err(FlatMapError::IsFull)
+    );
 }
 
 #[test]

@@ -4,3 +4,5 @@ pub mod Ring
 pub mod FreeList
 pub mod SlotState
 pub mod SlotSteps
+pub mod FlatState
+pub mod FlatSteps

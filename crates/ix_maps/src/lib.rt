@@ -1,4 +1,4 @@
-//! Containers over tables: queues and slot maps.
+//! Containers over tables: queues, slot maps and flat maps.
 //!
 //! Each container is generic over the [`Table`](ix_cells::Table) that holds its items, and the kinds of storage are
 //! aliases of one type. Contracts see a container as its bounded model, whatever the table is.
@@ -8,12 +8,19 @@
 //! queue.push(1);                        // true
 //! let mut map = FixedSizeSlotMap::<char, 3>::new();
 //! map.insert('a');                      // Some: the key 0
+//! let mut names = FixedSizeFlatMap::<u16, char, 3>::new();
+//! names.insert(80, 'a');                // Ok(())
 //! ```
 #![tactic(auto)]
 
+pub mod flatmap;
 pub mod queue;
 pub mod slotmap;
 
+pub use flatmap::{
+    CallbackProgression, FixedSizeFlatMap, FlatMap, FlatMapError, FlatMapFamily, MetaFlatMap, Pair,
+    RelocatableFlatMap, UninitFlatMap,
+};
 pub use queue::{FixedSizeQueue, MetaQueue, Queue, QueueFamily, RelocatableQueue, UninitQueue};
 pub use slotmap::{
     FixedSizeSlotMap, Iter, Link, MetaSlotMap, RelocatableSlotMap, SlotMap, SlotMapFamily,

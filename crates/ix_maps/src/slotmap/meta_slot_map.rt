@@ -95,9 +95,7 @@ impl<T, S: Table<T>, L: Table<Link>> MetaSlotMap<T, S, L> {
     /// Returns the number of keys, held and free: the maximum number of values.
     #[inline]
     pub fn capacity(&self) -> usize
-        ensures value { result ≡ length self.now.values }
-        // This holds of every map, whatever calls were made.
-        ensures formed { IsWellFormed self.now }
+        ensures { result ≡ length self.now.values }
     {
         self.values.len()
     }
@@ -107,6 +105,8 @@ impl<T, S: Table<T>, L: Table<Link>> MetaSlotMap<T, S, L> {
     pub fn len(&self) -> usize
         ensures value { result ≡ held_count self.now }
         ensures rest { held_count self.now + length self.now.free ≡ length self.now.values }
+        // This holds of every map, whatever calls were made.
+        ensures formed { IsWellFormed self.now }
     {
         self.len
     }

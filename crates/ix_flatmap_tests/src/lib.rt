@@ -1,0 +1,33 @@
+//! Tests of flat maps beside their contracts: worked examples on each kind of map and in each memory, keys of several
+//! types, each function once, how often keys are compared and values are cloned, when both are dropped, too little
+//! memory, and random calls beside a plain slow map.
+#![tactic(auto)]
+
+#[cfg(test)]
+mod calls;
+#[cfg(test)]
+mod caseless;
+#[cfg(test)]
+mod clone_tests;
+#[cfg(test)]
+mod compared_tests;
+#[cfg(test)]
+mod drop_tests;
+#[cfg(test)]
+mod function_tests;
+#[cfg(test)]
+mod keys;
+#[cfg(test)]
+mod memory_tests;
+#[cfg(test)]
+mod noted_calls;
+#[cfg(test)]
+mod refusal_tests;
+#[cfg(test)]
+mod row_tests;
+#[cfg(test)]
+mod rows;
+#[cfg(test)]
+mod slow_map;
+#[cfg(test)]
+mod walk_tests;

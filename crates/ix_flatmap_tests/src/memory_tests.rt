@@ -1,0 +1,124 @@
+//! Maps for which there is not enough memory, at the first allocation or at the second: nothing stays allocated.
+use ix_cells::{HeapTable, InitError, RelocatableContainer, Table};
+use ix_expect::Findings;
+use ix_maps::FlatMapError::IsFull;
+use ix_maps::{FlatMap, Link, MetaFlatMap, Pair, UninitFlatMap};
+use linked_list_allocator::LocalHeap;
+use std::alloc::{AllocError, Global};
+use std::test::Fail;
+
+/// Returns `true` if the heap has memory for two pairs.
+fn has_first(heap: &LocalHeap) -> bool {
+    match HeapTable::<Pair<u64, u64>, &LocalHeap>::new(heap, 2) {
+        Ok(table) => {
+            table.end();
+            true
+        }
+        Err(AllocError) => false,
+    }
+}
+
+/// Checks that an empty map has room for just `capacity` keys.
+fn check_room<S: Table<Pair<u64, u64>>, L: Table<Link>>(
+    findings: &Findings,
+    map: &mut MetaFlatMap<u64, u64, S, L>,
+    capacity: u64,
+) {
+    findings.expect(map.is_empty(), "an empty map");
+    for key in 0..capacity {
+        findings.expect_same(map.insert(key, key), Ok(()), "room for a key");
+    }
+    findings.expect_same(map.insert(capacity, 0), Err(IsFull), "no more room");
+}
+
+/// Checks a making of a map of `capacity`, which succeeds if `found`. Before it `used` bytes of the heap were in use.
+fn check_made<S: Table<Pair<u64, u64>>, L: Table<Link>, E: Drop>(
+    findings: &Findings,
+    heap: &LocalHeap,
+    used: usize,
+    made: Result<MetaFlatMap<u64, u64, S, L>, E>,
+    (capacity, found): (u64, bool),
+) {
+    match made {
+        Ok(mut map) => {
+            findings.expect(found, "the making succeeds");
+            check_room(findings, &mut map, capacity);
+        }
+        Err(_) => findings.expect(!found, "the making fails"),
+    }
+    findings.expect_same(heap.used(), used, "bytes in use after it");
+}
+
+/// Checks that a refused value can be initialised from `ample`.
+fn check_again(
+    findings: &Findings,
+    refused: Option<InitError<UninitFlatMap<u64, u64>>>,
+    ample: Global,
+) {
+    if let Some(error) = refused {
+        match error.into_uninit().init(ample) {
+            Ok(mut map) => check_room(findings, &mut map, 2),
+            Err(_) => findings.miss("from ample memory"),
+        }
+    }
+}
+
+/// Checks makings of maps of 2, which succeed if `found`. `ample` has enough memory.
+fn check_heap(findings: &Findings, heap: &LocalHeap, ample: Global, found: bool) {
+    let used = heap.used();
+    check_made(findings, heap, used, FlatMap::new(heap, 2), (2, found));
+    let made = UninitFlatMap::new_uninit(2).init(heap);
+    check_made(findings, heap, used, made, (2, found));
+    let refused = UninitFlatMap::new_uninit(2).init(heap).err();
+    findings.expect_same(refused.is_none(), found, "in two steps");
+    findings.expect_same(heap.used(), used, "bytes in use after a refusal");
+    check_again(findings, refused, ample);
+    check_made(findings, heap, used, FlatMap::new(heap, 0), (0, true));
+}
+
+/// Allocates a block of the heap, and checks makings of maps. The first allocation of a map succeeds if `first`, both
+/// if `both`.
+fn check_blocks(findings: &Findings, heap: &LocalHeap, ample: Global, (first, both): (bool, bool)) {
+    let held = Box::new(heap, 0u64);
+    findings.expect(held.is_ok(), "a block");
+    findings.expect_same(has_first(heap), first, "the first allocation");
+    check_heap(findings, heap, ample, both);
+}
+
+/// The number of blocks of 16 bytes of a heap, and whether the first allocation succeeds, and both. One block is held,
+/// two pairs take three, and two links four.
+const BLOCKS: &[(usize, bool, bool)] = &[
+    (3, false, false),
+    (4, true, false),
+    (7, true, false),
+    (8, true, true),
+];
+
+#[test]
+fn makings_refused(rt: HostRuntime) -> Result<(), Fail> {
+    let findings = Findings::new();
+    for (blocks, first, both) in BLOCKS {
+        match LocalHeap::new(rt.alloc(), 16 * *blocks) {
+            Ok(heap) => check_blocks(&findings, &heap, rt.alloc(), (*first, *both)),
+            Err(_) => findings.miss("a heap"),
+        }
+    }
+    findings.verdict()
+}
+
+#[test]
+fn past_all_memory(rt: HostRuntime) -> Result<(), Fail> {
+    let findings = Findings::new();
+    for capacity in &[usize::MAX, usize::MAX / 16] {
+        let made = FlatMap::<u64, u64, Global>::new(rt.alloc(), *capacity);
+        findings.expect(made.is_err(), "`new` refuses");
+        match UninitFlatMap::<u64, u64>::new_uninit(*capacity).init(rt.alloc()) {
+            Ok(_map) => findings.miss("`init` refuses"),
+            Err(error) => {
+                let again = error.into_uninit().init(rt.alloc());
+                findings.expect(again.is_err(), "the capacity is kept");
+            }
+        }
+    }
+    findings.verdict()
+}

@@ -1,0 +1,170 @@
+-- The pair of a flat map whose key equals a given one.
+use Rattle.std.proofs.Common.{◌≡◌, ◌≢◌, ℕ, zero, suc, ◌+◌, ◌<◌, ◌⊎◌, ◌↔◌, List, [], ◌∷◌, length, get_or, replicate, Option, Some, None, IsSome, IsNone, Bool, true, false, cond, refl, sym, ap, ◌∙◌, subst, inl, inr, arith}
+use Rattle.std.proofs.Math.ListN.{get_or-eq_default}
+use Rattle.std.proofs.lemmas.Bool.{cases_Bool, cases_lt, both_ways}
+use Rattle.std.specs.Cmp.{IsEquivalence}
+use Rattle.std.specs.List.{find}
+use Rattle.std.specs.Prelude.{option_map}
+use Rattle.ix_cells.specs.Places.{place_at}
+use Rattle.ix_maps.specs.SlotState.{SlotState, value_at, entries_from, slot_new}
+use Rattle.ix_maps.specs.FlatState.{HasDistinctKeys, flat_entry, flat_value}
+use Rattle.ix_maps.specs.declared.flatmap.pair.Pair.{Pair}
+
+find-equal : {X : Type 0} (test : X → Bool) (x : X) (xs : List X) → test x ≡ true → find test (x ∷ xs) ≡ Some x
+find-equal test x xs equal = ap (λ b. cond b (Some x) (find test xs)) equal
+
+find-differs : {X : Type 0} (test : X → Bool) (x : X) (xs : List X) → test x ≡ false → find test (x ∷ xs) ≡ find test xs
+find-differs test x xs differs = ap (λ b. cond b (Some x) (find test xs)) differs
+
+pub equal_keys : {K : Type 0} {eq : K → K → Bool} → IsEquivalence eq → (a b key : K) → eq a key ≡ true → eq b key ≡ true → eq a b ≡ true
+equal_keys laws a b key first second = laws.congr a key b first ∙ (laws.symm key b ∙ second)
+
+-- a place that holds an item is there
+pub place_at_within : {T : Type 0} (places : List (Option T)) (i : ℕ) (x : T) → place_at places i ≡ Some x → i < length places
+place_at_within places i x at = elim (cases_lt i (length places)) [
+  | inl below ↦ below
+  | inr past ↦ let none : place_at places i ≡ None = get_or-eq_default places None (omega arith) in absurd (let clash : Some x ≡ None = sym at ∙ none in cc)
+]
+
+module _ {K V : Type 0} (eq : K → K → Bool) where
+  -- the pair at this place has a key that equals this one
+  pub record IsEntry (s : SlotState (Pair K V)) (key : K) (place : ℕ) (pair : Pair K V) : Type 0 where
+    pub at : value_at s place ≡ Some pair
+    pub equal : eq pair.key key ≡ true
+
+  -- the same of places that come after `start` others
+  record IsEntryFrom (start : ℕ) (places : List (Option (Pair K V))) (key : K) (entry : ℕ × Pair K V) : Type 0 where
+    pub i : ℕ
+    pub is : entry.0 ≡ start + i
+    pub at : place_at places i ≡ Some entry.1
+    pub equal : eq entry.1.key key ≡ true
+
+  after : (start : ℕ) (place : Option (Pair K V)) (places : List (Option (Pair K V))) (key : K) (entry : ℕ × Pair K V) → IsEntryFrom (start + 1) places key entry → IsEntryFrom start (place ∷ places) key entry
+  after start place places key entry later = let is = later.is in record { i = suc later.i; is = omega (arith, is); at = later.at; equal = later.equal }
+
+  found_from : (start : ℕ) (places : List (Option (Pair K V))) (key : K) (entry : ℕ × Pair K V) → find (λ e. eq e.1.key key) (entries_from start places) ≡ Some entry → IsEntryFrom start places key entry
+  found_from start [] key entry found = absurd (cc)
+  found_from start (None ∷ places) key entry found = after start None places key entry (found_from (start + 1) places key entry found)
+  found_from start (Some pair ∷ places) key entry found = elim (cases_Bool (eq pair.key key)) [
+    | inl equal ↦
+        let here : Some (start, pair) ≡ Some entry = sym (find-equal (λ e. eq e.1.key key) (start, pair) (entries_from (start + 1) places) equal) ∙ found in
+        let is : (start, pair) ≡ entry = cc in
+        let first : entry.0 ≡ start = sym (ap (λ (e : ℕ × Pair K V). e.0) is) in
+        record { i = 0; is = omega (arith, first); at = ap (λ (e : ℕ × Pair K V). Some e.1) is; equal = ap (λ (e : ℕ × Pair K V). eq e.1.key key) (sym is) ∙ equal }
+    | inr differs ↦
+        after start (Some pair) places key entry
+        (found_from (start + 1) places key entry (sym (find-differs (λ e. eq e.1.key key) (start, pair) (entries_from (start + 1) places) differs) ∙ found))
+  ]
+
+  none_from : (start : ℕ) (places : List (Option (Pair K V))) (key : K) → find (λ e. eq e.1.key key) (entries_from start places) ≡ None → (i : ℕ) (pair : Pair K V) → place_at places i ≡ Some pair → eq pair.key key ≡ false
+  none_from start [] key none i pair at = absurd (cc)
+  none_from start (None ∷ places) key none zero pair at = absurd (cc)
+  none_from start (None ∷ places) key none (suc i) pair at = none_from (start + 1) places key none i pair at
+  none_from start (Some first ∷ places) key none i pair at = elim (cases_Bool (eq first.key key)) [
+    | inl equal ↦
+        let here : Some (start, first) ≡ (let nothing : Option (ℕ × Pair K V) = None in nothing) = sym (find-equal (λ e. eq e.1.key key) (start, first) (entries_from (start + 1) places) equal) ∙ none in
+        absurd (cc)
+    | inr differs ↦
+        first_or_later i at
+        (none_from (start + 1) places key (sym (find-differs (λ e. eq e.1.key key) (start, first) (entries_from (start + 1) places) differs) ∙ none))
+        differs
+  ]
+    where
+      first_or_later : (i : ℕ) → place_at (Some first ∷ places) i ≡ Some pair → ((j : ℕ) (other : Pair K V) → place_at places j ≡ Some other → eq other.key key ≡ false) → eq first.key key ≡ false → eq pair.key key ≡ false
+      first_or_later zero at later differs = let is : first ≡ pair = cc in ap (λ (p : Pair K V). eq p.key key) (sym is) ∙ differs
+      first_or_later (suc i) at later differs = later i pair at
+
+  -- what is found is an entry
+  pub IsEntry-flat_entry : (s : SlotState (Pair K V)) (key : K) (entry : ℕ × Pair K V) → flat_entry eq s key ≡ Some entry → IsEntry s key entry.0 entry.1
+  IsEntry-flat_entry s key entry found =
+      let here = found_from 0 s.values key entry found in
+      let is : here.i ≡ entry.0 = let first = here.is in omega arith in
+      record { at = subst (λ place. value_at s place ≡ Some entry.1) is here.at; equal = here.equal }
+
+  pub flat_entry_none : (s : SlotState (Pair K V)) (key : K) → flat_entry eq s key ≡ None → (place : ℕ) (pair : Pair K V) → value_at s place ≡ Some pair → eq pair.key key ≡ false
+  flat_entry_none s key none place pair at = none_from 0 s.values key none place pair at
+
+  -- the pair at the place of a key
+  pub flat_entry-place : (s : SlotState (Pair K V)) (key : K) (place : ℕ) → Some place ≡ option_map (λ e. e.0) (flat_entry eq s key) → (pair : Pair K V) × (flat_entry eq s key ≡ Some (place, pair)) × IsEntry s key place pair
+  flat_entry-place s key place is = go (flat_entry eq s key) refl is
+    where
+      go : (found : Option (ℕ × Pair K V)) → flat_entry eq s key ≡ found → Some place ≡ option_map (λ e. e.0) found → (pair : Pair K V) × (flat_entry eq s key ≡ Some (place, pair)) × IsEntry s key place pair
+      go None none is = absurd (cc)
+      go (Some entry) some is =
+          let same : place ≡ entry.0 = cc in
+          let found = some ∙ ap (λ (p : ℕ). Some (p, entry.1)) (sym same) in
+          (entry.1, found, IsEntry-flat_entry s key (place, entry.1) found)
+
+  -- a key without a place has no value
+  pub flat_value-none : (s : SlotState (Pair K V)) (key : K) → None ≡ option_map (λ e. e.0) (flat_entry eq s key) → None ≡ flat_value eq s key
+  flat_value-none s key is = go (flat_entry eq s key) is
+    where
+      go : (found : Option (ℕ × Pair K V)) → None ≡ option_map (λ e. e.0) found → None ≡ option_map (λ (e : ℕ × Pair K V). e.1.value) found
+      go None is = refl
+      go (Some entry) is = absurd (cc)
+
+  -- a key without a value has no entry
+  pub flat_entry-absent : (s : SlotState (Pair K V)) (key : K) → (IsSome (flat_value eq s key) → ⊥) → flat_entry eq s key ≡ None
+  flat_entry-absent s key absent = go (flat_entry eq s key) absent
+    where
+      go : (found : Option (ℕ × Pair K V)) → (IsSome (option_map (λ (e : ℕ × Pair K V). e.1.value) found) → ⊥) → found ≡ None
+      go None absent = refl
+      go (Some entry) absent = absurd (absent refl)
+
+  -- what is found is nothing exactly if no pair has an equal key
+  pub IsNone-flat_value : (s : SlotState (Pair K V)) (key : K) (value : Option V) → value ≡ flat_value eq s key → IsNone value ↔ ((place : ℕ) (pair : Pair K V) → value_at s place ≡ Some pair → eq pair.key key ≡ false)
+  IsNone-flat_value s key value is = subst (λ v. IsNone v ↔ ((place : ℕ) (pair : Pair K V) → value_at s place ≡ Some pair → eq pair.key key ≡ false)) (sym is) (go (flat_entry eq s key) refl)
+    where
+      go : (found : Option (ℕ × Pair K V)) → flat_entry eq s key ≡ found → IsNone (flat_value eq s key) ↔ ((place : ℕ) (pair : Pair K V) → value_at s place ≡ Some pair → eq pair.key key ≡ false)
+      go None none = (λ _. flat_entry_none s key none, λ _. subst IsNone (sym (ap (option_map (λ (e : ℕ × Pair K V). e.1.value)) none)) refl)
+      go (Some entry) some =
+          let is = IsEntry-flat_entry s key entry some in (
+            λ none. absurd (let no = subst IsNone (ap (option_map (λ (e : ℕ × Pair K V). e.1.value)) some) none in cc),
+            λ differs. absurd (both_ways _ (differs entry.0 entry.1 is.at) is.equal),
+          )
+
+  module _ (laws : IsEquivalence eq) where
+    -- where keys are distinct, an entry is what is found
+    pub flat_entry-IsEntry : (s : SlotState (Pair K V)) (key : K) (place : ℕ) (pair : Pair K V) → HasDistinctKeys eq s → IsEntry s key place pair → flat_entry eq s key ≡ Some (place, pair)
+    flat_entry-IsEntry s key place pair distinct is = go (flat_entry eq s key) refl
+      where
+        go : (found : Option (ℕ × Pair K V)) → flat_entry eq s key ≡ found → found ≡ Some (place, pair)
+        go None none = absurd (both_ways _ (flat_entry_none s key none place pair is.at) is.equal)
+        go (Some entry) some =
+            let other = IsEntry-flat_entry s key entry some in
+            let place_is : entry.0 ≡ place = distinct entry.0 place entry.1 pair other.at is.at (equal_keys laws entry.1.key pair.key key other.equal is.equal) in
+            let both : Some entry.1 ≡ Some pair = sym other.at ∙ (ap (value_at s) place_is ∙ is.at) in
+            let pair_is : entry.1 ≡ pair = cc in
+            ap (λ (p : ℕ). Some (p, entry.1)) place_is ∙ ap (λ (p : Pair K V). Some (place, p)) pair_is
+
+    pub flat_value-IsEntry : (s : SlotState (Pair K V)) (key : K) (place : ℕ) (pair : Pair K V) → HasDistinctKeys eq s → value_at s place ≡ Some pair → eq pair.key key ≡ true → flat_value eq s key ≡ Some pair.value
+    flat_value-IsEntry s key place pair distinct at equal =
+        ap (option_map (λ (e : ℕ × Pair K V). e.1.value)) (flat_entry-IsEntry s key place pair distinct (record { at = at; equal = equal }))
+
+    -- two maps with the same entries of a key find the same
+    pub flat_entry_same : (s t : SlotState (Pair K V)) (key : K) → HasDistinctKeys eq t → ((place : ℕ) (pair : Pair K V) → IsEntry s key place pair → IsEntry t key place pair) → ((place : ℕ) (pair : Pair K V) → IsEntry t key place pair → IsEntry s key place pair) → flat_entry eq t key ≡ flat_entry eq s key
+    flat_entry_same s t key distinct to from = go (flat_entry eq s key) refl
+      where
+        there : (found : Option (ℕ × Pair K V)) → flat_entry eq t key ≡ found → flat_entry eq s key ≡ None → found ≡ None
+        there None found none = refl
+        there (Some entry) found none =
+            let is = from entry.0 entry.1 (IsEntry-flat_entry t key entry found) in
+            absurd (both_ways _ (flat_entry_none s key none entry.0 entry.1 is.at) is.equal)
+
+        go : (found : Option (ℕ × Pair K V)) → flat_entry eq s key ≡ found → flat_entry eq t key ≡ found
+        go None none = there (flat_entry eq t key) refl none
+        go (Some entry) some = flat_entry-IsEntry t key entry.0 entry.1 distinct (to entry.0 entry.1 (IsEntry-flat_entry s key entry some))
+
+module _ {K V : Type 0} where
+  -- an empty map has no two keys
+  pub HasDistinctKeys-slot_new : (eq : K → K → Bool) (capacity : ℕ) (s : SlotState (Pair K V)) → s ≡ slot_new capacity → HasDistinctKeys eq s
+  HasDistinctKeys-slot_new eq capacity s is i j a b at_i at_j equal =
+      let some : value_at (slot_new capacity) i ≡ Some a = subst (λ (t : SlotState (Pair K V)). value_at t i ≡ Some a) is at_i in
+      let none : value_at {T = Pair K V} (slot_new capacity) i ≡ None = place_at-replicate capacity i in
+      let clash : Some a ≡ None = sym some ∙ none in
+      absurd (cc)
+    where
+      place_at-replicate : (n i : ℕ) → place_at (replicate n (let none : Option (Pair K V) = None in none)) i ≡ None
+      place_at-replicate zero i = refl
+      place_at-replicate (suc n) zero = refl
+      place_at-replicate (suc n) (suc i) = place_at-replicate n i

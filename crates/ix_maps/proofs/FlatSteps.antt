@@ -1,0 +1,179 @@
+-- What each step of a flat map leaves: distinct keys, and the value of each key.
+use Rattle.std.proofs.Common.{◌≡◌, ◌≢◌, ℕ, ◌⊎◌, Option, Some, None, IsSome, Bool, true, false, get_or-set_same, get_or-set_other, refl, sym, ap, ◌∙◌, subst, inl, inr}
+use Rattle.std.proofs.lemmas.Bool.{cases_eq, both_ways}
+use Rattle.std.specs.Cmp.{IsEquivalence}
+use Rattle.std.specs.Prelude.{option_map, slice_get, IfSome}
+use Rattle.std.specs.Option.{option_map_or}
+use Rattle.ix_maps.specs.SlotState.{SlotState, value_at}
+use Rattle.ix_maps.specs.SlotSteps.{slot_set, slot_fill, SlotInsert, SlotRemove}
+use Rattle.ix_maps.specs.FlatState.{HasDistinctKeys, flat_entry, flat_value}
+use Rattle.ix_maps.specs.FlatSteps.{pair_set, flat_set}
+use Rattle.ix_maps.specs.declared.flatmap.pair.Pair.{Pair}
+use Rattle.ix_maps.proofs.FlatEntries.{IsEntry, IsEntry-flat_entry, flat_entry_none, flat_entry-place, flat_entry-IsEntry, flat_value-IsEntry, flat_entry_same, equal_keys, place_at_within}
+
+module _ {K V : Type 0} (eq : K → K → Bool) (laws : IsEquivalence eq) where
+  -- a pair with a new key is inserted
+  module _ (old new : SlotState (Pair K V)) (x : Pair K V) (result : Option ℕ) (step : SlotInsert old x new result) (distinct : HasDistinctKeys eq old) (fresh : flat_entry eq old x.key ≡ None) where
+    -- a pair that is there now was there, or is the new one
+    value_at-inserted : (i : ℕ) (a : Pair K V) → value_at new i ≡ Some a → ((a ≡ x) × (result ≡ Some i)) ⊎ (value_at old i ≡ Some a)
+    value_at-inserted i a at = go (slice_get old.free 0) refl
+      where
+        go : (first : Option ℕ) → slice_get old.free 0 ≡ first → ((a ≡ x) × (result ≡ Some i)) ⊎ (value_at old i ≡ Some a)
+        go None full =
+            let is : new ≡ old = step.map ∙ ap (λ first. option_map_or (λ key. slot_fill old key x) first old) full in
+            inr (sym (ap (λ s. value_at s i) is) ∙ at)
+        go (Some key) free = elim (cases_eq i key) [
+          | inl same ↦ let holds = subst (λ r. IfSome r (λ key. value_at new key ≡ Some x)) (step.key ∙ free) step.holds in
+              let both : Some a ≡ Some x = sym at ∙ (ap (value_at new) same ∙ holds) in
+              inl (cc, step.key ∙ (free ∙ ap Some (sym same)))
+          | inr other ↦
+              let is : new ≡ slot_fill old key x = step.map ∙ ap (λ first. option_map_or (λ key. slot_fill old key x) first old) free in
+              inr (sym (get_or-set_other old.values key i (Some x) None other) ∙ (sym (ap (λ s. value_at s i) is) ∙ at))
+        ]
+
+    -- the new key is not equal to one that was there
+    not_fresh : (i : ℕ) (a : Pair K V) → value_at old i ≡ Some a → eq a.key x.key ≡ true → ⊥
+    not_fresh i a at equal = both_ways _ (flat_entry_none eq old x.key fresh i a at) equal
+
+    pub HasDistinctKeys-inserted : HasDistinctKeys eq new
+    HasDistinctKeys-inserted i j a b at_i at_j equal = elim (value_at-inserted i a at_i) [
+      | inl new_i ↦ elim (value_at-inserted j b at_j) [
+        | inl new_j ↦ let both : Some i ≡ Some j = sym new_i.1 ∙ new_j.1 in cc
+        | inr old_j ↦ absurd (not_fresh j b old_j (laws.symm b.key x.key ∙ (ap (λ (p : Pair K V). eq p.key b.key) (sym new_i.0) ∙ equal)))
+      ]
+      | inr old_i ↦ elim (value_at-inserted j b at_j) [
+        | inl new_j ↦ absurd (not_fresh i a old_i (ap (λ (p : Pair K V). eq a.key p.key) (sym new_j.0) ∙ equal))
+        | inr old_j ↦ distinct i j a b old_i old_j equal
+      ]
+    ]
+
+    -- the new key has its value
+    pub flat_value-inserted : IsSome result → flat_value eq new x.key ≡ Some x.value
+    flat_value-inserted some = go result some step.holds
+      where
+        go : (key : Option ℕ) → IsSome key → IfSome key (λ key. value_at new key ≡ Some x) → flat_value eq new x.key ≡ Some x.value
+        go None some holds = absurd (cc)
+        go (Some key) some holds =
+            ap (option_map (λ (e : ℕ × Pair K V). e.1.value)) (flat_entry-IsEntry eq laws new x.key key x HasDistinctKeys-inserted (record { at = holds; equal = laws.refl x.key }))
+
+    -- any other key has the value that it had
+    pub flat_value-inserted_other : (other : K) → eq other x.key ≡ false → flat_value eq new other ≡ flat_value eq old other
+    flat_value-inserted_other other differs =
+        ap (option_map (λ (e : ℕ × Pair K V). e.1.value))
+        (flat_entry_same eq laws old new other HasDistinctKeys-inserted
+        (λ place pair is. record { at = step.kept place (subst IsSome (sym is.at) refl) ∙ is.at; equal = is.equal })
+        (λ place pair is. elim (value_at-inserted place pair is.at) [
+          | inl here ↦ absurd (both_ways _ differs (laws.symm other x.key ∙ (ap (λ (p : Pair K V). eq p.key other) (sym here.0) ∙ is.equal)))
+          | inr there ↦ record { at = there; equal = is.equal }
+        ]))
+
+  -- the pair of a key is removed
+  module _ (old new : SlotState (Pair K V)) (key : K) (place : ℕ) (pair : Pair K V) (has : Some place ≡ option_map (λ e. e.0) (flat_entry eq old key)) (step : SlotRemove old place new (Some pair)) (distinct : HasDistinctKeys eq old) where
+    was_entry : IsEntry eq old key place pair
+    was_entry =
+        let found = flat_entry-place eq old key place has in
+        let both : Some found.0 ≡ Some pair = sym found.2.at ∙ sym step.value in
+        let is : found.0 ≡ pair = cc in
+        record { at = sym step.value; equal = ap (λ (p : Pair K V). eq p.key key) (sym is) ∙ found.2.equal }
+
+    pub flat_value-was : Some pair.value ≡ flat_value eq old key
+    flat_value-was = sym (flat_value-IsEntry eq laws old key place pair distinct was_entry.at was_entry.equal)
+
+    value_at-removed : (i : ℕ) (a : Pair K V) → value_at new i ≡ Some a → (i ≢ place) × (value_at old i ≡ Some a)
+    value_at-removed i a at =
+        let other : i ≢ place = λ same. let none : Some a ≡ None = sym at ∙ (ap (value_at new) same ∙ step.gone) in absurd (cc) in
+        (other, sym (step.kept i other) ∙ at)
+
+    pub HasDistinctKeys-removed : HasDistinctKeys eq new
+    HasDistinctKeys-removed i j a b at_i at_j equal = distinct i j a b (value_at-removed i a at_i).1 (value_at-removed j b at_j).1 equal
+
+    pub flat_value-removed : flat_value eq new key ≡ None
+    flat_value-removed = go (flat_entry eq new key) refl
+      where
+        go : (found : Option (ℕ × Pair K V)) → flat_entry eq new key ≡ found → flat_value eq new key ≡ None
+        go None none = ap (option_map (λ (e : ℕ × Pair K V). e.1.value)) none
+        go (Some entry) some =
+            let left = IsEntry-flat_entry eq new key entry some in
+            let was = value_at-removed entry.0 entry.1 left.at in
+            absurd (was.0 (distinct entry.0 place entry.1 pair was.1 was_entry.at (equal_keys laws entry.1.key pair.key key left.equal was_entry.equal)))
+
+    pub flat_value-removed_other : (other : K) → eq other key ≡ false → flat_value eq new other ≡ flat_value eq old other
+    flat_value-removed_other other differs =
+        ap (option_map (λ (e : ℕ × Pair K V). e.1.value))
+        (flat_entry_same eq laws old new other HasDistinctKeys-removed
+        (λ i a was. record { at = step.kept i (elsewhere i a was) ∙ was.at; equal = was.equal })
+        (λ i a left. record { at = (value_at-removed i a left.at).1; equal = left.equal }))
+      where
+        elsewhere : (i : ℕ) (a : Pair K V) → IsEntry eq old other i a → i ≢ place
+        elsewhere i a was same =
+            let both : Some a ≡ Some pair = sym was.at ∙ (ap (value_at old) same ∙ was_entry.at) in
+            let is : a ≡ pair = cc in
+            let equal : eq pair.key other ≡ true = ap (λ (p : Pair K V). eq p.key other) (sym is) ∙ was.equal in
+            both_ways _ differs (laws.symm other key ∙ (sym (laws.congr pair.key key other was_entry.equal) ∙ equal))
+
+  -- the value of a key is written
+  module _ (s : SlotState (Pair K V)) (key : K) (written : V) (distinct : HasDistinctKeys eq s) where
+    module _ (place : ℕ) (pair : Pair K V) (is : IsEntry eq s key place pair) where
+      at_place : value_at (slot_set s place (record pair { value = written })) place ≡ Some (record pair { value = written })
+      at_place = get_or-set_same s.values place (Some (record pair { value = written })) None (place_at_within s.values place pair is.at)
+
+      at_other : (i : ℕ) → i ≢ place → value_at (slot_set s place (record pair { value = written })) i ≡ value_at s i
+      at_other i other = get_or-set_other s.values place i (Some (record pair { value = written })) None other
+
+      -- each pair has the key that was there
+      was_key : (i : ℕ) (a : Pair K V) → value_at (slot_set s place (record pair { value = written })) i ≡ Some a → (b : Pair K V) × (value_at s i ≡ Some b) × (b.key ≡ a.key)
+      was_key i a at = elim (cases_eq i place) [
+        | inl same ↦
+            let both : Some a ≡ Some (record pair { value = written }) = sym at ∙ (ap (value_at (slot_set s place (record pair { value = written }))) same ∙ at_place) in
+            let a_is : a ≡ record pair { value = written } = cc in
+            (pair, ap (value_at s) same ∙ is.at, ap (λ (p : Pair K V). p.key) (sym a_is))
+        | inr other ↦ (a, sym (at_other i other) ∙ at, refl)
+      ]
+
+      HasDistinctKeys-set : HasDistinctKeys eq (slot_set s place (record pair { value = written }))
+      HasDistinctKeys-set i j a b at_i at_j equal =
+          let was_i = was_key i a at_i in
+          let was_j = was_key j b at_j in
+          distinct i j was_i.0 was_j.0 was_i.1 was_j.1 (ap (λ k. eq k was_j.0.key) was_i.2 ∙ (ap (eq a.key) was_j.2 ∙ equal))
+
+      set_same : flat_value eq (slot_set s place (record pair { value = written })) key ≡ Some written
+      set_same = flat_value-IsEntry eq laws (slot_set s place (record pair { value = written })) key place (record pair { value = written }) HasDistinctKeys-set at_place is.equal
+
+      set_other : (other : K) → eq other key ≡ false → flat_value eq (slot_set s place (record pair { value = written })) other ≡ flat_value eq s other
+      set_other other differs =
+          ap (option_map (λ (e : ℕ × Pair K V). e.1.value))
+          (flat_entry_same eq laws s (slot_set s place (record pair { value = written })) other HasDistinctKeys-set
+          (λ i a was. record { at = at_other i (λ same. not_there a was.equal (let both : Some a ≡ Some pair = sym was.at ∙ (ap (value_at s) same ∙ is.at) in let a_is : a ≡ pair = cc in ap (λ (p : Pair K V). p.key) a_is)) ∙ was.at; equal = was.equal })
+          (λ i a now. elim (cases_eq i place) [
+            | inl same ↦
+                let both : Some a ≡ Some (record pair { value = written }) = sym now.at ∙ (ap (value_at (slot_set s place (record pair { value = written }))) same ∙ at_place) in
+                let a_is : a ≡ record pair { value = written } = cc in
+                absurd (not_there a now.equal (ap (λ (p : Pair K V). p.key) a_is))
+            | inr elsewhere ↦ record { at = sym (at_other i elsewhere) ∙ now.at; equal = now.equal }
+          ]))
+        where
+          not_there : (a : Pair K V) → eq a.key other ≡ true → a.key ≡ pair.key → ⊥
+          not_there a equal same =
+              let equal_pair : eq pair.key other ≡ true = ap (λ k. eq k other) (sym same) ∙ equal in
+              both_ways _ differs (laws.symm other key ∙ (sym (laws.congr pair.key key other is.equal) ∙ equal_pair))
+
+    flat_set-found : (entry : ℕ × Pair K V) → flat_entry eq s key ≡ Some entry → flat_set eq s key written ≡ slot_set s entry.0 (record entry.1 { value = written })
+    flat_set-found entry found =
+        ap (λ e. option_map_or (λ e. pair_set s e.0 written) e s) found
+        ∙ ap (λ p. option_map_or (λ pair. slot_set s entry.0 (record pair { value = written })) p s) (IsEntry-flat_entry eq s key entry found).at
+
+    -- the key has what was written
+    pub flat_value-flat_set : IsSome (flat_value eq s key) → flat_value eq (flat_set eq s key written) key ≡ Some written
+    flat_value-flat_set has = go (flat_entry eq s key) refl
+      where
+        go : (found : Option (ℕ × Pair K V)) → flat_entry eq s key ≡ found → flat_value eq (flat_set eq s key written) key ≡ Some written
+        go None none = absurd (let no = subst IsSome (ap (option_map (λ (e : ℕ × Pair K V). e.1.value)) none) has in cc)
+        go (Some entry) some = ap (λ t. flat_value eq t key) (flat_set-found entry some) ∙ set_same entry.0 entry.1 (IsEntry-flat_entry eq s key entry some)
+
+    -- any other key has the value that it had
+    pub flat_value-flat_set_other : (other : K) → eq other key ≡ false → flat_value eq (flat_set eq s key written) other ≡ flat_value eq s other
+    flat_value-flat_set_other other differs = go (flat_entry eq s key) refl
+      where
+        go : (found : Option (ℕ × Pair K V)) → flat_entry eq s key ≡ found → flat_value eq (flat_set eq s key written) other ≡ flat_value eq s other
+        go None none = ap (λ e. flat_value eq (option_map_or (λ e. pair_set s e.0 written) e s) other) none
+        go (Some entry) some = ap (λ t. flat_value eq t other) (flat_set-found entry some) ∙ set_other entry.0 entry.1 (IsEntry-flat_entry eq s key entry some) other differs

@@ -1,0 +1,23 @@
+-- A flat map as contracts see it: a slot state of pairs, a key and its value each, in which no two keys are equal.
+use Rattle.std.specs.Prelude.{◌≡◌, ℕ, List, map, Option, Some, Bool, true, option_map}
+use Rattle.std.specs.List.{find}
+use Rattle.ix_maps.specs.SlotState.{SlotState, value_at, entries}
+use Rattle.ix_maps.specs.declared.flatmap.pair.Pair.{Pair}
+
+module _ {K V : Type 0} where
+  -- no two places have equal keys
+  abbrev pub HasDistinctKeys : (K → K → Bool) → SlotState (Pair K V) → Type 0
+  HasDistinctKeys eq s =
+      (i j : ℕ) (a b : Pair K V) → value_at s i ≡ Some a → value_at s j ≡ Some b → eq a.key b.key ≡ true → i ≡ j
+
+  -- the place whose pair's key equals this one, and the pair
+  abbrev pub flat_entry : (K → K → Bool) → SlotState (Pair K V) → K → Option (ℕ × Pair K V)
+  flat_entry eq s key = find (λ entry. eq entry.1.key key) (entries s)
+
+  -- the value of the key, if the map has an equal one
+  abbrev pub flat_value : (K → K → Bool) → SlotState (Pair K V) → K → Option V
+  flat_value eq s key = option_map (λ entry. entry.1.value) (flat_entry eq s key)
+
+  -- the keys in slot order, that of their places
+  abbrev pub flat_keys : SlotState (Pair K V) → List K
+  flat_keys s = map (λ entry. entry.1.key) (entries s)

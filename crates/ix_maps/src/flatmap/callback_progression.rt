@@ -1,0 +1,13 @@
+//! What a callback returns.
+
+/// Whether a callback is to be called again, as the closure of
+/// [`MetaFlatMap::list_keys`](crate::flatmap::MetaFlatMap::list_keys) returns it.
+///
+/// This is `CallbackProgression` of iceoryx2-bb-elementary, which iceoryx2-bb-container uses.
+#[derive(Clone, Copy, PartialEq, Eq, Debug)]
+pub enum CallbackProgression {
+    /// Call again.
+    Continue,
+    /// Do not call again.
+    Stop,
+}

@@ -1,0 +1,291 @@
+//! The flat map over any two tables.
+ghost use Rattle.std.specs.Prelude.{◌≡◌, ◌↔◌, ◌+◌, ℕ, [], length, Some, None, IsSome, IsTrue, IsNone, IsOk, IfSome, IfOk, OnErr, option_copied, option_map, false, true};
+ghost use Rattle.std.specs.Borrow.{sem, Lends, LendsIf};
+ghost use Rattle.std.specs.Option.{option_copied_mut};
+ghost use Rattle.ix_cells.specs.Cloning.{AreEqualClones};
+ghost use Rattle.ix_maps.specs.SlotState.{IsWellFormed, IsHeld, value_at, held_count};
+ghost use Rattle.ix_maps.specs.FlatState.{HasDistinctKeys, flat_entry, flat_value, flat_keys};
+ghost use Rattle.ix_maps.specs.FlatSteps.{flat_insert_result, flat_insert, pair_set, flat_set, flat_remove, ListsUntilStop};
+ghost use Rattle.ix_maps.specs.SlotSteps.{slot_set, SlotRemove};
+ghost use Rattle.ix_maps.specs.contracts.slotmap.meta_slot_map.MetaSlotMap as slot_map;
+
+use crate::flatmap::{CallbackProgression, FlatMapError, Pair};
+use crate::slotmap::{Link, MetaSlotMap, SlotMapKey};
+use ix_cells::Table;
+use std::alloc::AllocError;
+use std::fmt::{self, Debug, Formatter, Write};
+use std::marker::Model;
+
+/// A map from keys to values, over a table of pairs `S` and a table of links `L`. Keys are compared by their `Eq`.
+/// Contracts see a slot map of pairs, in which no two keys are equal.
+///
+/// A pair stays at its place until it is removed, and a new one takes the first free place, that of the pair which was
+/// removed last. Slot order is that of the places. A call that looks for a key compares it with the keys of the map in
+/// slot order, up to the equal one.
+///
+/// Each call that looks for a key takes O(capacity) time, any other O(1), if nothing else is said. No call allocates.
+/// A map that is dropped drops its pairs in slot order, in O(capacity) time.
+///
+/// ```text
+/// let mut map = FixedSizeFlatMap::<u16, char, 2>::new();
+/// map.insert(80, 'a');                  // Ok(())
+/// map.insert(80, 'b');                  // Err(KeyAlreadyExists)
+/// if let Some(value) = map.get_mut_ref(&80) {
+///     *value = 'c';
+/// }
+/// map.remove(&80);                      // Some('c')
+/// ```
+///
+/// This is `MetaFlatMap` of iceoryx2-bb-container.
+#[derive(Drop)]
+pub struct MetaFlatMap<K: Eq, V, S: Table<Pair<K, V>>, L: Table<Link>> {
+    pub(crate) pairs: MetaSlotMap<Pair<K, V>, S, L>,
+}
+
+impl<K: Eq, V, S: Table<Pair<K, V>>, L: Table<Link>> Model for MetaFlatMap<K, V, S, L> {
+    ghost use Rattle.ix_maps.specs.SlotState.{SlotState};
+    ghost use Rattle.ix_maps.specs.declared.flatmap.pair.Pair.{Pair};
+    ghost use Rattle.ix_maps.specs.FlatState.{HasDistinctKeys};
+
+    ghost Value = { SlotState (Pair K V) };
+
+    ghost view = { λ map. map.pairs };
+
+    ghost invariant = { λ map. HasDistinctKeys K.eq map.pairs };
+}
+
+impl<K: Eq + Drop, V: Drop, S: Table<Pair<K, V>>, L: Table<Link>> MetaFlatMap<K, V, S, L> {
+    ghost use Rattle.ix_maps.specs.contracts.flatmap.meta_flat_map.MetaFlatMap.{the_row};
+
+    /// Inserts `key` with `value`.
+    ///
+    /// Returns [`FlatMapError::KeyAlreadyExists`] if the map has an equal key, and otherwise [`FlatMapError::IsFull`] if
+    /// it is full. `key` and `value` are dropped then.
+    ///
+    /// ```text
+    /// let mut map = FixedSizeFlatMap::<u16, char, 1>::new();
+    /// map.insert(80, 'a');                  // Ok(())
+    /// map.insert(80, 'b');                  // Err(KeyAlreadyExists)
+    /// map.insert(443, 'b');                 // Err(IsFull)
+    /// ```
+    pub fn insert(&mut self, key: K, value: V) -> Result<(), FlatMapError>
+        ensures value { result ≡ flat_insert_result K.eq self.old key }
+        ensures map { self.new ≡ flat_insert K.eq self.old key value }
+        ensures holds { IsOk result → flat_value K.eq self.new key ≡ Some value }
+        ensures refused { OnErr result (self.new ≡ self.old) }
+        ensures kept { (other : K) → K.eq other key ≡ false
+            → flat_value K.eq self.new other ≡ flat_value K.eq self.old other }
+        ensures distinct { HasDistinctKeys K.eq self.new }
+    {
+        if self.contains(&key) {
+            return Err(FlatMapError::KeyAlreadyExists);
+        }
+        match self.pairs.insert(Pair { key, value }) {
+            Some(_) => Ok(()),
+            None => Err(FlatMapError::IsFull),
+        }
+    }
+
+    /// Returns a clone of the value of `key`, or `None` if the map has no equal key.
+    ///
+    /// Returns `AllocError` if cloning the value fails. [`MetaFlatMap::get_ref`] clones nothing.
+    #[inline]
+    pub fn get(&self, key: &K) -> Result<Option<V>, AllocError>
+    where
+        V: Clone,
+        requires clones { AreEqualClones V.is_clone }
+        ensures value { IfOk result (λ value. value ≡ flat_value K.eq self.now key.now) }
+        ensures memory { IfSome (flat_value K.eq self.now key.now) V.is_infallible → IsOk result }
+    {
+        match self.get_ref(key) {
+            Some(value) => Ok(Some(value.clone()?)),
+            None => Ok(None),
+        }
+    }
+
+    /// Returns a reference to the value of `key`, or `None` if the map has no equal key.
+    #[inline]
+    pub fn get_ref(&self, key: &K) -> Option<&V>
+        ensures value { option_copied result ≡ flat_value K.eq self.now key.now }
+        // The key's value is that of the one pair whose key equals it.
+        ensures found { (place : ℕ) (pair : Pair K V) → value_at self.now place ≡ Some pair
+            → K.eq pair.key key.now ≡ true → option_copied result ≡ Some pair.value }
+        ensures absent { IsNone result ↔ ((place : ℕ) (pair : Pair K V)
+            → value_at self.now place ≡ Some pair → K.eq pair.key key.now ≡ false) }
+    {
+        match self.find(key) {
+            Some((_, pair)) => Some(&pair.value),
+            None => None,
+        }
+    }
+
+    /// Returns a mutable reference to the value of `key`, or `None` if the map has no equal key.
+    #[inline]
+    pub fn get_mut_ref(&mut self, key: &K) -> Option<&mut V>
+        ensures* writes_back { sem 𝓛 (LendsIf (the_row K.row V.row S.row L.row K.PartialEq S.Table L.Table)
+            V.row self.entry result (flat_set K.eq self.old key.now) self.old) }
+        ensures value { option_copied_mut result ≡ flat_value K.eq self.old key.now }
+        // Whatever value is written, the key has it, and any other key keeps its own.
+        ensures holds { (written : V) → IsSome (flat_value K.eq self.old key.now)
+            → flat_value K.eq (flat_set K.eq self.old key.now written) key.now ≡ Some written }
+        ensures kept { (written : V) (other : K) → K.eq other key.now ≡ false
+            → flat_value K.eq (flat_set K.eq self.old key.now written) other ≡ flat_value K.eq self.old other }
+    {
+        match self.place(key) {
+            Some(place) => Some(self.value_mut(place)),
+            None => None,
+        }
+    }
+
+    /// Removes `key` and returns its value, or `None` if the map has no equal key. The next new key takes its place.
+    pub fn remove(&mut self, key: &K) -> Option<V>
+        ensures value { result ≡ flat_value K.eq self.old key.now }
+        ensures map { self.new ≡ flat_remove K.eq self.old key.now }
+        ensures gone { flat_value K.eq self.new key.now ≡ None }
+        ensures refused { IsNone result → self.new ≡ self.old }
+        ensures kept { (other : K) → K.eq other key.now ≡ false
+            → flat_value K.eq self.new other ≡ flat_value K.eq self.old other }
+        ensures distinct { HasDistinctKeys K.eq self.new }
+    {
+        let place = self.place(key)?;
+        Some(remove_pair(&mut self.pairs, place).value)
+    }
+
+    /// Returns `true` if the map has no key. O(1).
+    #[inline]
+    pub fn is_empty(&self) -> bool
+        ensures { IsTrue result ↔ (held_count self.now ≡ 0) }
+    {
+        self.pairs.is_empty()
+    }
+
+    /// Returns `true` if there is no room for another key. A map of capacity 0 is both empty and full. O(1).
+    #[inline]
+    pub fn is_full(&self) -> bool
+        ensures value { IsTrue result ↔ (held_count self.now ≡ length self.now.values) }
+        ensures free { IsTrue result ↔ (self.now.free ≡ []) }
+    {
+        self.pairs.is_full()
+    }
+
+    /// Returns `true` if the map has an equal key.
+    #[inline]
+    pub fn contains(&self, key: &K) -> bool
+        ensures { IsTrue result ↔ IsSome (flat_value K.eq self.now key.now) }
+    {
+        self.find(key).is_some()
+    }
+
+    /// Returns the number of keys. O(1).
+    #[inline]
+    pub fn len(&self) -> usize
+        ensures value { result ≡ held_count self.now }
+        ensures rest { held_count self.now + length self.now.free ≡ length self.now.values }
+        // These hold of every map, whatever calls were made.
+        ensures formed { IsWellFormed self.now }
+        ensures distinct { HasDistinctKeys K.eq self.now }
+    {
+        self.pairs.len()
+    }
+
+    /// Calls `callback` with each key in slot order, until it returns [`CallbackProgression::Stop`].
+    ///
+    /// ```text
+    /// map.list_keys(|key| {
+    ///     report(*key);
+    ///     CallbackProgression::Continue
+    /// });
+    /// ```
+    pub fn list_keys<F: FnMut(&K) -> CallbackProgression>(&self, mut callback: F)
+        requires { F.IsAlwaysCallable callback }
+        ensures { (last : F) × ListsUntilStop F.FnMut callback (flat_keys self.now) last }
+    {
+        for (_, pair) in self.pairs.iter() {
+            match callback(&pair.key) {
+                CallbackProgression::Continue => {}
+                CallbackProgression::Stop => return,
+            }
+        }
+    }
+
+    /// Returns the place of the key that equals `key`, and the pair there.
+    #[inline]
+    fn find(&self, key: &K) -> Option<(SlotMapKey, &Pair<K, V>)>
+        ensures value { option_map (λ entry. (entry.0, entry.1.now)) result ≡ flat_entry K.eq self.now key.now }
+        ensures distinct { HasDistinctKeys K.eq self.now }
+    {
+        for place in 0..self.pairs.capacity() {
+            let place = SlotMapKey::new(place);
+            if let Some(pair) = self.pairs.get(place)
+                && pair.key == *key
+            {
+                return Some((place, pair));
+            }
+        }
+        None
+    }
+
+    /// Returns the place of the key that equals `key`.
+    #[inline]
+    fn place(&self, key: &K) -> Option<SlotMapKey>
+        ensures value { result ≡ option_map (λ entry. entry.0) (flat_entry K.eq self.now key.now) }
+        ensures distinct { HasDistinctKeys K.eq self.now }
+    {
+        match self.find(key) {
+            Some((place, _)) => Some(place),
+            None => None,
+        }
+    }
+
+    /// Returns a mutable reference to the value at a place that has a pair.
+    #[inline]
+    fn value_mut(&mut self, place: SlotMapKey) -> &mut V
+        requires { IsHeld self.old place }
+        ensures* writes_back { sem 𝓛 (Lends (the_row K.row V.row S.row L.row K.PartialEq S.Table L.Table)
+            V.row self.entry result (pair_set self.old place)) }
+        ensures value { option_map (λ pair. pair.value) (value_at self.old place) ≡ Some result.now }
+    {
+        &mut pair_mut(&mut self.pairs, place).value
+    }
+}
+
+/// Returns a mutable reference to the value at a held key.
+#[inline]
+fn pair_mut<T, S: Table<T>, L: Table<Link>>(
+    map: &mut MetaSlotMap<T, S, L>,
+    key: SlotMapKey,
+) -> &mut T
+    requires { IsHeld map.old key }
+    ensures* writes_back { sem 𝓛 (Lends (slot_map.the_row T.row S.row L.row S.Table L.Table)
+        T.row map.entry result (slot_set map.old key)) }
+    ensures value { value_at map.old key ≡ Some result.now }
+{
+    match map.get_mut(key) {
+        Some(value) => value,
+        None => unreachable!(),
+    }
+}
+
+/// Removes the value at a held key and returns it.
+#[inline]
+fn remove_pair<T, S: Table<T>, L: Table<Link>>(map: &mut MetaSlotMap<T, S, L>, key: SlotMapKey) -> T
+    requires { IsHeld map.old key }
+    ensures { SlotRemove map.old key map.new (Some result) }
+{
+    match map.remove(key) {
+        Some(value) => value,
+        None => unreachable!(),
+    }
+}
+
+/// Prints a map from the keys to their values, in slot order. O(capacity).
+impl<K: Eq + Debug, V: Debug, S: Table<Pair<K, V>>, L: Table<Link>> Debug
+    for MetaFlatMap<K, V, S, L> {
+    fn fmt<W: Write>(&self, f: &mut Formatter<W>) -> fmt::Result {
+        let mut map = f.debug_map();
+        for (_, pair) in self.pairs.iter() {
+            map.entry(&pair.key, &pair.value);
+        }
+        map.finish()
+    }
+}
