@@ -48,4 +48,10 @@ operations! {
     str_cmp = ix_bench_str_cmp, 123, "String", plain::str_cmp;
     str_hash = ix_bench_str_hash, 123, "String", plain::str_hash;
     str_ins_rem = ix_bench_str_ins_rem, 123, "String", plain::str_ins_rem;
+    seq_write_8 = ix_bench_seq_write, 8, "sequence lock", plain::seq_write;
+    seq_write_64 = ix_bench_seq_write, 64, "sequence lock", plain::seq_write;
+    seq_write_256 = ix_bench_seq_write, 256, "sequence lock", plain::seq_write;
+    seq_read_8 = ix_bench_seq_read, 8, "sequence lock", plain::seq_read;
+    seq_read_64 = ix_bench_seq_read, 64, "sequence lock", plain::seq_read;
+    seq_read_256 = ix_bench_seq_read, 256, "sequence lock", plain::seq_read;
 }

@@ -3,6 +3,7 @@ use std::cmp::Ordering;
 use std::collections::{HashMap, VecDeque};
 use std::hash::Hasher;
 use std::hint::black_box;
+use std::sync::atomic::{AtomicU64, AtomicU8, Ordering::SeqCst};
 
 /// The number behind `x` of a multiplicative generator. Its high bits serve.
 fn step(x: u64) -> u64 {
@@ -344,6 +345,59 @@ pub fn str_ins_rem(rounds: u64, capacity: u64) -> u64 {
         text.insert_str(place, "wxyz");
         text.replace_range(place..place + 4, "");
         sum = sum.wrapping_add(text.as_bytes()[(i & 63) as usize] as u64);
+    }
+    sum
+}
+
+/// A sequence lock round atomic bytes: the version is odd during a write.
+struct SequenceLock {
+    version: AtomicU64,
+    bytes: Box<[AtomicU8]>,
+}
+
+impl SequenceLock {
+    fn new(size: u64) -> Self {
+        SequenceLock { version: AtomicU64::new(0), bytes: (0..size).map(|_| AtomicU8::new(0)).collect() }
+    }
+
+    /// The one writer knows the version.
+    fn write(&self, version: u64, value: &[u8]) {
+        self.version.store(version + 1, SeqCst);
+        for (byte, new) in self.bytes.iter().zip(value) {
+            byte.store(*new, SeqCst);
+        }
+        self.version.store(version + 2, SeqCst);
+    }
+
+    /// Tells whether `value` is whole.
+    fn try_read(&self, value: &mut [u8]) -> bool {
+        let first = self.version.load(SeqCst);
+        for (byte, out) in self.bytes.iter().zip(value) {
+            *out = byte.load(SeqCst);
+        }
+        let last = self.version.load(SeqCst);
+        first == last && first % 2 == 0
+    }
+}
+
+pub fn seq_write(rounds: u64, size: u64) -> u64 {
+    let lock = SequenceLock::new(size);
+    let mut value = vec![7; size as usize];
+    for i in 0..rounds {
+        value[0] = i as u8;
+        lock.write(2 * i, &value);
+    }
+    lock.version.load(SeqCst)
+}
+
+pub fn seq_read(rounds: u64, size: u64) -> u64 {
+    let lock = SequenceLock::new(size);
+    let mut value = vec![7; size as usize];
+    let mut sum = 0u64;
+    for i in 0..rounds {
+        if lock.try_read(&mut value) {
+            sum = sum.wrapping_add(value[(i & 7) as usize] as u64 + 1);
+        }
     }
     sum
 }

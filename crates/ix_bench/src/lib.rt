@@ -5,6 +5,7 @@
 mod flat_maps;
 mod generator;
 mod queues;
+mod sequenced_cells;
 mod slot_maps;
 mod strings;
 mod vectors;
@@ -147,4 +148,16 @@ pub extern "C" fn ix_bench_str_hash(rounds: u64, _param: u64) -> u64 {
 #[unsafe(no_mangle)]
 pub extern "C" fn ix_bench_str_ins_rem(rounds: u64, _param: u64) -> u64 {
     strings::insert_and_remove(rounds)
+}
+
+/// Writes a block of `param` bytes, which are 8, 64 or 256, to a sequenced cell.
+#[unsafe(no_mangle)]
+pub extern "C" fn ix_bench_seq_write(alloc: Global, rounds: u64, param: u64) -> u64 {
+    sequenced_cells::writes(alloc, rounds, param)
+}
+
+/// Reads a block of `param` bytes, which are 8, 64 or 256, from a sequenced cell.
+#[unsafe(no_mangle)]
+pub extern "C" fn ix_bench_seq_read(alloc: Global, rounds: u64, param: u64) -> u64 {
+    sequenced_cells::reads(alloc, rounds, param)
 }
