@@ -42,5 +42,6 @@ impl<T> Model for WriterSeat<T> {
 
     ghost view = { λ writer. writer_of writer.seat.table_id writer.seat.me.0 };
 
-    ghost invariant = { λ writer. (writer.seat.me.1 ≡ []) × (writer.seat.me.0.is_writer ≡ true) × (parity writer.seat.me.0.stage ≡ 0) × (writer.version + 2 ≡ 2 * length writer.seat.me.0.known) };
+    ghost invariant = { λ writer. (writer.seat.me.1 ≡ []) × (writer.seat.me.0.is_writer ≡ true)
+        × (parity writer.seat.me.0.stage ≡ 0) × (writer.version + 2 ≡ 2 * length writer.seat.me.0.known) };
 }

@@ -47,7 +47,8 @@ impl<T: AtomicCopy, const SIZE: usize> Model for SequencedByteAtomic<T, SIZE> {
 
     ghost view = { λ cell. cell.table.shared.table_id };
 
-    ghost invariant = { λ cell. (cell.table.shared.table_id.words ≡ SIZE + 1) × (cell.table.shared.table_id.slots ≡ 0) × (SIZE ≡ T.SIZE) × (SIZE < MAX_WORDS) };
+    ghost invariant = { λ cell. (cell.table.shared.table_id.words ≡ SIZE + 1)
+        × (cell.table.shared.table_id.slots ≡ 0) × (SIZE ≡ T.SIZE) × (SIZE < MAX_WORDS) };
 }
 
 /// Returns the words of a new cell: version 0, and one word a byte. O(`bytes.len()`).
@@ -71,7 +72,8 @@ impl<T: AtomicCopy, const SIZE: usize> SequencedByteAtomic<T, SIZE> {
     pub fn new(alloc: Global, value: T) -> Result<(Self, WriterSeat<T>, ReaderSeat<T>), AllocError>
         requires { SIZE ≡ T.SIZE }
         ensures writer { IfOk result (λ made. (made.1.cell ≡ made.0) × (made.1.history ≡ value ∷ [])) }
-        ensures reader { IfOk result (λ made. (made.2.cell ≡ made.0) × (made.2.known ≡ value ∷ []) × (made.2.seen ≡ [])) }
+        ensures reader { IfOk result (λ made.
+            (made.2.cell ≡ made.0) × (made.2.known ≡ value ∷ []) × (made.2.seen ≡ [])) }
     {
         if SIZE >= MAX_WORDS {
             return Err(AllocError);
@@ -121,8 +123,10 @@ impl<T: AtomicCopy, const SIZE: usize> SequencedByteAtomic<T, SIZE> {
     /// [`Interfered`] with both versions, unless they are equal and even. The cell does not change.
     pub fn try_read(&self, seat: &mut ReaderSeat<T>) -> Result<T, Interfered>
         requires { seat.old.cell ≡ self.now }
-        ensures value { IfOk result (λ value. (version : ℕ) × LoadsTwice seat.old seat.new version version × IsEven version × (value_at seat.new.known version ≡ Some value)) }
-        ensures interfered { IfErr result (λ error. LoadsTwice seat.old seat.new error.first error.last × (IsOdd error.first ⊎ (error.first < error.last))) }
+        ensures value { IfOk result (λ value. (version : ℕ) × LoadsTwice seat.old seat.new version version
+            × IsEven version × (value_at seat.new.known version ≡ Some value)) }
+        ensures interfered { IfErr result (λ error. LoadsTwice seat.old seat.new error.first error.last
+            × (IsOdd error.first ⊎ (error.first < error.last))) }
     {
         let shared = &self.table.shared;
         let first = shared.load::<LoadVersion>(&mut seat.seat, 0);
@@ -171,7 +175,8 @@ impl<T: AtomicCopy, const SIZE: usize> SequencedByteAtomic<T, SIZE> {
         seat: &mut WriterSeat<T>,
     ) -> Result<ReaderSeat<T>, AllocError>
         requires { seat.old.cell ≡ self.now }
-        ensures reader { IfOk result (λ reader. (reader.cell ≡ seat.old.cell) × (reader.known ≡ seat.old.history) × (reader.seen ≡ [])) }
+        ensures reader { IfOk result (λ reader.
+            (reader.cell ≡ seat.old.cell) × (reader.known ≡ seat.old.history) × (reader.seen ≡ [])) }
         ensures seat { seat.new ≡ seat.old }
         ensures memory { IsOk result }
     {
