@@ -1,0 +1,3 @@
+//! Types for names and messages: strings whose rules are checked at every change, an option, and conversions to and from
+//! JSON.
+#![tactic(auto)]
