@@ -21,12 +21,16 @@ fn main(rt: HostRuntime) -> Result<(), anyhow::Error> {
         anyhow::bail!("five arguments are needed: WORD SIZE READERS WRITES PAUSE");
     };
     let readers: u64 = readers.parse()?;
+    if readers != 1 && readers != 3 {
+        anyhow::bail!("there are 1 or 3 readers");
+    }
     let workload = Workload::new(writes.parse()?, pause.parse()?);
     let start = Instant::now(&rt)?;
     let counts = match size.as_str() {
         "8" => run::<8, _>(&rt, alloc, &workload, readers)?,
         "64" => run::<64, _>(&rt, alloc, &workload, readers)?,
-        _ => run::<256, _>(&rt, alloc, &workload, readers)?,
+        "256" => run::<256, _>(&rt, alloc, &workload, readers)?,
+        _ => anyhow::bail!("the size is 8, 64 or 256"),
     };
     let took = start.elapsed(&rt)?.as_nanos();
     println!(rt; "{took} {} {}", counts.tries, counts.values)?;

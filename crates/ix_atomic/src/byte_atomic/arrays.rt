@@ -20,9 +20,7 @@ impl<const N: usize> AtomicCopy for [u8; N] {
 
     #[inline]
     fn decode(bytes: &[u8]) -> Option<[u8; N]> {
-        let mut array = [0; N];
-        array.copy_from_slice(bytes);
-        Some(array)
+        bytes.try_into().ok()
     }
 
     ghost encoding_len = { λ _ is. is.0 };
