@@ -12,4 +12,5 @@ pub mod session_table;
 pub mod strings;
 #[cfg(test)]
 mod tests;
+pub mod unit_name;
 pub mod vectors;

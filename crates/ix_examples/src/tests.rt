@@ -8,10 +8,12 @@ use crate::registry::{Registry, Service, port_of, register, unregister};
 use crate::rolling_window::last_samples;
 use crate::scripts::replies;
 use crate::session_table::{Session, SessionTable, close, note_heard, open};
+use crate::unit_name::UnitName;
 use crate::{queues, strings, vectors};
 use ix_atomic::ReaderSeat;
 use ix_cells::Vector;
 use ix_maps::{FlatMapError, SlotMapKey};
+use ix_names::SemanticStringError;
 use ix_string::{StaticString, String};
 use std::alloc::AllocError;
 use std::thread;
@@ -165,6 +167,22 @@ fn messages(rt: HostRuntime) {
     let message = message.expect(&rt, "it fits");
     assert_eq!(rt; message.topic.as_str(), "temperature");
     assert_eq!(rt; message.values.as_slice(), [20, 21].as_slice());
+}
+
+#[test]
+fn units_in_any_case(rt: HostRuntime) {
+    let mut pump = UnitName::new(b"Pump2").expect(&rt, "it is accepted");
+    assert!(rt; pump.eq_str("pump2"));
+    assert!(rt; pump.eq_str("PUMP2"));
+    assert!(rt; !pump.eq_str("pump"));
+    assert_eq!(rt; pump.as_bytes(), b"Pump2".as_slice());
+    assert_eq!(rt; pump.normalize().as_bytes(), b"pump2".as_slice());
+    assert_eq!(rt; pump.push(b'-'), Err(SemanticStringError::InvalidContent));
+    assert_eq!(rt; pump.truncate(0), Err(SemanticStringError::InvalidContent));
+    assert!(rt; pump.eq_str("pump2"));
+    assert!(rt; UnitName::new(b"").is_err());
+    assert!(rt; UnitName::new(b"Pump 2").is_err());
+    assert!(rt; UnitName::new(b"abcdefghijklmnopq").is_err());
 }
 
 #[test]

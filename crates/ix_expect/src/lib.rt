@@ -1,4 +1,5 @@
-//! What the crates of tests share: [`Findings`], which note what a test did not expect, and items that note their drops.
+//! What the crates of tests share: [`Findings`], which note what a test did not expect, items that note their drops, and
+//! [`fed_by`], which tells what a value feeds to a hasher.
 //!
 //! ```text
 //! let notes = Notes::new(0);
@@ -10,6 +11,8 @@
 
 mod findings;
 mod noted;
+mod recorder;
 
 pub use findings::Findings;
 pub use noted::{Noted, Notes, names_of};
+pub use recorder::fed_by;

@@ -17,8 +17,6 @@ mod memory_tests;
 #[cfg(test)]
 mod order_tests;
 #[cfg(test)]
-mod recorder;
-#[cfg(test)]
 mod refusals;
 #[cfg(test)]
 mod rows;

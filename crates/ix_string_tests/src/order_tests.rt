@@ -1,8 +1,7 @@
 //! Equality, order and hash of strings agree, whatever the capacities.
-use crate::recorder::fed_by;
 use crate::strings::{holding, refill};
 use ix_cells::RelocatableContainer;
-use ix_expect::Findings;
+use ix_expect::{Findings, fed_by};
 use ix_string::{PolymorphicString, StaticString, String, UninitString};
 use std::alloc::{AllocError, Global};
 use std::cmp::Ordering;

@@ -26,7 +26,12 @@ impl Hasher for Recorder<'_> {
     }
 }
 
-/// Returns what `value` feeds to a hasher, at most eight digits.
+/// Returns what `value` feeds to a hasher: the bytes of each write and then 255, as digits to the base 256, of which the
+/// last eight are kept.
+///
+/// ```text
+/// fed_by(&string);    // 0x6162ff, if the bytes "ab" are fed in one write
+/// ```
 pub fn fed_by<T: Hash>(value: &T) -> u64 {
     let digits = Cell::new(0u64);
     let mut recorder = Recorder { digits: &digits };

@@ -1,0 +1,2 @@
+pub mod UnitNames
+pub mod UnitNamesLaws

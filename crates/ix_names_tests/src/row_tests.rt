@@ -1,0 +1,65 @@
+//! The worked examples, and a long text that may not be empty.
+use crate::calls::check_rows;
+use crate::own_rules::{EvenLengthRules, NonEmptyRules};
+use crate::rows::{CHANGED_NAMES, EVEN_LENGTHS, NAMES, NO_ROOM, REFUSED_BYTES, SLASHES};
+use ix_expect::Findings;
+use ix_names::{GroupName, Semantic, SemanticStringError, TrailingSlashRules};
+use std::test::Fail;
+
+#[test]
+fn group_names() -> Result<(), Fail> {
+    let findings = Findings::new();
+    for rows in [NAMES, CHANGED_NAMES, REFUSED_BYTES] {
+        check_rows(&findings, GroupName::new(b"ab"), rows, "names");
+    }
+    findings.verdict()
+}
+
+#[test]
+fn trailing_slashes() -> Result<(), Fail> {
+    let findings = Findings::new();
+    let made = Semantic::<TrailingSlashRules, 255>::new(b"");
+    check_rows(&findings, made, SLASHES, "slashes");
+    findings.verdict()
+}
+
+#[test]
+fn changes_that_the_rules_refuse() -> Result<(), Fail> {
+    let findings = Findings::new();
+    let made = Semantic::<EvenLengthRules, 6>::new(b"");
+    check_rows(&findings, made, EVEN_LENGTHS, "even lengths");
+    findings.verdict()
+}
+
+#[test]
+fn no_room() -> Result<(), Fail> {
+    let findings = Findings::new();
+    let made = Semantic::<EvenLengthRules, 0>::new(b"");
+    check_rows(&findings, made, NO_ROOM, "no room");
+    let made = Semantic::<NonEmptyRules, 0>::new(b"");
+    let invalid = Some(SemanticStringError::InvalidContent);
+    findings.expect_same(made.err(), invalid, "no text");
+    let made = Semantic::<NonEmptyRules, 0>::new(b"a");
+    let too_long = Some(SemanticStringError::ExceedsMaximumLength);
+    findings.expect_same(made.err(), too_long, "a text");
+    findings.verdict()
+}
+
+#[test]
+fn a_long_text_stays() -> Result<(), Fail> {
+    let findings = Findings::new();
+    let letters = [b'a'; 130];
+    match Semantic::<NonEmptyRules, 200>::new(&letters) {
+        Ok(mut text) => {
+            let invalid = Err(SemanticStringError::InvalidContent);
+            findings.expect_same(text.strip_prefix(&letters), invalid, "strip_prefix");
+            findings.expect_same(text.as_bytes(), letters.as_slice(), "unchanged");
+            findings.expect_same(text.strip_suffix(&letters), invalid, "strip_suffix");
+            findings.expect_same(text.as_bytes(), letters.as_slice(), "unchanged");
+            findings.expect_same(text.strip_prefix(&letters[1..]), Ok(true), "all but one");
+            findings.expect_same(text.as_bytes(), b"a".as_slice(), "one letter");
+        }
+        Err(_) => findings.miss("a text of 130 letters"),
+    }
+    findings.verdict()
+}
