@@ -8,7 +8,7 @@ use crate::registry::{Registry, Service, port_of, register, unregister};
 use crate::rolling_window::last_samples;
 use crate::scripts::replies;
 use crate::session_table::{Session, SessionTable, close, note_heard, open};
-use crate::unit_name::UnitName;
+use crate::unit_name::{UnitName, is_same_unit};
 use crate::{queues, strings, vectors};
 use ix_atomic::ReaderSeat;
 use ix_cells::Vector;
@@ -172,9 +172,11 @@ fn messages(rt: HostRuntime) {
 #[test]
 fn units_in_any_case(rt: HostRuntime) {
     let mut pump = UnitName::new(b"Pump2").expect(&rt, "it is accepted");
+    let shouted = UnitName::new(b"PUMP2").expect(&rt, "it is accepted");
+    let other = UnitName::new(b"pump").expect(&rt, "it is accepted");
+    assert!(rt; is_same_unit(&pump, &shouted));
+    assert!(rt; !is_same_unit(&pump, &other));
     assert!(rt; pump.eq_str("pump2"));
-    assert!(rt; pump.eq_str("PUMP2"));
-    assert!(rt; !pump.eq_str("pump"));
     assert_eq!(rt; pump.as_bytes(), b"Pump2".as_slice());
     assert_eq!(rt; pump.normalize().as_bytes(), b"pump2".as_slice());
     assert_eq!(rt; pump.push(b'-'), Err(SemanticStringError::InvalidContent));

@@ -1,4 +1,6 @@
 //! Names with rules of their own: names of units, in which the case of letters means nothing.
+ghost use Rattle.std.specs.Prelude.{◌≡◌, ◌↔◌, IsTrue};
+ghost use Rattle.std.specs.Str.{str_to_ascii_lowercase};
 ghost use Rattle.ix_examples.specs.UnitNames.{unit_name_rules};
 ghost use Rattle.ix_examples.specs.UnitNamesLaws.{lower_case-accepted, lower_case-twice};
 
@@ -37,4 +39,11 @@ impl Rules<16> for UnitNameRules {
     ghost normal_accepted = { lower_case-accepted };
 
     ghost normal_twice = { λ name _. lower_case-twice name };
+}
+
+/// Returns `true` if both name the same unit.
+pub fn is_same_unit(left: &UnitName, right: &UnitName) -> bool
+    ensures { IsTrue result ↔ (str_to_ascii_lowercase left.now ≡ str_to_ascii_lowercase right.now) }
+{
+    left == right
 }
