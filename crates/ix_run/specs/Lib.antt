@@ -5,5 +5,8 @@ pub mod Outcome
 pub mod Progress
 pub mod QueueRun
 pub mod Reading
+pub mod Replies
+pub mod Run
 pub mod Script
+pub mod VecRun
 pub mod Writing

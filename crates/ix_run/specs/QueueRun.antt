@@ -1,20 +1,16 @@
 -- The run of a queue: the reply to each of a list of commands, and the queue that each leaves.
-use Rattle.std.specs.Prelude.{List, [], ◌∷◌, Option, None, Some}
+use Rattle.std.specs.Prelude.{ℕ, List, [], ◌∷◌}
 use Rattle.ix_cells.specs.Bounded.{Bounded, has_room, bounded_push}
 use Rattle.ix_maps.specs.QueueSteps.{queue_overflow, queue_overflow_item, queue_front, queue_pop}
+use Rattle.ix_run.specs.Replies.{option_reply}
 use Rattle.ix_run.specs.declared.run.command.QueueCommand.{QueueCommand}
 use Rattle.ix_run.specs.declared.run.command.QueueCommand.TheVariants.{Push, Over, Pop}
-use Rattle.ix_run.specs.declared.run.command.Reply.{Reply}
-use Rattle.ix_run.specs.declared.run.command.Reply.TheVariants as reply
+use Rattle.ix_run.specs.declared.run.reply.Reply.{Reply}
+use Rattle.ix_run.specs.declared.run.reply.Reply.TheVariants as reply
 
 module _ {X : Type 0} where
-  -- an optional item as a reply
-  abbrev pub option_reply : Option X → Reply X
-  option_reply None = reply.None
-  option_reply (Some x) = reply.Value x
-
   -- the reply to a command
-  abbrev pub reply_of : Bounded X → QueueCommand X → Reply X
+  abbrev pub reply_of : Bounded X → QueueCommand X → Reply ℕ X
   reply_of queue (Push x) = reply.Bool (has_room queue)
   reply_of queue (Over x) = option_reply (queue_overflow_item queue x)
   reply_of queue Pop = option_reply (queue_front queue)
@@ -26,6 +22,6 @@ module _ {X : Type 0} where
   queue_after queue Pop = queue_pop queue
 
   -- the replies to a list of commands, in order
-  abbrev pub replies_of : Bounded X → List (QueueCommand X) → List (Reply X)
+  abbrev pub replies_of : Bounded X → List (QueueCommand X) → List (Reply ℕ X)
   replies_of queue [] = []
   replies_of queue (command ∷ commands) = reply_of queue command ∷ replies_of (queue_after queue command) commands

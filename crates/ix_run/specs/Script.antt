@@ -7,15 +7,31 @@ use Rattle.ix_run.specs.Reading.{queue_line_of, header_of, capacity_of}
 use Rattle.ix_run.specs.declared.run.command.FixedCapacity.{FixedCapacity}
 use Rattle.ix_run.specs.declared.run.command.QueueLine.{QueueLine}
 use Rattle.ix_run.specs.declared.run.command.QueueLine.TheVariants.{Command, Show}
-use Rattle.ix_run.specs.declared.run.command.Reply.{Reply}
-use Rattle.ix_run.specs.declared.run.command.Reply.TheVariants as reply
+use Rattle.ix_run.specs.declared.run.reply.Reply.{Reply}
+use Rattle.ix_run.specs.declared.run.reply.Reply.TheVariants as reply
+use Rattle.ix_run.specs.declared.run.reply.ReplyError.{ReplyError}
+use Rattle.ix_run.specs.declared.run.reply.ReplyError.TheVariants.{OutOfBounds, InsertWouldExceedCapacity, InvalidCharacter, KeyAlreadyExists, IsFull, IndexPastEnd}
+
+-- the name of an error
+abbrev pub error_name : ReplyError → List ℕ
+error_name OutOfBounds = codes "OutOfBounds"
+error_name InsertWouldExceedCapacity = codes "InsertWouldExceedCapacity"
+error_name InvalidCharacter = codes "InvalidCharacter"
+error_name KeyAlreadyExists = codes "KeyAlreadyExists"
+error_name IsFull = codes "IsFull"
+error_name IndexPastEnd = codes "IndexPastEnd"
 
 -- the text of a reply
-abbrev pub reply_text : Reply ℕ → List ℕ
+abbrev pub reply_text : Reply ℕ ℕ → List ℕ
+reply_text reply.Done = codes "ok"
 reply_text (reply.Bool true) = codes "true"
 reply_text (reply.Bool false) = codes "false"
+reply_text (reply.Number n) = decimal n
 reply_text reply.None = codes "none"
+reply_text (reply.Key k) = codes "some " ++ decimal k
 reply_text (reply.Value x) = codes "some " ++ decimal x
+reply_text (reply.Entry k x) = codes "some " ++ (decimal k ++ (codes " " ++ decimal x))
+reply_text (reply.Error e) = codes "error " ++ error_name e
 
 -- items, each after a space
 abbrev pub more_items_text : List ℕ → List ℕ

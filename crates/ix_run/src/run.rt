@@ -16,13 +16,20 @@ mod partial_line;
 mod queues;
 mod reading;
 mod replies;
+mod reply;
 mod reply_buffer;
+mod runs;
 mod scripts;
+mod vectors;
 
-pub use command::{FixedCapacity, QueueCommand, QueueLine, Reply};
+pub use command::{
+    FixedCapacity, FlatCommand, QueueCommand, QueueLine, SlotCommand, TextCommand, VecCommand,
+};
 pub use fault::{ScriptFault, exit_status, fault_line};
 pub use laws::{line_law, script_law};
 pub use limits::MAX_LINE_LEN;
 pub use queues::run_queue_command;
 pub use reading::{read_header, read_number, read_queue_line};
+pub use reply::{Reply, ReplyError};
+pub use runs::{Runs, run_all};
 pub use scripts::script;

@@ -3,12 +3,13 @@ ghost use Rattle.std.specs.Prelude.{◌≡◌, Some, None};
 ghost use Rattle.ix_cells.specs.Bounded.{bounded_new};
 ghost use Rattle.ix_run.specs.FixedQueues.{fixed_queue_list};
 ghost use Rattle.ix_run.specs.Lines.{with_line_feed};
-ghost use Rattle.ix_run.specs.QueueRun.{option_reply, reply_of, queue_after};
+ghost use Rattle.ix_run.specs.QueueRun.{reply_of, queue_after};
 ghost use Rattle.ix_run.specs.Reading.{capacity_of};
 ghost use Rattle.ix_run.specs.Script.{line_reply, state_after, queue_line_reply, queue_after_line, items_text};
 ghost use Rattle.ix_run.specs.Writing.{WriteResult};
 
 use crate::run::replies::{append_items_line, append_reply};
+use crate::run::reply::reply_of_option;
 use crate::run::reply_buffer::ReplyBuffer;
 use crate::run::{
     FixedCapacity, QueueCommand, QueueLine, Reply, ScriptFault, read_header, read_queue_line,
@@ -18,22 +19,12 @@ use ix_maps::{FixedSizeQueue, MetaQueue};
 use std::io::Write;
 use std::marker::Model;
 
-/// Returns an optional item as a reply.
-fn reply_of_option<T: Copy>(item: Option<T>) -> Reply<T>
-    ensures { result ≡ option_reply item }
-{
-    match item {
-        Some(item) => Reply::Value(item),
-        None => Reply::None,
-    }
-}
-
 /// Runs one command on a queue of any kind, and returns the reply to it. O(1). Does not allocate.
 #[inline]
 pub fn run_queue_command<T: Copy, S: Table<T>>(
     queue: &mut MetaQueue<T, S>,
     command: QueueCommand<T>,
-) -> Reply<T>
+) -> Reply<usize, T>
     ensures value { result ≡ reply_of queue.old command }
     ensures queue { queue.new ≡ queue_after queue.old command }
 {
@@ -67,7 +58,7 @@ impl FixedQueue {
     }
 
     /// Runs one command, and returns the reply to it.
-    fn run(&mut self, command: QueueCommand<u64>) -> Reply<u64>
+    fn run(&mut self, command: QueueCommand<u64>) -> Reply<usize, u64>
         ensures value { result ≡ reply_of (fixed_queue_list self.old) command }
         ensures queue { fixed_queue_list self.new ≡ queue_after (fixed_queue_list self.old) command }
     {
