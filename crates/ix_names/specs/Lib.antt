@@ -1,1 +1,2 @@
+pub mod JsonTree
 pub mod Optional

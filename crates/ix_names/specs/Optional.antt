@@ -1,6 +1,5 @@
 -- The optional value that a relocatable option is, and what its calls do to it.
 use Rattle.std.specs.Prelude.{◌≡◌, ◌⊎◌, Bool, true, false, Option, None, Some}
-use Rattle.std.specs.Option.{ghost_name_of}
 use Rattle.std.specs.Fn.{Once, FnOnceReturnsAtMut}
 use Rattle.std.specs.Borrow.{Fml, RattleType, MutBor, LendsIf}
 use Rattle.ix_names.specs.declared.relocatable_option.RelocatableOption.{RelocatableOption}

@@ -2,6 +2,8 @@
 //! JSON.
 #![tactic(auto)]
 
+pub mod json;
 pub mod relocatable_option;
 
+pub use json::{JsonFault, JsonForm, JsonItem};
 pub use relocatable_option::RelocatableOption;
