@@ -1,5 +1,5 @@
 //! The traits of values that are converted to JSON and back.
-ghost use Rattle.std.specs.Prelude.{◌≡◌, ◌≢◌, Result, Ok, IfOk, IfErr, IsOk};
+ghost use Rattle.std.specs.Prelude.{◌≡◌, ◌≢◌, Result, Ok, Err, IfOk, IfErr, IsOk};
 ghost use Rattle.serde_json.specs.Data.{Data, null};
 ghost use Rattle.serde_json.specs.View.{view};
 ghost use Rattle.ix_names.specs.declared.json.json_fault.JsonFault.{JsonFault};
@@ -42,7 +42,8 @@ pub trait JsonForm: Sized {
     ///
     /// Returns the fault for which `value` is no value of this type, and never [`JsonFault::OutOfMemory`].
     fn from_value(value: &Value) -> Result<Self, JsonFault>
-        ensures { result ≡ read (view value.now) };
+        ensures value { result ≡ read (view value.now) }
+        ensures memory { result ≢ Err OutOfMemory };
 }
 
 /// A value that is always read back from its JSON form, which is never null. Vectors hold such items.

@@ -3,8 +3,8 @@ use Rattle.std.proofs.lemmas.Grind.{common_steps}
 use Rattle.ix_names.proofs.Entries.{entries_read-push, entries_read-fault, list_read-entries, list_read-too_long}
 use Rattle.ix_names.proofs.json.fixed_vectors.StaticVecJsonForm.from_value.Goals as goal
 
-pub returns-then-len : goal.returns-then-len
-returns-then-len g c =
+pub returns-then-len-clause-value : goal.returns-then-len-clause-value
+returns-then-len-clause-value g c =
     let found = rw c.in-Some.is at c.as_array.ensures in
     let len = c.len.ensures in
     let more = c.if-len.true in
@@ -21,12 +21,12 @@ loop-entry-preserved g c =
     let below = c.loop-entry-test.true in
     let at = c.entry-item.is in
     let next : take (i + 1) values ≡ take i values ++ value ∷ [] = grind (arith, common_steps) in
-    let pushed = ap (λ vector. vector.items) c.push_unchecked.ensures in
+    let pushed : c.push_unchecked.new.self ≡ c.loop-entry.items ++ item ∷ [] = ap (λ vector. vector.items) c.push_unchecked.ensures in
     let longer = length-append c.loop-entry.items (item ∷ []) in
-    rw (pushed, next) (omega (arith, longer, c.loop-entry.invariant.0), entries_read-push g.T.JsonForm.read (take i values) value c.loop-entry.items item c.loop-entry.invariant.1 (sym c.in_ok-from_value.ensures))
+    rw (pushed, next) (omega (arith, longer, c.loop-entry.invariant.0), entries_read-push g.T.JsonForm.read (take i values) value c.loop-entry.items item c.loop-entry.invariant.1 (sym c.in_ok-from_value.ensures.value))
 
-pub returns-in_err-from_value : goal.returns-in_err-from_value
-returns-in_err-from_value g c =
+pub returns-in_err-from_value-clause-value : goal.returns-in_err-from_value-clause-value
+returns-in_err-from_value-clause-value g c =
     let values = c.deref-entry-items.result.now in
     let same = c.deref-entry-items.ensures.value in
     let i = c.loop-entry.entry-index in
@@ -40,10 +40,10 @@ returns-in_err-from_value g c =
     let fits : length c.in-Some.entries.now.items ≤ g.row.CAPACITY = grind (arith, common_steps, c.in-Some.entries.now.ok) in
     passed_on
     ∙ sym (list_read-entries g.T.JsonForm.read g.row.CAPACITY _ c.in-Some.entries.now.items (sym found) c.if-this-gt-MAX_FIXED_CAPACITY.false fits
-    ∙ rw parts (entries_read-fault g.T.JsonForm.read (take i values) (drop (i + 1) values) value c.loop-entry.items fault c.loop-entry.invariant.1 (sym c.in_err-from_value.ensures)))
+    ∙ rw parts (entries_read-fault g.T.JsonForm.read (take i values) (drop (i + 1) values) value c.loop-entry.items fault c.loop-entry.invariant.1 (sym c.in_err-from_value.ensures.value)))
 
-pub returns : goal.returns
-returns g c =
+pub returns-clause-value : goal.returns-clause-value
+returns-clause-value g c =
     let values = c.deref-entry-items.result.now in
     let same = c.deref-entry-items.ensures.value in
     let done = c.loop-entry-test.false in
