@@ -1,0 +1,253 @@
+//! How JSON is read: rows of a text, and the value or the fault.
+use crate::forms::{Empty, Refused};
+use ix_cells::StaticVec;
+use ix_expect::Findings;
+use ix_names::JsonFault::{BadByte, TooLong, WrongKind};
+use ix_names::{JsonFault, JsonForm, RelocatableOption};
+use ix_string::StaticString;
+use serde_json::Value;
+use std::alloc::Global;
+use std::fmt::Debug;
+use std::test::Fail;
+
+/// A text, and what is read.
+type Row<W> = (&'static str, Result<W, JsonFault>);
+
+/// Checks what a text is read as.
+fn check<T: JsonForm + PartialEq + Debug + Drop>(
+    findings: &Findings,
+    alloc: Global,
+    text: &str,
+    wanted: Result<T, JsonFault>,
+) {
+    match Value::from_str(alloc, text) {
+        Ok(value) => findings.expect_same(T::from_value(&value), wanted, text),
+        Err(_) => findings.miss(text),
+    }
+}
+
+/// Checks rows of values that can be copied.
+fn check_rows<T: JsonForm + PartialEq + Debug + Copy>(
+    findings: &Findings,
+    alloc: Global,
+    rows: &[Row<T>],
+) {
+    for (text, wanted) in rows {
+        check(findings, alloc, text, *wanted);
+    }
+}
+
+const U64: &[Row<u64>] = &[
+    ("0", Ok(0)),
+    ("18446744073709551615", Ok(u64::MAX)),
+    ("18446744073709551616", Err(WrongKind)),
+    ("-1", Err(WrongKind)),
+    ("-0", Err(WrongKind)),
+    ("1.0", Err(WrongKind)),
+    ("1e2", Err(WrongKind)),
+    ("\"1\"", Err(WrongKind)),
+    ("true", Err(WrongKind)),
+    ("null", Err(WrongKind)),
+    ("[1]", Err(WrongKind)),
+    ("{}", Err(WrongKind)),
+];
+
+const I64: &[Row<i64>] = &[
+    ("-5", Ok(-5)),
+    ("0", Ok(0)),
+    ("9223372036854775807", Ok(i64::MAX)),
+    ("-9223372036854775808", Ok(i64::MIN)),
+    ("9223372036854775808", Err(WrongKind)),
+    ("18446744073709551615", Err(WrongKind)),
+    ("-9223372036854775809", Err(WrongKind)),
+    ("-1.0", Err(WrongKind)),
+    ("\"-5\"", Err(WrongKind)),
+    ("null", Err(WrongKind)),
+];
+
+const BOOL: &[Row<bool>] = &[
+    ("true", Ok(true)),
+    ("false", Ok(false)),
+    ("1", Err(WrongKind)),
+    ("\"true\"", Err(WrongKind)),
+    ("null", Err(WrongKind)),
+];
+
+#[test]
+fn numbers(rt: HostRuntime) -> Result<(), Fail> {
+    let findings = Findings::new();
+    check_rows(&findings, rt.alloc(), U64);
+    check_rows(&findings, rt.alloc(), I64);
+    check_rows(&findings, rt.alloc(), BOOL);
+    findings.verdict()
+}
+
+/// Of strings of capacity 3. A text is measured in bytes, and its length is tested before its bytes.
+const TEXTS: &[Row<&str>] = &[
+    ("\"abc\"", Ok("abc")),
+    ("\"\"", Ok("")),
+    ("\"\\u0001\\u007f\"", Ok("\u{1}\u{7f}")),
+    ("\"abcd\"", Err(TooLong)),
+    ("\"abc\\u0000\"", Err(TooLong)),
+    ("\"éé\"", Err(TooLong)),
+    ("\"\\u0000\"", Err(BadByte)),
+    ("\"ab\\u0000\"", Err(BadByte)),
+    ("\"é\"", Err(BadByte)),
+    ("\"\\u0080\"", Err(BadByte)),
+    ("5", Err(WrongKind)),
+    ("null", Err(WrongKind)),
+    ("true", Err(WrongKind)),
+    ("[\"a\"]", Err(WrongKind)),
+];
+
+/// Checks what a text is read as in a string of capacity `CAPACITY`.
+fn check_text<const CAPACITY: usize>(
+    findings: &Findings,
+    alloc: Global,
+    (text, wanted): &Row<&str>,
+) {
+    match *wanted {
+        Ok(bytes) => match StaticString::<CAPACITY>::from_bytes(bytes.as_bytes()) {
+            Ok(string) => check(findings, alloc, text, Ok(string)),
+            Err(_) => findings.miss(text),
+        },
+        Err(fault) => check::<StaticString<CAPACITY>>(findings, alloc, text, Err(fault)),
+    }
+}
+
+#[test]
+fn texts(rt: HostRuntime) -> Result<(), Fail> {
+    let findings = Findings::new();
+    for row in TEXTS {
+        check_text::<3>(&findings, rt.alloc(), row);
+    }
+    check_text::<0>(&findings, rt.alloc(), &("\"\"", Ok("")));
+    check_text::<0>(&findings, rt.alloc(), &("\"a\"", Err(TooLong)));
+    findings.verdict()
+}
+
+/// Of vectors of capacity 3. The number of entries is tested before any entry.
+const LISTS: &[Row<&[u64]>] = &[
+    ("[]", Ok(&[])),
+    ("[1, 2]", Ok(&[1, 2])),
+    ("[1, 2, 3]", Ok(&[1, 2, 3])),
+    ("[1, 2, 3, 4]", Err(TooLong)),
+    ("[\"a\", 1, 2, 3]", Err(TooLong)),
+    ("[1, \"a\"]", Err(WrongKind)),
+    ("[-1]", Err(WrongKind)),
+    ("[null]", Err(WrongKind)),
+    ("[[1]]", Err(WrongKind)),
+    ("5", Err(WrongKind)),
+    ("\"abc\"", Err(WrongKind)),
+    ("null", Err(WrongKind)),
+    ("{}", Err(WrongKind)),
+];
+
+/// Of vectors of capacity 3, of strings of capacity 2. The first fault of an entry is returned.
+const LISTS_OF_TEXTS: &[(&str, JsonFault)] = &[
+    ("[\"abc\", 5]", TooLong),
+    ("[5, \"abc\"]", WrongKind),
+    ("[\"a\", \"\\u0000\", \"abc\"]", BadByte),
+    ("[\"ab\", \"abc\", \"\\u0000\"]", TooLong),
+    ("[\"a\", \"b\", 5]", WrongKind),
+    ("[5, \"\\u0000\", \"a\", \"b\"]", TooLong),
+];
+
+/// Checks what a text is read as in a vector of capacity `CAPACITY`.
+fn check_list<const CAPACITY: usize>(
+    findings: &Findings,
+    alloc: Global,
+    (text, wanted): &Row<&[u64]>,
+) {
+    match *wanted {
+        Ok(items) => match StaticVec::<u64, CAPACITY>::try_from(items) {
+            Ok(vector) => check(findings, alloc, text, Ok(vector)),
+            Err(_) => findings.miss(text),
+        },
+        Err(fault) => check::<StaticVec<u64, CAPACITY>>(findings, alloc, text, Err(fault)),
+    }
+}
+
+#[test]
+fn lists(rt: HostRuntime) -> Result<(), Fail> {
+    let findings = Findings::new();
+    for row in LISTS {
+        check_list::<3>(&findings, rt.alloc(), row);
+    }
+    check_list::<0>(&findings, rt.alloc(), &("[]", Ok(&[])));
+    check_list::<0>(&findings, rt.alloc(), &("[1]", Err(TooLong)));
+    check_list::<0>(&findings, rt.alloc(), &("[null]", Err(TooLong)));
+    for (text, fault) in LISTS_OF_TEXTS {
+        check::<StaticVec<StaticString<2>, 3>>(&findings, rt.alloc(), text, Err(*fault));
+    }
+    findings.verdict()
+}
+
+/// One more than the greatest capacity of a vector that is stored inline.
+const TOO_MANY: usize = 4_294_967_296;
+
+/// Checks the fault of a text.
+fn check_fault<T: JsonForm + Drop>(
+    findings: &Findings,
+    alloc: Global,
+    text: &str,
+    wanted: JsonFault,
+) {
+    match Value::from_str(alloc, text) {
+        Ok(value) => findings.expect_same(T::from_value(&value).err(), Some(wanted), text),
+        Err(_) => findings.miss(text),
+    }
+}
+
+#[test]
+fn past_the_greatest_fixed_capacity(rt: HostRuntime) -> Result<(), Fail> {
+    let findings = Findings::new();
+    for (text, fault) in [("[]", TooLong), ("[5]", TooLong), ("5", WrongKind)] {
+        check_fault::<StaticVec<Empty, TOO_MANY>>(&findings, rt.alloc(), text, fault);
+    }
+    findings.verdict()
+}
+
+const OPTIONS: &[Row<RelocatableOption<u64>>] = &[
+    ("null", Ok(RelocatableOption::None)),
+    ("5", Ok(RelocatableOption::Some(5))),
+    ("\"5\"", Err(WrongKind)),
+    ("[]", Err(WrongKind)),
+    ("5.0", Err(WrongKind)),
+];
+
+const OPTIONS_OF_OPTIONS: &[Row<RelocatableOption<RelocatableOption<u64>>>] = &[
+    ("null", Ok(RelocatableOption::None)),
+    ("5", Ok(RelocatableOption::Some(RelocatableOption::Some(5)))),
+    ("true", Err(WrongKind)),
+];
+
+#[test]
+fn options(rt: HostRuntime) -> Result<(), Fail> {
+    let findings = Findings::new();
+    check_rows(&findings, rt.alloc(), OPTIONS);
+    check_rows(&findings, rt.alloc(), OPTIONS_OF_OPTIONS);
+    for (text, fault) in [
+        ("\"abcd\"", TooLong),
+        ("\"\\u0000\"", BadByte),
+        ("5", WrongKind),
+    ] {
+        check_fault::<RelocatableOption<StaticString<3>>>(&findings, rt.alloc(), text, fault);
+    }
+    for (text, fault) in [("[1, 2, 3, 4]", TooLong), ("[true]", WrongKind)] {
+        check_fault::<RelocatableOption<StaticVec<u64, 3>>>(&findings, rt.alloc(), text, fault);
+    }
+    findings.verdict()
+}
+
+#[test]
+fn items_of_the_tests(rt: HostRuntime) -> Result<(), Fail> {
+    let findings = Findings::new();
+    check_rows(
+        &findings,
+        rt.alloc(),
+        &[("false", Ok(Empty)), ("0", Err(WrongKind))],
+    );
+    check_rows(&findings, rt.alloc(), &[("7", Ok(Refused { number: 7 }))]);
+    findings.verdict()
+}
