@@ -1,10 +1,10 @@
 //! How JSON is read: rows of a text, and the value or the fault.
 use crate::forms::{Empty, Refused};
-use ix_cells::StaticVec;
+use ix_cells::{StaticVec, Vector};
 use ix_expect::Findings;
 use ix_names::JsonFault::{BadByte, TooLong, WrongKind};
 use ix_names::{JsonFault, JsonForm, RelocatableOption};
-use ix_string::StaticString;
+use ix_string::{StaticString, String};
 use serde_json::Value;
 use std::alloc::Global;
 use std::fmt::Debug;
@@ -13,27 +13,17 @@ use std::test::Fail;
 /// A text, and what is read.
 type Row<W> = (&'static str, Result<W, JsonFault>);
 
-/// Checks what a text is read as.
-fn check<T: JsonForm + PartialEq + Debug + Drop>(
-    findings: &Findings,
-    alloc: Global,
-    text: &str,
-    wanted: Result<T, JsonFault>,
-) {
-    match Value::from_str(alloc, text) {
-        Ok(value) => findings.expect_same(T::from_value(&value), wanted, text),
-        Err(_) => findings.miss(text),
-    }
-}
-
-/// Checks rows of values that can be copied.
+/// Checks what each text is read as.
 fn check_rows<T: JsonForm + PartialEq + Debug + Copy>(
     findings: &Findings,
     alloc: Global,
     rows: &[Row<T>],
 ) {
     for (text, wanted) in rows {
-        check(findings, alloc, text, *wanted);
+        match Value::from_str(alloc, text) {
+            Ok(value) => findings.expect_same(T::from_value(&value), *wanted, text),
+            Err(_) => findings.miss(text),
+        }
     }
 }
 
@@ -100,29 +90,36 @@ const TEXTS: &[Row<&str>] = &[
     ("[\"a\"]", Err(WrongKind)),
 ];
 
-/// Checks what a text is read as in a string of capacity `CAPACITY`.
-fn check_text<const CAPACITY: usize>(
+/// Checks which string each text is read as.
+fn check_strings<S: JsonForm + String + Drop>(
     findings: &Findings,
     alloc: Global,
-    (text, wanted): &Row<&str>,
+    rows: &[Row<&str>],
 ) {
-    match *wanted {
-        Ok(bytes) => match StaticString::<CAPACITY>::from_bytes(bytes.as_bytes()) {
-            Ok(string) => check(findings, alloc, text, Ok(string)),
+    for (text, wanted) in rows {
+        match Value::from_str(alloc, text) {
+            Ok(value) => match S::from_value(&value) {
+                Ok(string) => findings.expect_same(Ok(string.as_str()), *wanted, text),
+                Err(fault) => findings.expect_same(Err(fault), *wanted, text),
+            },
             Err(_) => findings.miss(text),
-        },
-        Err(fault) => check::<StaticString<CAPACITY>>(findings, alloc, text, Err(fault)),
+        }
     }
 }
+
+/// Of strings of capacity 0.
+const TEXTS_WITHOUT_ROOM: &[Row<&str>] = &[
+    ("\"\"", Ok("")),
+    ("\"a\"", Err(TooLong)),
+    ("\"\\u0000\"", Err(TooLong)),
+    ("0", Err(WrongKind)),
+];
 
 #[test]
 fn texts(rt: HostRuntime) -> Result<(), Fail> {
     let findings = Findings::new();
-    for row in TEXTS {
-        check_text::<3>(&findings, rt.alloc(), row);
-    }
-    check_text::<0>(&findings, rt.alloc(), &("\"\"", Ok("")));
-    check_text::<0>(&findings, rt.alloc(), &("\"a\"", Err(TooLong)));
+    check_strings::<StaticString<3>>(&findings, rt.alloc(), TEXTS);
+    check_strings::<StaticString<0>>(&findings, rt.alloc(), TEXTS_WITHOUT_ROOM);
     findings.verdict()
 }
 
@@ -153,32 +150,38 @@ const LISTS_OF_TEXTS: &[(&str, JsonFault)] = &[
     ("[5, \"\\u0000\", \"a\", \"b\"]", TooLong),
 ];
 
-/// Checks what a text is read as in a vector of capacity `CAPACITY`.
-fn check_list<const CAPACITY: usize>(
+/// Of vectors of capacity 0.
+const LISTS_WITHOUT_ROOM: &[Row<&[u64]>] = &[
+    ("[]", Ok(&[])),
+    ("[1]", Err(TooLong)),
+    ("[null]", Err(TooLong)),
+    ("0", Err(WrongKind)),
+];
+
+/// Checks which vector each text is read as.
+fn check_vectors<V: JsonForm + Vector<u64> + Drop>(
     findings: &Findings,
     alloc: Global,
-    (text, wanted): &Row<&[u64]>,
+    rows: &[Row<&[u64]>],
 ) {
-    match *wanted {
-        Ok(items) => match StaticVec::<u64, CAPACITY>::try_from(items) {
-            Ok(vector) => check(findings, alloc, text, Ok(vector)),
+    for (text, wanted) in rows {
+        match Value::from_str(alloc, text) {
+            Ok(value) => match V::from_value(&value) {
+                Ok(vector) => findings.expect_same(Ok(vector.as_slice()), *wanted, text),
+                Err(fault) => findings.expect_same(Err(fault), *wanted, text),
+            },
             Err(_) => findings.miss(text),
-        },
-        Err(fault) => check::<StaticVec<u64, CAPACITY>>(findings, alloc, text, Err(fault)),
+        }
     }
 }
 
 #[test]
 fn lists(rt: HostRuntime) -> Result<(), Fail> {
     let findings = Findings::new();
-    for row in LISTS {
-        check_list::<3>(&findings, rt.alloc(), row);
-    }
-    check_list::<0>(&findings, rt.alloc(), &("[]", Ok(&[])));
-    check_list::<0>(&findings, rt.alloc(), &("[1]", Err(TooLong)));
-    check_list::<0>(&findings, rt.alloc(), &("[null]", Err(TooLong)));
+    check_vectors::<StaticVec<u64, 3>>(&findings, rt.alloc(), LISTS);
+    check_vectors::<StaticVec<u64, 0>>(&findings, rt.alloc(), LISTS_WITHOUT_ROOM);
     for (text, fault) in LISTS_OF_TEXTS {
-        check::<StaticVec<StaticString<2>, 3>>(&findings, rt.alloc(), text, Err(*fault));
+        check_fault::<StaticVec<StaticString<2>, 3>>(&findings, rt.alloc(), text, *fault);
     }
     findings.verdict()
 }

@@ -1,6 +1,6 @@
 //! Values as JSON and back.
 use crate::forms::{Empty, Refused};
-use ix_cells::{StaticVec, Vector};
+use ix_cells::{StaticVec, Vector, VectorModificationError};
 use ix_expect::Findings;
 use ix_names::{JsonFault, JsonForm, RelocatableOption};
 use ix_string::StaticString;
@@ -79,28 +79,39 @@ fn texts(rt: HostRuntime) -> Result<(), Fail> {
     findings.verdict()
 }
 
-/// Checks the JSON text of a vector of the items, which is read back.
-fn check_list<const CAPACITY: usize>(
+/// Checks the JSON text of a vector, which is read back.
+fn check_vector<V: JsonForm + Vector<u64> + Drop, E: Drop>(
     findings: &Findings,
     alloc: Global,
-    items: &[u64],
+    made: Result<V, E>,
     text: &str,
 ) {
-    let vector = StaticVec::<u64, CAPACITY>::try_from(items);
-    let same = StaticVec::<u64, CAPACITY>::try_from(items);
-    match (vector, same) {
-        (Ok(vector), Ok(same)) => check_back(findings, alloc, &vector, text, same),
-        _ => findings.miss(text),
+    let Ok(vector) = made else {
+        return findings.miss("a vector");
+    };
+    let Ok(value) = vector.to_value(alloc) else {
+        return findings.miss("there is memory for a value");
+    };
+    check_value(findings, alloc, &value, text);
+    match V::from_value(&value) {
+        Ok(back) => findings.expect(back.as_slice() == vector.as_slice(), text),
+        Err(_) => findings.miss(text),
     }
+}
+
+/// Returns a vector of the items.
+fn vector_of(items: &[u64]) -> Result<StaticVec<u64, 3>, VectorModificationError> {
+    StaticVec::try_from(items)
 }
 
 #[test]
 fn lists(rt: HostRuntime) -> Result<(), Fail> {
     let findings = Findings::new();
-    check_list::<3>(&findings, rt.alloc(), &[1, 2], "[1,2]");
-    check_list::<3>(&findings, rt.alloc(), &[3, 1, 2], "[3,1,2]");
-    check_list::<3>(&findings, rt.alloc(), &[], "[]");
-    check_list::<0>(&findings, rt.alloc(), &[], "[]");
+    check_vector(&findings, rt.alloc(), vector_of(&[1, 2]), "[1,2]");
+    check_vector(&findings, rt.alloc(), vector_of(&[3, 1, 2]), "[3,1,2]");
+    check_vector(&findings, rt.alloc(), vector_of(&[]), "[]");
+    let empty = Ok::<_, VectorModificationError>(StaticVec::<u64, 0>::new());
+    check_vector(&findings, rt.alloc(), empty, "[]");
     let empties = [Empty, Empty].as_slice();
     match (
         StaticVec::<Empty, 2>::try_from(empties),
