@@ -1,2 +1,7 @@
+pub mod ErrorTexts
 pub mod JsonTree
 pub mod Optional
+pub mod Rules
+pub mod SampleRules
+pub mod SampleRulesLaws
+pub mod SemanticSteps

@@ -4,6 +4,10 @@
 
 pub mod json;
 pub mod relocatable_option;
+pub mod semantic_string;
 
 pub use json::{JsonFault, JsonForm, JsonItem};
 pub use relocatable_option::RelocatableOption;
+pub use semantic_string::{
+    GroupName, GroupNameRules, Rules, Semantic, SemanticStringError, TrailingSlashRules,
+};

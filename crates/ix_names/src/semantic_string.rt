@@ -1,0 +1,18 @@
+//! Semantic strings: texts that obey rules, such as names of users, groups and paths.
+//!
+//! ```text
+//! GroupName::new(b"ab-1");    // Ok
+//! GroupName::new(b"1a");      // Err(SemanticStringError::InvalidContent)
+//! ```
+
+mod group_name;
+mod rules;
+mod semantic;
+mod semantic_string_error;
+mod trailing_slash;
+
+pub use group_name::{GroupName, GroupNameRules};
+pub use rules::Rules;
+pub use semantic::Semantic;
+pub use semantic_string_error::SemanticStringError;
+pub use trailing_slash::TrailingSlashRules;

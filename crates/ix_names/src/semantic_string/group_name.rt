@@ -1,0 +1,55 @@
+//! Names of groups.
+ghost use Rattle.std.specs.Prelude.{◌≡◌, ◌||◌, not, refl};
+ghost use Rattle.ix_names.specs.SampleRules.{group_name_rules, is_lower_case, is_digit, is_dash};
+
+use crate::semantic_string::{Rules, Semantic};
+use ix_string::StaticString;
+
+/// The rules of [`GroupName`].
+///
+/// These are the rules of the example in iceoryx2-bb-container's `semantic_string`.
+#[derive(Clone, Copy)]
+pub struct GroupNameRules;
+
+/// A name of a group: 1 to 31 lower-case letters, digits and dashes, of which the first is a letter. Each name is its own
+/// normal form.
+///
+/// ```text
+/// GroupName::new(b"ab-1");    // Ok
+/// GroupName::new(b"1a");      // Err(SemanticStringError::InvalidContent)
+/// ```
+pub type GroupName = Semantic<GroupNameRules, 31>;
+
+impl Rules<31> for GroupNameRules {
+    ghost rules = { group_name_rules };
+
+    /// Returns `true` if there is no byte, or if the first one is a digit or a dash.
+    fn invalid_content(bytes: &[u8]) -> bool {
+        match bytes.first() {
+            Some(first) => *first == b'-' || first.is_ascii_digit(),
+            None => true,
+        }
+    }
+
+    /// Returns `true` if a byte is no lower-case letter, digit or dash.
+    fn invalid_characters(bytes: &[u8]) -> bool {
+        bytes.iter().any(|byte| !may_stand_in_name(*byte))
+    }
+
+    /// Returns the text itself.
+    #[inline]
+    fn normalize(text: &StaticString<31>) -> StaticString<31> {
+        *text
+    }
+
+    ghost normal_accepted = { λ _ accepted. accepted };
+
+    ghost normal_twice = { λ _ _. refl };
+}
+
+#[inline]
+fn may_stand_in_name(byte: u8) -> bool
+    ensures { result ≡ is_lower_case byte || (is_digit byte || is_dash byte) }
+{
+    byte.is_ascii_lowercase() || byte.is_ascii_digit() || byte == b'-'
+}

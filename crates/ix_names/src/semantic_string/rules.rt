@@ -1,0 +1,39 @@
+//! The trait of rules.
+ghost use Rattle.std.specs.Prelude.{ℕ, ◌≡◌, List};
+ghost use Rattle.ix_names.specs.Rules.{TextRules, IsAccepted};
+
+use ix_string::StaticString;
+
+/// Rules that say which texts a [`Semantic`](crate::Semantic) string of at most `CAPACITY` bytes may hold, and which texts
+/// mean the same.
+///
+/// Bytes are *accepted* if there are at most `CAPACITY` of them, each is from 1 to 127, and both predicates return
+/// `false`. Two texts mean the same if their normal forms are equal. The predicates are called with the bytes of a whole
+/// text, and may assume nothing else of it.
+///
+/// This is the macro `semantic_string!` of iceoryx2-bb-container.
+pub trait Rules<const CAPACITY: usize> {
+    /// What the functions return.
+    ghost rules: { TextRules };
+
+    /// Returns `true` if the text may not be held as a whole.
+    fn invalid_content(bytes: &[u8]) -> bool
+        ensures { result ≡ rules.invalid_content bytes.now };
+
+    /// Returns `true` if a byte of the text may not stand in any.
+    fn invalid_characters(bytes: &[u8]) -> bool
+        ensures { result ≡ rules.invalid_characters bytes.now };
+
+    /// Returns the normal form of an accepted text.
+    fn normalize(text: &StaticString<CAPACITY>) -> StaticString<CAPACITY>
+        requires { IsAccepted CAPACITY rules text.now }
+        ensures { result ≡ rules.normal_form text.now };
+
+    /// A normal form is accepted.
+    ghost normal_accepted: { (text : List ℕ) → IsAccepted CAPACITY rules text
+        → IsAccepted CAPACITY rules (rules.normal_form text) };
+
+    /// A normal form is its own normal form.
+    ghost normal_twice: { (text : List ℕ) → IsAccepted CAPACITY rules text
+        → rules.normal_form (rules.normal_form text) ≡ rules.normal_form text };
+}

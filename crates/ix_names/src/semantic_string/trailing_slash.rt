@@ -1,0 +1,62 @@
+//! Texts whose trailing slashes mean nothing.
+ghost use Rattle.std.specs.Prelude.{◌≡◌, ◌≤◌, length, take, refl};
+ghost use Rattle.ix_names.specs.SampleRules.{trailing_slash_rules, without_trailing_slashes};
+ghost use Rattle.ix_names.specs.SampleRulesLaws.{IsText-without_trailing_slashes, without_trailing_slashes-fits, without_trailing_slashes-twice};
+
+use crate::semantic_string::Rules;
+use ix_string::{StaticString, String};
+
+/// Rules that accept every text, and under which slashes at the end of a text mean nothing: `/tmp` and `/tmp/` are equal.
+/// A text of slashes alone means `/`.
+///
+/// ```text
+/// let path = Semantic::<TrailingSlashRules, 255>::new(b"/tmp//")?;
+/// path.eq_str("/tmp");          // true
+/// path.normalize().as_bytes();  // b"/tmp"
+/// ```
+#[derive(Clone, Copy)]
+pub struct TrailingSlashRules;
+
+impl Rules<255> for TrailingSlashRules {
+    ghost rules = { trailing_slash_rules };
+
+    /// Returns `false`.
+    #[inline]
+    fn invalid_content(_bytes: &[u8]) -> bool {
+        false
+    }
+
+    /// Returns `false`.
+    #[inline]
+    fn invalid_characters(_bytes: &[u8]) -> bool {
+        false
+    }
+
+    /// Returns the text without the slashes at its end, or `/` if it has only slashes.
+    fn normalize(text: &StaticString<255>) -> StaticString<255> {
+        let mut normal = *text;
+        normal.truncate(meaning_len(text.as_bytes()));
+        normal
+    }
+
+    ghost normal_accepted = { λ text accepted. record {
+      fits = without_trailing_slashes-fits text 255 accepted.fits;
+      text = IsText-without_trailing_slashes text accepted.text;
+      content = refl;
+      characters = refl;
+    } };
+
+    ghost normal_twice = { λ text _. without_trailing_slashes-twice text };
+}
+
+/// Returns how many bytes are left without the slashes at the end, but at least one of a text that is not empty.
+fn meaning_len(bytes: &[u8]) -> usize
+    ensures within { result ≤ length bytes.now }
+    ensures value { take result bytes.now ≡ without_trailing_slashes bytes.now }
+{
+    let mut len = bytes.len();
+    while len > 1 && bytes[len - 1] == b'/' {
+        len -= 1;
+    }
+    len
+}
