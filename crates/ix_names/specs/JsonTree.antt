@@ -1,5 +1,5 @@
 -- The JSON tree of a value, and how a tree is read: as a value, or as the fault for which it is none.
-use Rattle.std.specs.Prelude.{ℕ, ℤ, ◌&&◌, nat_le, List, ◌∷◌, [], length, map, Bool, is_some, ok_or, option_and_then, if◌then◌else◌, Result, Ok, Err}
+use Rattle.std.specs.Prelude.{ℕ, ℤ, ◌&&◌, ◌||◌, nat_le, List, ◌∷◌, [], length, map, Bool, is_some, ok_or, option_and_then, if◌then◌else◌, Result, Ok, Err}
 use Rattle.std.specs.Option.{option_map_or}
 use Rattle.std.specs.Result.{result_map_both}
 use Rattle.serde_json.specs.Data.{Data, null, number, array, unsigned, Items, no_items, item}
@@ -8,10 +8,11 @@ use Rattle.serde_json.specs.Find.{as_null, as_bool, as_number, as_str, as_array,
 use Rattle.serde_json.specs.View.{items_of}
 use Rattle.ix_cells.specs.declared.cells.table.TheConstants.{MAX_FIXED_CAPACITY}
 use Rattle.ix_string.specs.Text.{is_text}
+use Rattle.ix_names.specs.Rules.{TextRules}
 use Rattle.ix_names.specs.declared.relocatable_option.RelocatableOption.{RelocatableOption}
 use Rattle.ix_names.specs.declared.relocatable_option.RelocatableOption.TheVariants as relocatable
 use Rattle.ix_names.specs.declared.json.json_fault.JsonFault.{JsonFault}
-use Rattle.ix_names.specs.declared.json.json_fault.JsonFault.TheVariants.{WrongKind, TooLong, BadByte}
+use Rattle.ix_names.specs.declared.json.json_fault.JsonFault.TheVariants.{WrongKind, TooLong, BadByte, InvalidContent}
 
 abbrev pub u64_tree : ℕ → Data
 u64_tree n = number (unsigned n)
@@ -38,6 +39,16 @@ bytes_read capacity bytes =
 -- the bytes of a text
 abbrev pub text_read : ℕ → Data → Result (List ℕ) JsonFault
 text_read capacity tree = option_map_or (bytes_read capacity) (as_str tree) (Err WrongKind)
+
+-- what was read, if the rules accept it
+abbrev pub accepted_read : TextRules → Result (List ℕ) JsonFault → Result (List ℕ) JsonFault
+accepted_read rules (Ok bytes) =
+    if rules.invalid_content bytes || rules.invalid_characters bytes then Err InvalidContent else Ok bytes
+accepted_read rules (Err fault) = Err fault
+
+-- the bytes of a text that the rules accept: all else is found before it is judged by the rules
+abbrev pub semantic_read : ℕ → TextRules → Data → Result (List ℕ) JsonFault
+semantic_read capacity rules tree = accepted_read rules (text_read capacity tree)
 
 -- a fixed vector may have this capacity, and there are no more entries
 abbrev pub fits_fixed : ℕ → Items → Bool

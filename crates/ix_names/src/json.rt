@@ -13,6 +13,7 @@ mod json_fault;
 mod json_form;
 mod numbers;
 mod options;
+mod semantic_strings;
 mod texts;
 
 pub use json_fault::JsonFault;
