@@ -40,27 +40,27 @@ module _ {T : Type 0} where
         ∙ sym (joined-with_first (read entry) (entries_read read (items_of front)) (entries_read read (items_of back)))
 
     -- a value that is read appends its item
-    pub entries_read-push : (values : List Value) (value : Value) (items : List T) (item : T) → entries_read read (items_view values) ≡ Ok items → read (view value) ≡ Ok item → entries_read read (items_view (values ++ value ∷ [])) ≡ Ok (items ++ item ∷ [])
+    pub entries_read-push : (values : List Value) (value : Value) (items : List T) (item : T) → entries_read read (items_view values) ≡ Ok items → Ok item ≡ read (view value) → entries_read read (items_view (values ++ value ∷ [])) ≡ Ok (items ++ item ∷ [])
     unfolding joined
     entries_read-push values value items item so_far this =
-        rw (map-append view values (value ∷ [])) (rw (entries_read-append (map view values) (view value ∷ [])) (rw so_far (rw this refl)))
+        rw (map-append view values (value ∷ [])) (rw (entries_read-append (map view values) (view value ∷ [])) (rw so_far (rw (← this) refl)))
 
     -- the first fault is the result, whatever comes after it
-    pub entries_read-fault : (front back : List Value) (value : Value) (items : List T) (fault : JsonFault) → entries_read read (items_view front) ≡ Ok items → read (view value) ≡ Err fault → entries_read read (items_view (front ++ value ∷ back)) ≡ Err fault
+    pub entries_read-fault : (front back : List Value) (value : Value) (items : List T) (fault : JsonFault) → entries_read read (items_view front) ≡ Ok items → Err fault ≡ read (view value) → entries_read read (items_view (front ++ value ∷ back)) ≡ Err fault
     unfolding joined
     entries_read-fault front back value items fault so_far this =
-        rw (map-append view front (value ∷ back)) (rw (entries_read-append (map view front) (view value ∷ map view back)) (rw so_far (rw this refl)))
+        rw (map-append view front (value ∷ back)) (rw (entries_read-append (map view front) (view value ∷ map view back)) (rw so_far (rw (← this) refl)))
 
     -- a list of no more values than fit is read value by value
-    pub list_read-entries : (capacity : ℕ) (tree : Data) (values : List Value) → as_array tree ≡ Some (items_view values) → capacity ≤ MAX_FIXED_CAPACITY → length values ≤ capacity → list_read capacity read tree ≡ entries_read read (items_view values)
+    pub list_read-entries : (capacity : ℕ) (tree : Data) (values : List Value) → Some (items_view values) ≡ as_array tree → capacity ≤ MAX_FIXED_CAPACITY → length values ≤ capacity → entries_read read (items_view values) ≡ list_read capacity read tree
     list_read-entries capacity tree values same fixed fits =
         let as_many = items_len-items_view values in
-        rw same (grind (arith, common_steps))
+        rw (← same) (grind (arith, common_steps))
 
-    pub list_read-too_long : (capacity : ℕ) (tree : Data) (values : List Value) → as_array tree ≡ Some (items_view values) → capacity < length values → list_read capacity read tree ≡ Err TooLong
+    pub list_read-too_long : (capacity : ℕ) (tree : Data) (values : List Value) → Some (items_view values) ≡ as_array tree → capacity < length values → Err TooLong ≡ list_read capacity read tree
     list_read-too_long capacity tree values same more =
         let as_many = items_len-items_view values in
-        rw same (grind (arith, common_steps))
+        rw (← same) (grind (arith, common_steps))
 
     module _ (tree_of : T → Data) where
       -- the values have the trees of the items, and are read as these
@@ -71,11 +71,11 @@ module _ {T : Type 0} where
       pub AreForms-push : (values : List Value) (items : List T) (value : Value) (item : T) → AreForms values items → view value ≡ tree_of item → read (view value) ≡ Ok item → AreForms (values ++ value ∷ []) (items ++ item ∷ [])
       AreForms-push values items value item forms tree back = record {
         trees = rw (map-append view values (value ∷ [])) (rw (map-append tree_of items (item ∷ [])) (rw forms.trees (rw tree refl)));
-        read_back = entries_read-push values value items item forms.read_back back;
+        read_back = entries_read-push values value items item forms.read_back (sym back);
       }
 
       -- the list of the forms of no more items than fit is read as these
-      pub list_read-AreForms : (capacity : ℕ) (tree : Data) (values : List Value) (items : List T) → as_array tree ≡ Some (items_view values) → AreForms values items → capacity ≤ MAX_FIXED_CAPACITY → length items ≤ capacity → list_read capacity read tree ≡ Ok items
+      pub list_read-AreForms : (capacity : ℕ) (tree : Data) (values : List Value) (items : List T) → Some (items_view values) ≡ as_array tree → AreForms values items → capacity ≤ MAX_FIXED_CAPACITY → length items ≤ capacity → list_read capacity read tree ≡ Ok items
       list_read-AreForms capacity tree values items same forms fixed fits =
           let as_many : length values ≡ length items = sym (length-map values view) ∙ ap length forms.trees ∙ length-map items tree_of in
-          list_read-entries capacity tree values same fixed (omega arith) ∙ forms.read_back
+          sym (list_read-entries capacity tree values same fixed (omega arith)) ∙ forms.read_back

@@ -1,4 +1,4 @@
-use Rattle.std.proofs.Common.{◌≡◌, ◌∙◌, ◌∷◌, [], ◌++◌, ◌+◌, take, ap, arith}
+use Rattle.std.proofs.Common.{◌≡◌, ◌∙◌, ◌∷◌, [], ◌++◌, ◌+◌, take, ap, sym, arith}
 use Rattle.std.proofs.lemmas.Grind.{common_steps}
 use Rattle.serde_json.proofs.Views.{view-Array}
 use Rattle.serde_json.specs.Data.{array}
@@ -31,4 +31,4 @@ returns-clause-read_back g c fixed =
     let same = c.as_slice-item-items.ensures in
     let done = c.loop-item-test.false in
     let all : take c.loop-item.item-index c.as_slice-item-items.result.now ≡ c.args.self.now = grind (arith, common_steps) in
-    list_read-AreForms g.T.JsonForm.read g.T.JsonForm.tree g.row.CAPACITY _ _ _ (ap as_array (view-Array c.loop-item.entries)) (rw all at c.loop-item.invariant) fixed c.len.ensures.within
+    list_read-AreForms g.T.JsonForm.read g.T.JsonForm.tree g.row.CAPACITY _ _ _ (sym (ap as_array (view-Array c.loop-item.entries))) (rw all at c.loop-item.invariant) fixed c.len.ensures.within
