@@ -11,10 +11,12 @@
 mod fixed_vectors;
 mod json_fault;
 mod json_form;
-mod numbers;
 mod options;
 mod semantic_strings;
+mod signed;
 mod texts;
+mod truth;
+mod unsigned;
 
 pub use json_fault::JsonFault;
 pub use json_form::{JsonForm, JsonItem};

@@ -5,6 +5,8 @@ ghost use Rattle.std.specs.Fn.{FnOnceReturnsAt, FnOnceTakesAt, FnOnceTakesAtMut}
 ghost use Rattle.std.specs.Option.{ForSome, ForNone, MatchOption, UnwrapsOrElse, option_copied_mut};
 ghost use Rattle.ix_names.specs.Optional.{option_of, relocatable_of, relocatable_lends, TakesIf};
 
+mod conversions;
+
 use std::mem;
 use std::ops::{AsDeref, DerefMut};
 
@@ -39,33 +41,6 @@ impl<T> Default for RelocatableOption<T> {
     }
 }
 
-impl<T> From<Option<T>> for RelocatableOption<T> {
-    ghost from_gives = { λ option result. result ≡ relocatable_of option };
-
-    /// Converts an [`Option`]. [`RelocatableOption::to_option`] returns the same again.
-    fn from(value: Option<T>) -> Self
-        ensures value { result ≡ relocatable_of value }
-        ensures back { option_of result ≡ value }
-    {
-        match value {
-            Some(value) => RelocatableOption::Some(value),
-            None => RelocatableOption::None,
-        }
-    }
-}
-
-impl<T> From<RelocatableOption<T>> for Option<T> {
-    ghost from_gives = { λ option result. result ≡ option_of option };
-
-    /// Does what [`RelocatableOption::to_option`] does.
-    fn from(value: RelocatableOption<T>) -> Self
-        ensures value { result ≡ option_of value }
-        ensures back { relocatable_of result ≡ value }
-    {
-        value.to_option()
-    }
-}
-
 impl<T> RelocatableOption<T> {
     /// Converts to [`Option`]. [`RelocatableOption::from`] of that returns the same again.
     #[inline]
@@ -73,10 +48,7 @@ impl<T> RelocatableOption<T> {
         ensures value { result ≡ option_of self }
         ensures back { relocatable_of result ≡ self }
     {
-        match self {
-            RelocatableOption::Some(value) => Some(value),
-            RelocatableOption::None => None,
-        }
+        self.into()
     }
 
     /// Returns an [`Option`] of a reference to the value.
@@ -84,10 +56,10 @@ impl<T> RelocatableOption<T> {
     pub fn as_option_ref(&self) -> Option<&T>
         ensures { option_copied result ≡ option_of self.now }
     {
-        match self {
-            RelocatableOption::Some(value) => Some(value),
-            RelocatableOption::None => None,
-        }
+        let RelocatableOption::Some(value) = self else {
+            return None;
+        };
+        Some(value)
     }
 
     /// Returns an [`Option`] of a mutable reference to the value.
@@ -148,10 +120,7 @@ impl<T> RelocatableOption<T> {
     pub fn as_ref(&self) -> RelocatableOption<&T>
         ensures { option_copied (option_of result) ≡ option_of self.now }
     {
-        match self {
-            RelocatableOption::Some(value) => RelocatableOption::Some(value),
-            RelocatableOption::None => RelocatableOption::None,
-        }
+        self.as_option_ref().into()
     }
 
     /// Returns the value. There has to be one: `msg` says why there is.
@@ -266,10 +235,7 @@ impl<T> RelocatableOption<T> {
         T: Drop,
         ensures { result ≡ unwrap_or (option_of self) alternative }
     {
-        match self {
-            RelocatableOption::Some(value) => value,
-            RelocatableOption::None => alternative,
-        }
+        self.unwrap_or_else(|| alternative)
     }
 
     /// Returns the value, or the default value if there is none.
