@@ -2,8 +2,8 @@
 use crate::forms::{Empty, Refused};
 use ix_cells::{StaticVec, Vector};
 use ix_expect::Findings;
-use ix_names::JsonFault::{BadByte, TooLong, WrongKind};
-use ix_names::{JsonFault, JsonForm, RelocatableOption};
+use ix_names::JsonFault::{BadByte, InvalidContent, TooLong, WrongKind};
+use ix_names::{GroupName, JsonFault, JsonForm, RelocatableOption};
 use ix_string::{StaticString, String};
 use serde_json::Value;
 use std::alloc::Global;
@@ -239,6 +239,40 @@ fn options(rt: HostRuntime) -> Result<(), Fail> {
     }
     for (text, fault) in [("[1, 2, 3, 4]", TooLong), ("[true]", WrongKind)] {
         check_fault::<RelocatableOption<StaticVec<u64, 3>>>(&findings, rt.alloc(), text, fault);
+    }
+    findings.verdict()
+}
+
+/// Of group names, which are at most 31 bytes: no name is empty, begins with a digit, or has a byte other than a lowercase
+/// letter, a digit or `-`.
+const GROUP_NAMES: &[Row<&str>] = &[
+    ("\"ab\"", Ok("ab")),
+    ("\"ab-1\"", Ok("ab-1")),
+    (
+        "\"abcdefghijklmnopqrstuvwxyzabcde\"",
+        Ok("abcdefghijklmnopqrstuvwxyzabcde"),
+    ),
+    ("\"1a\"", Err(InvalidContent)),
+    ("\"\"", Err(InvalidContent)),
+    ("\"aB\"", Err(InvalidContent)),
+    ("\"1\\u0000\"", Err(BadByte)),
+    ("\"1é\"", Err(BadByte)),
+    ("\"1bcdefghijklmnopqrstuvwxyz\\u0000bcdef\"", Err(TooLong)),
+    ("5", Err(WrongKind)),
+    ("null", Err(WrongKind)),
+];
+
+#[test]
+fn group_names(rt: HostRuntime) -> Result<(), Fail> {
+    let findings = Findings::new();
+    for (text, wanted) in GROUP_NAMES {
+        match Value::from_str(rt.alloc(), text) {
+            Ok(value) => match GroupName::from_value(&value) {
+                Ok(name) => findings.expect_same(Ok(name.as_string().as_str()), *wanted, text),
+                Err(fault) => findings.expect_same(Err(fault), *wanted, text),
+            },
+            Err(_) => findings.miss(text),
+        }
     }
     findings.verdict()
 }

@@ -2,7 +2,7 @@
 use crate::forms::{Empty, Refused};
 use ix_cells::{StaticVec, Vector, VectorModificationError};
 use ix_expect::Findings;
-use ix_names::{JsonFault, JsonForm, RelocatableOption};
+use ix_names::{GroupName, JsonFault, JsonForm, RelocatableOption, Semantic, TrailingSlashRules};
 use ix_string::StaticString;
 use serde_json::Value;
 use std::alloc::{AllocError, Global};
@@ -76,6 +76,27 @@ fn texts(rt: HostRuntime) -> Result<(), Fail> {
         }
     }
     check(&findings, rt.alloc(), StaticString::<0>::new(), "\"\"");
+    findings.verdict()
+}
+
+#[test]
+fn semantic_strings(rt: HostRuntime) -> Result<(), Fail> {
+    let findings = Findings::new();
+    match GroupName::new(b"ab") {
+        Ok(name) => check(&findings, rt.alloc(), name, "\"ab\""),
+        Err(_) => findings.miss("a group name"),
+    }
+    findings.verdict()
+}
+
+/// A path whose normal form is shorter is written as it is.
+#[test]
+fn raw_texts(rt: HostRuntime) -> Result<(), Fail> {
+    let findings = Findings::new();
+    match Semantic::<TrailingSlashRules, 255>::new(b"/tmp/") {
+        Ok(path) => check(&findings, rt.alloc(), path, "\"/tmp/\""),
+        Err(_) => findings.miss("a path"),
+    }
     findings.verdict()
 }
 
