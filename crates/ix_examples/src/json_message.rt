@@ -13,7 +13,8 @@ pub type Samples = RelocatableOption<StaticVec<i64, 8>>;
 
 /// Converts to JSON: a list of numbers, or null. The same samples are read from it.
 pub fn to_json(samples: &Samples, alloc: Global) -> Result<Value, JsonFault>
-    ensures { IfOk result (λ value. option_read (list_read 8 i64_read) (view value) ≡ Ok samples.now) }
+    ensures { IfOk result (λ value.
+        option_read (list_read 8 i64_read) (view value) ≡ Ok samples.now) }
 {
     samples.to_value(alloc)
 }

@@ -243,8 +243,8 @@ fn options(rt: HostRuntime) -> Result<(), Fail> {
     findings.verdict()
 }
 
-/// Of group names, which are at most 31 bytes: no name is empty, begins with a digit, or has a byte other than a lowercase
-/// letter, a digit or `-`.
+/// Of group names, which have at most 31 bytes, none of which is empty, begins with a digit, or has a byte other than a
+/// lowercase letter, a digit or `-`.
 const GROUP_NAMES: &[Row<&str>] = &[
     ("\"ab\"", Ok("ab")),
     ("\"ab-1\"", Ok("ab-1")),

@@ -70,10 +70,14 @@ module _ {T : Type 0} where
   entries_read read no_items = Ok []
   entries_read read (item entry entries) = with_first (read entry) (entries_read read entries)
 
-  -- the items of a list, if there is room for them: a lack of room is found before a fault of an entry
+  -- the items, if there is room for them: a lack of room is found before a fault of an entry
+  abbrev pub items_read : ℕ → (Data → Result T JsonFault) → Items → Result (List T) JsonFault
+  items_read capacity read entries =
+      if fits_fixed capacity entries then entries_read read entries else Err TooLong
+
+  -- the items of a list
   abbrev pub list_read : ℕ → (Data → Result T JsonFault) → Data → Result (List T) JsonFault
-  list_read capacity read tree =
-      option_map_or (λ entries. if fits_fixed capacity entries then entries_read read entries else Err TooLong) (as_array tree) (Err WrongKind)
+  list_read capacity read tree = option_map_or (items_read capacity read) (as_array tree) (Err WrongKind)
 
   -- null, or the tree of the value
   abbrev pub option_tree : (T → Data) → RelocatableOption T → Data
@@ -83,4 +87,5 @@ module _ {T : Type 0} where
   -- no value for null, and otherwise the value that the tree is read as
   abbrev pub option_read : (Data → Result T JsonFault) → Data → Result (RelocatableOption T) JsonFault
   option_read read tree =
-      if is_some (as_null tree) then Ok relocatable.None else result_map_both relocatable.Some (λ fault. fault) (read tree)
+      if is_some (as_null tree) then Ok relocatable.None
+      else result_map_both relocatable.Some (λ fault. fault) (read tree)

@@ -17,8 +17,10 @@ module _ {T : Type 0} where
   relocatable_of None = relocatable.None
   relocatable_of (Some x) = relocatable.Some x
 
-  -- `old` loses its value to `taken` if the predicate returns true of it, and keeps it otherwise, as the predicate left it
-  abbrev pub TakesIf : {P : Type 0} → Once P (MutBor T × Unit {0}) (Bool × (MutBor T × Unit {0})) → P → Option T → Option T → Option T → Type 0
+  -- the value, as the predicate left it, is `taken` if that returned true, and stays in `new` if not
+  abbrev pub TakesIf :
+      {P : Type 0} → Once P (MutBor T × Unit {0}) (Bool × (MutBor T × Unit {0})) → P
+      → Option T → Option T → Option T → Type 0
   TakesIf calls predicate None new taken = (new ≡ None) × (taken ≡ None)
   TakesIf calls predicate (Some x) new taken =
       (left : T) × ((FnOnceReturnsAtMut calls predicate x true left × (new ≡ None) × (taken ≡ Some left))

@@ -80,8 +80,10 @@ impl<T> RelocatableOption<T> {
     where
         T: AsDeref<'a>,
         ensures variant { is_some (option_of result) ≡ is_some (option_of self.now) }
-        ensures value { IfSome (option_of self.now) (λ value. IfSome (option_of result) (T.as_deref_gives value)) }
-        ensures view { option_map T.output_view (option_of result) ≡ option_map T.view (option_of self.now) }
+        ensures value { IfSome (option_of self.now) (λ value.
+            IfSome (option_of result) (T.as_deref_gives value)) }
+        ensures view { option_map T.output_view (option_of result)
+            ≡ option_map T.view (option_of self.now) }
     {
         match self {
             RelocatableOption::Some(value) => RelocatableOption::Some(value.shown()),
@@ -95,7 +97,8 @@ impl<T> RelocatableOption<T> {
     where
         T: DerefMut,
         ensures variant { is_some (option_of result) ≡ is_some (option_of self.old) }
-        ensures value { IfSome (option_of self.old) (λ value. IfSome (option_of result) (λ target. T.deref_mut_gives value target.now)) }
+        ensures value { IfSome (option_of self.old) (λ value.
+            IfSome (option_of result) (λ target. T.deref_mut_gives value target.now)) }
     {
         match self {
             RelocatableOption::Some(value) => RelocatableOption::Some(value.deref_mut()),
@@ -169,7 +172,8 @@ impl<T> RelocatableOption<T> {
     pub fn map<U, F: FnOnce(T) -> U>(self, f: F) -> RelocatableOption<U>
         requires { ForSome (option_of self) (F.pre f) }
         ensures variant { is_some (option_of result) ≡ is_some (option_of self) }
-        ensures value { IfSome (option_of self) (λ value. IfSome (option_of result) (F.post f value)) }
+        ensures value { IfSome (option_of self) (λ value.
+            IfSome (option_of result) (F.post f value)) }
     {
         match self {
             RelocatableOption::Some(value) => RelocatableOption::Some(f(value)),
@@ -195,14 +199,15 @@ impl<T> RelocatableOption<T> {
         mem::replace(self, RelocatableOption::None)
     }
 
-    /// Takes the value out of the option and returns it if `predicate` returns `true` of it. Returns `None` if it returns
-    /// `false`, or there is no value; then `predicate` is not called.
+    /// Takes the value out of the option and returns it if `predicate` returns `true` of it. Otherwise returns `None`.
+    /// Does not call `predicate` if there is no value.
     ///
     /// `predicate` may change the value. It stays changed, even if it is not taken.
     #[inline]
     pub fn take_if<P: FnOnce(&mut T) -> bool>(&mut self, predicate: P) -> RelocatableOption<T>
         requires { ForSome (option_of self.old) (FnOnceTakesAtMut P.FnOnce predicate) }
-        ensures { TakesIf P.FnOnce predicate (option_of self.old) (option_of self.new) (option_of result) }
+        ensures { TakesIf P.FnOnce predicate
+            (option_of self.old) (option_of self.new) (option_of result) }
     {
         match self {
             RelocatableOption::Some(value) => {

@@ -34,7 +34,8 @@ pub trait JsonForm: Sized {
     /// Returns [`JsonFault::OutOfMemory`] if there is not enough memory.
     fn to_value(&self, alloc: Global) -> Result<Value, JsonFault>
         ensures value { IfOk result (λ value. view value ≡ tree self.now) }
-        ensures read_back { is_read_back self.now → IfOk result (λ value. read (view value) ≡ Ok self.now) }
+        ensures read_back { is_read_back self.now
+            → IfOk result (λ value. read (view value) ≡ Ok self.now) }
         ensures fault { IfErr result (λ fault. fault ≡ OutOfMemory) }
         ensures memory { is_infallible self.now → IsOk result };
 
@@ -46,7 +47,10 @@ pub trait JsonForm: Sized {
         ensures memory { result ≢ Err OutOfMemory };
 }
 
-/// A value that is always read back from its JSON form, which is never null. Vectors hold such items.
+/// A value that is always read back from its JSON form, which is never null. Vectors of such items have a form.
+///
+/// `u64`, `i64`, `bool` and [`StaticString`](ix_string::StaticString) are items. Vectors, options and semantic strings have
+/// the form alone.
 pub trait JsonItem: JsonForm {
     /// Each value is read back from its tree.
     ghost always_read_back: { (item : Self) → Self.is_read_back item };

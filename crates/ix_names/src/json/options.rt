@@ -7,7 +7,8 @@ use std::alloc::Global;
 
 /// Null for `None`, and otherwise the form of the value.
 ///
-/// An option whose value has the form null is read back as `None`.
+/// An option is read back if its value is, and has another form than null. `Some` of a `None` is null, and is read back
+/// as `None`.
 impl<T: JsonForm> JsonForm for RelocatableOption<T> {
     ghost use Rattle.std.specs.Prelude.{◌≢◌, IfSome};
     ghost use Rattle.serde_json.specs.Data.{null};
@@ -18,7 +19,8 @@ impl<T: JsonForm> JsonForm for RelocatableOption<T> {
 
     ghost read = { option_read T.read };
 
-    ghost is_read_back = { λ option. IfSome (option_of option) (λ value. T.is_read_back value × (T.tree value ≢ null)) };
+    ghost is_read_back = { λ option. IfSome (option_of option) (λ value.
+        T.is_read_back value × (T.tree value ≢ null)) };
 
     ghost is_infallible = { λ option. IfSome (option_of option) T.is_infallible };
 

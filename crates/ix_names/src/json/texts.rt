@@ -7,8 +7,8 @@ use std::alloc::Global;
 
 /// A text.
 ///
-/// Reading returns [`JsonFault::WrongKind`] if the value is no text, otherwise [`JsonFault::TooLong`] if it has more than
-/// `CAPACITY` bytes, and otherwise [`JsonFault::BadByte`] if one of them is 0 or above 127.
+/// Reading returns [`JsonFault::WrongKind`] if the value is no text, otherwise [`JsonFault::TooLong`] if it has more
+/// than `CAPACITY` bytes, and otherwise [`JsonFault::BadByte`] if one of them is 0 or above 127. O(`len`).
 impl<const CAPACITY: usize> JsonForm for StaticString<CAPACITY> {
     ghost use Rattle.std.specs.Prelude.{◌≡◌, []};
     ghost use Rattle.serde_json.specs.Data.{string};
