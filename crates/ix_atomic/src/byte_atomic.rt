@@ -9,6 +9,7 @@
 //! bool::decode(&[2]);         // None
 //! ```
 
+mod arrays;
 mod atomic_copy;
 mod fixed_size_byte_atomic;
 mod fixed_strings;

@@ -87,6 +87,8 @@ fn other_values() -> Result<(), Fail> {
         baz: 1 << 63,
     };
     check(&findings, foo, [255, 0, 0, 0, 0, 0, 0, 0, 128], "Foo");
+    check(&findings, [0u8; 0], [], "no bytes");
+    check(&findings, [7u8, 0, 255], [7, 0, 255], "bytes");
     findings.verdict()
 }
 

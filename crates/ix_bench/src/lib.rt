@@ -5,6 +5,7 @@
 mod flat_maps;
 mod generator;
 mod queues;
+mod semantic_strings;
 mod sequenced_cells;
 mod slot_maps;
 mod strings;
@@ -160,4 +161,16 @@ pub extern "C" fn ix_bench_seq_write(alloc: Global, rounds: u64, param: u64) -> 
 #[unsafe(no_mangle)]
 pub extern "C" fn ix_bench_seq_read(alloc: Global, rounds: u64, param: u64) -> u64 {
     sequenced_cells::reads(alloc, rounds, param)
+}
+
+/// Makes a group name of 16 letters.
+#[unsafe(no_mangle)]
+pub extern "C" fn ix_bench_sem_new(rounds: u64, _param: u64) -> u64 {
+    semantic_strings::new_names(rounds)
+}
+
+/// Compares two group names of 16 letters that are equal, or differ in the last one.
+#[unsafe(no_mangle)]
+pub extern "C" fn ix_bench_sem_cmp(rounds: u64, _param: u64) -> u64 {
+    semantic_strings::compare_names(rounds)
 }

@@ -1,43 +1,10 @@
 //! Kernels on sequenced cells.
 ghost use Rattle.std.specs.Prelude.{◌≡◌, ◌≤◌, length};
 
-use ix_atomic::{AtomicCopy, ReaderSeat, SequencedByteAtomic, WriterSeat};
+use ix_atomic::{ReaderSeat, SequencedByteAtomic, WriterSeat};
 use std::alloc::Global;
 
-/// `SIZE` bytes.
-#[derive(Clone, Copy)]
-struct Block<const SIZE: usize> {
-    bytes: [u8; SIZE],
-}
-
-/// The bytes themselves.
-impl<const SIZE: usize> AtomicCopy for Block<SIZE> {
-    const SIZE: usize = SIZE;
-
-    ghost SIZE = { SIZE };
-
-    ghost is_value = { λ block. length block.bytes ≡ SIZE };
-
-    ghost encoding = { λ block. block.bytes };
-
-    #[inline]
-    fn encode(&self, out: &mut [u8]) {
-        out.copy_from_slice(&self.bytes);
-    }
-
-    #[inline]
-    fn decode(bytes: &[u8]) -> Option<Block<SIZE>> {
-        let mut block = Block { bytes: [0; SIZE] };
-        block.bytes.copy_from_slice(bytes);
-        Some(block)
-    }
-
-    ghost encoding_len = { λ _ is. is };
-
-    ghost one_value = { λ _ _ _ _ same i. record { bytes = same i } };
-}
-
-type Cell<const SIZE: usize> = SequencedByteAtomic<Block<SIZE>, SIZE>;
+type Cell<const SIZE: usize> = SequencedByteAtomic<[u8; SIZE], SIZE>;
 
 pub fn writes(alloc: Global, rounds: u64, size: u64) -> u64 {
     match size {
@@ -58,7 +25,7 @@ pub fn reads(alloc: Global, rounds: u64, size: u64) -> u64 {
 fn write_blocks<const SIZE: usize>(alloc: Global, rounds: u64) -> u64
     requires { (8 ≤ SIZE) × (SIZE ≤ 256) }
 {
-    match Cell::<SIZE>::new(alloc, Block { bytes: [0; SIZE] }) {
+    match Cell::<SIZE>::new(alloc, [0; SIZE]) {
         Ok((cell, mut writer, mut reader)) => {
             write_each(&cell, &mut writer, rounds);
             let version = cell.version(&mut reader);
@@ -71,7 +38,7 @@ fn write_blocks<const SIZE: usize>(alloc: Global, rounds: u64) -> u64
 
 fn write_each<const SIZE: usize>(
     cell: &Cell<SIZE>,
-    writer: &mut WriterSeat<Block<SIZE>>,
+    writer: &mut WriterSeat<[u8; SIZE]>,
     rounds: u64,
 )
     requires size { 8 ≤ SIZE }
@@ -81,14 +48,14 @@ fn write_each<const SIZE: usize>(
     let mut bytes = [7; SIZE];
     for i in 0..rounds {
         bytes[0] = (i & 0xff) as u8;
-        let _ = cell.write(writer, Block { bytes });
+        let _ = cell.write(writer, bytes);
     }
 }
 
 fn read_blocks<const SIZE: usize>(alloc: Global, rounds: u64) -> u64
     requires { (8 ≤ SIZE) × (SIZE ≤ 256) }
 {
-    match Cell::<SIZE>::new(alloc, Block { bytes: [0; SIZE] }) {
+    match Cell::<SIZE>::new(alloc, [0; SIZE]) {
         Ok((cell, writer, mut reader)) => {
             let sum = read_each(&cell, &mut reader, rounds);
             cell.close(writer);
@@ -100,7 +67,7 @@ fn read_blocks<const SIZE: usize>(alloc: Global, rounds: u64) -> u64
 
 fn read_each<const SIZE: usize>(
     cell: &Cell<SIZE>,
-    reader: &mut ReaderSeat<Block<SIZE>>,
+    reader: &mut ReaderSeat<[u8; SIZE]>,
     rounds: u64,
 ) -> u64
     requires size { 8 ≤ SIZE }
@@ -108,8 +75,8 @@ fn read_each<const SIZE: usize>(
 {
     let mut sum: u64 = 0;
     for i in 0..rounds {
-        if let Ok(block) = cell.try_read(reader) {
-            sum = sum.wrapping_add(u64::from(block.bytes[(i & 7) as usize]) + 1);
+        if let Ok(bytes) = cell.try_read(reader) {
+            sum = sum.wrapping_add(u64::from(bytes[(i & 7) as usize]) + 1);
         }
     }
     sum

@@ -136,7 +136,7 @@ impl<R: Rules<CAPACITY>, const CAPACITY: usize> Semantic<R, CAPACITY> {
     pub fn capacity(&self) -> usize
         ensures { result ≡ CAPACITY }
     {
-        CAPACITY
+        Self::max_len()
     }
 
     /// Returns the maximum number of bytes, `CAPACITY`. O(1).
