@@ -6,9 +6,9 @@ use Rattle.std.specs.Prelude.{Some, Result, Ok, Err}
 use Rattle.serde_json.proofs.Views.{items_len-items_view}
 use Rattle.serde_json.specs.Data.{Data}
 use Rattle.serde_json.specs.Find.{as_array}
-use Rattle.ix_cells.specs.declared.cells.table.TheConstants.{MAX_FIXED_CAPACITY}
 use Rattle.serde_json.specs.View.{view, items_of, items_view}
 use Rattle.serde_json.specs.declared.value.Value.{Value}
+use Rattle.ix_cells.specs.declared.cells.table.TheConstants.{MAX_FIXED_CAPACITY}
 use Rattle.ix_names.specs.JsonTree.{with_first, entries_read, list_read}
 use Rattle.ix_names.specs.declared.json.json_fault.JsonFault.{JsonFault}
 use Rattle.ix_names.specs.declared.json.json_fault.JsonFault.TheVariants.{TooLong}
