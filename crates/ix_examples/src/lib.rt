@@ -3,6 +3,7 @@
 
 pub mod configuration;
 pub mod directory;
+pub mod json_message;
 pub mod message;
 pub mod queues;
 pub mod registry;

@@ -3,6 +3,7 @@ ghost use Rattle.std.specs.Prelude.{◌≡◌};
 
 use crate::configuration::{Limit, limit_or, set_limit};
 use crate::directory::{Directory, change_port, port_of as published_port, publish, withdraw};
+use crate::json_message::{Samples, from_json, send, to_json};
 use crate::message::{Message, MessageError};
 use crate::registry::{Registry, Service, port_of, register, unregister};
 use crate::rolling_window::last_samples;
@@ -11,10 +12,11 @@ use crate::session_table::{Session, SessionTable, close, note_heard, open};
 use crate::unit_name::{UnitName, is_same_unit};
 use crate::{queues, strings, vectors};
 use ix_atomic::ReaderSeat;
-use ix_cells::Vector;
+use ix_cells::{StaticVec, Vector};
 use ix_maps::{FlatMapError, SlotMapKey};
-use ix_names::SemanticStringError;
+use ix_names::{JsonFault, RelocatableOption, SemanticStringError};
 use ix_string::{StaticString, String};
+use serde_json::Value;
 use std::alloc::AllocError;
 use std::thread;
 use std::thread::Threads;
@@ -206,4 +208,19 @@ fn scripts_in_memory(rt: HostRuntime) {
     );
     let wanted = b"ready\ntrue\nfalse\nsome 123\nsome 456\nnone\n".as_slice();
     assert_eq!(rt; output.expect(&rt, "there is memory").as_slice(), wanted);
+}
+
+#[test]
+fn samples_as_json(rt: HostRuntime) {
+    let alloc = rt.alloc();
+    let vector = StaticVec::try_from([20, -5].as_slice()).expect(&rt, "it fits");
+    let samples: Samples = RelocatableOption::Some(vector);
+    let value = to_json(&samples, alloc).expect(&rt, "there is memory");
+    let text = value.to_string(alloc).expect(&rt, "there is memory");
+    assert_eq!(rt; text.as_str(), "[20,-5]");
+    assert_eq!(rt; send(&samples, alloc), Ok(samples));
+    let off = to_json(&RelocatableOption::None, alloc);
+    assert_eq!(rt; off, Ok(Value::Null));
+    assert_eq!(rt; from_json(&Value::Null), Ok(RelocatableOption::None));
+    assert_eq!(rt; from_json(&Value::from(5u64)), Err(JsonFault::WrongKind));
 }

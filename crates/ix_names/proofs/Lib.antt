@@ -1,2 +1,4 @@
+pub mod Entries
 pub mod Judging
+pub mod TextTrees
 pub mod Undoing

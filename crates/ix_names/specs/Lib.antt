@@ -1,4 +1,6 @@
 pub mod ErrorTexts
+pub mod JsonTree
+pub mod Optional
 pub mod Rules
 pub mod SampleRules
 pub mod SampleRulesLaws

@@ -2,8 +2,12 @@
 //! JSON.
 #![tactic(auto)]
 
+pub mod json;
+pub mod relocatable_option;
 pub mod semantic_string;
 
+pub use json::{JsonFault, JsonForm, JsonItem};
+pub use relocatable_option::RelocatableOption;
 pub use semantic_string::{
     GroupName, GroupNameRules, Rules, Semantic, SemanticStringError, TrailingSlashRules,
 };

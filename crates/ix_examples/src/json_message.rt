@@ -1,0 +1,35 @@
+//! A message as JSON and back.
+ghost use Rattle.std.specs.Prelude.{◌≡◌, IfOk};
+ghost use Rattle.serde_json.specs.View.{view};
+ghost use Rattle.ix_names.specs.JsonTree.{option_read, list_read, i64_read};
+
+use ix_cells::StaticVec;
+use ix_names::{JsonFault, JsonForm, RelocatableOption};
+use serde_json::Value;
+use std::alloc::Global;
+
+/// At most 8 samples of a sensor, or `None` if the sensor is off.
+pub type Samples = RelocatableOption<StaticVec<i64, 8>>;
+
+/// Converts to JSON: a list of numbers, or null. The same samples are read from it.
+pub fn to_json(samples: &Samples, alloc: Global) -> Result<Value, JsonFault>
+    ensures { IfOk result (λ value.
+        option_read (list_read 8 i64_read) (view value) ≡ Ok samples.now) }
+{
+    samples.to_value(alloc)
+}
+
+/// Converts from JSON.
+pub fn from_json(value: &Value) -> Result<Samples, JsonFault>
+    ensures { result ≡ option_read (list_read 8 i64_read) (view value.now) }
+{
+    Samples::from_value(value)
+}
+
+/// Sends the samples as JSON, and returns what is received.
+pub fn send(samples: &Samples, alloc: Global) -> Result<Samples, JsonFault>
+    ensures { IfOk result (λ received. received ≡ samples.now) }
+{
+    let value = to_json(samples, alloc)?;
+    from_json(&value)
+}

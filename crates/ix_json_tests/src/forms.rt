@@ -1,0 +1,69 @@
+//! Item types of the tests: one whose conversion to JSON is refused, and one of size zero.
+ghost use Rattle.std.specs.Result.{result_map_both};
+ghost use Rattle.ix_names.specs.JsonTree.{u64_tree, u64_read, bool_read};
+
+use ix_names::{JsonFault, JsonForm, JsonItem};
+use serde_json::Value;
+use std::alloc::Global;
+
+/// A number whose conversion to JSON finds no memory if it is 7.
+#[derive(Clone, Copy, PartialEq, Eq, Default, Debug)]
+pub struct Refused {
+    pub number: u64,
+}
+
+impl JsonForm for Refused {
+    ghost tree = { λ item. u64_tree item.number };
+
+    ghost read = { λ tree. result_map_both (λ n. record { number = n }) (λ fault. fault) (u64_read tree) };
+
+    fn to_value(&self, alloc: Global) -> Result<Value, JsonFault> {
+        if self.number == 7 {
+            return Err(JsonFault::OutOfMemory);
+        }
+        self.number.to_value(alloc)
+    }
+
+    fn from_value(value: &Value) -> Result<Self, JsonFault> {
+        match u64::from_value(value) {
+            Ok(number) => Ok(Refused { number }),
+            Err(fault) => Err(fault),
+        }
+    }
+}
+
+impl JsonItem for Refused {
+    ghost always_read_back = { λ _. tt };
+
+    ghost never_null = { λ _ same. Prim.cc };
+}
+
+/// A value of size zero. Its form is `true`, and every truth value is read as it.
+#[derive(Clone, Copy, PartialEq, Eq, Default, Debug)]
+pub struct Empty;
+
+impl JsonForm for Empty {
+    ghost use Rattle.std.specs.Prelude.{true};
+    ghost use Rattle.serde_json.specs.Data.{boolean};
+
+    ghost tree = { λ _. boolean true };
+
+    ghost read = { λ tree. result_map_both (λ _. record {}) (λ fault. fault) (bool_read tree) };
+
+    fn to_value(&self, alloc: Global) -> Result<Value, JsonFault> {
+        true.to_value(alloc)
+    }
+
+    fn from_value(value: &Value) -> Result<Self, JsonFault> {
+        match bool::from_value(value) {
+            Ok(_) => Ok(Empty),
+            Err(fault) => Err(fault),
+        }
+    }
+}
+
+impl JsonItem for Empty {
+    ghost always_read_back = { λ _. tt };
+
+    ghost never_null = { λ _ same. Prim.cc };
+}

@@ -1,0 +1,18 @@
+//! Tests of options and of conversions to and from JSON beside their contracts: worked examples, each fault and their
+//! order, every function once, the calls of closures, clones and drops, and the printed texts.
+#![tactic(auto)]
+
+#[cfg(test)]
+mod closure_tests;
+#[cfg(test)]
+mod drop_tests;
+#[cfg(test)]
+mod forms;
+#[cfg(test)]
+mod option_tests;
+#[cfg(test)]
+mod reading_tests;
+#[cfg(test)]
+mod text_tests;
+#[cfg(test)]
+mod writing_tests;

@@ -1,0 +1,23 @@
+//! The error of conversions to and from JSON.
+
+use thiserror::Error;
+
+/// Why a value is not converted to JSON, or a JSON value is none of a type.
+#[derive(Clone, Copy, PartialEq, Eq, Debug, Error)]
+pub enum JsonFault {
+    /// The JSON value is of another kind, or a number of another type.
+    #[error("wrong kind")]
+    WrongKind,
+    /// A text has more bytes, or a list more entries, than the capacity.
+    #[error("too long")]
+    TooLong,
+    /// A text has a byte that is 0 or above 127.
+    #[error("byte outside 1 to 127")]
+    BadByte,
+    /// A text does not obey the rules of its type.
+    #[error("invalid content")]
+    InvalidContent,
+    /// There is not enough memory for the JSON value.
+    #[error("out of memory")]
+    OutOfMemory,
+}
