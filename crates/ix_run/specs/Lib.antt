@@ -8,5 +8,6 @@ pub mod Reading
 pub mod Replies
 pub mod Run
 pub mod Script
+pub mod SlotRun
 pub mod VecRun
 pub mod Writing

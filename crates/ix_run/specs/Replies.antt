@@ -1,5 +1,5 @@
 -- Replies to commands of containers, as values.
-use Rattle.std.specs.Prelude.{ℕ, Option, None, Some, Result, Ok, Err}
+use Rattle.std.specs.Prelude.{Option, None, Some, Result, Ok, Err}
 use Rattle.ix_cells.specs.declared.vector.modification_error.VectorModificationError.{VectorModificationError}
 use Rattle.ix_cells.specs.declared.vector.modification_error.VectorModificationError.TheVariants as vec_error
 use Rattle.ix_run.specs.declared.run.reply.Reply.{Reply}
@@ -17,6 +17,11 @@ module _ {K X : Type 0} where
   abbrev pub key_reply : Option K → Reply K X
   key_reply None = reply.None
   key_reply (Some key) = reply.Key key
+
+  -- an optional key with its value as a reply
+  abbrev pub entry_reply : Option (K × X) → Reply K X
+  entry_reply None = reply.None
+  entry_reply (Some entry) = reply.Entry entry.0 entry.1
 
   -- whether a change was made, or why it was refused
   abbrev pub result_reply : {E : Type 0} → (E → ReplyError) → Result (Unit {0}) E → Reply K X
