@@ -1,4 +1,5 @@
 pub mod FixedQueues
+pub mod FlatRun
 pub mod Input
 pub mod Lines
 pub mod Outcome

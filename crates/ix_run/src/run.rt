@@ -10,6 +10,7 @@
 mod command;
 mod engine;
 mod fault;
+mod flats;
 mod laws;
 mod limits;
 mod partial_line;
@@ -27,6 +28,7 @@ pub use command::{
     FixedCapacity, FlatCommand, QueueCommand, QueueLine, SlotCommand, TextCommand, VecCommand,
 };
 pub use fault::{ScriptFault, exit_status, fault_line};
+pub use flats::run_flat;
 pub use laws::{line_law, script_law};
 pub use limits::MAX_LINE_LEN;
 pub use queues::run_queue_command;
