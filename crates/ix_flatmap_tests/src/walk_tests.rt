@@ -84,6 +84,8 @@ fn check_keys<S: Table<Pair<u64, u64>>, L: Table<Link>>(
     });
     let wanted = (slow.len() as u64).min(last.saturating_add(1));
     findings.expect_same(calls, wanted, "the number of calls");
+    let found = map.nth_key(last as usize).copied();
+    findings.expect_same(found, slow.key_at(last), "a key by its number");
 }
 
 /// Compares the contents of both maps, of which no key reaches `keys`.

@@ -47,10 +47,11 @@ impl<T: Copy, S: Table<T>, L: Table<Link>> Runs<SlotCommand<T>> for MetaSlotMap<
     }
 }
 
-/// Runs the commands on a slot map of any kind, in order, and returns the replies to them, in memory of `alloc`.
+/// Runs the commands on a slot map of any kind, in order, and returns the replies to them. Allocates the list of replies
+/// from `alloc` before the first command. O(`commands.len()`) beside the calls of the slot map; `SlotCommand::From` takes
+/// O(capacity).
 ///
-/// Returns `AllocError` if there is no memory for the replies; then nothing was done. O(`commands.len()`) time, but for
-/// `SlotCommand::From`, which takes O(capacity).
+/// Returns `AllocError` if there is no memory for the list. Then no command was run.
 pub fn run_slot<T: Copy, S: Table<T>, L: Table<Link>>(
     alloc: Global,
     map: &mut MetaSlotMap<T, S, L>,
