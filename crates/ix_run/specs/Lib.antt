@@ -8,5 +8,6 @@ pub mod Reading
 pub mod Replies
 pub mod Run
 pub mod Script
+pub mod TextRun
 pub mod VecRun
 pub mod Writing

@@ -20,6 +20,7 @@ mod reply;
 mod reply_buffer;
 mod runs;
 mod scripts;
+mod strings;
 mod vectors;
 
 pub use command::{
@@ -33,3 +34,4 @@ pub use reading::{read_header, read_number, read_queue_line};
 pub use reply::{Reply, ReplyError};
 pub use runs::{Runs, run_all};
 pub use scripts::script;
+pub use strings::run_text;
