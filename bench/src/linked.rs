@@ -48,6 +48,8 @@ operations! {
     str_cmp = ix_bench_str_cmp, 123, "String", plain::str_cmp;
     str_hash = ix_bench_str_hash, 123, "String", plain::str_hash;
     str_ins_rem = ix_bench_str_ins_rem, 123, "String", plain::str_ins_rem;
+    sem_new = ix_bench_sem_new, 31, "array", plain::sem_new;
+    sem_cmp = ix_bench_sem_cmp, 31, "array", plain::sem_cmp;
     seq_write_8 = ix_bench_seq_write, 8, "sequence lock", plain::seq_write;
     seq_write_64 = ix_bench_seq_write, 64, "sequence lock", plain::seq_write;
     seq_write_256 = ix_bench_seq_write, 256, "sequence lock", plain::seq_write;

@@ -401,3 +401,39 @@ pub fn seq_read(rounds: u64, size: u64) -> u64 {
     }
     sum
 }
+
+/// A name of a group: lower-case letters, digits and dashes, a letter first.
+#[derive(Clone, Copy, PartialEq)]
+struct GroupName {
+    bytes: [u8; 31],
+    len: usize,
+}
+
+impl GroupName {
+    fn new(bytes: &[u8]) -> Option<GroupName> {
+        let starts_well = !matches!(bytes.first()?, b'-' | b'0'..=b'9');
+        let are_allowed = bytes.iter().all(|byte| matches!(byte, b'a'..=b'z' | b'0'..=b'9' | b'-'));
+        if !starts_well || !are_allowed || bytes.len() > 31 {
+            return None;
+        }
+        let mut name = GroupName { bytes: [0; 31], len: bytes.len() };
+        name.bytes[..bytes.len()].copy_from_slice(bytes);
+        Some(name)
+    }
+}
+
+pub fn sem_new(rounds: u64, _capacity: u64) -> u64 {
+    let mut word = *b"abcdefghijklmnop";
+    let mut sum = 0u64;
+    for i in 0..rounds {
+        word[(i & 15) as usize] = 97 + (i & 15) as u8;
+        sum = sum.wrapping_add(GroupName::new(&word).map_or(1, |name| name.len as u64));
+    }
+    sum
+}
+
+pub fn sem_cmp(rounds: u64, _capacity: u64) -> u64 {
+    let names = [b"abcdefghijklmnop", b"abcdefghijklmnoq"].map(|bytes| GroupName::new(bytes));
+    let name = names[0];
+    (0..rounds).fold(0, |sum: u64, i| sum.wrapping_add((name == names[(i & 1) as usize]) as u64))
+}

@@ -1,3 +1,4 @@
+pub mod Copies
 pub mod KnownBytes
 pub mod Laws
 pub mod Numbers

@@ -2,8 +2,8 @@
 use Rattle.std.specs.Prelude.{ℕ, Option, option_map}
 use Rattle.ix_cells.specs.Bounded.{Bounded}
 use Rattle.ix_run.specs.Script.{State}
-use Rattle.ix_run.specs.declared.run.queues.FixedQueue.{FixedQueue}
-use Rattle.ix_run.specs.declared.run.queues.FixedQueue.TheVariants.{Zero, One, Three, Eight}
+use Rattle.ix_run.specs.declared.run.script_state.FixedQueue.{FixedQueue}
+use Rattle.ix_run.specs.declared.run.script_state.FixedQueue.TheVariants.{Zero, One, Three, Eight}
 
 abbrev pub fixed_queue_list : FixedQueue → Bounded ℕ
 fixed_queue_list (Zero queue) = queue

@@ -1,8 +1,9 @@
--- The run of a queue: the reply to each of a list of commands, and the queue that each leaves.
-use Rattle.std.specs.Prelude.{ℕ, List, [], ◌∷◌}
+-- The run of a queue: the reply to each command, and the queue after it.
+use Rattle.std.specs.Prelude.{ℕ, List}
 use Rattle.ix_cells.specs.Bounded.{Bounded, has_room, bounded_push}
 use Rattle.ix_maps.specs.QueueSteps.{queue_overflow, queue_overflow_item, queue_front, queue_pop}
 use Rattle.ix_run.specs.Replies.{option_reply}
+use Rattle.ix_run.specs.Run.{run_replies}
 use Rattle.ix_run.specs.declared.run.command.QueueCommand.{QueueCommand}
 use Rattle.ix_run.specs.declared.run.command.QueueCommand.TheVariants.{Push, Over, Pop}
 use Rattle.ix_run.specs.declared.run.reply.Reply.{Reply}
@@ -23,5 +24,4 @@ module _ {X : Type 0} where
 
   -- the replies to a list of commands, in order
   abbrev pub replies_of : Bounded X → List (QueueCommand X) → List (Reply ℕ X)
-  replies_of queue [] = []
-  replies_of queue (command ∷ commands) = reply_of queue command ∷ replies_of (queue_after queue command) commands
+  replies_of = run_replies reply_of queue_after

@@ -2,8 +2,8 @@
 //!
 //! ```text
 //! let mut queue = FixedSizeQueue::<u64, 1>::new();
-//! run_queue_command(&mut queue, QueueCommand::Push(7));    // Reply::Bool(true)
-//! run_queue_command(&mut queue, QueueCommand::Pop);        // Reply::Value(7)
+//! queue.run_command(QueueCommand::Push(7));    // Reply::Bool(true)
+//! run_queue(alloc, &mut queue, &[QueueCommand::Pop, QueueCommand::Pop]);    // Ok: Reply::Value(7), Reply::None
 //! read_queue_line(b"pop");    // Some(QueueLine::Command(QueueCommand::Pop))
 //! ```
 
@@ -19,6 +19,7 @@ mod replies;
 mod reply;
 mod reply_buffer;
 mod runs;
+mod script_state;
 mod scripts;
 mod strings;
 mod vectors;
@@ -29,9 +30,10 @@ pub use command::{
 pub use fault::{ScriptFault, exit_status, fault_line};
 pub use laws::{line_law, script_law};
 pub use limits::MAX_LINE_LEN;
-pub use queues::run_queue_command;
+pub use queues::run_queue;
 pub use reading::{read_header, read_number, read_queue_line};
 pub use reply::{Reply, ReplyError};
 pub use runs::{Runs, run_all};
 pub use scripts::script;
 pub use strings::run_text;
+pub use vectors::run_vec;

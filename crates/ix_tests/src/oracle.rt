@@ -3,7 +3,7 @@ use crate::slow_queue::{SlowQueue, run_slow_command};
 use ix_cells::Table;
 use ix_expect::Findings;
 use ix_maps::{FixedSizeQueue, MetaQueue};
-use ix_run::run::{QueueCommand, run_queue_command};
+use ix_run::run::{QueueCommand, Runs};
 use std::test::Fail;
 
 /// The number of lists of six commands out of three.
@@ -55,7 +55,7 @@ fn check_list<S: Table<u64>>(
         left /= 3;
         let case = (ring.capacity(), list, turns, item);
         let reply = run_slow_command(slow, command);
-        let found = run_queue_command(ring, command);
+        let found = ring.run_command(command);
         findings.expect_same((case, found), (case, reply), "the reply of a case");
         check_same(findings, &*ring, &*slow, case);
     }

@@ -2,7 +2,8 @@
 ghost use Rattle.std.specs.Prelude.{◌≡◌, ◌≤◌, length};
 ghost use Rattle.ix_cells.specs.Bounded.{has_room, bounded_new, bounded_push};
 ghost use Rattle.ix_maps.specs.QueueSteps.{queue_overflow, queue_overflow_item, queue_front, queue_pop};
-ghost use Rattle.ix_run.specs.QueueRun.{option_reply, reply_of, queue_after};
+ghost use Rattle.ix_run.specs.QueueRun.{reply_of, queue_after};
+ghost use Rattle.ix_run.specs.Replies.{option_reply};
 
 use arrayvec::ArrayVec;
 use ix_run::run::{QueueCommand, Reply};
@@ -96,7 +97,7 @@ impl<T: Default + Drop> SlowQueue<T> {
 }
 
 /// Returns an optional item as a reply.
-fn reply_of_option<T: Copy>(item: Option<T>) -> Reply<T>
+fn reply_of_option<T: Copy>(item: Option<T>) -> Reply<usize, T>
     ensures { result ≡ option_reply item }
 {
     match item {
@@ -109,7 +110,7 @@ fn reply_of_option<T: Copy>(item: Option<T>) -> Reply<T>
 pub fn run_slow_command<T: Default + Copy>(
     queue: &mut SlowQueue<T>,
     command: QueueCommand<T>,
-) -> Reply<T>
+) -> Reply<usize, T>
     ensures value { result ≡ reply_of queue.old command }
     ensures queue { queue.new ≡ queue_after queue.old command }
 {

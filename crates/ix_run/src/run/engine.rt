@@ -8,8 +8,8 @@ ghost use Rattle.ix_run.specs.Writing.{WriteResult};
 use crate::run::ScriptFault;
 use crate::run::limits::MAX_LINE_LEN;
 use crate::run::partial_line::PartialLine;
-use crate::run::queues::ScriptState;
 use crate::run::reply_buffer::ReplyBuffer;
+use crate::run::script_state::ScriptState;
 use memchr::memchr;
 use std::io::Write;
 

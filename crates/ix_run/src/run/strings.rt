@@ -61,20 +61,14 @@ impl<'a, S: String> Runs<TextCommand<'a>> for S {
     }
 }
 
-/// Runs the commands in order on a string of any kind, and returns the replies to them, in memory of `alloc`.
-/// O(`commands.len()`), beside the costs of the calls of the string.
+/// Runs the commands on a string of any kind, in order, and returns the replies to them. Allocates the list of replies
+/// from `alloc` before the first command. O(`commands.len()`) beside the calls of the string.
 ///
-/// Returns `AllocError` if there is no memory for the replies. Then nothing was done.
-///
-/// ```text
-/// let mut string = StaticString::<8>::new();
-/// let commands = [TextCommand::Append(b"abc"), TextCommand::Drop(b'b'), TextCommand::Rfind(b"c")];
-/// run_text(alloc, &mut string, &commands)?;    // [Reply::Done, Reply::Done, Reply::Key(1)]
-/// ```
-pub fn run_text<'a, S: String>(
+/// Returns `AllocError` if there is no memory for the list. Then no command was run.
+pub fn run_text<S: String>(
     alloc: Global,
     string: &mut S,
-    commands: &[TextCommand<'a>],
+    commands: &[TextCommand<'_>],
 ) -> Result<Vec<Reply<usize, u8>>, AllocError>
     ensures value { IfOk result (λ replies.
         replies.items ≡ run_replies text_reply text_after (S.bounded string.old) commands.now) }

@@ -1,13 +1,15 @@
 //! Commands of vectors.
-ghost use Rattle.std.specs.Prelude.{◌≡◌, length, set, slice_get, nat_lt, nat_le, if◌then◌else◌, OnOk, OnErr};
+ghost use Rattle.std.specs.Prelude.{◌≡◌, length, set, slice_get, nat_lt, nat_le, if◌then◌else◌, IfOk, OnOk, OnErr};
 ghost use Rattle.ix_cells.specs.Bounded.{Bounded, with_items};
 ghost use Rattle.ix_cells.specs.VectorSteps.{vec_extend, vec_resize, vec_resize_result};
 ghost use Rattle.ix_run.specs.Replies.{option_reply, result_reply, vec_reply_error};
-ghost use Rattle.ix_run.specs.VecRun.{vec_extend_result};
+ghost use Rattle.ix_run.specs.Run.{run_replies, run_state};
+ghost use Rattle.ix_run.specs.VecRun.{vec_extend_result, vec_reply, vec_after};
 
 use crate::run::reply::reply_of_option;
-use crate::run::{Reply, ReplyError, Runs, VecCommand};
+use crate::run::{Reply, ReplyError, Runs, VecCommand, run_all};
 use ix_cells::{Vector, VectorModificationError};
+use std::alloc::{AllocError, Global};
 
 /// The commands of a vector, of any kind.
 impl<'a, T: Copy, V: Vector<T>> Runs<VecCommand<'a, T>> for V {
@@ -48,6 +50,22 @@ impl<'a, T: Copy, V: Vector<T>> Runs<VecCommand<'a, T>> for V {
             VecCommand::Full => Reply::Bool(self.is_full()),
         }
     }
+}
+
+/// Runs the commands on a vector of any kind, in order, and returns the replies to them. Allocates the list of replies
+/// from `alloc` before the first command. O(`commands.len()`) beside the calls of the vector.
+///
+/// Returns `AllocError` if there is no memory for the list. Then no command was run.
+pub fn run_vec<T: Copy, V: Vector<T>>(
+    alloc: Global,
+    vector: &mut V,
+    commands: &[VecCommand<'_, T>],
+) -> Result<Vec<Reply<usize, T>>, AllocError>
+    ensures value { IfOk result (λ replies. replies.items ≡ run_replies vec_reply vec_after (V.bounded vector.old) commands.now) }
+    ensures vector { OnOk result (V.bounded vector.new ≡ run_state vec_after (V.bounded vector.old) commands.now) }
+    ensures refused { OnErr result (vector.new ≡ vector.old) }
+{
+    run_all(alloc, vector, commands)
 }
 
 /// Returns the result of a change as a reply.

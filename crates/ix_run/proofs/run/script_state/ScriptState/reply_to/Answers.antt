@@ -1,6 +1,6 @@
 use Rattle.std.proofs.Common.{◌≡◌, ◌∙◌, ap, sym, None}
 use Rattle.ix_run.specs.FixedQueues.{state_of_queue}
-use Rattle.ix_run.proofs.run.queues.ScriptState.reply_to.Goals as goal
+use Rattle.ix_run.proofs.run.script_state.ScriptState.reply_to.Goals as goal
 
 pub returns-in-Some-read_header-clause-reply : goal.returns-in-Some-read_header-clause-reply
 returns-in-Some-read_header-clause-reply g c =
