@@ -4,5 +4,8 @@ pub mod Laws
 pub mod Numbers
 pub mod Pieces
 pub mod Progress
+pub mod Tests
+pub mod TextMatches
+pub mod TextRetain
 mod WorkedScripts
 pub mod Writing

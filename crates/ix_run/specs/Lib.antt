@@ -10,5 +10,6 @@ pub mod Replies
 pub mod Run
 pub mod Script
 pub mod SlotRun
+pub mod TextRun
 pub mod VecRun
 pub mod Writing

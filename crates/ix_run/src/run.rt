@@ -23,6 +23,7 @@ mod runs;
 mod script_state;
 mod scripts;
 mod slots;
+mod strings;
 mod vectors;
 
 pub use command::{
@@ -38,4 +39,5 @@ pub use reply::{Reply, ReplyError};
 pub use runs::{Runs, run_all};
 pub use scripts::script;
 pub use slots::run_slot;
+pub use strings::run_text;
 pub use vectors::run_vec;

@@ -6,9 +6,13 @@ mod devices;
 #[cfg(test)]
 mod findings_tests;
 #[cfg(test)]
+mod map_run_tests;
+#[cfg(test)]
 mod oracle;
 #[cfg(test)]
 mod reading_tests;
+#[cfg(test)]
+mod run_tests;
 #[cfg(test)]
 mod script_tests;
 #[cfg(test)]
