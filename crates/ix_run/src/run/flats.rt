@@ -44,8 +44,8 @@ impl<K: Eq + Copy, V: Copy, S: Table<Pair<K, V>>, L: Table<Link>> Runs<FlatComma
     }
 }
 
-/// Runs the commands on a flat map of any kind, in order, and returns the replies to them. Allocates the list of replies
-/// from `alloc` before the first command. O(`commands.len()`) beside the calls of the flat map.
+/// Runs the commands on a flat map of any kind, in order, and returns the replies to them. Allocates the list of
+/// replies from `alloc` before the first command. O(`commands.len()`) beside the calls of the flat map.
 ///
 /// Returns `AllocError` if there is no memory for the list. Then no command was run.
 pub fn run_flat<K: Eq + Copy, V: Copy, S: Table<Pair<K, V>>, L: Table<Link>>(

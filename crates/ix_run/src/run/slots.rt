@@ -47,9 +47,9 @@ impl<T: Copy, S: Table<T>, L: Table<Link>> Runs<SlotCommand<T>> for MetaSlotMap<
     }
 }
 
-/// Runs the commands on a slot map of any kind, in order, and returns the replies to them. Allocates the list of replies
-/// from `alloc` before the first command. O(`commands.len()`) beside the calls of the slot map; `SlotCommand::From` takes
-/// O(capacity).
+/// Runs the commands on a slot map of any kind, in order, and returns the replies to them. Allocates the list of
+/// replies from `alloc` before the first command. O(`commands.len()`) beside the calls of the slot map;
+/// `SlotCommand::From` takes O(capacity).
 ///
 /// Returns `AllocError` if there is no memory for the list. Then no command was run.
 pub fn run_slot<T: Copy, S: Table<T>, L: Table<Link>>(
