@@ -2,17 +2,28 @@
 use bumpalo::Bump;
 use ix_cells::{PolymorphicVec, RelocatableContainer, StaticVec, Table, UninitVec, Vector};
 use ix_expect::Findings;
-use ix_maps::{FixedSizeQueue, MetaQueue, Queue, UninitQueue};
-use ix_run::run::ReplyError::{InsertWouldExceedCapacity, OutOfBounds};
-use ix_run::run::{QueueCommand, Reply, VecCommand, run_queue, run_vec};
+use ix_maps::{
+    FixedSizeFlatMap, FixedSizeQueue, FixedSizeSlotMap, FlatMap, Link, MetaFlatMap, MetaQueue,
+    MetaSlotMap, Pair, Queue, SlotMap, UninitFlatMap, UninitQueue, UninitSlotMap,
+};
+use ix_run::run::ReplyError::{
+    IndexPastEnd, InsertWouldExceedCapacity, InvalidCharacter, IsFull, KeyAlreadyExists,
+    OutOfBounds,
+};
+use ix_run::run::{
+    FlatCommand, QueueCommand, Reply, SlotCommand, TextCommand, VecCommand, run_flat, run_queue,
+    run_slot, run_text, run_vec,
+};
+use ix_string::{PolymorphicString, StaticString, String, UninitString};
 use std::alloc::{AllocError, Global};
+use std::fmt::Debug;
 use std::test::Fail;
 
 /// Notes each reply that is not the expected one.
-fn expect_replies(
+fn expect_replies<K: Copy + PartialEq + Debug, X: Copy + PartialEq + Debug>(
     findings: &Findings,
-    found: Result<Vec<Reply<usize, u64>>, AllocError>,
-    expected: &[Reply<usize, u64>],
+    found: Result<Vec<Reply<K, X>>, AllocError>,
+    expected: &[Reply<K, X>],
     kind: &str,
 ) {
     let Ok(replies) = found else {
@@ -139,5 +150,246 @@ fn vectors(rt: HostRuntime) -> Result<(), Fail> {
     let uninit = UninitVec::<u64>::new_uninit(3);
     let mut vector = uninit.init(&bump).expect(&rt, "a vector in an arena");
     check_vec(&findings, alloc, &mut vector, "relocatable vector");
+    findings.verdict()
+}
+
+/// Commands of a slot map of capacity 3.
+const SLOT_COMMANDS: &[SlotCommand<u64>] = &[
+    SlotCommand::Insert(10),
+    SlotCommand::Insert(20),
+    SlotCommand::Remove(0),
+    SlotCommand::Next,
+    SlotCommand::From(0),
+    SlotCommand::Insert(30),
+    SlotCommand::InsertAt(2, 40),
+    SlotCommand::Insert(50),
+    SlotCommand::InsertAt(3, 50),
+    SlotCommand::Full,
+    SlotCommand::From(2),
+    SlotCommand::From(3),
+    SlotCommand::Set(1, 21),
+    SlotCommand::Get(1),
+    SlotCommand::Remove(1),
+    SlotCommand::Remove(1),
+    SlotCommand::Set(1, 22),
+    SlotCommand::Get(1),
+    SlotCommand::Contains(1),
+    SlotCommand::Contains(2),
+    SlotCommand::Len,
+    SlotCommand::Capacity,
+    SlotCommand::Empty,
+];
+
+const SLOT_REPLIES: &[Reply<usize, u64>] = &[
+    Reply::Key(0),
+    Reply::Key(1),
+    Reply::Value(10),
+    Reply::Key(0),
+    Reply::Entry(1, 20),
+    Reply::Key(0),
+    Reply::Bool(true),
+    Reply::None,
+    Reply::Bool(false),
+    Reply::Bool(true),
+    Reply::Entry(2, 40),
+    Reply::None,
+    Reply::Bool(true),
+    Reply::Value(21),
+    Reply::Value(21),
+    Reply::None,
+    Reply::Bool(false),
+    Reply::None,
+    Reply::Bool(false),
+    Reply::Bool(true),
+    Reply::Number(2),
+    Reply::Number(3),
+    Reply::Bool(false),
+];
+
+fn check_slots<S: Table<u64>, L: Table<Link>>(
+    findings: &Findings,
+    alloc: Global,
+    slots: &mut MetaSlotMap<u64, S, L>,
+    kind: &str,
+) {
+    let found = run_slot(alloc, slots, SLOT_COMMANDS);
+    expect_replies(findings, found, SLOT_REPLIES, kind);
+}
+
+#[test]
+fn slot_maps(rt: HostRuntime) -> Result<(), Fail> {
+    let findings = Findings::new();
+    let alloc = rt.alloc();
+    let mut fixed = FixedSizeSlotMap::<u64, 3>::new();
+    check_slots(&findings, alloc, &mut fixed, "fixed slot map");
+    let mut allocated = SlotMap::<u64>::new(alloc, 3).expect(&rt, "an allocated slot map");
+    check_slots(&findings, alloc, &mut allocated, "allocated slot map");
+    let bump = Bump::new(alloc);
+    let uninit = UninitSlotMap::<u64>::new_uninit(3);
+    let mut slots = uninit.init(&bump).expect(&rt, "a slot map in an arena");
+    check_slots(&findings, alloc, &mut slots, "relocatable slot map");
+    findings.verdict()
+}
+
+/// Commands of a flat map of capacity 1.
+const FLAT_COMMANDS: &[FlatCommand<u64, u64>] = &[
+    FlatCommand::Insert(1, 2),
+    FlatCommand::Insert(1, 3),
+    FlatCommand::Insert(2, 4),
+    FlatCommand::Get(1),
+    FlatCommand::Key(0),
+    FlatCommand::Key(1),
+    FlatCommand::Full,
+    FlatCommand::Set(1, 5),
+    FlatCommand::Set(2, 5),
+    FlatCommand::Contains(1),
+    FlatCommand::Contains(2),
+    FlatCommand::Remove(2),
+    FlatCommand::Remove(1),
+    FlatCommand::Get(1),
+    FlatCommand::Len,
+    FlatCommand::Empty,
+];
+
+const FLAT_REPLIES: &[Reply<u64, u64>] = &[
+    Reply::Done,
+    Reply::Error(KeyAlreadyExists),
+    Reply::Error(IsFull),
+    Reply::Value(2),
+    Reply::Key(1),
+    Reply::None,
+    Reply::Bool(true),
+    Reply::Bool(true),
+    Reply::Bool(false),
+    Reply::Bool(true),
+    Reply::Bool(false),
+    Reply::None,
+    Reply::Value(5),
+    Reply::None,
+    Reply::Number(0),
+    Reply::Bool(true),
+];
+
+fn check_flat<S: Table<Pair<u64, u64>>, L: Table<Link>>(
+    findings: &Findings,
+    alloc: Global,
+    map: &mut MetaFlatMap<u64, u64, S, L>,
+    kind: &str,
+) {
+    let found = run_flat(alloc, map, FLAT_COMMANDS);
+    expect_replies(findings, found, FLAT_REPLIES, kind);
+}
+
+#[test]
+fn flat_maps(rt: HostRuntime) -> Result<(), Fail> {
+    let findings = Findings::new();
+    let alloc = rt.alloc();
+    let mut fixed = FixedSizeFlatMap::<u64, u64, 1>::new();
+    check_flat(&findings, alloc, &mut fixed, "fixed flat map");
+    let mut allocated = FlatMap::<u64, u64>::new(alloc, 1).expect(&rt, "an allocated flat map");
+    check_flat(&findings, alloc, &mut allocated, "allocated flat map");
+    let bump = Bump::new(alloc);
+    let uninit = UninitFlatMap::<u64, u64>::new_uninit(1);
+    let mut map = uninit.init(&bump).expect(&rt, "a flat map in an arena");
+    check_flat(&findings, alloc, &mut map, "relocatable flat map");
+    findings.verdict()
+}
+
+/// Commands of a string of capacity 4.
+const TEXT_COMMANDS: &[TextCommand<'static>] = &[
+    TextCommand::Insert(1, 97),
+    TextCommand::Append(b""),
+    TextCommand::Append(b"aba"),
+    TextCommand::Push(200),
+    TextCommand::Push(98),
+    TextCommand::Push(100),
+    TextCommand::Full,
+    TextCommand::Find(b"ab"),
+    TextCommand::Rfind(b"ab"),
+    TextCommand::Find(b""),
+    TextCommand::Rfind(b""),
+    TextCommand::Find(b"c"),
+    TextCommand::InsertBytes(5, b""),
+    TextCommand::InsertBytes(4, b"c"),
+    TextCommand::Drop(97),
+    TextCommand::Len,
+    TextCommand::InsertBytes(1, b"\t"),
+    TextCommand::At(1),
+    TextCommand::At(3),
+    TextCommand::StripPrefix(b"\t"),
+    TextCommand::StripPrefix(b"b"),
+    TextCommand::StripSuffix(b"\tb"),
+    TextCommand::Empty,
+    TextCommand::Append(b"xyz"),
+    TextCommand::RemoveRange(1, 3),
+    TextCommand::RemoveRange(1, usize::MAX),
+    TextCommand::RemoveRange(0, 1),
+    TextCommand::Remove(2),
+    TextCommand::Remove(0),
+    TextCommand::Truncate(9),
+    TextCommand::Pop,
+    TextCommand::Pop,
+    TextCommand::Clear,
+    TextCommand::Capacity,
+];
+
+const TEXT_REPLIES: &[Reply<usize, u8>] = &[
+    Reply::Error(IndexPastEnd),
+    Reply::Done,
+    Reply::Done,
+    Reply::Error(InvalidCharacter),
+    Reply::Done,
+    Reply::Error(InsertWouldExceedCapacity),
+    Reply::Bool(true),
+    Reply::Key(0),
+    Reply::Key(2),
+    Reply::Key(0),
+    Reply::Key(4),
+    Reply::None,
+    Reply::Error(IndexPastEnd),
+    Reply::Error(InsertWouldExceedCapacity),
+    Reply::Done,
+    Reply::Number(2),
+    Reply::Done,
+    Reply::Value(9),
+    Reply::None,
+    Reply::Bool(false),
+    Reply::Bool(true),
+    Reply::Bool(true),
+    Reply::Bool(true),
+    Reply::Done,
+    Reply::Bool(false),
+    Reply::Bool(false),
+    Reply::Bool(true),
+    Reply::None,
+    Reply::Value(121),
+    Reply::Done,
+    Reply::Value(122),
+    Reply::None,
+    Reply::Done,
+    Reply::Number(4),
+];
+
+fn check_text<S: String>(findings: &Findings, alloc: Global, string: &mut S, kind: &str) {
+    let found = run_text(alloc, string, TEXT_COMMANDS);
+    expect_replies(findings, found, TEXT_REPLIES, kind);
+}
+
+#[test]
+fn strings(rt: HostRuntime) -> Result<(), Fail> {
+    let findings = Findings::new();
+    let alloc = rt.alloc();
+    check_text(
+        &findings,
+        alloc,
+        &mut StaticString::<4>::new(),
+        "fixed string",
+    );
+    let mut allocated = PolymorphicString::new(alloc, 4).expect(&rt, "an allocated string");
+    check_text(&findings, alloc, &mut allocated, "allocated string");
+    let bump = Bump::new(alloc);
+    let uninit = UninitString::new_uninit(4);
+    let mut string = uninit.init(&bump).expect(&rt, "a string in an arena");
+    check_text(&findings, alloc, &mut string, "relocatable string");
     findings.verdict()
 }
