@@ -13,3 +13,5 @@ mod reading_tests;
 mod script_tests;
 #[cfg(test)]
 mod slow_queue;
+#[cfg(test)]
+mod text_run_tests;
