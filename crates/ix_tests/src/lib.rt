@@ -15,3 +15,5 @@ mod run_tests;
 mod script_tests;
 #[cfg(test)]
 mod slow_queue;
+#[cfg(test)]
+mod text_run_tests;

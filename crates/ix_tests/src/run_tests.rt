@@ -1,4 +1,4 @@
-//! Lists of commands, run on containers of every kind.
+//! Lists of commands, run on queues, vectors, slot maps and flat maps of every kind.
 use bumpalo::Bump;
 use ix_cells::{PolymorphicVec, RelocatableContainer, StaticVec, Table, UninitVec, Vector};
 use ix_expect::Findings;
@@ -6,15 +6,11 @@ use ix_maps::{
     FixedSizeFlatMap, FixedSizeQueue, FixedSizeSlotMap, FlatMap, Link, MetaFlatMap, MetaQueue,
     MetaSlotMap, Pair, Queue, SlotMap, UninitFlatMap, UninitQueue, UninitSlotMap,
 };
-use ix_run::run::ReplyError::{
-    IndexPastEnd, InsertWouldExceedCapacity, InvalidCharacter, IsFull, KeyAlreadyExists,
-    OutOfBounds,
-};
+use ix_run::run::ReplyError::{InsertWouldExceedCapacity, IsFull, KeyAlreadyExists, OutOfBounds};
 use ix_run::run::{
-    FlatCommand, QueueCommand, Reply, SlotCommand, TextCommand, VecCommand, run_flat, run_queue,
-    run_slot, run_text, run_vec,
+    FlatCommand, QueueCommand, Reply, SlotCommand, VecCommand, run_flat, run_queue, run_slot,
+    run_vec,
 };
-use ix_string::{PolymorphicString, StaticString, String, UninitString};
 use std::alloc::{AllocError, Global};
 use std::fmt::Debug;
 use std::test::Fail;
@@ -292,104 +288,5 @@ fn flat_maps(rt: HostRuntime) -> Result<(), Fail> {
     let uninit = UninitFlatMap::<u64, u64>::new_uninit(1);
     let mut map = uninit.init(&bump).expect(&rt, "a flat map in an arena");
     check_flat(&findings, alloc, &mut map, "relocatable flat map");
-    findings.verdict()
-}
-
-/// Commands of a string of capacity 4.
-const TEXT_COMMANDS: &[TextCommand<'static>] = &[
-    TextCommand::Insert(1, 97),
-    TextCommand::Append(b""),
-    TextCommand::Append(b"aba"),
-    TextCommand::Push(200),
-    TextCommand::Push(98),
-    TextCommand::Push(100),
-    TextCommand::Full,
-    TextCommand::Find(b"ab"),
-    TextCommand::Rfind(b"ab"),
-    TextCommand::Find(b""),
-    TextCommand::Rfind(b""),
-    TextCommand::Find(b"c"),
-    TextCommand::InsertBytes(5, b""),
-    TextCommand::InsertBytes(4, b"c"),
-    TextCommand::Drop(97),
-    TextCommand::Len,
-    TextCommand::InsertBytes(1, b"\t"),
-    TextCommand::At(1),
-    TextCommand::At(3),
-    TextCommand::StripPrefix(b"\t"),
-    TextCommand::StripPrefix(b"b"),
-    TextCommand::StripSuffix(b"\tb"),
-    TextCommand::Empty,
-    TextCommand::Append(b"xyz"),
-    TextCommand::RemoveRange(1, 3),
-    TextCommand::RemoveRange(1, usize::MAX),
-    TextCommand::RemoveRange(0, 1),
-    TextCommand::Remove(2),
-    TextCommand::Remove(0),
-    TextCommand::Truncate(9),
-    TextCommand::Pop,
-    TextCommand::Pop,
-    TextCommand::Clear,
-    TextCommand::Capacity,
-];
-
-const TEXT_REPLIES: &[Reply<usize, u8>] = &[
-    Reply::Error(IndexPastEnd),
-    Reply::Done,
-    Reply::Done,
-    Reply::Error(InvalidCharacter),
-    Reply::Done,
-    Reply::Error(InsertWouldExceedCapacity),
-    Reply::Bool(true),
-    Reply::Key(0),
-    Reply::Key(2),
-    Reply::Key(0),
-    Reply::Key(4),
-    Reply::None,
-    Reply::Error(IndexPastEnd),
-    Reply::Error(InsertWouldExceedCapacity),
-    Reply::Done,
-    Reply::Number(2),
-    Reply::Done,
-    Reply::Value(9),
-    Reply::None,
-    Reply::Bool(false),
-    Reply::Bool(true),
-    Reply::Bool(true),
-    Reply::Bool(true),
-    Reply::Done,
-    Reply::Bool(false),
-    Reply::Bool(false),
-    Reply::Bool(true),
-    Reply::None,
-    Reply::Value(121),
-    Reply::Done,
-    Reply::Value(122),
-    Reply::None,
-    Reply::Done,
-    Reply::Number(4),
-];
-
-fn check_text<S: String>(findings: &Findings, alloc: Global, string: &mut S, kind: &str) {
-    let found = run_text(alloc, string, TEXT_COMMANDS);
-    expect_replies(findings, found, TEXT_REPLIES, kind);
-}
-
-#[test]
-fn strings(rt: HostRuntime) -> Result<(), Fail> {
-    let findings = Findings::new();
-    let alloc = rt.alloc();
-    check_text(
-        &findings,
-        alloc,
-        &mut StaticString::<4>::new(),
-        "fixed string",
-    );
-    let mut allocated = PolymorphicString::new(alloc, 4).expect(&rt, "an allocated string");
-    check_text(&findings, alloc, &mut allocated, "allocated string");
-    let bump = Bump::new(alloc);
-    let uninit = UninitString::new_uninit(4);
-    let mut string = uninit.init(&bump).expect(&rt, "a string in an arena");
-    check_text(&findings, alloc, &mut string, "relocatable string");
     findings.verdict()
 }
