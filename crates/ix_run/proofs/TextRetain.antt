@@ -1,5 +1,5 @@
 -- Lemmas on the bytes that are kept if a closure tests each byte and does not change.
-use Rattle.std.proofs.Common.{ℕ, ◌≡◌, List, [], ◌∷◌, ◌++◌, Bool, true, false, refl, subst, sym, ap, ◌∙◌}
+use Rattle.std.proofs.Common.{◌≡◌, List, [], ◌∷◌, ◌++◌, Bool, true, false, refl, subst, sym, ap, ◌∙◌}
 use Rattle.std.specs.Prelude.{reverse, map, not}
 use Rattle.std.specs.List.{filter, items_where_true}
 use Rattle.std.proofs.lemmas.List.{map-append, reverse-append}

@@ -6,8 +6,6 @@ mod devices;
 #[cfg(test)]
 mod findings_tests;
 #[cfg(test)]
-mod map_run_tests;
-#[cfg(test)]
 mod oracle;
 #[cfg(test)]
 mod reading_tests;
@@ -17,3 +15,5 @@ mod run_tests;
 mod script_tests;
 #[cfg(test)]
 mod slow_queue;
+#[cfg(test)]
+mod text_run_tests;
