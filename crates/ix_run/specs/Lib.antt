@@ -1,4 +1,5 @@
 pub mod FixedQueues
+pub mod FlatRun
 pub mod Input
 pub mod Lines
 pub mod Outcome
@@ -8,6 +9,7 @@ pub mod Reading
 pub mod Replies
 pub mod Run
 pub mod Script
+pub mod SlotRun
 pub mod TextRun
 pub mod VecRun
 pub mod Writing

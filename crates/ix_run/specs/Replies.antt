@@ -2,6 +2,8 @@
 use Rattle.std.specs.Prelude.{Option, None, Some, Result, Ok, Err}
 use Rattle.ix_cells.specs.declared.vector.modification_error.VectorModificationError.{VectorModificationError}
 use Rattle.ix_cells.specs.declared.vector.modification_error.VectorModificationError.TheVariants as vec_error
+use Rattle.ix_maps.specs.declared.flatmap.flat_map_error.FlatMapError.{FlatMapError}
+use Rattle.ix_maps.specs.declared.flatmap.flat_map_error.FlatMapError.TheVariants as flat_error
 use Rattle.ix_run.specs.declared.run.reply.Reply.{Reply}
 use Rattle.ix_run.specs.declared.run.reply.Reply.TheVariants as reply
 use Rattle.ix_run.specs.declared.run.reply.ReplyError.{ReplyError}
@@ -18,6 +20,11 @@ module _ {K X : Type 0} where
   key_reply None = reply.None
   key_reply (Some key) = reply.Key key
 
+  -- an optional key with its value as a reply
+  abbrev pub entry_reply : Option (K × X) → Reply K X
+  entry_reply None = reply.None
+  entry_reply (Some entry) = reply.Entry entry.0 entry.1
+
   -- whether a change was made, or why it was refused
   abbrev pub result_reply : {E : Type 0} → (E → ReplyError) → Result (Unit {0}) E → Reply K X
   result_reply named (Ok u) = reply.Done
@@ -28,3 +35,8 @@ abbrev pub vec_reply_error : VectorModificationError → ReplyError
 vec_reply_error vec_error.OutOfBounds = error.OutOfBounds
 vec_reply_error vec_error.InsertWouldExceedCapacity = error.InsertWouldExceedCapacity
 vec_reply_error vec_error.OutOfMemory = error.InsertWouldExceedCapacity
+
+-- the name of an error of a flat map
+abbrev pub flat_reply_error : FlatMapError → ReplyError
+flat_reply_error flat_error.KeyAlreadyExists = error.KeyAlreadyExists
+flat_reply_error flat_error.IsFull = error.IsFull

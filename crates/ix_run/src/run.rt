@@ -10,6 +10,7 @@
 mod command;
 mod engine;
 mod fault;
+mod flats;
 mod laws;
 mod limits;
 mod partial_line;
@@ -21,6 +22,7 @@ mod reply_buffer;
 mod runs;
 mod script_state;
 mod scripts;
+mod slots;
 mod strings;
 mod vectors;
 
@@ -28,6 +30,7 @@ pub use command::{
     FixedCapacity, FlatCommand, QueueCommand, QueueLine, SlotCommand, TextCommand, VecCommand,
 };
 pub use fault::{ScriptFault, exit_status, fault_line};
+pub use flats::run_flat;
 pub use laws::{line_law, script_law};
 pub use limits::MAX_LINE_LEN;
 pub use queues::run_queue;
@@ -35,5 +38,6 @@ pub use reading::{read_header, read_number, read_queue_line};
 pub use reply::{Reply, ReplyError};
 pub use runs::{Runs, run_all};
 pub use scripts::script;
+pub use slots::run_slot;
 pub use strings::run_text;
 pub use vectors::run_vec;

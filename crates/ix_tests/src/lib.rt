@@ -10,6 +10,8 @@ mod oracle;
 #[cfg(test)]
 mod reading_tests;
 #[cfg(test)]
+mod run_tests;
+#[cfg(test)]
 mod script_tests;
 #[cfg(test)]
 mod slow_queue;

@@ -1,5 +1,5 @@
 //! The flat map over any two tables.
-ghost use Rattle.std.specs.Prelude.{◌≡◌, ◌↔◌, ◌+◌, ℕ, [], length, Some, None, IsSome, IsTrue, IsNone, IsOk, IfSome, IfOk, OnErr, option_copied, option_map, false, true};
+ghost use Rattle.std.specs.Prelude.{◌≡◌, ◌↔◌, ◌+◌, ℕ, [], length, Some, None, IsSome, IsTrue, IsNone, IsOk, IfSome, IfOk, OnErr, option_copied, option_map, slice_get, false, true};
 ghost use Rattle.std.specs.Borrow.{sem, Lends, LendsIf};
 ghost use Rattle.std.specs.Option.{option_copied_mut};
 ghost use Rattle.ix_cells.specs.Cloning.{AreEqualClones};
@@ -206,6 +206,20 @@ impl<K: Eq + Drop, V: Drop, S: Table<Pair<K, V>>, L: Table<Link>> MetaFlatMap<K,
                 CallbackProgression::Stop => return,
             }
         }
+    }
+
+    /// Returns the key that [`MetaFlatMap::list_keys`] lists after `n` others, or `None` if there are at most `n` keys.
+    pub fn nth_key(&self, n: usize) -> Option<&K>
+        ensures { option_copied result ≡ slice_get (flat_keys self.now) n }
+    {
+        let mut before = n;
+        for (_, pair) in self.pairs.iter() {
+            if before == 0 {
+                return Some(&pair.key);
+            }
+            before -= 1;
+        }
+        None
     }
 
     /// Returns the place of the key that equals `key`, and the pair there.

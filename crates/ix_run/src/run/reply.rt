@@ -1,6 +1,6 @@
 //! The replies to commands.
 ghost use Rattle.std.specs.Prelude.{◌≡◌};
-ghost use Rattle.ix_run.specs.Replies.{option_reply, key_reply};
+ghost use Rattle.ix_run.specs.Replies.{option_reply, key_reply, entry_reply};
 
 /// The reply to a command of a container with keys of type `K` and items of type `X`.
 #[derive(Clone, Copy, PartialEq, Eq, Debug)]
@@ -58,6 +58,17 @@ pub fn reply_of_key<K: Copy, T: Copy>(key: Option<K>) -> Reply<K, T>
 {
     match key {
         Some(key) => Reply::Key(key),
+        None => Reply::None,
+    }
+}
+
+/// Returns an optional key with its value as a reply.
+#[inline]
+pub fn reply_of_entry<K: Copy, T: Copy>(entry: Option<(K, T)>) -> Reply<K, T>
+    ensures { result ≡ entry_reply entry }
+{
+    match entry {
+        Some((key, value)) => Reply::Entry(key, value),
         None => Reply::None,
     }
 }
