@@ -9,6 +9,8 @@ mod drop_tests;
 #[cfg(test)]
 mod forms;
 #[cfg(test)]
+mod memory_tests;
+#[cfg(test)]
 mod option_tests;
 #[cfg(test)]
 mod reading_tests;

@@ -11,6 +11,8 @@ mod generic_tests;
 #[cfg(test)]
 mod making_tests;
 #[cfg(test)]
+mod memory_tests;
+#[cfg(test)]
 mod order_tests;
 #[cfg(test)]
 mod own_rules;
