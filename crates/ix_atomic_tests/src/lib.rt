@@ -12,6 +12,8 @@ mod foo;
 #[cfg(test)]
 mod memory_tests;
 #[cfg(test)]
+mod refused_tests;
+#[cfg(test)]
 mod sequenced_tests;
 #[cfg(test)]
 mod sequenced_threads;

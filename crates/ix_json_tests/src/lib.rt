@@ -9,11 +9,11 @@ mod drop_tests;
 #[cfg(test)]
 mod forms;
 #[cfg(test)]
-mod memory_tests;
-#[cfg(test)]
 mod option_tests;
 #[cfg(test)]
 mod reading_tests;
+#[cfg(test)]
+mod refused_tests;
 #[cfg(test)]
 mod text_tests;
 #[cfg(test)]

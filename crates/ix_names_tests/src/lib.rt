@@ -11,11 +11,11 @@ mod generic_tests;
 #[cfg(test)]
 mod making_tests;
 #[cfg(test)]
-mod memory_tests;
-#[cfg(test)]
 mod order_tests;
 #[cfg(test)]
 mod own_rules;
+#[cfg(test)]
+mod refused_tests;
 #[cfg(test)]
 mod retain_tests;
 #[cfg(test)]

@@ -19,6 +19,8 @@ mod order_tests;
 #[cfg(test)]
 mod refusals;
 #[cfg(test)]
+mod refused_tests;
+#[cfg(test)]
 mod rows;
 #[cfg(test)]
 mod strings;

@@ -1,0 +1,15 @@
+//! What `as_escaped_string` returns if an allocation fails, which the script `.ci/refusals` brings about for each in turn.
+use ix_expect::Findings;
+use ix_string::as_escaped_string;
+use std::alloc::AllocError;
+use std::test::Fail;
+
+#[test]
+fn a_text_or_its_refusal(rt: HostRuntime) -> Result<(), Fail> {
+    let findings = Findings::new();
+    match as_escaped_string(rt.alloc(), b"a\t\x01") {
+        Ok(text) => findings.expect_same(text.as_str(), "a\\t\\x01", "the escaped text"),
+        Err(AllocError) => {}
+    }
+    findings.verdict()
+}
