@@ -1,7 +1,7 @@
 -- Worked examples: the steps of a flat map do what users expect.
 use Rattle.std.proofs.Common.{ℕ, ◌≡◌, ◌%◌, List, [], ◌∷◌, Option, Some, None, Bool, refl}
 use Rattle.std.specs.Prelude.{nat_eq, Ok, Err}
-use Rattle.ix_maps.specs.SlotState.{SlotState, slot_new}
+use Rattle.ix_maps.specs.SlotState.{SlotState}
 use Rattle.ix_maps.specs.FlatState.{HasDistinctKeys, flat_entry, flat_value, flat_keys}
 use Rattle.ix_maps.specs.FlatSteps.{flat_insert_result, flat_insert, flat_set, flat_remove}
 use Rattle.ix_maps.specs.declared.flatmap.pair.Pair.{Pair}

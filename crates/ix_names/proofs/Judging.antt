@@ -1,21 +1,18 @@
 -- Lemmas on what a semantic string refuses.
-use Rattle.std.proofs.Common.{ℕ, ◌≡◌, ◌+◌, ◌≤◌, ◌∙◌, List, ◌++◌, length, take, drop, length-append, Ok, Err, true, ap, arith}
+use Rattle.std.proofs.Common.{ℕ, ◌≡◌, ◌+◌, ◌≤◌, ◌∙◌, List, ◌++◌, length, take, drop, length-append, Ok, Err, ap, arith}
 use Rattle.std.specs.List.{insert_slice}
 use Rattle.std.proofs.lemmas.Grind.{common_steps}
 use Rattle.std.proofs.lemmas.List.{take_at, drop_at}
 use Rattle.std.proofs.lemmas.List.Elements.{All-take, All-drop}
-use Rattle.std.proofs.lemmas.List.Sums.{list_all-from_AllPass}
 use Rattle.ix_cells.specs.Bounded.{Bounded}
-use Rattle.ix_string.specs.Text.{IsText, IsTextByte, is_text, is_text_byte}
+use Rattle.ix_string.specs.Text.{IsText, IsTextByte}
+use Rattle.ix_string.proofs.Texts.{is_text-yes}
 use Rattle.ix_string.specs.TextSteps.{text_insert, text_insert_result, text_insert_slice}
 use Rattle.ix_string.specs.declared.string.modification_error.StringModificationError.{StringModificationError}
 use Rattle.ix_string.specs.declared.string.modification_error.StringModificationError.TheVariants.{InvalidCharacter, InsertWouldExceedCapacity}
 use Rattle.ix_names.specs.ErrorTexts.{semantic_error_of}
 use Rattle.ix_names.specs.Rules.{TextRules}
 use Rattle.ix_names.specs.SemanticSteps.{SemanticResult}
-
-is_text-yes : (bytes : List ℕ) → IsText bytes → is_text bytes ≡ true
-is_text-yes bytes is = list_all-from_AllPass is_text_byte bytes (λ k d lt. let here = is k d lt in grind (arith, common_steps))
 
 pub length-insert_slice : (text : List ℕ) (i : ℕ) (bytes : List ℕ) → i ≤ length text → length (insert_slice text i bytes) ≡ length text + length bytes
 length-insert_slice text i bytes within = grind (arith, common_steps)

@@ -1,13 +1,8 @@
 -- Two sample rules: names of groups, and texts whose trailing slashes mean nothing.
-use Rattle.std.specs.Prelude.{ℕ, ◌-◌, ◌==◌, ◌&&◌, ◌||◌, List, [], ◌∷◌, length, take, max, Bool, true, false, not, nat_le}
+use Rattle.std.specs.Prelude.{ℕ, ◌-◌, ◌==◌, ◌||◌, List, [], ◌∷◌, length, take, max, Bool, true, false, not}
+use Rattle.std.specs.Char.{is_ascii_digit, is_ascii_lowercase}
 use Rattle.std.specs.List.{list_any, suffix_len}
 use Rattle.ix_names.specs.Rules.{TextRules}
-
-abbrev pub is_lower_case : ℕ → Bool
-is_lower_case b = nat_le 97 b && nat_le b 122
-
-abbrev pub is_digit : ℕ → Bool
-is_digit b = nat_le 48 b && nat_le b 57
 
 abbrev pub is_dash : ℕ → Bool
 is_dash b = b == 45
@@ -18,13 +13,13 @@ is_slash b = b == 47
 -- names are not empty, and begin with neither a digit nor a dash
 abbrev pub is_no_group_name : List ℕ → Bool
 is_no_group_name [] = true
-is_no_group_name (b ∷ bs) = is_dash b || is_digit b
+is_no_group_name (b ∷ bs) = is_dash b || is_ascii_digit b
 
 -- lower-case letters, digits and dashes make names, and each name is its own normal form
 abbrev pub group_name_rules : TextRules
 group_name_rules = record {
   invalid_content = is_no_group_name;
-  invalid_characters = list_any (λ b. not (is_lower_case b || (is_digit b || is_dash b)));
+  invalid_characters = list_any (λ b. not (is_ascii_lowercase b || (is_ascii_digit b || is_dash b)));
   normal_form = λ name. name;
 }
 

@@ -1,6 +1,7 @@
 //! Names of groups.
 ghost use Rattle.std.specs.Prelude.{◌≡◌, ◌||◌, not, refl};
-ghost use Rattle.ix_names.specs.SampleRules.{group_name_rules, is_lower_case, is_digit, is_dash};
+ghost use Rattle.std.specs.Char.{is_ascii_digit, is_ascii_lowercase};
+ghost use Rattle.ix_names.specs.SampleRules.{group_name_rules, is_dash};
 
 use crate::semantic_string::{Rules, Semantic};
 use ix_string::StaticString;
@@ -49,7 +50,7 @@ impl Rules<31> for GroupNameRules {
 
 #[inline]
 fn may_stand_in_name(byte: u8) -> bool
-    ensures { result ≡ is_lower_case byte || (is_digit byte || is_dash byte) }
+    ensures { result ≡ is_ascii_lowercase byte || (is_ascii_digit byte || is_dash byte) }
 {
     byte.is_ascii_lowercase() || byte.is_ascii_digit() || byte == b'-'
 }

@@ -1,6 +1,7 @@
 use Rattle.std.proofs.Common.{◌≡◌, ◌∙◌, ap, arith}
 use Rattle.std.proofs.lemmas.Grind.{common_steps}
-use Rattle.ix_names.proofs.TextTrees.{IsUtf8-text, text_read-String}
+use Rattle.ix_string.proofs.Texts.{IsUtf8-text}
+use Rattle.ix_names.proofs.TextTrees.{text_read-String}
 use Rattle.ix_names.proofs.json.texts.StaticStringJsonForm.to_value.Goals as goal
 
 pub from_utf8_unchecked-text-requires : goal.from_utf8_unchecked-text-requires
