@@ -3,5 +3,10 @@ pub mod Counts
 pub mod Fronts
 pub mod Lists
 pub mod Loans
+pub mod RawNames
+pub mod RawParts
+pub mod RawSending
+pub mod RawSharing
+pub mod RawSteps
 pub mod Refilling
 pub mod Rows

@@ -5,5 +5,8 @@ pub mod Conversions
 pub mod ErrorTexts
 pub mod Lending
 pub mod Places
+pub mod RawLending
+pub mod RawMemory
+pub mod RawRows
 pub mod Rows
 pub mod VectorSteps

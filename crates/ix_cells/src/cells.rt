@@ -12,6 +12,8 @@ mod counted;
 mod heap_table;
 mod inline_table;
 mod places;
+mod raw_row;
+mod raw_slots;
 mod relocatable_container;
 pub(crate) mod row;
 mod table;
@@ -20,6 +22,9 @@ mod uninit;
 pub use counted::{Counted, Touches};
 pub use heap_table::HeapTable;
 pub use inline_table::InlineTable;
+#[doc(hidden)]
+pub use raw_row::{RowGrant, RowOwner, RowPtr};
+pub use raw_slots::RawSlots;
 pub use relocatable_container::{InitError, RelocatableContainer};
 pub use table::{MAX_FIXED_CAPACITY, Table};
 pub use uninit::{ContainerFamily, Uninit};

@@ -20,7 +20,7 @@ pub mod cells;
 pub mod vector;
 
 pub use cells::{
-    ContainerFamily, Counted, HeapTable, InitError, InlineTable, MAX_FIXED_CAPACITY,
+    ContainerFamily, Counted, HeapTable, InitError, InlineTable, MAX_FIXED_CAPACITY, RawSlots,
     RelocatableContainer, Table, Touches, Uninit,
 };
 pub use vector::{

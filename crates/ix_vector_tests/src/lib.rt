@@ -19,6 +19,8 @@ mod noted_calls;
 #[cfg(test)]
 mod printing_tests;
 #[cfg(test)]
+mod raw_slots_tests;
+#[cfg(test)]
 mod refusal_tests;
 #[cfg(test)]
 mod rolling;

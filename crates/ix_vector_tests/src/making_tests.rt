@@ -54,7 +54,7 @@ fn check_again(findings: &Findings, refused: Option<InitError<UninitVec<u64>>>, 
     }
 }
 
-/// The heap has a free block of 16 bytes for a place if `found`.
+/// The heap has two free blocks of 16 bytes, for a place and for its mark, if `found`.
 fn check_table(findings: &Findings, heap: &LocalHeap, found: bool) {
     let used = heap.used();
     match HeapTable::<u64, &LocalHeap>::new(heap, 1) {
@@ -67,8 +67,9 @@ fn check_table(findings: &Findings, heap: &LocalHeap, found: bool) {
     findings.expect_same(heap.used(), used, "a table");
 }
 
-/// Besides one block that is in use, the heap has a block of 16 bytes if `found`. `ample` has memory.
-fn check_blocks(findings: &Findings, heap: &LocalHeap, ample: Global, found: bool) {
+/// Besides one block that is in use, the heap has `blocks` of 16 bytes. `ample` has memory.
+fn check_blocks(findings: &Findings, heap: &LocalHeap, ample: Global, blocks: usize) {
+    let found = blocks > 0;
     let held = Box::new(heap, 0u64);
     findings.expect(held.is_ok(), "a block");
     let used = heap.used();
@@ -80,7 +81,7 @@ fn check_blocks(findings: &Findings, heap: &LocalHeap, ample: Global, found: boo
     findings.expect_same(refused.is_none(), found, "in two steps");
     check_again(findings, refused, ample);
     check_by_closure(findings, heap, found);
-    check_table(findings, heap, found);
+    check_table(findings, heap, blocks > 1);
 }
 
 #[test]
@@ -88,7 +89,7 @@ fn vectors_and_tables_refused(rt: HostRuntime) -> Result<(), Fail> {
     let findings = Findings::new();
     for blocks in 0..3usize {
         match LocalHeap::new(rt.alloc(), 16 * (blocks + 1)) {
-            Ok(heap) => check_blocks(&findings, &heap, rt.alloc(), blocks > 0),
+            Ok(heap) => check_blocks(&findings, &heap, rt.alloc(), blocks),
             Err(_) => findings.miss("a heap"),
         }
     }

@@ -1,11 +1,9 @@
 //! A table in memory of an allocator.
 ghost use Rattle.std.specs.Prelude.{◌≡◌, Some, None, IsOk, IfOk, slice_set, replicate, refl};
 
-use crate::cells::Table;
-use crate::cells::places::{item, item_mut};
+use crate::cells::{RawSlots, Table};
 use std::alloc::{AllocError, Allocator, Global};
 use std::marker::Model;
-use std::mem;
 
 /// A table that allocates its places from `A` once, when it is made, and deallocates them when it ends.
 ///
@@ -14,7 +12,7 @@ use std::mem;
 /// table.put(0, 'a');
 /// ```
 pub struct HeapTable<T, A: Allocator = Global> {
-    row: Vec<Option<T>, A>,
+    slots: RawSlots<T, A>,
 }
 
 impl<T, A: Allocator> Model for HeapTable<T, A> {
@@ -22,23 +20,20 @@ impl<T, A: Allocator> Model for HeapTable<T, A> {
 
     ghost Value = { List (Option T) };
 
-    ghost view = { λ table. table.row.items };
+    ghost view = { λ table. table.slots };
 }
 
 impl<T: Drop, A: Allocator> HeapTable<T, A> {
     /// Creates a table of `len` empty places.
     ///
-    /// O(`len`), with at most one allocation. Returns `AllocError` if that fails, as it does if the places would take
-    /// more than `isize::MAX` bytes.
+    /// O(`len`), with at most two allocations, one of the places and one of their marks. Returns `AllocError` if one fails,
+    /// and if the places would take more than `isize::MAX` bytes; nothing stays allocated then.
     pub fn new(alloc: A, len: usize) -> Result<Self, AllocError>
         ensures value { IfOk result (λ table. table ≡ replicate len None) }
         ensures memory { len ≡ 0 → IsOk result }
     {
-        let mut row = Vec::with_capacity(alloc, len)?;
-        for _i in 0..len {
-            row.push_reserved(None);
-        }
-        Ok(HeapTable { row })
+        let slots = RawSlots::new(alloc, len)?;
+        Ok(HeapTable { slots })
     }
 }
 
@@ -51,33 +46,31 @@ impl<T: Drop, A: Allocator> Table<T> for HeapTable<T, A> {
 
     #[inline]
     fn len(&self) -> usize {
-        self.row.len()
+        self.slots.len()
     }
 
     #[inline]
     fn put(&mut self, i: usize, item: T) {
-        self.row[i] = Some(item);
+        self.slots.put(i, item);
     }
 
     #[inline]
     fn take(&mut self, i: usize) -> T {
-        match mem::replace(&mut self.row[i], None) {
-            Some(item) => item,
-            None => unreachable!(),
-        }
+        self.slots.take(i)
     }
 
     #[inline]
     fn get(&self, i: usize) -> &T {
-        item(&self.row[i])
+        self.slots.get(i)
     }
 
     #[inline]
     fn get_mut(&mut self, i: usize) -> &mut T {
-        item_mut(&mut self.row[i])
+        self.slots.get_mut(i)
     }
 
     fn end(self) {
-        let HeapTable { row: _ } = self;
+        let HeapTable { slots } = self;
+        slots.end();
     }
 }

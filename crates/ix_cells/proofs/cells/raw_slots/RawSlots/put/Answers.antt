@@ -1,0 +1,9 @@
+use Rattle.std.proofs.Common.{Some}
+use Rattle.std.specs.Vec.{vec_allocator}
+use Rattle.ix_cells.proofs.RawParts.{parts_set}
+use Rattle.ix_cells.proofs.cells.raw_slots.RawSlots.put.Goals as goal
+
+pub invariant_of-self : goal.invariant_of-self
+invariant_of-self g c =
+    let s = c.self.inside in
+    parts_set s.ptr s.row s.grant s.held.items (vec_allocator s.held) c.self.invariant c.args.i (Some c.args.item) c.write.new.self c.write.ensures
