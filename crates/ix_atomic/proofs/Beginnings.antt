@@ -2,8 +2,7 @@
 use Rattle.std.proofs.Common.{◌≡◌, ℕ, zero, suc, ◌+◌, ◌<◌, ◌≤◌, List, [], ◌∷◌, ◌++◌, length, take, drop, get_or, set, refl, sym, ap, ◌∙◌, arith, add-one, length-append, append_assoc, append-nil, Some, All, subst, le_trans}
 use Rattle.std.specs.Prelude.{slice_get}
 use Rattle.std.proofs.Math.ListN.{drop_of_length-le}
-use Rattle.std.proofs.Math.Seq.{take-length}
-use Rattle.std.proofs.lemmas.List.{get_or_push}
+use Rattle.std.proofs.lemmas.List.{get_or_push, get_or-drop}
 use mathlib.Core.Option.{some, some-injective, some-ne-none}
 use lib.ListN.{get_elem?}
 use Rattle.ix_atomic.specs.History.{Begins}
@@ -28,23 +27,9 @@ module _ {T : Type 0} where
   slice_get-push (y ∷ ys) x zero e = absurd (omega arith)
   slice_get-push (y ∷ ys) x (suc k) e = slice_get-push ys x k (omega arith)
 
-  set-seam : (front old : List T) (x : T) → length front < length old → set (front ++ drop (length front) old) (length front) x ≡ (front ++ x ∷ []) ++ drop (suc (length front)) old
-  set-seam [] [] x inside = absurd (omega arith)
-  set-seam [] (y ∷ ys) x inside = refl
-  set-seam (z ∷ zs) [] x inside = absurd (omega arith)
-  set-seam (z ∷ zs) (y ∷ ys) x inside = ap (λ list. z ∷ list) (set-seam zs ys x (omega arith))
-
-  -- one more item is set, where the front ends
-  pub set-front : (front old : List T) (x : T) → length front < length old → set (front ++ drop (length front) old) (length front) x ≡ (front ++ x ∷ []) ++ drop (length (front ++ x ∷ [])) old
-  set-front front old x inside = set-seam front old x inside ∙ ap (λ n. (front ++ x ∷ []) ++ drop n old) (sym (length-push front x))
-
   -- all items are set
   pub front-whole : (front old : List T) → length front ≡ length old → front ++ drop (length front) old ≡ front
   front-whole front old e = ap (λ list. front ++ list) (drop_of_length-le old (omega arith)) ∙ append-nil front
-
-  -- lists of which as many items are equal as they have
-  pub take-all : (k : ℕ) (xs ys : List T) → length xs ≡ k → length ys ≡ k → take k xs ≡ take k ys → xs ≡ ys
-  take-all k xs ys of_xs of_ys same = sym (take-length xs) ∙ ap (λ n. take n xs) of_xs ∙ same ∙ ap (λ n. take n ys) (sym of_ys) ∙ take-length ys
 
   pub set-tail : (x : T) (xs list : List T) (k : ℕ) (y : T) → list ≡ x ∷ xs → set list (k + 1) y ≡ x ∷ set xs k y
   set-tail x xs list k y e = λ i. set (e i) (add-one k i) y
@@ -64,12 +49,19 @@ get_elem-tail list i x e = sym (get_or-get_elem list (i + 1) x e) ∙ get_or-tai
 abbrev pub AreBelow : ℕ → List ℕ → Type 0
 AreBelow bound list = (i : ℕ) → get_or list i 0 < bound
 
-pub AreBelow-set : (list : List ℕ) (k x : ℕ) → AreBelow 256 list → x < 256 → AreBelow 256 (set list k x)
-AreBelow-set [] k x below small i = below i
-AreBelow-set (y ∷ ys) zero x below small zero = small
-AreBelow-set (y ∷ ys) zero x below small (suc i) = below (suc i)
-AreBelow-set (y ∷ ys) (suc k) x below small zero = below zero
-AreBelow-set (y ∷ ys) (suc k) x below small (suc i) = AreBelow-set ys k x (λ j. below (suc j)) small i
+pub AreBelow-take : (bound count : ℕ) (list : List ℕ) → 0 < bound → AreBelow bound list → AreBelow bound (take count list)
+AreBelow-take bound zero list above below i = above
+AreBelow-take bound (suc count) [] above below i = above
+AreBelow-take bound (suc count) (x ∷ xs) above below zero = below 0
+AreBelow-take bound (suc count) (x ∷ xs) above below (suc i) = AreBelow-take bound count xs above (λ j. below (suc j)) i
+
+pub AreBelow-drop : (bound count : ℕ) (list : List ℕ) → AreBelow bound list → AreBelow bound (drop count list)
+AreBelow-drop bound count list below i = subst (λ n. n < bound) (sym (get_or-drop count list i 0)) (below (count + i))
+
+pub AreBelow-append : (bound : ℕ) (xs ys : List ℕ) → AreBelow bound xs → AreBelow bound ys → AreBelow bound (xs ++ ys)
+AreBelow-append bound [] ys of_xs of_ys i = of_ys i
+AreBelow-append bound (x ∷ xs) ys of_xs of_ys zero = of_xs 0
+AreBelow-append bound (x ∷ xs) ys of_xs of_ys (suc i) = AreBelow-append bound xs ys (λ j. of_xs (suc j)) of_ys i
 
 pub All-weaken : (m n : ℕ) (list : List ℕ) → m ≤ n → All (λ x. x ≤ m) list → All (λ x. x ≤ n) list
 All-weaken m n list up all k default inside = le_trans (all k default inside) up

@@ -1,6 +1,8 @@
 pub mod LittleEndian
+pub mod WordBytes
 pub mod PaddedTexts
 mod WorkedEncodings
+mod WorkedWords
 pub mod EachStep
 pub mod Splits
 pub mod LastStored
@@ -13,6 +15,8 @@ pub mod VersionedReads
 mod WorkedReads
 mod WorkedSteps
 pub mod Beginnings
+pub mod StageBytes
+pub mod DataWords
 pub mod Encodes
 pub mod SequencedKeeps
 pub mod SequencedCalls

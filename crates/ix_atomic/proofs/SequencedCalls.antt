@@ -1,18 +1,38 @@
 -- What the steps of one call do together to the seat that takes them.
-use Rattle.std.proofs.Common.{◌≡◌, ℕ, ◌+◌, ◌-◌, ◌*◌, ◌/◌, ◌%◌, ◌≤◌, List, [], length, take, true, refl, sym, ap, ◌∙◌, subst, arith, All, Some}
+use Rattle.std.proofs.Common.{◌≡◌, ℕ, ◌+◌, ◌-◌, ◌*◌, ◌/◌, ◌%◌, ◌<◌, ◌≤◌, min, List, [], ◌++◌, length, take, true, refl, sym, ap, ◌∙◌, subst, arith, All, Some}
 use Rattle.std.proofs.Math.Seq.{take-length}
 use Rattle.atomic_table.specs.Seated.{TableId}
 use Rattle.ix_atomic.specs.declared.sequenced.rule.SeatView.{SeatView}
 use Rattle.ix_atomic.specs.declared.sequenced.rule.Stage.TheVariants.{Reading, Writing}
 use Rattle.ix_atomic.specs.History.{IsEven, Loads, LoadsTwice, value_at}
-use Rattle.ix_atomic.specs.SequencedSteps.{Seated, view_stage, seated_stage, view_end, reader_of, ViewLoads}
-use Rattle.ix_atomic.proofs.Beginnings.{Begins-length, All-last}
+use Rattle.ix_atomic.specs.SequencedSteps.{Seated, bytes_at, view_stage, view_bytes, seated_stage, view_end, reader_of, ViewLoads}
+use Rattle.ix_atomic.specs.Words.{word_of, bytes_of_word}
+use Rattle.ix_atomic.proofs.Beginnings.{Begins-length, All-last, AreBelow}
+use Rattle.ix_atomic.proofs.DataWords.{chunk_at, chunk_at-more, stored-chunk, with_word, with_word-front}
+use Rattle.ix_atomic.proofs.StageBytes.{stage_bytes-Reading, stage_bytes-Writing, bytes_at-next}
 
 module _ {T : Type 0} where
   pub whole_write : (value : T) (bytes : List ℕ) (seat begun stored ended : Seated T) → begun ≡ seated_stage (Writing []) seat → stored ≡ seated_stage (Writing bytes) begun
       → ended ≡ (view_end value stored.0, stored.1) → ended ≡ (view_end value seat.0, seat.1)
   whole_write value bytes seat begun stored ended begin store end =
       end ∙ ap (λ (s : Seated T). (view_end value s.0, s.1)) store ∙ ap (λ (s : Seated T). (view_end value s.0, s.1)) begin
+
+  -- one more word is stored
+  pub store_more : (size k word : ℕ) (bytes : List ℕ) (seat before after : Seated T) → AreBelow 256 bytes → length bytes ≡ size → word ≡ word_of (chunk_at k bytes) → seat ≡ seated_stage (Writing (take (8 * k) bytes)) before
+      → after ≡ (view_bytes (bytes_of_word (bytes_at size (k + 1)) word) seat.0, seat.1) → after ≡ seated_stage (Writing (take (8 * (k + 1)) bytes)) before
+  store_more size k word bytes seat before after below long packed kept step =
+      let got : List ℕ = bytes_of_word (bytes_at size (k + 1)) word in let stored : List ℕ = take (8 * k) bytes in
+      let more : stored ++ got ≡ take (8 * (k + 1)) bytes = ap (λ list. stored ++ list) (stored-chunk size k word bytes below long packed) ∙ chunk_at-more k bytes in
+      step ∙ ap (λ (s : Seated T). (view_bytes got s.0, s.1)) kept ∙ ap (λ stage. seated_stage stage before) (stage_bytes-Writing got stored ∙ ap Writing more)
+
+  -- one more word is loaded
+  pub load_more : (size first k word : ℕ) (bytes : List ℕ) (seat before after : Seated T) → length bytes ≡ size → 8 * k < size → seat ≡ seated_stage (Reading first (take (8 * k) bytes)) before
+      → after ≡ (view_bytes (bytes_of_word (bytes_at size (k + 1)) word) seat.0, seat.1) → after ≡ seated_stage (Reading first (take (8 * (k + 1)) (with_word k word bytes))) before
+  load_more size first k word bytes seat before after long inside kept step =
+      let got : List ℕ = bytes_of_word (bytes_at size (k + 1)) word in let loaded : List ℕ = take (8 * k) bytes in
+      let count : bytes_at size (k + 1) ≡ min 8 (length bytes - 8 * k) = bytes_at-next size k ∙ ap (λ n. min 8 (n - 8 * k)) (sym long) in
+      let more : loaded ++ got ≡ take (8 * (k + 1)) (with_word k word bytes) = ap (λ n. loaded ++ bytes_of_word n word) count ∙ sym (with_word-front k word bytes (omega arith)) in
+      step ∙ ap (λ (s : Seated T). (view_bytes got s.0, s.1)) kept ∙ ap (λ stage. seated_stage stage before) (stage_bytes-Reading got first loaded ∙ ap (Reading first) more)
 
 module _ {T : Type 0} (IsEncoding : T → List ℕ → Type 0) where
   least_version : (known long version : ℕ) → known ≤ long → long ≡ version / 2 + 1 → 2 * (known - 1) ≤ version

@@ -1,5 +1,6 @@
 pub mod Encoding
 pub mod EncodingLaws
+pub mod Words
 pub mod EachStep
 pub mod ByteActs
 pub mod PlainSteps

@@ -1,4 +1,4 @@
--- The rule of a sequenced cell: what its words and its seats are between any two steps. Word 0 is the version, each other word one byte.
+-- The rule of a sequenced cell: what its words and its seats are between any two steps. Word 0 is the version, each other word eight bytes.
 use Rattle.std.specs.Prelude.{◌≡◌, ℕ, ◌+◌, ◌/◌, ◌%◌, ◌<◌, ◌≤◌, List, [], ◌∷◌, ◌++◌, true, All, length, take, drop, slice_index}
 use mathlib.Core.Option.{some}
 use lib.ListN.{get_elem?}
@@ -7,6 +7,7 @@ use Rattle.ix_atomic.specs.declared.sequenced.rule.SeatView.{SeatView}
 use Rattle.ix_atomic.specs.declared.sequenced.rule.Stage.{Stage}
 use Rattle.ix_atomic.specs.declared.sequenced.rule.Stage.TheVariants.{Idle, Reading, Writing}
 use Rattle.ix_atomic.specs.History.{Begins, IsEven, IsOdd}
+use Rattle.ix_atomic.specs.Words.{words_of}
 
 -- the bytes are the encoding of the value
 abbrev pub Encodes : {T : Type 0} → (T → Type 0) → (T → List ℕ) → T → List ℕ → Type 0
@@ -23,9 +24,9 @@ pub record Content (T : Type 0) : Type 0 where
 abbrev pub history : {T : Type 0} → Content T → List T
 history content = content.earlier ++ content.last ∷ []
 
--- A front of the words is of the write in progress, the rest still of the last value.
-abbrev pub byte_words : {T : Type 0} → Content T → List ℕ
-byte_words content = content.front ++ drop (length content.front) content.bytes
+-- A front of the bytes is of the write in progress, the rest still of the last value.
+abbrev pub cell_bytes : {T : Type 0} → Content T → List ℕ
+cell_bytes content = content.front ++ drop (length content.front) content.bytes
 
 -- 1 during a write
 abbrev pub parity : Stage → ℕ
@@ -48,10 +49,10 @@ pub record Knows {T : Type 0} (version : ℕ) (content : Content T) (seat : ℕ)
 
 pub record SequencedRule {T : Type 0} (IsEncoding : T → List ℕ → Type 0) (table : State (Unit {0}) (SeatView T)) : Type 0 where
   pub content : Content T
-  pub words : table.words ≡ slice_index table.words 0 ∷ byte_words content
+  pub words : table.words ≡ slice_index table.words 0 ∷ words_of (cell_bytes content)
   pub version : length (history content) ≡ slice_index table.words 0 / 2 + 1
   pub last : IsEncoding content.last content.bytes
   pub between_writes : IsEven (slice_index table.words 0) → content.front ≡ []
   pub during_a_write : IsOdd (slice_index table.words 0) → (value : T) × (bytes : List ℕ) × IsEncoding value bytes × Begins content.front bytes
-  pub byte_range : (index : ℕ) → slice_index (byte_words content) index < 256
+  pub byte_range : (index : ℕ) → slice_index (cell_bytes content) index < 256
   pub seats : (seat : ℕ) (view : SeatView T) → get_elem? table.views seat ≡ some view → Knows (slice_index table.words 0) content seat view

@@ -1,10 +1,12 @@
 -- What each step of a sequenced cell, a load or store of one word, does to the seat that takes it.
-use Rattle.std.specs.Prelude.{◌≡◌, ℕ, ◌+◌, ◌/◌, ◌<◌, ◌≤◌, List, [], ◌∷◌, ◌++◌, true, false, All, length, take, Some}
+use Rattle.std.specs.Prelude.{◌≡◌, ℕ, ◌+◌, ◌-◌, ◌*◌, ◌/◌, ◌≤◌, min, List, [], ◌∷◌, ◌++◌, true, false, All, length, take, Some}
+use Rattle.std.specs.List.{fold}
 use Rattle.atomic_table.specs.Table.{Me, Step}
 use Rattle.ix_atomic.specs.declared.sequenced.rule.SeatView.{SeatView}
 use Rattle.ix_atomic.specs.declared.sequenced.rule.Stage.{Stage}
 use Rattle.ix_atomic.specs.declared.sequenced.rule.Stage.TheVariants.{Idle, Reading, Writing}
 use Rattle.ix_atomic.specs.History.{Begins, IsEven, value_at, Reader, Writer}
+use Rattle.ix_atomic.specs.Words.{bytes_of_word}
 use Rattle.atomic_table.specs.Seated.{TableId}
 
 -- a seat as its table sees it
@@ -17,6 +19,14 @@ stage_byte byte Idle = Idle
 stage_byte byte (Reading first loaded) = Reading first (loaded ++ byte ∷ [])
 stage_byte byte (Writing stored) = Writing (stored ++ byte ∷ [])
 
+-- bytes are loaded or stored, one after another
+abbrev pub stage_bytes : List ℕ → Stage → Stage
+stage_bytes bytes stage = fold (λ stage byte. stage_byte byte stage) stage bytes
+
+-- how many bytes the word at this index of the table has, of a value of this size
+abbrev pub bytes_at : ℕ → ℕ → ℕ
+bytes_at size index = min 8 (size - 8 * (index - 1))
+
 module _ {T : Type 0} where
   -- the writer's seat of a new cell
   abbrev pub view_new : T → SeatView T
@@ -25,8 +35,8 @@ module _ {T : Type 0} where
   abbrev pub view_stage : Stage → SeatView T → SeatView T
   view_stage stage view = record view { stage = stage }
 
-  abbrev pub view_byte : ℕ → SeatView T → SeatView T
-  view_byte byte view = view_stage (stage_byte byte view.stage) view
+  abbrev pub view_bytes : List ℕ → SeatView T → SeatView T
+  view_bytes bytes view = view_stage (stage_bytes bytes view.stage) view
 
   abbrev pub view_end : T → SeatView T → SeatView T
   view_end value view = record view { known = view.known ++ value ∷ []; stage = Idle }
@@ -48,13 +58,9 @@ module _ {T : Type 0} where
   abbrev pub BeginStep : Step (Unit {0}) → Seated T → ℕ → Seated T → Type 0
   BeginStep step before word after = after ≡ seated_stage (Writing []) before
 
-  -- the store of a byte
-  abbrev pub StoreStep : Step (Unit {0}) → Seated T → ℕ → Seated T → Type 0
-  StoreStep step before word after = after ≡ (view_byte word before.0, before.1)
-
-  -- the load of a byte
-  abbrev pub LoadByteStep : Step (Unit {0}) → Seated T → ℕ → Seated T → Type 0
-  LoadByteStep step before word after = (after ≡ (view_byte word before.0, before.1)) × (word < 256)
+  -- The store or load of a word of bytes stands for those of its bytes, in rising order with nothing between.
+  abbrev pub WordStep : ℕ → Step (Unit {0}) → Seated T → ℕ → Seated T → Type 0
+  WordStep size step before word after = after ≡ (view_bytes (bytes_of_word (bytes_at size step.word) word) before.0, before.1)
 
   -- the store of an even version: if the stored bytes encode a value, it is finished
   abbrev pub EndStep : (T → List ℕ → Type 0) → Step (Unit {0}) → Seated T → ℕ → Seated T → Type 0

@@ -1,12 +1,14 @@
 //! Values with an encoding of a fixed number of bytes, and cells that store it byte by byte.
 //!
 //! [`FixedSizeByteAtomic`] is stored inline, [`RelocatableByteAtomic`] is made in two steps and allocates once.
+//! [`pack_word`] makes one number of up to eight bytes, and [`unpack_word`] writes its bytes.
 //!
 //! ```text
 //! let mut bytes = [0; 8];
 //! 1u64.encode(&mut bytes);    // [1, 0, 0, 0, 0, 0, 0, 0]
 //! u64::decode(&bytes);        // Some(1)
 //! bool::decode(&[2]);         // None
+//! pack_word(&[4, 6]);         // 1540
 //! ```
 
 mod arrays;
@@ -18,8 +20,10 @@ mod maybe_torn;
 mod relocatable_byte_atomic;
 pub mod steps;
 mod unit_and_bool;
+mod words;
 
 pub use atomic_copy::AtomicCopy;
 pub use fixed_size_byte_atomic::FixedSizeByteAtomic;
 pub use maybe_torn::MaybeTorn;
 pub use relocatable_byte_atomic::{RelocatableByteAtomic, UninitByteAtomic};
+pub use words::{pack_word, unpack_word};

@@ -3,7 +3,7 @@
 //! This module is this project's own. It is the synchronization that the documentation of `MaybeTorn` of
 //! iceoryx2-bb-container asks its users to bring.
 //!
-//! A [`SequencedByteAtomic`] has a version and the encoding of a value, one word a byte. The version is even between two
+//! A [`SequencedByteAtomic`] has a version and the encoding of a value, eight bytes a word. The version is even between two
 //! writes and odd during one; it begins at 0, and each write raises it by 2. A reader loads the version, the bytes, and the
 //! version again: the value is whole if it finds the same even version twice.
 //!
@@ -17,6 +17,7 @@
 //! cell.close(writer);             // 9
 //! ```
 
+mod data_words;
 mod interfered;
 mod rule;
 mod seats;

@@ -23,3 +23,5 @@ mod steps;
 mod thread_tests;
 #[cfg(test)]
 mod torn_tests;
+#[cfg(test)]
+mod word_tests;

@@ -46,13 +46,13 @@ impl<T> Play<(), SeatView<T>> for Begin {
     ghost then = { BeginStep };
 }
 
-/// The store of a byte.
+/// The store of the bytes of a word.
 pub(crate) struct Store;
 
-impl<T> Play<(), SeatView<T>> for Store {
-    ghost use Rattle.ix_atomic.specs.SequencedSteps.{StoreStep};
+impl<T: AtomicCopy> Play<(), SeatView<T>> for Store {
+    ghost use Rattle.ix_atomic.specs.SequencedSteps.{WordStep};
 
-    ghost then = { StoreStep };
+    ghost then = { WordStep T.SIZE };
 }
 
 /// The store of an even version.
@@ -75,13 +75,13 @@ impl<T: AtomicCopy> Play<(), SeatView<T>> for LoadVersion {
     ghost then = { LoadVersionStep (Encodes T.is_value T.encoding) };
 }
 
-/// The load of a byte.
-pub(crate) struct LoadByte;
+/// The load of the bytes of a word.
+pub(crate) struct LoadWord;
 
-impl<T> Play<(), SeatView<T>> for LoadByte {
-    ghost use Rattle.ix_atomic.specs.SequencedSteps.{LoadByteStep};
+impl<T: AtomicCopy> Play<(), SeatView<T>> for LoadWord {
+    ghost use Rattle.ix_atomic.specs.SequencedSteps.{WordStep};
 
-    ghost then = { LoadByteStep };
+    ghost then = { WordStep T.SIZE };
 }
 
 /// A reader's seat that is made from the writer's.

@@ -1,5 +1,5 @@
 //! The cell, its calls, and the walks over its words.
-ghost use Rattle.std.specs.Prelude.{◌≡◌, ℕ, ◌<◌, ◌⊎◌, ◌↔◌, true, [], ◌∷◌, ◌++◌, length, slice_index, Some, IsOk, IsErr, IfOk, IfErr};
+ghost use Rattle.std.specs.Prelude.{◌≡◌, ℕ, ◌+◌, ◌/◌, ◌<◌, ◌⊎◌, ◌↔◌, true, [], ◌∷◌, ◌++◌, length, Some, IsOk, IsErr, IfOk, IfErr};
 ghost use Rattle.ix_atomic.specs.Versions.{last_version};
 ghost use Rattle.ix_atomic.specs.History.{Loads, LoadsTwice, version_of, value_at, last_value, IsEven, IsOdd};
 ghost use Rattle.ix_atomic.specs.SequencedRule.{Encodes};
@@ -8,17 +8,18 @@ ghost use Rattle.ix_atomic.specs.declared.sequenced.rule.Stage.TheVariants.{Read
 
 use crate::byte_atomic::AtomicCopy;
 use crate::byte_atomic::steps::{VersionsUsedUp, next_versions};
+use crate::sequenced::data_words::{new_words, set_word_at, word_at};
 use crate::sequenced::interfered::Interfered;
 use crate::sequenced::rule::{
-    Begin, CellRule, End, LoadByte, LoadVersion, NewReader, SeatView, Store,
+    Begin, CellRule, End, LoadVersion, LoadWord, NewReader, SeatView, Store,
 };
 use crate::sequenced::seats::{ReaderSeat, WriterSeat};
 use atomic_table::{Seat, Table};
 use std::alloc::{AllocError, Allocator, Global};
 use std::marker::Model;
 
-/// No allocation has more bytes than `isize::MAX`.
-const MAX_WORDS: usize = isize::MAX as usize / size_of::<u64>();
+/// No allocation has more bytes than `isize::MAX`. One word is the version, each other one has eight bytes.
+const MAX_SIZE: usize = (isize::MAX as usize / size_of::<u64>() - 1) * 8;
 
 /// A cell that one thread writes and others read, without a lock. `SIZE` is the size of `T`.
 ///
@@ -37,9 +38,10 @@ pub struct SequencedByteAtomic<T: AtomicCopy, const SIZE: usize> {
 }
 
 impl<T: AtomicCopy, const SIZE: usize> Model for SequencedByteAtomic<T, SIZE> {
-    ghost use Rattle.std.specs.Prelude.{◌≡◌, ◌+◌, ◌<◌};
+    ghost use Rattle.std.specs.Prelude.{◌≡◌, ◌+◌, ◌≤◌};
+    ghost use Rattle.ix_atomic.specs.Words.{word_count};
     ghost use Rattle.atomic_table.specs.Seated.{TableId, table_id_coded};
-    ghost use Rattle.ix_atomic.specs.declared.sequenced.sequenced_byte_atomic.TheConstants.{MAX_WORDS};
+    ghost use Rattle.ix_atomic.specs.declared.sequenced.sequenced_byte_atomic.TheConstants.{MAX_SIZE};
 
     ghost Value = { TableId };
 
@@ -47,21 +49,8 @@ impl<T: AtomicCopy, const SIZE: usize> Model for SequencedByteAtomic<T, SIZE> {
 
     ghost view = { λ cell. cell.table.shared.table_id };
 
-    ghost invariant = { λ cell. (cell.table.shared.table_id.words ≡ SIZE + 1)
-        × (cell.table.shared.table_id.slots ≡ 0) × (SIZE ≡ T.SIZE) × (SIZE < MAX_WORDS) };
-}
-
-/// Returns the words of a new cell: version 0, and one word a byte. O(`bytes.len()`).
-fn new_words<A: Allocator>(alloc: A, bytes: &[u8]) -> Result<Vec<u64, A>, AllocError>
-    ensures words { IfOk result (λ words. words.items ≡ 0 ∷ bytes.now) }
-    ensures byte_range { (index : ℕ) → slice_index bytes.now index < 256 }
-{
-    let mut words = Vec::new(alloc);
-    words.push(0)?;
-    for byte in bytes {
-        words.push(u64::from(*byte))?;
-    }
-    Ok(words)
+    ghost invariant = { λ cell. (cell.table.shared.table_id.words ≡ 1 + word_count SIZE)
+        × (cell.table.shared.table_id.slots ≡ 0) × (SIZE ≡ T.SIZE) × (SIZE ≤ MAX_SIZE) };
 }
 
 impl<T: AtomicCopy, const SIZE: usize> SequencedByteAtomic<T, SIZE> {
@@ -75,7 +64,7 @@ impl<T: AtomicCopy, const SIZE: usize> SequencedByteAtomic<T, SIZE> {
         ensures reader { IfOk result (λ made.
             (made.2.cell ≡ made.0) × (made.2.known ≡ value ∷ []) × (made.2.seen ≡ [])) }
     {
-        if SIZE >= MAX_WORDS {
+        if SIZE > MAX_SIZE {
             return Err(AllocError);
         }
         let mut bytes = [0u8; SIZE];
@@ -116,7 +105,7 @@ impl<T: AtomicCopy, const SIZE: usize> SequencedByteAtomic<T, SIZE> {
 
     /// Returns the value of the version that it loads before and after the bytes. O(`SIZE`).
     ///
-    /// Loads the version, each byte, and the version again, each of them once, whatever it finds.
+    /// Loads the version, each word of bytes, and the version again, each of them once, whatever it finds.
     ///
     /// # Errors
     ///
@@ -129,8 +118,9 @@ impl<T: AtomicCopy, const SIZE: usize> SequencedByteAtomic<T, SIZE> {
             × (IsOdd error.first ⊎ (error.first < error.last))) }
     {
         let shared = &self.table.shared;
+        let mut bytes = [0u8; SIZE];
         let first = shared.load::<LoadVersion>(&mut seat.seat, 0);
-        let bytes = self.load_bytes(&mut seat.seat, first);
+        self.load_bytes(&mut seat.seat, first, &mut bytes);
         let last = shared.load::<LoadVersion>(&mut seat.seat, 0);
         if first == last && first % 2 == 0 {
             match T::decode(&bytes) {
@@ -140,6 +130,16 @@ impl<T: AtomicCopy, const SIZE: usize> SequencedByteAtomic<T, SIZE> {
         } else {
             Err(Interfered { first, last })
         }
+    }
+
+    /// Returns the number of the cell's words, of 8 bytes each: one for the version, and one for each eight bytes of a value
+    /// or for what is left of them. O(1).
+    #[inline]
+    pub fn words(&self) -> usize
+        ensures value { result ≡ 1 + (SIZE + 7) / 8 }
+        ensures table { result ≡ self.now.words }
+    {
+        self.table.word_count()
     }
 
     /// Returns the version, which is not less than any that this seat has loaded. O(1).
@@ -158,8 +158,9 @@ impl<T: AtomicCopy, const SIZE: usize> SequencedByteAtomic<T, SIZE> {
         ensures seat { seat.new ≡ seat.old }
     {
         let shared = &self.table.shared;
+        let mut bytes = [0u8; SIZE];
         let version = shared.load::<LoadVersion>(&mut seat.seat, 0);
-        let bytes = self.load_bytes(&mut seat.seat, version);
+        self.load_bytes(&mut seat.seat, version, &mut bytes);
         shared.load::<LoadVersion>(&mut seat.seat, 0);
         match T::decode(&bytes) {
             Some(value) => value,
@@ -193,8 +194,8 @@ impl<T: AtomicCopy, const SIZE: usize> SequencedByteAtomic<T, SIZE> {
         let WriterSeat { seat, version: _ } = seat;
         let closed = table.close_with(seat);
         let mut bytes = [0u8; SIZE];
-        for i in 0..SIZE {
-            bytes[i] = closed.word(i + 1) as u8;
+        for i in 0..SIZE.div_ceil(8) {
+            set_word_at(&mut bytes, i, closed.word(i + 1));
         }
         closed.free();
         match T::decode(&bytes) {
@@ -203,7 +204,7 @@ impl<T: AtomicCopy, const SIZE: usize> SequencedByteAtomic<T, SIZE> {
         }
     }
 
-    /// Stores the bytes of a value, from the first to the last. O(`SIZE`).
+    /// Stores the bytes of a value, eight a word, from the first to the last. O(`SIZE`).
     fn store_bytes(&self, seat: &mut Seat<(), SeatView<T>>, bytes: &[u8; SIZE])
         requires cell { seat.old.table_id ≡ self.now }
         requires bytes { (value : T) × Encodes T.is_value T.encoding value bytes.now }
@@ -212,24 +213,22 @@ impl<T: AtomicCopy, const SIZE: usize> SequencedByteAtomic<T, SIZE> {
         ensures seat { seat.new.me ≡ seated_stage (Writing bytes.now) seat.old.me }
     {
         let shared = &self.table.shared;
-        for i in 0..SIZE {
-            shared.store::<Store>(seat, i + 1, u64::from(bytes[i]));
+        for i in 0..SIZE.div_ceil(8) {
+            shared.store::<Store>(seat, i + 1, word_at(bytes, i));
         }
     }
 
-    /// Loads the bytes, from the first to the last. O(`SIZE`).
-    fn load_bytes(&self, seat: &mut Seat<(), SeatView<T>>, first: u64) -> [u8; SIZE]
+    /// Loads the bytes into `bytes`, eight a word, from the first to the last. O(`SIZE`).
+    fn load_bytes(&self, seat: &mut Seat<(), SeatView<T>>, first: u64, bytes: &mut [u8; SIZE])
         requires cell { seat.old.table_id ≡ self.now }
         requires reading { seat.old.me.0.stage ≡ Reading first [] }
         ensures place { (seat.new.table_id ≡ seat.old.table_id) × (seat.new.id ≡ seat.old.id) }
-        ensures seat { seat.new.me ≡ seated_stage (Reading first result) seat.old.me }
-        ensures length { length result ≡ SIZE }
+        ensures seat { seat.new.me ≡ seated_stage (Reading first bytes.new) seat.old.me }
+        ensures length { length bytes.new ≡ SIZE }
     {
         let shared = &self.table.shared;
-        let mut bytes = [0u8; SIZE];
-        for i in 0..SIZE {
-            bytes[i] = shared.load::<LoadByte>(seat, i + 1) as u8;
+        for i in 0..SIZE.div_ceil(8) {
+            set_word_at(bytes, i, shared.load::<LoadWord>(seat, i + 1));
         }
-        bytes
     }
 }

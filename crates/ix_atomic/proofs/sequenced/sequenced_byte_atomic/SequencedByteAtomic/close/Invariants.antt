@@ -1,6 +1,9 @@
-use Rattle.std.proofs.Common.{◌≡◌, take, drop, length}
+use Rattle.std.proofs.Common.{◌≡◌, ℕ, ◌*◌, List, take, drop, length}
 use Rattle.std.specs.Slots.{slots_items}
+use Rattle.ix_atomic.specs.Words.{words_of}
+use Rattle.ix_atomic.proofs.Beginnings.{AreBelow}
 use Rattle.ix_atomic.proofs.sequenced.sequenced_byte_atomic.SequencedByteAtomic.close.Given as goal
 
 abbrev pub invariant-loop-i : goal.invariant-loop-i
-invariant-loop-i g l = (length l.bytes ≡ g.row.SIZE) × (take l.i l.bytes ≡ take l.i (drop 1 (slots_items l.closed.words)))
+invariant-loop-i g l = (length l.bytes ≡ g.row.SIZE)
+    × ((bytes : List ℕ) → AreBelow 256 bytes → length bytes ≡ g.row.SIZE → drop 1 (slots_items l.closed.words) ≡ words_of bytes → take (8 * l.i) l.bytes ≡ take (8 * l.i) bytes)

@@ -7,4 +7,4 @@ pub load-version-requires : goal.load-version-requires
 load-version-requires g c = (search rules, search rules, load_version _ _ _ _ (λ _. c.seat.invariant.2))
 
 pub load-requires : goal.load-requires
-load-requires g c = (search rules, search rules, load_version _ _ _ _ (λ _. ap (λ me. parity me.0.stage) c.load_bytes-bytes.ensures.seat))
+load-requires g c = (search rules, search rules, load_version _ _ _ _ (λ _. ap (λ me. parity me.0.stage) c.load_bytes.ensures.seat))

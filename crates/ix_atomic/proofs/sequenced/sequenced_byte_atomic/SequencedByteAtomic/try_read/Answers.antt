@@ -14,19 +14,19 @@ load-first-requires g c = (search rules, search rules, load_version _ _ _ _ (λ 
 
 pub load-last-requires : goal.load-last-requires
 load-last-requires g c =
-    let reader : c.load_bytes-bytes.new.seat.me.0.is_writer ≡ false = ap (λ me. me.0.is_writer) c.load_bytes-bytes.ensures.seat ∙ (c.load-first.ensures.2.0.is_writer ∙ c.seat.invariant.1) in
+    let reader : c.load_bytes.new.seat.me.0.is_writer ≡ false = ap (λ me. me.0.is_writer) c.load_bytes.ensures.seat ∙ (c.load-first.ensures.2.0.is_writer ∙ c.seat.invariant.1) in
     (search rules, search rules, load_version _ _ _ _ (λ is. absurd (true≢false (sym is ∙ reader))))
 
 read : (g : Over) (c : goal.Joined-first-last g)
-    → Read (Encodes g.T.AtomicCopy.is_value g.T.AtomicCopy.encoding) c.seat.inside.seat.me.0 c.load-last.new.seat.me.0 c.load-first.result c.load-last.result c.load_bytes-bytes.result
+    → Read (Encodes g.T.AtomicCopy.is_value g.T.AtomicCopy.encoding) c.seat.inside.seat.me.0 c.load-last.new.seat.me.0 c.load-first.result c.load-last.result c.load_bytes.new.bytes
 read g c =
     let is_value = g.T.AtomicCopy.is_value in let encoding = g.T.AtomicCopy.encoding in let size = g.T.AtomicCopy.SIZE in
     whole_read (Encodes is_value encoding) size (Encodes-length is_value encoding size g.met.T.AtomicCopy.encoding_len) _ _ _ _ _ _ _ (search rules)
-    c.load-first.ensures.2.0 (ap (λ me. me.0) c.load_bytes-bytes.ensures.seat) c.load-last.ensures.2.0
+    c.load-first.ensures.2.0 (ap (λ me. me.0) c.load_bytes.ensures.seat) c.load-last.ensures.2.0
 
 seat : (g : Over) (c : goal.Joined-first-last g) → LoadsTwice c.args.seat.now (reader_of c.load-last.new.seat.table_id c.load-last.new.seat.me.0) c.load-first.result c.load-last.result
 seat g c =
-    let same = c.load-last.ensures.0 ∙ (c.load_bytes-bytes.ensures.place.0 ∙ c.load-first.ensures.0) in
+    let same = c.load-last.ensures.0 ∙ (c.load_bytes.ensures.place.0 ∙ c.load-first.ensures.0) in
     let after = reader_of c.load-last.new.seat.table_id c.load-last.new.seat.me.0 in
     subst (λ (before : Reader g.row.T.Denot). LoadsTwice before after c.load-first.result c.load-last.result) c.seat.view_is ((read g c).seat _ _ same)
 
