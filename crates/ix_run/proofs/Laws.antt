@@ -1,24 +1,30 @@
 -- The laws of lines and of scripts.
-use Rattle.std.proofs.Common.{ℕ, ◌≡◌, ◌≢◌, ◌<◌, ◌≤◌, ◌^◌, ◌⊎◌, inl, inr, List, [], ◌∷◌, ◌++◌, Some, None, All, length, map, nat_le, nat_eq, Bool, true, false, cond, refl, ap, ◌∙◌, append_assoc, arith, decimal, codes, rules}
+use Rattle.std.proofs.Common.{ℕ, ◌≡◌, ◌≢◌, ◌<◌, ◌≤◌, ◌^◌, ◌⊎◌, inl, inr, List, [], ◌∷◌, ◌++◌, Some, None, All, length, map, nat_le, nat_eq, Bool, true, false, cond, refl, sym, ap, ◌∙◌, append_assoc, arith, decimal, codes, bytes_eq, rules, Option}
 use Rattle.std.specs.Char.{is_ascii_digit}
 use Rattle.std.specs.Str.{all_ascii_digits}
 use Rattle.std.proofs.lemmas.Bool.{and_parts, eqb-true}
 use Rattle.std.proofs.lemmas.Fmt.{length-decimal-le}
 use Rattle.std.proofs.lemmas.Grind.{common_steps}
 use Rattle.std.proofs.lemmas.List.Elements.{All-cons, All-head, All-nil, All-tail}
+use Rattle.std.proofs.lemmas.Slice.Eq.{bytes_eq-Decides}
 use Rattle.std.specs.List.{onto_first}
-use Rattle.ix_cells.specs.Bounded.{Bounded, bounded_new}
+use Rattle.ix_commands.specs.Run.{run_replies}
+use Rattle.ix_commands.specs.declared.reply.Reply.{Reply}
+use Rattle.ix_run.specs.Headers.{IsStorage, capacity_of, fixed_capacity, container_name, storage_text}
+use Rattle.ix_run.specs.Laws.{header_line, AreSpelled, IsRun}
 use Rattle.ix_run.specs.Lines.{line_feed, IsOneLine, with_line_feed, text_of_lines, lines_of, limited_line}
-use Rattle.ix_run.specs.QueueRun.{reply_of, replies_of, queue_after}
-use Rattle.ix_run.specs.Reading.{IsInRange, command_text, header_text, capacity_of, queue_line_of}
+use Rattle.ix_run.specs.ReplyTexts.{reply_text}
+use Rattle.ix_run.specs.Script.{replies_to, script_replies, container_replies, replies_to_lines, spelled_reply, spelled_after}
+use Rattle.ix_run.specs.Words.{Form, command_of}
+use Rattle.ix_run.specs.declared.run.header.Container.{Container}
+use Rattle.ix_run.specs.declared.run.header.Container.TheVariants.{Queue, Vec, Slot, Flat, Text}
+use Rattle.ix_run.specs.declared.run.header.Storage.{Storage}
+use Rattle.ix_run.specs.declared.run.header.Storage.TheVariants.{Fixed, Heap, Arena}
+use Rattle.ix_run.specs.declared.run.header.FixedCapacity.{FixedCapacity}
+use Rattle.ix_run.specs.declared.run.header.FixedCapacity.TheVariants.{Zero, One, Three, Eight}
 use Rattle.ix_run.specs.declared.run.limits.TheConstants.{MAX_LINE_LEN}
-use Rattle.ix_run.specs.Script.{replies_to, replies_from, reply_text}
-use Rattle.ix_run.specs.declared.run.command.FixedCapacity.{FixedCapacity}
-use Rattle.ix_run.specs.declared.run.command.FixedCapacity.TheVariants.{Zero, One, Three, Eight}
-use Rattle.ix_run.specs.declared.run.command.QueueCommand.{QueueCommand}
-use Rattle.ix_run.specs.declared.run.command.QueueCommand.TheVariants.{Push, Over, Pop}
-use Rattle.ix_run.specs.declared.run.command.QueueLine.TheVariants.{Command}
-use Rattle.ix_run.proofs.Numbers.{IsNumeral-decimal, queue_line_of_Spells}
+use Rattle.ix_run.proofs.Headers.{header_of_header_text}
+use Rattle.ix_run.proofs.Numbers.{IsNumeral-decimal}
 use Rattle.ix_run.proofs.Pieces.{Lacks, Lacks-IsOneLine, not_true}
 
 -- the first line is the bytes before the first line feed
@@ -79,61 +85,98 @@ Lacks-decimal n h = Lacks-digits (decimal n) (IsNumeral-decimal (decimal n) n h 
 limited_line-short : (line : List ℕ) → length line ≤ MAX_LINE_LEN → limited_line line ≡ Some line
 limited_line-short line short = let t : nat_le (length line) MAX_LINE_LEN ≡ true = grind (arith, common_steps) in rw t refl
 
--- the text of a command is one line of at most MAX_LINE_LEN bytes
-Lacks-command_text : (command : QueueCommand ℕ) → IsInRange command → Lacks (command_text command)
-Lacks-command_text (Push n) h = (refl, (refl, (refl, (refl, (refl, Lacks-decimal n h)))))
-Lacks-command_text (Over n) h = (refl, (refl, (refl, (refl, (refl, Lacks-decimal n h)))))
-Lacks-command_text Pop h = (refl, (refl, (refl, tt)))
-
-limited_line-command_text : (command : QueueCommand ℕ) → IsInRange command → limited_line (command_text command) ≡ Some (command_text command)
-limited_line-command_text (Push n) h = let short = length-decimal-le 20 n (omega arith) (omega arith) h in limited_line-short (command_text (Push n)) (omega (arith, short))
-limited_line-command_text (Over n) h = let short = length-decimal-le 20 n (omega arith) (omega arith) h in limited_line-short (command_text (Over n)) (omega (arith, short))
-limited_line-command_text Pop h = refl
-
-queue_line_of-command_text : (command : QueueCommand ℕ) → IsInRange command → queue_line_of (command_text command) ≡ Some (Command command)
-queue_line_of-command_text (Push n) h = queue_line_of_Spells (command_text (Push n)) (Command (Push n)) (refl, h)
-queue_line_of-command_text (Over n) h = queue_line_of_Spells (command_text (Over n)) (Command (Over n)) (refl, h)
-queue_line_of-command_text Pop h = refl
-
--- the replies to the texts of commands
-replies_from-map_command_text : (queue : Bounded ℕ) (commands : List (QueueCommand ℕ)) → All IsInRange commands
-    → replies_from (Some queue) (map command_text commands) ≡ text_of_lines (map reply_text (replies_of queue commands))
-replies_from-map_command_text queue [] h = refl
-replies_from-map_command_text queue (command ∷ commands) h =
-    let range = All-head IsInRange command commands h in
-    rw (limited_line-command_text command range, queue_line_of-command_text command range)
-    (ap (λ l. with_line_feed (reply_text (reply_of queue command)) ++ l) (replies_from-map_command_text (queue_after queue command) commands (All-tail IsInRange command commands h)))
-
 IsOneLine-Lacks : (bytes : List ℕ) → Lacks bytes → IsOneLine bytes
 IsOneLine-Lacks [] h = All-nil (λ b. b ≢ line_feed)
 IsOneLine-Lacks (b ∷ bytes) (n, m) = All-cons (λ c. c ≢ line_feed) b bytes (λ e. let same = rw e at n in cc) (IsOneLine-Lacks bytes m)
 
-All-map_command_text : (commands : List (QueueCommand ℕ)) → All IsInRange commands → All IsOneLine (map command_text commands)
-All-map_command_text [] h = All-nil IsOneLine
-All-map_command_text (command ∷ commands) h =
-    All-cons IsOneLine (command_text command) (map command_text commands) (IsOneLine-Lacks (command_text command) (Lacks-command_text command (All-head IsInRange command commands h)))
-    (All-map_command_text commands (All-tail IsInRange command commands h))
+Lacks-append : (a b : List ℕ) → Lacks a → Lacks b → Lacks (a ++ b)
+Lacks-append [] b h k = k
+Lacks-append (x ∷ a) b (n, m) k = (n, Lacks-append a b m k)
 
-Lacks-header_text : (capacity : FixedCapacity) → Lacks (header_text capacity)
-Lacks-header_text Zero = search rules
-Lacks-header_text One = search rules
-Lacks-header_text Three = search rules
-Lacks-header_text Eight = search rules
+-- the text of a header is one line that is read
+Lacks-container_name : (container : Container) → Lacks (container_name container)
+Lacks-container_name Queue = search rules
+Lacks-container_name Vec = search rules
+Lacks-container_name Slot = search rules
+Lacks-container_name Flat = search rules
+Lacks-container_name Text = search rules
+
+Lacks-last_number : (name : List ℕ) (n : ℕ) → n < 2 ^ 64 → Lacks name → Lacks (name ++ ((codes " " ++ decimal n) ++ []))
+Lacks-last_number name n h k = Lacks-append name ((codes " " ++ decimal n) ++ []) k (Lacks-append (codes " " ++ decimal n) [] (refl, Lacks-decimal n h) tt)
+
+fixed_capacity-small : (capacity : FixedCapacity) → fixed_capacity capacity < 2 ^ 64
+fixed_capacity-small Zero = omega arith
+fixed_capacity-small One = omega arith
+fixed_capacity-small Three = omega arith
+fixed_capacity-small Eight = omega arith
+
+Lacks-storage_text : (storage : Storage) → IsStorage storage → Lacks (storage_text storage)
+Lacks-storage_text (Fixed capacity) h = Lacks-last_number (codes "fixed") (fixed_capacity capacity) (fixed_capacity-small capacity) (search rules)
+Lacks-storage_text (Heap n) h = Lacks-last_number (codes "heap") n (omega (arith, h)) (search rules)
+Lacks-storage_text (Arena n) h = Lacks-last_number (codes "arena") n (omega (arith, h)) (search rules)
+
+length-last_number : (name : List ℕ) (n : ℕ) → n < 2 ^ 64 → length name ≤ 5 → length (name ++ ((codes " " ++ decimal n) ++ [])) ≤ 30
+length-last_number name n h short =
+    let digits = length-decimal-le 20 n (omega arith) (omega arith) h in
+    grind (arith, common_steps, short, digits)
+
+length-storage_text : (storage : Storage) → IsStorage storage → length (storage_text storage) ≤ 30
+length-storage_text (Fixed capacity) h = length-last_number (codes "fixed") (fixed_capacity capacity) (fixed_capacity-small capacity) (omega arith)
+length-storage_text (Heap n) h = length-last_number (codes "heap") n (omega (arith, h)) (omega arith)
+length-storage_text (Arena n) h = length-last_number (codes "arena") n (omega (arith, h)) (omega arith)
+
+length-container_name : (container : Container) → length (container_name container) ≤ 5
+length-container_name Queue = omega arith
+length-container_name Vec = omega arith
+length-container_name Slot = omega arith
+length-container_name Flat = omega arith
+length-container_name Text = omega arith
+
+IsOneLine-header_line : (container : Container) (storage : Storage) → IsStorage storage → IsOneLine (header_line container storage)
+IsOneLine-header_line container storage h =
+    IsOneLine-Lacks (header_line container storage) (Lacks-append (container_name container) (codes " " ++ storage_text storage) (Lacks-container_name container) (refl, Lacks-storage_text storage h))
+
+limited_line-header_line : (container : Container) (storage : Storage) → IsStorage storage → limited_line (header_line container storage) ≡ Some (header_line container storage)
+limited_line-header_line container storage h =
+    let name = length-container_name container in
+    let text = length-storage_text storage h in
+    limited_line-short (header_line container storage) (grind (arith, common_steps, name, text))
 
 -- the replies to a header and to the lines after it
-replies_from-header_text : (capacity : FixedCapacity) (lines : List (List ℕ))
-    → replies_from None (header_text capacity ∷ lines) ≡ with_line_feed (codes "ready") ++ replies_from (Some (bounded_new (capacity_of capacity))) lines
-replies_from-header_text Zero lines = refl
-replies_from-header_text One lines = refl
-replies_from-header_text Three lines = refl
-replies_from-header_text Eight lines = refl
-
-pub replies_to-text_of_lines : (capacity : FixedCapacity) (commands : List (QueueCommand ℕ)) → All IsInRange commands
-    → replies_to (text_of_lines (header_text capacity ∷ map command_text commands))
-    ≡ text_of_lines (codes "ready" ∷ map reply_text (replies_of (bounded_new (capacity_of capacity)) commands))
+replies_to-header_line : (container : Container) (storage : Storage) (lines : List (List ℕ)) → IsStorage storage → All IsOneLine lines
+    → replies_to (text_of_lines (header_line container storage ∷ lines)) ≡ with_line_feed (codes "ready") ++ container_replies container (capacity_of storage) (map limited_line lines)
 unfolding replies_to
-replies_to-text_of_lines capacity commands h =
-    let lines = All-cons IsOneLine (header_text capacity) (map command_text commands) (IsOneLine-Lacks (header_text capacity) (Lacks-header_text capacity)) (All-map_command_text commands h) in
-    ap (replies_from None) (lines_of-text_of_lines (header_text capacity ∷ map command_text commands) lines)
-    ∙ replies_from-header_text capacity (map command_text commands)
-    ∙ ap (λ l. with_line_feed (codes "ready") ++ l) (replies_from-map_command_text (bounded_new (capacity_of capacity)) commands h)
+replies_to-header_line container storage lines h all =
+    let whole = All-cons IsOneLine (header_line container storage) lines (IsOneLine-header_line container storage h) all in
+    let header = header_of_header_text (header_line container storage) (record { container = container; storage = storage }) h refl in
+    ap (λ ls. script_replies (map limited_line ls)) (lines_of-text_of_lines (header_line container storage ∷ lines) whole)
+    ∙ rw (limited_line-header_line container storage h, header) refl
+
+module _ {M C : Type 0} (forms : List (Form C)) (reply : M → C → Reply ℕ ℕ) (after : M → C → M) (shown : M → List ℕ) where
+  All-AreSpelled : (lines : List (List ℕ)) (commands : List C) → AreSpelled forms lines commands → All IsOneLine lines
+  All-AreSpelled [] [] h = All-nil IsOneLine
+  All-AreSpelled [] (command ∷ commands) h = absurd h
+  All-AreSpelled (line ∷ lines) [] h = absurd h
+  All-AreSpelled (line ∷ lines) (command ∷ commands) (h, rest) = All-cons IsOneLine line lines h.0 (All-AreSpelled lines commands rest)
+
+  -- a line that spells a command does not show the container
+  not_show : command_of forms (codes "show") ≡ None → (line : List ℕ) (command : C) (t : Bool) → bytes_eq line (codes "show") ≡ t → command_of forms line ≡ Some command → t ≡ false
+  not_show none line command true e is = let wrong = sym none ∙ ap (command_of forms) (sym ((bytes_eq-Decides line (codes "show")).0 e)) ∙ is in absurd (cc)
+  not_show none line command false e is = refl
+
+  replies_to_lines-AreSpelled : command_of forms (codes "show") ≡ None → (model : M) (lines : List (List ℕ)) (commands : List C) → AreSpelled forms lines commands
+      → replies_to_lines (spelled_reply forms reply) (spelled_after forms after) shown model (map limited_line lines) ≡ text_of_lines (map reply_text (run_replies reply after model commands))
+  replies_to_lines-AreSpelled none model [] [] h = refl
+  replies_to_lines-AreSpelled none model [] (command ∷ commands) h = absurd h
+  replies_to_lines-AreSpelled none model (line ∷ lines) [] h = absurd h
+  replies_to_lines-AreSpelled none model (line ∷ lines) (command ∷ commands) ((one, short, is), rest) =
+      rw (limited_line-short line short, not_show none line command (bytes_eq line (codes "show")) refl is, is)
+      (ap (λ l. with_line_feed (reply_text (reply model command)) ++ l) (replies_to_lines-AreSpelled none (after model command) lines commands rest))
+
+  -- the law of one container
+  pub IsRun-container : (container : Container) (storage : Storage) (model : M) → command_of forms (codes "show") ≡ None
+      → ((lines : List (Option (List ℕ))) → container_replies container (capacity_of storage) lines ≡ replies_to_lines (spelled_reply forms reply) (spelled_after forms after) shown model lines)
+      → IsRun forms reply after container storage model
+  IsRun-container container storage model none same h lines commands are =
+      replies_to-header_line container storage lines h (All-AreSpelled lines commands are)
+      ∙ ap (λ l. with_line_feed (codes "ready") ++ l) (same (map limited_line lines) ∙ replies_to_lines-AreSpelled none model lines commands are)

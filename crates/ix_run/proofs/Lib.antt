@@ -1,11 +1,15 @@
-pub mod Copies
+pub mod Headers
+pub mod Input
 pub mod KnownBytes
 pub mod Laws
+pub mod Lines
+pub mod Listings
 pub mod Numbers
+pub mod Opening
 pub mod Pieces
+pub mod Plain
 pub mod Progress
-pub mod Tests
-pub mod TextMatches
-pub mod TextRetain
+pub mod Spelling
 mod WorkedScripts
+pub mod Words
 pub mod Writing

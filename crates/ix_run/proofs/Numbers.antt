@@ -1,38 +1,34 @@
--- Words that are numbers, and lines that are commands or headers.
-use Rattle.std.proofs.Common.{ℕ, ◌≡◌, ◌≤◌, ◌<◌, ◌+◌, ◌-◌, ◌*◌, ◌^◌, zero, suc, List, [], ◌∷◌, ◌++◌, Option, Some, None, IfSome, SomeIff, length, take, drop, get_or, nat_lt, bytes_eq, Bool, true, false, ◌&&◌, refl, sym, ap, ◌∙◌, rules, arith, decimal, codes, cond, option_map, take-append-drop}
+-- Words that are numbers.
+use Rattle.std.proofs.Common.{ℕ, ◌≡◌, ◌≤◌, ◌<◌, ◌+◌, ◌-◌, ◌*◌, ◌^◌, zero, suc, List, [], ◌∷◌, Option, Some, None, IfSome, SomeIff, length, drop, get_or, nat_eq, nat_lt, bytes_eq, Bool, true, false, ◌&&◌, refl, sym, ap, ◌∙◌, rules, arith, decimal, cond}
 use Rattle.std.specs.Str.{all_ascii_digits}
-use Rattle.std.proofs.lemmas.Bool.{and_parts}
+use Rattle.std.specs.Str.Parse.{AllDigits, digits_value, without_leading_plus}
+use Rattle.std.proofs.lemmas.Bool.{and_parts, eqb-true}
 use Rattle.std.proofs.lemmas.Grind.{common_steps}
 use Rattle.std.proofs.lemmas.Str.Parse.{IsNumeralModel, numerals_by_fold}
 use Rattle.std.proofs.lemmas.Fmt.{digits_decimal, digits_value-decimal, decimal-digits_value, decimal_nonempty, first_decimal, decimal_digit}
 use Rattle.std.proofs.lemmas.Slice.Eq.{bytes_eq-Decides}
-use Rattle.ix_run.specs.Reading.{digits_value_from, number_of, queue_line_of, header_of, header_text, command_text, Spells, IsInRange}
-use Rattle.ix_run.specs.declared.run.command.FixedCapacity.{FixedCapacity}
-use Rattle.ix_run.specs.declared.run.command.FixedCapacity.TheVariants.{Zero, One, Three, Eight}
-use Rattle.ix_run.specs.declared.run.command.QueueCommand.{QueueCommand}
-use Rattle.ix_run.specs.declared.run.command.QueueCommand.TheVariants.{Push, Over, Pop}
-use Rattle.ix_run.specs.declared.run.command.QueueLine.{QueueLine}
-use Rattle.ix_run.specs.declared.run.command.QueueLine.TheVariants.{Command, Show}
+use Rattle.ix_run.specs.Reading.{digits_value_from, number_of}
+use Rattle.ix_run.proofs.Pieces.{not_true}
 
 -- our value of digits is that of std's numerals
 digits_value_from-IsNumeralModel : IsNumeralModel (λ digits. all_ascii_digits digits ≡ true) (digits_value_from 0)
 digits_value_from-IsNumeralModel = numerals_by_fold _ (search rules) digits_value_from (search rules)
 
--- further digits make no number smaller
-pub digits_value_from-ge : (n : ℕ) (digits : List ℕ) → n ≤ digits_value_from n digits
-digits_value_from-ge n [] = omega arith
-digits_value_from-ge n (c ∷ cs) = let up = digits_value_from-ge (n * 10 + (c - 48)) cs in omega (arith, up)
+-- a word that does not begin with a plus
+pub without_leading_plus-same : (word : List ℕ) → (get_or word 0 0 ≡ 43 → ⊥) → without_leading_plus word ≡ word
+without_leading_plus-same word other = rw (not_true (nat_eq (get_or word 0 0) 43) (λ e. other (eqb-true (get_or word 0 0) 43 e))) refl
 
-digits_value_from-drop_suc : (n : ℕ) (xs : List ℕ) (i : ℕ) → i < length xs → digits_value_from n (drop i xs) ≡ digits_value_from (n * 10 + (get_or xs i 0 - 48)) (drop (suc i) xs)
-digits_value_from-drop_suc n [] i h = absurd (omega (arith, h))
-digits_value_from-drop_suc n (x ∷ xs) zero h = refl
-digits_value_from-drop_suc n (x ∷ xs) (suc i) h = digits_value_from-drop_suc n xs i (omega (arith, h))
+-- what the kit's parsing tells of a word, in our own value of digits
+pub value_of_numeral : (word : List ℕ) (x : ℕ) → ((0 < length word) × AllDigits 10 word) × (digits_value 10 word < 2 ^ 64) → x ≡ digits_value 10 word
+    → ((all_ascii_digits word ≡ true) × (digits_value_from 0 word < 2 ^ 64)) × (x ≡ digits_value_from 0 word)
+value_of_numeral word x ((some, digits), small) value =
+    let same = digits_value_from-IsNumeralModel.same word digits in
+    ((digits_value_from-IsNumeralModel.from word digits, rw same small), value ∙ sym same)
 
--- one more digit
-pub digits_value_from-drop : (n : ℕ) (xs : List ℕ) (i : ℕ) → i < length xs → digits_value_from n (drop i xs) ≡ digits_value_from (n * 10 + (get_or xs i 0 - 48)) (drop (i + 1) xs)
-digits_value_from-drop n xs i h =
-    let e : i + 1 ≡ suc i = omega arith in
-    rw e (digits_value_from-drop_suc n xs i h)
+pub no_numeral : (word : List ℕ) → 0 < length word → (((0 < length word) × AllDigits 10 word) × (digits_value 10 word < 2 ^ 64) → ⊥) → (all_ascii_digits word ≡ true) × (digits_value_from 0 word < 2 ^ 64) → ⊥
+no_numeral word some none (digits, small) =
+    let all = digits_value_from-IsNumeralModel.to word digits in
+    none ((some, all), rw (sym (digits_value_from-IsNumeralModel.same word all)) small)
 
 length-decimal_zero : (n : ℕ) → n < 2 ^ 64 → get_or (decimal n) 0 0 ≡ 48 → length (decimal n) ≡ 1
 length-decimal_zero zero h e = rw (decimal_digit 0 (omega arith)) refl
@@ -93,7 +89,7 @@ cond-decimal word true e = is_number-decimal word e
 cond-decimal word false e = tt
 
 -- a word is the text of the number that is read, which is below 2^64
-number_of-IfSome : (word : List ℕ) → IfSome (number_of word) (λ n. (word ≡ decimal n) × (n < 2 ^ 64))
+pub number_of-IfSome : (word : List ℕ) → IfSome (number_of word) (λ n. (word ≡ decimal n) × (n < 2 ^ 64))
 number_of-IfSome word = cond-decimal word _ refl
 
 IfSome-decimal : (word : List ℕ) (o : Option ℕ) → IfSome o (λ n. (word ≡ decimal n) × (n < 2 ^ 64)) → IfSome o (λ n. word ≡ decimal n)
@@ -108,53 +104,3 @@ pub number_of-SomeIff : (word : List ℕ) (r : Option ℕ) → SomeIff r ((all_a
     → 0 < length word → (get_or word 0 0 ≡ 48 → length word ≡ 1) → r ≡ number_of word
 number_of-SomeIff word (Some x) ((d, s), e) some front = ap (λ k. Some k) e ∙ sym (number_of-digits word some front d s)
 number_of-SomeIff word None h some front = sym (number_of-none word (λ n l e. let w = IsNumeral-decimal word n l e in h (w.digits, rw w.value l)))
-
--- the text of a command is read as that command
-pub queue_line_of_Spells : (line : List ℕ) (asked : QueueLine) → Spells line asked → queue_line_of line ≡ Some asked
-queue_line_of_Spells line (Command (Push n)) (e, h) = rw (e, number_of_decimal (decimal n) n h refl) refl
-queue_line_of_Spells line (Command (Over n)) (e, h) = rw (e, number_of_decimal (decimal n) n h refl) refl
-queue_line_of_Spells line (Command Pop) (e, h) = rw e refl
-queue_line_of_Spells line Show e = rw e refl
-
-option_map-Spells : (line front : List ℕ) (o : Option ℕ) (make : ℕ → QueueCommand ℕ) → take 5 line ≡ front → ((n : ℕ) → command_text (make n) ≡ front ++ decimal n)
-    → ((n : ℕ) → n < 2 ^ 64 → IsInRange (make n)) → IfSome o (λ n. (drop 5 line ≡ decimal n) × (n < 2 ^ 64))
-    → IfSome (option_map (λ n. Command (make n)) o) (λ asked. Spells line asked)
-option_map-Spells line front None make e t r h = tt
-option_map-Spells line front (Some n) make e t r (d, h) =
-    (sym (take-append-drop 5 line) ∙ ap (λ l. l ++ drop 5 line) e ∙ ap (λ l. front ++ l) d ∙ sym (t n), r n h)
-
-cond-Spells : (line : List ℕ) (pop show push over : Bool) → bytes_eq line (codes "pop") ≡ pop → bytes_eq line (codes "show") ≡ show → bytes_eq (take 5 line) (codes "push ") ≡ push
-    → bytes_eq (take 5 line) (codes "over ") ≡ over
-    → IfSome (cond pop (Some (Command Pop)) (cond show (Some Show) (cond push (option_map (λ n. Command (Push n)) (number_of (drop 5 line))) (cond over (option_map (λ n. Command (Over n)) (number_of (drop 5 line))) None))))
-    (λ asked. Spells line asked)
-cond-Spells line true show push over a b c d = ((bytes_eq-Decides line (codes "pop")).0 a, tt)
-cond-Spells line false true push over a b c d = (bytes_eq-Decides line (codes "show")).0 b
-cond-Spells line false false true over a b c d =
-    option_map-Spells line (codes "push ") _ Push ((bytes_eq-Decides (take 5 line) (codes "push ")).0 c) (λ n. refl) (λ n h. h) (number_of-IfSome (drop 5 line))
-cond-Spells line false false false true a b c d =
-    option_map-Spells line (codes "over ") _ Over ((bytes_eq-Decides (take 5 line) (codes "over ")).0 d) (λ n. refl) (λ n h. h) (number_of-IfSome (drop 5 line))
-cond-Spells line false false false false a b c d = tt
-
--- a line is the text of what is read
-pub Spells_queue_line_of : (line : List ℕ) → IfSome (queue_line_of line) (λ asked. Spells line asked)
-Spells_queue_line_of line = cond-Spells line _ _ _ _ refl refl refl refl
-
--- the header of a capacity is read as that capacity
-pub header_of_header_text : (line : List ℕ) (capacity : FixedCapacity) → line ≡ header_text capacity → header_of line ≡ Some capacity
-header_of_header_text line Zero e = rw e refl
-header_of_header_text line One e = rw e refl
-header_of_header_text line Three e = rw e refl
-header_of_header_text line Eight e = rw e refl
-
-cond-header_text : (line : List ℕ) (zero one three eight : Bool) → bytes_eq line (header_text Zero) ≡ zero → bytes_eq line (header_text One) ≡ one
-    → bytes_eq line (header_text Three) ≡ three → bytes_eq line (header_text Eight) ≡ eight
-    → IfSome (cond zero (Some Zero) (cond one (Some One) (cond three (Some Three) (cond eight (Some Eight) None)))) (λ capacity. line ≡ header_text capacity)
-cond-header_text line true one three eight a b c d = (bytes_eq-Decides line (header_text Zero)).0 a
-cond-header_text line false true three eight a b c d = (bytes_eq-Decides line (header_text One)).0 b
-cond-header_text line false false true eight a b c d = (bytes_eq-Decides line (header_text Three)).0 c
-cond-header_text line false false false true a b c d = (bytes_eq-Decides line (header_text Eight)).0 d
-cond-header_text line false false false false a b c d = tt
-
--- a line is the header of the capacity that is read
-pub header_text_header_of : (line : List ℕ) → IfSome (header_of line) (λ capacity. line ≡ header_text capacity)
-header_text_header_of line = cond-header_text line _ _ _ _ refl refl refl refl

@@ -1,13 +1,13 @@
--- A script from piece to piece: the replies so far, and those to the input to come.
-use Rattle.std.proofs.Common.{ℕ, ◌≡◌, List, [], ◌++◌, Option, Result, Ok, Err, OnOk, OnErr, sym, ap, ◌∙◌, append_assoc, append-nil, subst}
+-- A script from line to line: the replies so far, and those to what is to come.
+use Rattle.std.proofs.Common.{ℕ, ◌≡◌, List, [], ◌++◌, Option, Bool, true, false, Result, Ok, Err, OnOk, OnErr, refl, sym, ap, ◌∙◌, append_assoc, append-nil, subst}
 use Rattle.std.specs.Io.KnownBytes.{Appends, Consumes, IsAtEnd}
-use Rattle.ix_run.specs.Lines.{LimitedLine}
 use Rattle.ix_run.specs.Outcome.{WritesReplies, WritesPartOfReplies}
-use Rattle.ix_run.specs.Progress.{Advances, AdvancesPart, AdvanceResult, remaining_replies, last_reply}
-use Rattle.ix_run.specs.Script.{State, replies_to}
+use Rattle.ix_run.specs.Script.{replies_to}
+use Rattle.ix_run.specs.Progress.{Advances, AdvancesPart, AdvanceResult, DriveResult, ReadsFrom, FinishResult, StopResult}
 use Rattle.ix_run.specs.Writing.{Writes, WritesPart, WriteResult}
 use Rattle.ix_run.specs.declared.run.fault.ScriptFault.{ScriptFault}
-use Rattle.ix_run.proofs.Writing.{Writes-append, WritesPart-Writes, WritesPart-from_Writes, Writes-Writes_nil, Writes-WritesPart_nil}
+use Rattle.ix_run.proofs.KnownBytes.{Appends-append, Consumes-nil, Consumes-append}
+use Rattle.ix_run.proofs.Writing.{Writes-append, WritesPart-Writes, Writes-Writes_nil, Writes-WritesPart_nil}
 
 abbrev Known : Type 0
 Known = Option (List ℕ)
@@ -15,80 +15,147 @@ Known = Option (List ℕ)
 abbrev Text : Type 0
 Text = List ℕ → List ℕ
 
-pub Advances-trans : (c d e : Known) (o p q : List ℕ) (f g h : Text) → Advances c o f d p g → Advances d p g e q h → Advances c o f e q h
-Advances-trans c d e o p q f g h (xs, a, r) (ys, b, s) =
-    (xs ++ ys, Writes-append c d e o p q xs ys a b, λ m. r m ∙ ap (λ l. xs ++ l) (s m) ∙ sym (append_assoc xs ys (h m)))
-
-pub Advances-AdvancesPart : (c d e : Known) (o p : List ℕ) (f g : Text) → Advances c o f d p g → AdvancesPart d p g e → AdvancesPart c o f e
-Advances-AdvancesPart c d e o p f g (xs, a, r) (ys, b, s) =
-    (xs ++ ys, WritesPart-Writes c d e o p xs ys a b, λ m. ((s m).0, r m ∙ ap (λ l. xs ++ l) (s m).1 ∙ sym (append_assoc xs ys (s m).0)))
-
-pub AdvancesPart-Advances : (c d : Known) (o p : List ℕ) (f g : Text) → Advances c o f d p g → AdvancesPart c o f d
-AdvancesPart-Advances c d o p f g (xs, a, r) = (xs, WritesPart-from_Writes c d o p xs a, λ m. (g m, r m))
-
--- all pending bytes are written
-pub AdvanceResult-WriteResult : (c d e : Known) (o p q : List ℕ) (f g : Text) (r : Result (Unit {0}) ScriptFault) → Advances c o f d p g → WriteResult d p [] e q r → AdvanceResult c o f e q g r
-AdvanceResult-WriteResult c d e o p q f g (Ok u) (xs, a, s) b = (xs, Writes-Writes_nil c d e o p q xs a b, s)
-AdvanceResult-WriteResult c d e o p q f g (Err x) (xs, a, s) b = (b.0, (xs, Writes-WritesPart_nil c d e o p xs a b.1, λ m. (g m, s m)))
-
--- one more piece was read
-Advances-append : (c d : Known) (o p read piece : List ℕ) (f g : Text) → Advances c o (λ m. f (read ++ m)) d p g → Advances c o (λ m. f ((read ++ piece) ++ m)) d p (λ m. g (piece ++ m))
-Advances-append c d o p read piece f g (xs, a, r) = (xs, a, λ m. ap f (append_assoc read piece m) ∙ r (piece ++ m))
-
--- a piece was read, and its lines got their replies
-pub Advances-feed : (c d e : Known) (p q read piece : List ℕ) (state : State) (line : LimitedLine) (g : Text) → Advances c [] (λ m. replies_to (read ++ m)) d p (λ m. remaining_replies state line m)
-    → Advances d p (λ m. remaining_replies state line (piece ++ m)) e q g → Advances c [] (λ m. replies_to ((read ++ piece) ++ m)) e q g
-Advances-feed c d e p q read piece state line g a b =
-    Advances-trans c d e [] p q (λ m. replies_to ((read ++ piece) ++ m)) (λ m. remaining_replies state line (piece ++ m)) g
-    (Advances-append c d [] p read piece (λ m. replies_to m) (λ m. remaining_replies state line m) a) b
-
-pub AdvancesPart-feed : (c d e : Known) (p read piece : List ℕ) (state : State) (line : LimitedLine) → Advances c [] (λ m. replies_to (read ++ m)) d p (λ m. remaining_replies state line m)
-    → AdvancesPart d p (λ m. remaining_replies state line (piece ++ m)) e → AdvancesPart c [] (λ m. replies_to ((read ++ piece) ++ m)) e
-AdvancesPart-feed c d e p read piece state line a b =
-    Advances-AdvancesPart c d e [] p (λ m. replies_to ((read ++ piece) ++ m)) (λ m. remaining_replies state line (piece ++ m))
-    (Advances-append c d [] p read piece (λ m. replies_to m) (λ m. remaining_replies state line m) a) b
-
--- with nothing pending, all replies were written
-Appends-Writes : (c e : Known) (xs : List ℕ) → Writes c [] xs e [] → Appends c e xs
-Appends-Writes c e xs (written, a, r) =
-    let P : List ℕ → Type 0 = λ l. Appends c e l in
-    let same : written ≡ xs = sym (append-nil written) ∙ sym r in
-    subst P same a
-
--- the reader is at its end, and the last reply was written
-WritesReplies-last : (i j c d e : Known) (read : List ℕ) (state : State) (line : LimitedLine) → Consumes i j read → IsAtEnd j
-    → Advances c [] (λ m. replies_to (read ++ m)) d [] (λ m. remaining_replies state line m) → Writes d [] (last_reply state line) e [] → WritesReplies i c j e
-WritesReplies-last i j c d e read state line k end (xs, a, r) b =
-    let whole : xs ++ last_reply state line ≡ replies_to read = sym (r []) ∙ ap (λ l. replies_to l) (append-nil read) in
-    let P : List ℕ → Type 0 = λ l. Appends c e l in
-    (read, k, end, subst P whole (Appends-Writes c e (xs ++ last_reply state line) (Writes-append c d e [] [] [] xs (last_reply state line) a b)))
-
--- the writer failed at the last reply
-WritesPartOfReplies-last : (i j c d e : Known) (read : List ℕ) (state : State) (line : LimitedLine) → Consumes i j read
-    → Advances c [] (λ m. replies_to (read ++ m)) d [] (λ m. remaining_replies state line m) → WritesPart d [] (last_reply state line) e → WritesPartOfReplies i c j e
-WritesPartOfReplies-last i j c d e read state line k (xs, a, r) b =
-    let whole : xs ++ last_reply state line ≡ replies_to read = sym (r []) ∙ ap (λ l. replies_to l) (append-nil read) in
-    let begun = WritesPart-Writes c d e [] [] xs (last_reply state line) a b in
-    (read, begun.0, begun.1, k, begun.2, sym whole ∙ begun.3)
-
--- the outcome at the end of the input
-pub WritesReplies-OnOk : (i j c d e : Known) (read : List ℕ) (state : State) (line : LimitedLine) (r : Result (Unit {0}) ScriptFault) → Consumes i j read → IsAtEnd j
-    → Advances c [] (λ m. replies_to (read ++ m)) d [] (λ m. remaining_replies state line m) → WriteResult d [] (last_reply state line) e [] r → OnOk r (WritesReplies i c j e)
-WritesReplies-OnOk i j c d e read state line (Ok u) k end t w = WritesReplies-last i j c d e read state line k end t w
-WritesReplies-OnOk i j c d e read state line (Err f) k end t w = tt
-
-pub WritesPartOfReplies-OnErr : (i j c d e : Known) (read : List ℕ) (state : State) (line : LimitedLine) (r : Result (Unit {0}) ScriptFault) → Consumes i j read
-    → Advances c [] (λ m. replies_to (read ++ m)) d [] (λ m. remaining_replies state line m) → WriteResult d [] (last_reply state line) e [] r → OnErr r (WritesPartOfReplies i c j e)
-WritesPartOfReplies-OnErr i j c d e read state line (Ok u) k t w = tt
-WritesPartOfReplies-OnErr i j c d e read state line (Err f) k t w = WritesPartOfReplies-last i j c d e read state line k t w.1
-
--- the script stopped before the end of the input
-pub WritesPartOfReplies-AdvancesPart : (i j c e : Known) (read : List ℕ) → Consumes i j read → AdvancesPart c [] (λ m. replies_to (read ++ m)) e → WritesPartOfReplies i c j e
-WritesPartOfReplies-AdvancesPart i j c e read k (xs, (written, rest, a, r), s) = (
-  read,
-  written,
-  rest ++ (s []).0,
-  k,
-  a,
-  sym (ap (λ l. replies_to l) (append-nil read)) ∙ (s []).1 ∙ ap (λ l. l ++ (s []).0) r ∙ append_assoc written rest (s []).0,
+-- one more line was read and got its reply
+pub Advances-line : {L : Type 0} (b c d e : Known) (o p q r read piece : List ℕ) (f g : Text) (h h' : L → List ℕ) (lines : List ℕ → L)
+    → Advances b o (λ m. f (read ++ m)) c p g → Writes c p [] d q → ((m : List ℕ) → g (piece ++ m) ≡ h (lines m)) → Advances d q h e r h'
+    → Advances b o (λ m. f ((read ++ piece) ++ m)) e r (λ m. h' (lines m))
+Advances-line b c d e o p q r read piece f g h h' lines (xs, a, s) w next (ys, v, t) = (
+  xs ++ ys,
+  Writes-append b d e o q r xs ys (Writes-Writes_nil b c d o p q xs a w) v,
+  λ m. ap f (append_assoc read piece m) ∙ s (piece ++ m) ∙ ap (λ l. xs ++ l) (next m ∙ t (lines m)) ∙ sym (append_assoc xs ys (h' (lines m))),
 )
+
+-- the writer failed at the reply to a line
+pub DriveResult-part : {L : Type 0} (i j k : Known) (b c d e : Known) (o p q r' read piece : List ℕ) (f g f' : Text) (h : L → List ℕ) (at : L) (x : ScriptFault)
+    → Consumes i j read → Advances b o (λ m. f (read ++ m)) c p g → Consumes j k piece → Writes c p [] d q → g piece ≡ h at → AdvancesPart d q h e
+    → DriveResult i b o f k e r' f' (Err x)
+DriveResult-part i j k b c d e o p q r' read piece f g f' h at x had (xs, a, s) has w next (ys, v, t) = (
+  read ++ piece,
+  xs ++ ys,
+  (t at).0,
+  Consumes-append i j k read piece had has,
+  WritesPart-Writes b d e o q xs ys (Writes-Writes_nil b c d o p q xs a w) v,
+  s piece ∙ ap (λ l. xs ++ l) (next ∙ (t at).1) ∙ sym (append_assoc xs ys (t at).0),
+)
+
+-- no line could be read
+pub DriveResult-unread : (i j k : Known) (b c d : Known) (o p r' read piece : List ℕ) (f g f' : Text) (x : ScriptFault)
+    → Consumes i j read → Advances b o (λ m. f (read ++ m)) c p g → Consumes j k piece → WritesPart c p [] d → DriveResult i b o f k d r' f' (Err x)
+DriveResult-unread i j k b c d o p r' read piece f g f' x had (xs, a, s) has w =
+    (read ++ piece, xs, g piece, Consumes-append i j k read piece had has, Writes-WritesPart_nil b c d o p xs a w, s piece)
+
+-- the last line got its reply
+pub DriveResult-last : (i j k : Known) (b c d e : Known) (o p q r read piece : List ℕ) (f g f' : Text) (h h' : Unit {0} → List ℕ)
+    → Consumes i j read → Advances b o (λ m. f (read ++ m)) c p g → Consumes j k piece → IsAtEnd k → Writes c p [] d q → g piece ≡ h tt → Advances d q h e r h' → h' tt ≡ f' []
+    → DriveResult i b o f k e r f' (Ok true)
+DriveResult-last i j k b c d e o p q r read piece f g f' h h' had (xs, a, s) has end w last (ys, v, t) after = (
+  read ++ piece,
+  xs ++ ys,
+  Consumes-append i j k read piece had has,
+  end,
+  Writes-append b d e o q r xs ys (Writes-Writes_nil b c d o p q xs a w) v,
+  s piece ∙ ap (λ l. xs ++ l) (last ∙ t tt ∙ ap (λ l. ys ++ l) after) ∙ sym (append_assoc xs ys (f' [])),
+)
+
+-- the same at one point of what is to come
+pub AdvanceResult-at : {I J : Type 0} (c d : Known) (p q : List ℕ) (f g : I → List ℕ) (at : J → I) (r : Result (Unit {0}) ScriptFault)
+    → AdvanceResult c p f d q g r → AdvanceResult c p (λ j. f (at j)) d q (λ j. g (at j)) r
+AdvanceResult-at c d p q f g at (Ok u) (xs, a, s) = (xs, a, λ j. s (at j))
+AdvanceResult-at c d p q f g at (Err e) (xs, a, s) = (xs, a, λ j. s (at j))
+
+ReadsFrom-nil : (b : Bool) (i : Known) → ReadsFrom b i i []
+ReadsFrom-nil true i = (refl, refl)
+ReadsFrom-nil false i = Consumes-nil i
+
+-- the writer failed before anything was read
+pub FinishResult-part : (b : Bool) (i c d : Known) (p xs ys : List ℕ) (f : Text) (x : ScriptFault) → WritesPart c p xs d → f [] ≡ xs ++ ys → FinishResult b i c p f i d (Err x)
+FinishResult-part b i c d p xs ys f x (written, rest, a, s) e =
+    ([], written, rest ++ ys, ReadsFrom-nil b i, a, ap (λ l. p ++ l) e ∙ sym (append_assoc p xs ys) ∙ ap (λ l. l ++ ys) s ∙ append_assoc written rest ys)
+
+-- bytes were appended, and then the run stopped
+pub FinishResult-DriveResult_err : (i j c d e : Known) (p q r xs : List ℕ) (f g h : Text) (x y : ScriptFault) → Writes c p xs d q → DriveResult i d q g j e r h (Err x) → ((m : List ℕ) → f m ≡ xs ++ g m)
+    → FinishResult false i c p f j e (Err y)
+FinishResult-DriveResult_err i j c d e p q r xs f g h x y w (read, ys, rest, has, v, s) front =
+    let part = WritesPart-Writes c d e p q xs ys w v in (
+      read,
+      part.0,
+      part.1 ++ rest,
+      has,
+      part.2,
+      ap (λ l. p ++ l) (front read ∙ ap (λ l. xs ++ l) s ∙ sym (append_assoc xs ys rest)) ∙ sym (append_assoc p (xs ++ ys) rest) ∙ ap (λ l. l ++ rest) part.3
+          ∙ append_assoc part.0 part.1 rest,
+    )
+
+-- the run stopped before anything was read
+pub FinishResult-StopResult : (b : Bool) (i c d : Known) (p : List ℕ) (f : Text) (r : Result (Unit {0}) ScriptFault) → StopResult c p d r → FinishResult b i c p f i d r
+FinishResult-StopResult b i c d p f (Ok u) w = absurd w
+FinishResult-StopResult b i c d p f (Err x) w = FinishResult-part b i c d p [] (f []) f x w refl
+
+-- all pending bytes were written, and no more was to come
+Appends-Writes : (c d : Known) (p xs : List ℕ) → Writes c p xs d [] → Appends c d (p ++ xs)
+Appends-Writes c d p xs (written, a, s) =
+    let P : List ℕ → Type 0 = λ l. Appends c d l in
+    subst P (sym (append-nil written) ∙ sym s) a
+
+pub FinishResult-WriteResult : (b : Bool) (i c d e : Known) (p q xs : List ℕ) (f : Text) (r : Result (Unit {0}) ScriptFault) → b ≡ true → Writes c p xs d q → WriteResult d q [] e [] r → f [] ≡ xs
+    → FinishResult b i c p f i e r
+FinishResult-WriteResult b i c d e p q xs f (Ok u) true_is w v all =
+    ([], ReadsFrom-nil b i, λ not. let wrong = sym true_is ∙ not in cc, rw all (Appends-Writes c e p xs (Writes-Writes_nil c d e p q [] xs w v)))
+FinishResult-WriteResult b i c d e p q xs f (Err x) true_is w v all = FinishResult-part b i c e p xs [] f x (Writes-WritesPart_nil c d e p q xs w v.1) (all ∙ sym (append-nil xs))
+
+-- the run came to the end of the input
+pub FinishResult-DriveResult : (i j c d e k : Known) (p q r xs : List ℕ) (f g h : Text) (res : Result (Unit {0}) ScriptFault) → Writes c p xs d q → DriveResult i d q g j e r h (Ok true) → h [] ≡ []
+    → WriteResult e r [] k [] res → ((m : List ℕ) → f m ≡ xs ++ g m) → FinishResult false i c p f j k res
+FinishResult-DriveResult i j c d e k p q r xs f g h (Ok u) w (read, ys, has, end, v, s) none z front =
+    let all : f read ≡ xs ++ ys = front read ∙ ap (λ l. xs ++ l) (s ∙ ap (λ l. ys ++ l) none ∙ append-nil ys) in
+    (read, has, λ _. end, rw all (Appends-Writes c k p (xs ++ ys) (Writes-Writes_nil c e k p r [] (xs ++ ys) (Writes-append c d e p q r xs ys w v) z)))
+FinishResult-DriveResult i j c d e k p q r xs f g h (Err x) w (read, ys, has, end, v, s) none z front =
+    let all : f read ≡ xs ++ ys = front read ∙ ap (λ l. xs ++ l) (s ∙ ap (λ l. ys ++ l) none ∙ append-nil ys) in
+    let part = Writes-WritesPart_nil c e k p r (xs ++ ys) (Writes-append c d e p q r xs ys w v) z.1 in
+    (read, part.0, part.1, has, part.2, ap (λ l. p ++ l) all ∙ part.3)
+
+-- bytes were appended that every future begins with
+pub AdvanceResult-WriteResult : {I : Type 0} (c d : Known) (p q xs : List ℕ) (f g : I → List ℕ) (r : Result (Unit {0}) ScriptFault) → WriteResult c p xs d q r → ((i : I) → f i ≡ xs ++ g i)
+    → AdvanceResult c p f d q g r
+AdvanceResult-WriteResult c d p q xs f g (Ok u) w front = (xs, w, front)
+AdvanceResult-WriteResult c d p q xs f g (Err e) w front = (xs, w.1, λ i. (g i, front i))
+
+-- a run goes on where lines were replied to
+pub FinishResult-then : (b : Bool) (i j k : Known) (c d e : Known) (p q : List ℕ) (f h : Text) (r : Result (Unit {0}) ScriptFault) → DriveResult i c p f j d q h (Ok b) → FinishResult b j d q h k e r
+    → FinishResult false i c p f k e r
+FinishResult-then true i j k c d e p q f h (Ok u) (read, xs, has, end, (written, a, s), t) (read', (same, none), end', a') =
+    let P : Known → Type 0 = λ l. Consumes i l read in
+    let Q : Known → Type 0 = λ l. IsAtEnd l in
+    let A : List ℕ → Type 0 = λ l. Appends c e l in
+    let all : written ++ (q ++ h read') ≡ p ++ f read =
+    sym (append_assoc written q (h read')) ∙ ap (λ l. l ++ h read') (sym s) ∙ append_assoc p xs (h read') ∙ ap (λ l. p ++ (xs ++ h l)) none ∙ ap (λ l. p ++ l) (sym t) in
+    (read, subst P (sym same) has, λ _. subst Q (sym same) end, subst A all (Appends-append c d e written (q ++ h read') a a'))
+FinishResult-then true i j k c d e p q f h (Err x) (read, xs, has, end, (written, a, s), t) (read', written', rest, (same, none), a', s') =
+    let P : Known → Type 0 = λ l. Consumes i l read in
+    let all : p ++ f read ≡ (written ++ written') ++ rest =
+    ap (λ l. p ++ l) t ∙ ap (λ l. p ++ (xs ++ h l)) (sym none) ∙ sym (append_assoc p xs (h read')) ∙ ap (λ l. l ++ h read') s ∙ append_assoc written q (h read') ∙ ap (λ l. written ++ l) s'
+    ∙ sym (append_assoc written written' rest) in
+    (read, written ++ written', rest, subst P (sym same) has, Appends-append c d e written written' a a', all)
+FinishResult-then false i j k c d e p q f h (Ok u) (read, has, (xs, (written, a, s), t)) (read', has', end', a') =
+    let A : List ℕ → Type 0 = λ l. Appends c e l in
+    let all : written ++ (q ++ h read') ≡ p ++ f (read ++ read') =
+    sym (append_assoc written q (h read')) ∙ ap (λ l. l ++ h read') (sym s) ∙ append_assoc p xs (h read') ∙ ap (λ l. p ++ l) (sym (t read')) in
+    (read ++ read', Consumes-append i j k read read' has has', end', subst A all (Appends-append c d e written (q ++ h read') a a'))
+FinishResult-then false i j k c d e p q f h (Err x) (read, has, (xs, (written, a, s), t)) (read', written', rest, has', a', s') =
+    let all : p ++ f (read ++ read') ≡ (written ++ written') ++ rest =
+    ap (λ l. p ++ l) (t read') ∙ sym (append_assoc p xs (h read')) ∙ ap (λ l. l ++ h read') s ∙ append_assoc written q (h read') ∙ ap (λ l. written ++ l) s' ∙ sym (append_assoc written written' rest) in
+    (read ++ read', written ++ written', rest, Consumes-append i j k read read' has has', Appends-append c d e written written' a a', all)
+
+-- a whole script
+pub WritesReplies_of_FinishResult : (i c j d : Known) (r : Result (Unit {0}) ScriptFault) → FinishResult false i c [] replies_to j d r → OnOk r (WritesReplies i c j d)
+WritesReplies_of_FinishResult i c j d (Ok u) (read, has, end, a) = (read, has, end refl, a)
+WritesReplies_of_FinishResult i c j d (Err x) h = tt
+
+pub WritesPartOfReplies_of_FinishResult : (i c j d : Known) (r : Result (Unit {0}) ScriptFault) → FinishResult false i c [] replies_to j d r → OnErr r (WritesPartOfReplies i c j d)
+WritesPartOfReplies_of_FinishResult i c j d (Ok u) h = tt
+WritesPartOfReplies_of_FinishResult i c j d (Err x) (read, written, rest, has, a, s) = (read, written, rest, has, a, s)
+
+-- the same future
+pub FinishResult-same : (b : Bool) (i j : Known) (c d : Known) (p : List ℕ) (f g : Text) (r : Result (Unit {0}) ScriptFault) → ((m : List ℕ) → g m ≡ f m) → FinishResult b i c p f j d r → FinishResult b i c p g j d r
+FinishResult-same b i j c d p f g (Ok u) same (read, has, end, a) = (read, has, end, rw (same read) a)
+FinishResult-same b i j c d p f g (Err x) same (read, written, rest, has, a, s) = (read, written, rest, has, a, ap (λ l. p ++ l) (same read) ∙ s)

@@ -1,25 +1,40 @@
--- Worked scripts: the definition of the replies gives what a user expects.
-use Rattle.std.proofs.Common.{◌≡◌, [], refl, codes}
+-- Worked scripts: what the definition of the replies computes.
+use Rattle.std.proofs.Common.{◌≡◌, [], codes, refl}
 use Rattle.std.specs.Fmt.{digits}
 use Rattle.ix_run.specs.Script.{replies_to}
 
--- no line, no reply
-empty_script : replies_to [] ≡ []
+replies_to-nil : replies_to [] ≡ []
 unfolding replies_to
-empty_script = refl
+replies_to-nil = refl
 
--- a full queue refuses a push; an overflow returns the oldest item
-overflow_script : replies_to (codes "queue fixed 1\npush 123\npush 5\nover 456\npop\npop\n") ≡ codes "ready\ntrue\nfalse\nsome 123\nsome 456\nnone\n"
+replies_to-queue : replies_to (codes "queue fixed 1\npush 123\npush 5\nover 456\npop\npop") ≡ codes "ready\ntrue\nfalse\nsome 123\nsome 456\nnone\n"
 unfolding replies_to digits
-overflow_script = refl
+replies_to-queue = refl
 
--- commands before the header, a capacity that no header has, a second header, a leading zero, and a number past 2^64
-unreadable_script : replies_to (codes "push 1\nqueue fixed 2\nqueue fixed 3\npush 01\npush 18446744073709551615\npush 18446744073709551616\nqueue fixed 1\nshow")
-    ≡ codes "?\n?\nready\n?\ntrue\n?\n?\n18446744073709551615\n"
+replies_to-slot : replies_to (codes "slot heap 3\ninsert 10\ninsert 20\nremove 0\nnext\ninsert 30\ninsert_at 2 40\ninsert 50\nshow") ≡ codes "ready\nsome 0\nsome 1\nsome 10\nsome 0\nsome 0\ntrue\nnone\n0=30 1=20 2=40\n"
 unfolding replies_to digits
-unreadable_script = refl
+replies_to-slot = refl
 
--- an empty line and a carriage return are lines like any other
-empty_line_script : replies_to (codes "\n\nqueue fixed 0\r\nqueue fixed 0\npop \nover 7\nshow\n") ≡ codes "?\n?\n?\nready\n?\nsome 7\n-\n"
+replies_to-text : replies_to (codes "text fixed 3\nappend 97 98\npush 200\npush 99\npush 100\nrfind\nshow\nhello") ≡ codes "ready\nok\nerror InvalidCharacter\nok\nerror InsertWouldExceedCapacity\nsome 3\n\"abc\"\n?\n"
 unfolding replies_to digits
-empty_line_script = refl
+replies_to-text = refl
+
+replies_to-flat : replies_to (codes "flat arena 1001\nflat arena 1\ninsert 1 2\ninsert 1 3\ninsert 2 4\nget 1\nkey 0\nkey 1") ≡ codes "?\nready\nok\nerror KeyAlreadyExists\nerror IsFull\nsome 2\nsome 1\nnone\n"
+unfolding replies_to digits
+replies_to-flat = refl
+
+replies_to-vec : replies_to (codes "vec fixed 3\nextend 1 2\ninsert 9 7\nresize 4 0\nresize 3 5\nshow\ntruncate 9\nremove 0") ≡ codes "ready\nok\nerror OutOfBounds\nerror InsertWouldExceedCapacity\nok\n1 2 5\nok\nsome 1\n"
+unfolding replies_to digits
+replies_to-vec = refl
+
+replies_to-empty_queue : replies_to (codes "queue heap 0\npush 1\nover 2\nshow\nfull\nempty") ≡ codes "ready\nfalse\nsome 2\n-\ntrue\ntrue\n"
+unfolding replies_to digits
+replies_to-empty_queue = refl
+
+replies_to-numbers : replies_to (codes "push 1\nqueue fixed 2\nqueue fixed 3\npush 01\npush 18446744073709551615\npush 18446744073709551616\nshow") ≡ codes "?\n?\nready\n?\ntrue\n?\n18446744073709551615\n"
+unfolding replies_to digits
+replies_to-numbers = refl
+
+replies_to-escaped : replies_to (codes "text arena 5\ninsert 1 97\nappend\nappend 97 9 98\nshow\ndrop 97\nlen") ≡ codes "ready\nerror IndexPastEnd\nok\nok\n\"a\\tb\"\nok\n2\n"
+unfolding replies_to digits
+replies_to-escaped = refl

@@ -1,6 +1,8 @@
--- What one read returns.
-use Rattle.std.specs.Prelude.{ℕ, ◌≡◌, ◌<◌, ◌≤◌, List, length, take, Option, None, Some, Result, Ok, Err}
+-- An input that is read in pieces and taken line by line.
+use Rattle.std.specs.Prelude.{ℕ, ◌≡◌, ◌<◌, ◌≤◌, List, [], ◌∷◌, ◌++◌, nat_eq, if◌then◌else◌, length, take, Option, None, Some, Bool, true, false, Result, Ok, Err}
 use Rattle.std.specs.Io.KnownBytes.{Consumes, IsAtEnd, Keeps}
+use Rattle.ix_run.specs.Lines.{LimitedLine, limited_line, limited_line_append, line_feed, IsOneLine}
+use Rattle.ix_run.specs.Writing.{Writes, WritesPart}
 use Rattle.ix_run.specs.declared.run.fault.ScriptFault.{ScriptFault}
 use Rattle.ix_run.specs.declared.run.fault.ScriptFault.TheVariants as fault
 
@@ -10,3 +12,75 @@ ReadsOnce input input' (Ok (Some count)) buffer =
     (count ≤ length buffer) × Consumes input input' (take count buffer) × (count ≡ 0 → 0 < length buffer → IsAtEnd input')
 ReadsOnce input input' (Ok None) buffer = Keeps input input'
 ReadsOnce input input' (Err e) buffer = (e ≡ fault.Read) × Keeps input input'
+
+-- joined and in_place: the current line, of which one of them has the bytes; rest: what was read after it; fuel: a bound on the
+-- lines that may still come
+pub record Unread : Type 0 where
+  pub joined : LimitedLine
+  pub in_place : List ℕ
+  pub rest : List ℕ
+  pub fuel : ℕ
+
+abbrev pub line_at : LimitedLine → List ℕ → LimitedLine
+line_at None in_place = None
+line_at (Some []) in_place = limited_line in_place
+line_at (Some (b ∷ line)) in_place = Some (b ∷ line)
+
+abbrev pub current_line : Unread → LimitedLine
+current_line unread = line_at unread.joined unread.in_place
+
+-- a last line without a line feed; an empty one is no line
+abbrev pub last_line : LimitedLine → List LimitedLine
+last_line None = None ∷ []
+last_line (Some []) = []
+last_line (Some (b ∷ line)) = Some (b ∷ line) ∷ []
+
+-- the lines of bytes that continue this line
+abbrev pub lines_from : LimitedLine → List ℕ → List LimitedLine
+lines_from line [] = last_line line
+lines_from line (b ∷ bytes) = if nat_eq b line_feed then line ∷ lines_from (Some []) bytes else lines_from (limited_line_append line (b ∷ [])) bytes
+
+-- the lines after the current one, with bytes that are still to be read
+abbrev pub lines_to_come : Unread → List ℕ → List LimitedLine
+lines_to_come unread more = lines_from (Some []) (unread.rest ++ more)
+
+-- on true the current line ended with a line feed; on false all that was read is part of it
+abbrev pub TakesLine : Unread → Unread → Bool → Type 0
+TakesLine unread unread' true =
+    (front : List ℕ)
+    × IsOneLine front
+    × (unread.rest ≡ front ++ line_feed ∷ unread'.rest)
+    × (current_line unread' ≡ limited_line_append unread.joined front)
+    × (unread'.fuel < unread.fuel)
+TakesLine unread unread' false =
+    IsOneLine unread.rest
+    × (unread'.rest ≡ [])
+    × (unread'.in_place ≡ [])
+    × (unread'.joined ≡ limited_line_append unread.joined unread.rest)
+    × (unread'.fuel ≤ unread.fuel)
+
+-- on Ok true the input is at its end; on Ok false some bytes were read, if any
+abbrev pub FillResult : Option (List ℕ) → Unread → Option (List ℕ) → Unread → Result Bool ScriptFault → Type 0
+FillResult input unread input' unread' (Ok true) =
+    Consumes input input' [] × IsAtEnd input' × (unread'.rest ≡ []) × (unread'.in_place ≡ []) × (unread'.joined ≡ unread.joined)
+FillResult input unread input' unread' (Ok false) =
+    Consumes input input' unread'.rest × (unread'.in_place ≡ []) × (unread'.joined ≡ unread.joined) × (unread'.fuel < unread.fuel)
+FillResult input unread input' unread' (Err e) = (e ≡ fault.Read) × Keeps input input'
+
+-- on Ok true the current line is the next one; on Ok false it is the last one, if it is not empty
+abbrev pub NextLine : Option (List ℕ) → Option (List ℕ) → List ℕ → Unread → Option (List ℕ) → Option (List ℕ) → List ℕ → Unread → Result Bool ScriptFault → Type 0
+NextLine input contents pending unread input' contents' pending' unread' (Ok true) =
+    (read : List ℕ)
+    × Consumes input input' read
+    × Writes contents pending [] contents' pending'
+    × ((more : List ℕ) → lines_to_come unread (read ++ more) ≡ current_line unread' ∷ lines_to_come unread' more)
+    × (unread'.fuel < unread.fuel)
+NextLine input contents pending unread input' contents' pending' unread' (Ok false) =
+    (read : List ℕ)
+    × Consumes input input' read
+    × IsAtEnd input'
+    × Writes contents pending [] contents' pending'
+    × (lines_to_come unread read ≡ last_line (current_line unread'))
+    × (unread'.rest ≡ [])
+NextLine input contents pending unread input' contents' pending' unread' (Err e) =
+    (read : List ℕ) × Consumes input input' read × WritesPart contents pending [] contents'

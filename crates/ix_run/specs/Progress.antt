@@ -1,40 +1,49 @@
--- A script after a piece of its input. What comes next is not known yet, so the replies that are still to be written are a
--- function: from the input to come to the replies.
-use Rattle.std.specs.Prelude.{ℕ, ◌≡◌, List, [], ◌∷◌, ◌++◌, nat_eq, if◌then◌else◌, Option, None, Some, Result, Ok, Err}
-use Rattle.ix_run.specs.Lines.{LimitedLine, limited_line_append, with_line_feed, line_feed}
-use Rattle.ix_run.specs.Script.{State, line_reply, state_after}
+-- A script on its way. What comes next is not known yet, so the replies that are still to be written are a function: from
+-- what is to come, bytes or lines, to the replies.
+use Rattle.std.specs.Prelude.{ℕ, ◌≡◌, List, [], ◌++◌, Bool, true, false, Option, Result, Ok, Err}
+use Rattle.std.specs.Io.KnownBytes.{Appends, Consumes, IsAtEnd}
 use Rattle.ix_run.specs.Writing.{Writes, WritesPart}
 use Rattle.ix_run.specs.declared.run.fault.ScriptFault.{ScriptFault}
-use Rattle.ix_run.specs.declared.run.fault.ScriptFault.TheVariants as fault
 
--- the reply to a last line that has no line feed; an empty one is no line
-abbrev pub last_reply : State → LimitedLine → List ℕ
-last_reply state None = with_line_feed (line_reply state None)
-last_reply state (Some []) = []
-last_reply state (Some (b ∷ line)) = with_line_feed (line_reply state (Some (b ∷ line)))
+module _ {I : Type 0} where
+  -- some replies are written or pending; whatever is to come, the old future is these replies and then the new future
+  abbrev pub Advances : Option (List ℕ) → List ℕ → (I → List ℕ) → Option (List ℕ) → List ℕ → (I → List ℕ) → Type 0
+  Advances contents pending future contents' pending' future' =
+      (replies : List ℕ) × Writes contents pending replies contents' pending' × ((more : I) → future more ≡ replies ++ future' more)
 
--- the replies to bytes that continue this line
-abbrev pub remaining_replies : State → LimitedLine → List ℕ → List ℕ
-remaining_replies state line [] = last_reply state line
-remaining_replies state line (b ∷ bytes) =
-    if nat_eq b line_feed then with_line_feed (line_reply state line) ++ remaining_replies (state_after state line) (Some []) bytes
-    else remaining_replies state (limited_line_append line (b ∷ [])) bytes
+  -- a first part of some replies is written; whatever is to come, the future begins with these replies
+  abbrev pub AdvancesPart : Option (List ℕ) → List ℕ → (I → List ℕ) → Option (List ℕ) → Type 0
+  AdvancesPart contents pending future contents' =
+      (replies : List ℕ) × WritesPart contents pending replies contents' × ((more : I) → (rest : List ℕ) × (future more ≡ replies ++ rest))
 
--- from the input to come to the replies
-abbrev pub FutureReplies : Type 0
-FutureReplies = List ℕ → List ℕ
+  -- on Ok the script advanced; on Err the writer failed on the way
+  abbrev pub AdvanceResult : Option (List ℕ) → List ℕ → (I → List ℕ) → Option (List ℕ) → List ℕ → (I → List ℕ) → Result (Unit {0}) ScriptFault → Type 0
+  AdvanceResult contents pending future contents' pending' future' (Ok u) = Advances contents pending future contents' pending' future'
+  AdvanceResult contents pending future contents' pending' future' (Err e) = AdvancesPart contents pending future contents'
 
--- some replies are written or pending; whatever the input to come, the old future is these replies and then the new future
-abbrev pub Advances : Option (List ℕ) → List ℕ → FutureReplies → Option (List ℕ) → List ℕ → FutureReplies → Type 0
-Advances contents pending future contents' pending' future' =
-    (replies : List ℕ) × Writes contents pending replies contents' pending' × ((more : List ℕ) → future more ≡ replies ++ future' more)
+-- lines were replied to: on Ok true all lines of the input, on Ok false some, and the future goes on; on Err a first part of
+-- the replies to what was read was written
+abbrev pub DriveResult : Option (List ℕ) → Option (List ℕ) → List ℕ → (List ℕ → List ℕ) → Option (List ℕ) → Option (List ℕ) → List ℕ → (List ℕ → List ℕ) → Result Bool ScriptFault → Type 0
+DriveResult input contents pending future input' contents' pending' future' (Ok true) =
+    (read replies : List ℕ) × Consumes input input' read × IsAtEnd input' × Writes contents pending replies contents' pending' × (future read ≡ replies ++ future' [])
+DriveResult input contents pending future input' contents' pending' future' (Ok false) =
+    (read : List ℕ) × Consumes input input' read × Advances contents pending (λ more. future (read ++ more)) contents' pending' future'
+DriveResult input contents pending future input' contents' pending' future' (Err e) =
+    (read replies rest : List ℕ) × Consumes input input' read × WritesPart contents pending replies contents' × (future read ≡ replies ++ rest)
 
--- a first part of some replies is written; whatever the input to come, the future begins with these replies
-abbrev pub AdvancesPart : Option (List ℕ) → List ℕ → FutureReplies → Option (List ℕ) → Type 0
-AdvancesPart contents pending future contents' =
-    (replies : List ℕ) × WritesPart contents pending replies contents' × ((more : List ℕ) → (rest : List ℕ) × (future more ≡ replies ++ rest))
+-- what a run reads; nothing if the input was at its end before
+abbrev pub ReadsFrom : Bool → Option (List ℕ) → Option (List ℕ) → List ℕ → Type 0
+ReadsFrom true input input' read = (input' ≡ input) × (read ≡ [])
+ReadsFrom false input input' read = Consumes input input' read
 
--- on Ok the script advanced; on Err the writer failed on the way
-abbrev pub AdvanceResult : Option (List ℕ) → List ℕ → FutureReplies → Option (List ℕ) → List ℕ → FutureReplies → Result (Unit {0}) ScriptFault → Type 0
-AdvanceResult contents pending future contents' pending' future' (Ok u) = Advances contents pending future contents' pending' future'
-AdvanceResult contents pending future contents' pending' future' (Err e) = (e ≡ fault.Write) × AdvancesPart contents pending future contents'
+-- on Ok the input is at its end, and all replies are written; on Err a first part of them
+abbrev pub FinishResult : Bool → Option (List ℕ) → Option (List ℕ) → List ℕ → (List ℕ → List ℕ) → Option (List ℕ) → Option (List ℕ) → Result (Unit {0}) ScriptFault → Type 0
+FinishResult at_end input contents pending future input' contents' (Ok u) =
+    (read : List ℕ) × ReadsFrom at_end input input' read × (at_end ≡ false → IsAtEnd input') × Appends contents contents' (pending ++ future read)
+FinishResult at_end input contents pending future input' contents' (Err e) =
+    (read written rest : List ℕ) × ReadsFrom at_end input input' read × Appends contents contents' written × (pending ++ future read ≡ written ++ rest)
+
+-- the run stops after a first part of the pending replies was written
+abbrev pub StopResult : Option (List ℕ) → List ℕ → Option (List ℕ) → Result (Unit {0}) ScriptFault → Type 0
+StopResult contents pending contents' (Ok u) = ⊥
+StopResult contents pending contents' (Err e) = WritesPart contents pending [] contents'

@@ -1,87 +1,100 @@
 -- The replies to a script: one line for each line, in order.
-use Rattle.std.specs.Prelude.{ℕ, List, [], ◌∷◌, ◌++◌, true, false, Option, None, Some, option_map, codes, decimal}
+use Rattle.std.specs.Prelude.{ℕ, List, [], ◌∷◌, ◌++◌, if◌then◌else◌, Option, None, Some, option_map, option_and_then, map, codes, decimal, bytes_eq, nat_eq}
 use Rattle.ix_cells.specs.Bounded.{Bounded, bounded_new}
+use Rattle.ix_maps.specs.SlotState.{SlotState, slot_new, entries}
+use Rattle.ix_maps.specs.FlatState.{flat_keys}
+use Rattle.ix_maps.specs.declared.flatmap.pair.Pair.{Pair}
+use Rattle.ix_string.specs.Escape.{escaped_text}
+use Rattle.ix_commands.specs.QueueRun.{queue_reply, queue_after}
+use Rattle.ix_commands.specs.VecRun.{vec_reply, vec_after}
+use Rattle.ix_commands.specs.SlotRun.{slot_reply, slot_after}
+use Rattle.ix_commands.specs.FlatRun.{flat_reply, flat_after}
+use Rattle.ix_commands.specs.TextRun.{text_reply, text_after}
+use Rattle.ix_commands.specs.declared.reply.Reply.{Reply}
+use Rattle.ix_run.specs.Forms.{queue_forms, vec_forms, slot_forms, flat_forms, text_forms}
+use Rattle.ix_run.specs.Headers.{header_of, capacity_of}
 use Rattle.ix_run.specs.Lines.{LimitedLine, limited_line, lines_of, with_line_feed}
-use Rattle.ix_run.specs.QueueRun.{reply_of, queue_after}
-use Rattle.ix_run.specs.Reading.{queue_line_of, header_of, capacity_of}
-use Rattle.ix_run.specs.declared.run.command.FixedCapacity.{FixedCapacity}
-use Rattle.ix_run.specs.declared.run.command.QueueLine.{QueueLine}
-use Rattle.ix_run.specs.declared.run.command.QueueLine.TheVariants.{Command, Show}
-use Rattle.ix_run.specs.declared.run.reply.Reply.{Reply}
-use Rattle.ix_run.specs.declared.run.reply.Reply.TheVariants as reply
-use Rattle.ix_run.specs.declared.run.reply.ReplyError.{ReplyError}
-use Rattle.ix_run.specs.declared.run.reply.ReplyError.TheVariants.{OutOfBounds, InsertWouldExceedCapacity, InvalidCharacter, KeyAlreadyExists, IsFull, IndexPastEnd}
+use Rattle.ix_run.specs.ReplyTexts.{reply_text, items_text, entry_text}
+use Rattle.ix_run.specs.Words.{Form, command_of}
+use Rattle.ix_run.specs.declared.run.header.Header.{Header}
+use Rattle.ix_run.specs.declared.run.header.Container.{Container}
+use Rattle.ix_run.specs.declared.run.header.Container.TheVariants.{Queue, Vec, Slot, Flat, Text}
 
--- the name of an error
-abbrev pub error_name : ReplyError → List ℕ
-error_name OutOfBounds = codes "OutOfBounds"
-error_name InsertWouldExceedCapacity = codes "InsertWouldExceedCapacity"
-error_name InvalidCharacter = codes "InvalidCharacter"
-error_name KeyAlreadyExists = codes "KeyAlreadyExists"
-error_name IsFull = codes "IsFull"
-error_name IndexPastEnd = codes "IndexPastEnd"
+-- the text of a reply; a question mark to a line that spells no command
+abbrev pub optional_reply_text : Option (Reply ℕ ℕ) → List ℕ
+optional_reply_text None = codes "?"
+optional_reply_text (Some reply) = reply_text reply
 
--- the text of a reply
-abbrev pub reply_text : Reply ℕ ℕ → List ℕ
-reply_text reply.Done = codes "ok"
-reply_text (reply.Bool true) = codes "true"
-reply_text (reply.Bool false) = codes "false"
-reply_text (reply.Number n) = decimal n
-reply_text reply.None = codes "none"
-reply_text (reply.Key k) = codes "some " ++ decimal k
-reply_text (reply.Value x) = codes "some " ++ decimal x
-reply_text (reply.Entry k x) = codes "some " ++ (decimal k ++ (codes " " ++ decimal x))
-reply_text (reply.Error e) = codes "error " ++ error_name e
+-- reply and after: the reply to the command that a line spells, if any, and the model after it; shown: what `show` prints
+module _ {M : Type 0} (reply : M → List ℕ → Option (Reply ℕ ℕ)) (after : M → List ℕ → M) (shown : M → List ℕ) where
+  -- the reply to a line
+  abbrev pub line_reply : M → LimitedLine → List ℕ
+  line_reply m None = codes "?"
+  line_reply m (Some line) = if bytes_eq line (codes "show") then shown m else optional_reply_text (reply m line)
 
--- items, each after a space
-abbrev pub more_items_text : List ℕ → List ℕ
-more_items_text [] = []
-more_items_text (x ∷ items) = codes " " ++ decimal x ++ more_items_text items
+  -- the model after a line
+  abbrev pub line_after : M → LimitedLine → M
+  line_after m None = m
+  line_after m (Some line) = if bytes_eq line (codes "show") then m else after m line
 
--- items separated by single spaces, or a dash if there are none
-abbrev pub items_text : List ℕ → List ℕ
-items_text [] = codes "-"
-items_text (x ∷ items) = decimal x ++ more_items_text items
+  -- the replies to lines, each with its line feed
+  abbrev pub replies_to_lines : M → List LimitedLine → List ℕ
+  replies_to_lines m [] = []
+  replies_to_lines m (line ∷ lines) = with_line_feed (line_reply m line) ++ replies_to_lines (line_after m line) lines
 
--- the queue of a script, or None before a header was read
-abbrev pub State : Type 0
-State = Option (Bounded ℕ)
+module _ {M C : Type 0} where
+  -- the reply to the command that a line spells, if any
+  abbrev pub spelled_reply : List (Form C) → (M → C → Reply ℕ ℕ) → M → List ℕ → Option (Reply ℕ ℕ)
+  spelled_reply forms reply m line = option_map (reply m) (command_of forms line)
 
--- the reply to what a line asks of a queue; a question mark if it asks nothing
-abbrev pub queue_line_reply : Bounded ℕ → Option QueueLine → List ℕ
-queue_line_reply queue None = codes "?"
-queue_line_reply queue (Some (Command command)) = reply_text (reply_of queue command)
-queue_line_reply queue (Some Show) = items_text queue.items
+  abbrev pub after_command : (M → C → M) → M → Option C → M
+  after_command after m None = m
+  after_command after m (Some command) = after m command
 
--- the queue after it
-abbrev pub queue_after_line : Bounded ℕ → Option QueueLine → Bounded ℕ
-queue_after_line queue None = queue
-queue_after_line queue (Some (Command command)) = queue_after queue command
-queue_after_line queue (Some Show) = queue
+  -- the model after the command that a line spells, if any
+  abbrev pub spelled_after : List (Form C) → (M → C → M) → M → List ℕ → M
+  spelled_after forms after m line = after_command after m (command_of forms line)
 
--- the reply to a header; a question mark for any other line
-abbrev pub header_reply : Option FixedCapacity → List ℕ
-header_reply None = codes "?"
-header_reply (Some capacity) = codes "ready"
+-- what `show` prints
+abbrev pub list_shown : Bounded ℕ → List ℕ
+list_shown list = items_text decimal list.items
 
--- the reply to a line: before there is a queue, only a header is read
-abbrev pub line_reply : State → LimitedLine → List ℕ
-line_reply state None = codes "?"
-line_reply None (Some line) = header_reply (header_of line)
-line_reply (Some queue) (Some line) = queue_line_reply queue (queue_line_of line)
+abbrev pub slot_shown : SlotState ℕ → List ℕ
+slot_shown map = items_text entry_text (entries map)
 
--- the state after it
-abbrev pub state_after : State → LimitedLine → State
-state_after state None = state
-state_after None (Some line) = option_map (λ capacity. bounded_new (capacity_of capacity)) (header_of line)
-state_after (Some queue) (Some line) = Some (queue_after_line queue (queue_line_of line))
+abbrev pub flat_shown : SlotState (Pair ℕ ℕ) → List ℕ
+flat_shown map = items_text decimal (flat_keys map)
 
--- the replies to lines, each with its line feed
-abbrev pub replies_from : State → List (List ℕ) → List ℕ
-replies_from state [] = []
-replies_from state (line ∷ lines) =
-    with_line_feed (line_reply state (limited_line line)) ++ replies_from (state_after state (limited_line line)) lines
+abbrev pub text_shown : Bounded ℕ → List ℕ
+text_shown text = codes "\"" ++ (escaped_text text.items ++ codes "\"")
+
+-- the replies to lines for an empty container of this capacity
+abbrev pub container_replies : Container → ℕ → List LimitedLine → List ℕ
+container_replies Queue n = replies_to_lines (spelled_reply queue_forms queue_reply) (spelled_after queue_forms queue_after) list_shown (bounded_new n)
+container_replies Vec n = replies_to_lines (spelled_reply vec_forms vec_reply) (spelled_after vec_forms vec_after) list_shown (bounded_new n)
+container_replies Slot n = replies_to_lines (spelled_reply slot_forms slot_reply) (spelled_after slot_forms slot_after) slot_shown (slot_new n)
+container_replies Flat n = replies_to_lines (spelled_reply flat_forms (flat_reply nat_eq)) (spelled_after flat_forms (flat_after nat_eq)) flat_shown (slot_new n)
+container_replies Text n = replies_to_lines (spelled_reply text_forms text_reply) (spelled_after text_forms text_after) text_shown (bounded_new n)
+
+-- the replies to a header and the lines after it
+abbrev pub replies_from_header : Header → List LimitedLine → List ℕ
+replies_from_header header lines = with_line_feed (codes "ready") ++ container_replies header.container (capacity_of header.storage) lines
+
+-- the replies to a line that may be a header, and to the lines after it; others: the replies to these if it is none
+abbrev pub replies_to_opening : Option Header → List LimitedLine → List ℕ → List ℕ
+replies_to_opening None lines others = with_line_feed (codes "?") ++ others
+replies_to_opening (Some header) lines others = replies_from_header header lines
+
+-- the replies to lines, of which the first that is a header makes a container
+abbrev pub script_replies : List LimitedLine → List ℕ
+script_replies [] = []
+script_replies (line ∷ lines) = replies_to_opening (option_and_then header_of line) lines (script_replies lines)
+
+-- the replies to lines, after a header if there was one
+abbrev pub opening_replies : Option Header → List LimitedLine → List ℕ
+opening_replies None lines = script_replies lines
+opening_replies (Some header) lines = replies_from_header header lines
 
 -- the replies to an input
 unfoldable pub replies_to : List ℕ → List ℕ
-replies_to input = replies_from None (lines_of input)
+replies_to input = script_replies (map limited_line (lines_of input))

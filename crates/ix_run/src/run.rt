@@ -4,40 +4,45 @@
 //! let mut queue = FixedSizeQueue::<u64, 1>::new();
 //! queue.run_command(QueueCommand::Push(7));    // Reply::Bool(true)
 //! run_queue(alloc, &mut queue, &[QueueCommand::Pop, QueueCommand::Pop]);    // Ok: Reply::Value(7), Reply::None
-//! read_queue_line(b"pop");    // Some(QueueLine::Command(QueueCommand::Pop))
+//! read_queue_command(b"push 7");    // Some(QueueCommand::Push(7))
 //! ```
 
-mod command;
-mod engine;
+mod containers;
 mod fault;
-mod flats;
+mod flat_lines;
+mod header;
+mod input;
 mod laws;
 mod limits;
+mod listing;
+mod opening;
 mod partial_line;
-mod queues;
+mod queue_lines;
+mod readers;
 mod reading;
 mod replies;
-mod reply;
 mod reply_buffer;
-mod runs;
-mod script_state;
+mod scripted;
 mod scripts;
-mod slots;
-mod strings;
-mod vectors;
+mod served;
+mod session;
+mod slot_lines;
+mod spelling;
+mod text_lines;
+mod vec_lines;
+mod words;
 
-pub use command::{
-    FixedCapacity, FlatCommand, QueueCommand, QueueLine, SlotCommand, TextCommand, VecCommand,
-};
 pub use fault::{ScriptFault, exit_status, fault_line};
-pub use flats::run_flat;
+pub use header::{Container, FixedCapacity, Header, Storage, read_header};
+pub use ix_commands::{
+    FlatCommand, QueueCommand, Reply, ReplyError, Runs, SlotCommand, TextCommand, VecCommand,
+    run_all, run_flat, run_queue, run_slot, run_text, run_vec,
+};
 pub use laws::{line_law, script_law};
-pub use limits::MAX_LINE_LEN;
-pub use queues::run_queue;
-pub use reading::{read_header, read_number, read_queue_line};
-pub use reply::{Reply, ReplyError};
-pub use runs::{Runs, run_all};
+pub use limits::{MAX_CAPACITY, MAX_LINE_LEN, MAX_NUMBERS};
+pub use readers::{
+    read_flat_command, read_queue_command, read_slot_command, read_text_command, read_vec_command,
+};
+pub use reading::read_number;
 pub use scripts::script;
-pub use slots::run_slot;
-pub use strings::run_text;
-pub use vectors::run_vec;
+pub use spelling::spelling_law;

@@ -2,6 +2,10 @@
 #![tactic(auto)]
 
 #[cfg(test)]
+mod command_tests;
+#[cfg(test)]
+mod container_script_tests;
+#[cfg(test)]
 mod devices;
 #[cfg(test)]
 mod findings_tests;
@@ -9,6 +13,8 @@ mod findings_tests;
 mod oracle;
 #[cfg(test)]
 mod reading_tests;
+#[cfg(test)]
+mod refused_tests;
 #[cfg(test)]
 mod run_tests;
 #[cfg(test)]

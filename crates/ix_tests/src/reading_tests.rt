@@ -1,13 +1,11 @@
-//! Words and lines that are just read, and others that just are not.
+//! Numbers and headers that are just read, and others that just are not.
 use ix_expect::Findings;
-use ix_run::run::{
-    FixedCapacity, QueueCommand, QueueLine, read_header, read_number, read_queue_line,
-};
+use ix_run::run::{Container, FixedCapacity, Storage, read_header, read_number};
 use std::fmt::Debug;
 use std::test::Fail;
 
 /// Reads the text of each row, which gives its value, and each of the other texts, which gives nothing.
-fn check_reading<T: Copy + PartialEq + Debug + Drop, F: FnMut(&[u8]) -> Option<T>>(
+pub(crate) fn check_reading<T: Copy + PartialEq + Debug + Drop, F: FnMut(&[u8]) -> Option<T>>(
     mut read: F,
     rows: &[(&str, T)],
     unreadable: &[&str],
@@ -76,13 +74,17 @@ fn numbers() -> Result<(), Fail> {
 /// Lines that are no header.
 const UNREADABLE_HEADERS: &[&str] = &[
     "",
+    " ",
     "queue",
+    "queue ",
     "queue fixed",
     "queue fixed ",
     "queue fixed 2",
+    "queue fixed 4",
     "queue fixed 01",
     "queue fixed 10",
     "queue fixed 1 ",
+    "queue fixed 1 1",
     "queue fixed 1\r",
     "queue  fixed 1",
     "queue fixed  1",
@@ -92,79 +94,73 @@ const UNREADABLE_HEADERS: &[&str] = &[
     "queue\tfixed 1",
     "queuefixed 1",
     "queue fixed1",
+    "queue 1",
+    "queue arena fixed 1",
+    "fixed 1",
+    "fixed queue 1",
+    "vec heap",
+    "vec heap ",
+    "vec heap 1001",
+    "vec heap 00",
+    "vec heap 1 2",
+    "vec heap 18446744073709551616",
+    "vec Heap 1",
+    "slot arena 1001",
+    "slot arena 0x1",
+    "map heap 1",
+    "list heap 1",
     "push 1",
     "pop",
 ];
 
+fn read_header_parts(line: &[u8]) -> Option<(Container, Storage)> {
+    let header = read_header(line)?;
+    Some((header.container, header.storage))
+}
+
 /// Lines that are a header.
-const HEADERS: &[(&str, FixedCapacity)] = &[
-    ("queue fixed 0", FixedCapacity::Zero),
-    ("queue fixed 1", FixedCapacity::One),
-    ("queue fixed 3", FixedCapacity::Three),
-    ("queue fixed 8", FixedCapacity::Eight),
+const HEADERS: &[(&str, (Container, Storage))] = &[
+    (
+        "queue fixed 0",
+        (Container::Queue, Storage::Fixed(FixedCapacity::Zero)),
+    ),
+    (
+        "queue fixed 1",
+        (Container::Queue, Storage::Fixed(FixedCapacity::One)),
+    ),
+    (
+        "vec fixed 3",
+        (Container::Vec, Storage::Fixed(FixedCapacity::Three)),
+    ),
+    (
+        "slot fixed 8",
+        (Container::Slot, Storage::Fixed(FixedCapacity::Eight)),
+    ),
+    (
+        "flat fixed 3",
+        (Container::Flat, Storage::Fixed(FixedCapacity::Three)),
+    ),
+    (
+        "text fixed 0",
+        (Container::Text, Storage::Fixed(FixedCapacity::Zero)),
+    ),
+    ("queue heap 0", (Container::Queue, Storage::Heap(0))),
+    ("vec heap 1000", (Container::Vec, Storage::Heap(1000))),
+    ("slot heap 2", (Container::Slot, Storage::Heap(2))),
+    ("flat heap 10", (Container::Flat, Storage::Heap(10))),
+    ("text heap 999", (Container::Text, Storage::Heap(999))),
+    ("queue arena 1000", (Container::Queue, Storage::Arena(1000))),
+    ("vec arena 0", (Container::Vec, Storage::Arena(0))),
+    ("slot arena 7", (Container::Slot, Storage::Arena(7))),
+    ("flat arena 1", (Container::Flat, Storage::Arena(1))),
+    ("text arena 5", (Container::Text, Storage::Arena(5))),
 ];
 
 #[test]
 fn headers() -> Result<(), Fail> {
-    check_reading(|text: &[u8]| read_header(text), HEADERS, UNREADABLE_HEADERS)
-}
-
-/// Lines that ask nothing of a queue.
-const UNREADABLE_QUEUE_LINES: &[&str] = &[
-    "",
-    " ",
-    "push",
-    "push ",
-    "push  1",
-    "push 1 ",
-    "push 1 2",
-    "push 01",
-    "push +1",
-    "push 18446744073709551616",
-    "push1",
-    "push\t1",
-    "Push 1",
-    " push 1",
-    "over",
-    "over ",
-    "over  1",
-    "over 1 ",
-    "over 00",
-    "pop ",
-    " pop",
-    "POP",
-    "pop 1",
-    "po",
-    "pops",
-    "show ",
-    " show",
-    "show 1",
-    "SHOW",
-    "shows",
-    "queue fixed 1",
-];
-
-/// Lines that ask something of a queue.
-const QUEUE_LINES: &[(&str, QueueLine)] = &[
-    ("push 0", QueueLine::Command(QueueCommand::Push(0))),
-    (
-        "push 18446744073709551615",
-        QueueLine::Command(QueueCommand::Push(u64::MAX)),
-    ),
-    ("over 1", QueueLine::Command(QueueCommand::Over(1))),
-    (
-        "over 4294967296",
-        QueueLine::Command(QueueCommand::Over(4_294_967_296)),
-    ),
-    ("pop", QueueLine::Command(QueueCommand::Pop)),
-    ("show", QueueLine::Show),
-];
-
-#[test]
-fn queue_lines() -> Result<(), Fail> {
     check_reading(
-        |text: &[u8]| read_queue_line(text),
-        QUEUE_LINES,
-        UNREADABLE_QUEUE_LINES,
+        |text: &[u8]| read_header_parts(text),
+        HEADERS,
+        UNREADABLE_HEADERS,
     )
 }

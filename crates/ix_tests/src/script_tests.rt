@@ -68,7 +68,7 @@ const BAD_INPUT: &[Example] = &[
 ];
 
 /// Runs a script over memory, expects `Ok`, and compares its output.
-fn check_output(findings: &Findings, alloc: Global, input: &[u8], output: &[u8], case: usize) {
+pub fn check_output(findings: &Findings, alloc: Global, input: &[u8], output: &[u8], case: usize) {
     let mut reader = input;
     let mut writer = Vec::new(alloc);
     let outcome = script(alloc, &mut reader, &mut writer);

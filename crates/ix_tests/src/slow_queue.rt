@@ -1,9 +1,9 @@
 //! A plain slow queue, with the ring's contract and another body, which tests compare with the ring.
-ghost use Rattle.std.specs.Prelude.{◌≡◌, ◌≤◌, length};
+ghost use Rattle.std.specs.Prelude.{◌≡◌, ◌≤◌, length, nat_lt};
 ghost use Rattle.ix_cells.specs.Bounded.{has_room, bounded_new, bounded_push};
-ghost use Rattle.ix_maps.specs.QueueSteps.{queue_overflow, queue_overflow_item, queue_front, queue_pop};
-ghost use Rattle.ix_run.specs.QueueRun.{reply_of, queue_after};
-ghost use Rattle.ix_run.specs.Replies.{option_reply};
+ghost use Rattle.ix_maps.specs.QueueSteps.{queue_overflow, queue_overflow_item, queue_front, queue_pop, queue_set_front};
+ghost use Rattle.ix_commands.specs.QueueRun.{queue_reply, queue_after};
+ghost use Rattle.ix_commands.specs.Replies.{option_reply};
 
 use arrayvec::ArrayVec;
 use ix_run::run::{QueueCommand, Reply};
@@ -94,6 +94,18 @@ impl<T: Default + Drop> SlowQueue<T> {
     {
         self.items.pop_at(0)
     }
+
+    /// Overwrites the oldest item and returns `true`, or returns `false` if the queue is empty.
+    pub fn overwrite_front(&mut self, item: T) -> bool
+        ensures value { result ≡ nat_lt 0 (length self.old.items) }
+        ensures queue { self.new ≡ queue_set_front self.old item }
+    {
+        if self.items.is_empty() {
+            return false;
+        }
+        self.items.as_mut_slice()[0] = item;
+        true
+    }
 }
 
 /// Returns an optional item as a reply.
@@ -111,12 +123,23 @@ pub fn run_slow_command<T: Default + Copy>(
     queue: &mut SlowQueue<T>,
     command: QueueCommand<T>,
 ) -> Reply<usize, T>
-    ensures value { result ≡ reply_of queue.old command }
+    ensures value { result ≡ queue_reply queue.old command }
     ensures queue { queue.new ≡ queue_after queue.old command }
 {
     match command {
         QueueCommand::Push(item) => Reply::Bool(queue.push(item)),
         QueueCommand::Over(item) => reply_of_option(queue.push_with_overflow(item)),
         QueueCommand::Pop => reply_of_option(queue.pop()),
+        QueueCommand::Peek => reply_of_option(queue.items.as_slice().first().copied()),
+        QueueCommand::Set(item) => Reply::Bool(queue.overwrite_front(item)),
+        QueueCommand::At(index) => reply_of_option(queue.items.as_slice().get(index).copied()),
+        QueueCommand::Clear => {
+            queue.items.clear();
+            Reply::Done
+        }
+        QueueCommand::Len => Reply::Number(queue.items.len()),
+        QueueCommand::Capacity => Reply::Number(queue.capacity),
+        QueueCommand::Empty => Reply::Bool(queue.items.is_empty()),
+        QueueCommand::Full => Reply::Bool(queue.items.len() == queue.capacity),
     }
 }

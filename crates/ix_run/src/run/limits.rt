@@ -8,3 +8,9 @@ pub const BUFFER_LEN: usize = 8192;
 
 /// The maximum number of digits of a `u64`.
 pub const MAX_DIGITS: usize = 20;
+
+/// The maximum capacity that a header may name for a container in the machine's memory or in an arena.
+pub const MAX_CAPACITY: usize = 1000;
+
+/// The number of numbers for which there is room in a line.
+pub const MAX_NUMBERS: usize = 100;

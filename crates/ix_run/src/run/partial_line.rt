@@ -1,6 +1,7 @@
 //! A line that comes in pieces.
-ghost use Rattle.std.specs.Prelude.{◌≡◌, ◌↔◌, Some, None, [], IsTrue, IsSome};
+ghost use Rattle.std.specs.Prelude.{◌≡◌, ◌↔◌, ◌≤◌, ◌-◌, Some, [], IsTrue, IfSome, length, take, drop, option_copied};
 ghost use Rattle.ix_run.specs.Lines.{LimitedLine, limited_line_append};
+ghost use Rattle.ix_run.specs.declared.run.limits.TheConstants.{MAX_LINE_LEN};
 
 use crate::run::limits::MAX_LINE_LEN;
 use std::marker::Model;
@@ -36,28 +37,27 @@ impl PartialLine {
     }
 
     /// Returns `true` if there is no byte.
+    #[inline]
     pub fn is_empty(&self) -> bool
         ensures { IsTrue result ↔ (self.now ≡ Some []) }
     {
         self.len == 0
     }
 
-    /// Returns `true` if there are more than [`MAX_LINE_LEN`] bytes.
-    pub fn is_too_long(&self) -> bool
-        ensures { IsTrue result ↔ (self.now ≡ None) }
+    /// Returns the bytes, or `None` if there are more than [`MAX_LINE_LEN`].
+    #[inline]
+    pub fn get(&self) -> Option<&[u8]>
+        ensures value { option_copied result ≡ self.now }
+        ensures length { IfSome result (λ line. length line.now ≤ MAX_LINE_LEN) }
     {
-        self.len > MAX_LINE_LEN
-    }
-
-    /// Returns the bytes.
-    pub fn as_slice(&self) -> &[u8]
-        requires { IsSome self.now }
-        ensures { self.now ≡ Some result.now }
-    {
-        &self.bytes[..self.len]
+        if self.len > MAX_LINE_LEN {
+            return None;
+        }
+        Some(&self.bytes[..self.len])
     }
 
     /// Removes all bytes.
+    #[inline]
     pub fn clear(&mut self)
         ensures { self.new ≡ Some [] }
     {
@@ -65,6 +65,7 @@ impl PartialLine {
     }
 
     /// Appends the next piece.
+    #[inline]
     pub fn append(&mut self, piece: &[u8])
         ensures { self.new ≡ limited_line_append self.old piece.now }
     {
@@ -81,5 +82,14 @@ impl PartialLine {
         let end = self.len + piece.len();
         self.bytes[self.len..end].copy_from_slice(piece);
         self.len = end;
+    }
+
+    /// Appends the bytes from `start` up to `end`.
+    #[inline]
+    pub fn append_range(&mut self, bytes: &[u8], start: usize, end: usize)
+        requires { (start ≤ end) × (end ≤ length bytes.now) }
+        ensures { self.new ≡ limited_line_append self.old (take (end - start) (drop start bytes.now)) }
+    {
+        self.append(&bytes[start..end]);
     }
 }

@@ -1,20 +1,20 @@
 //! The texts of replies.
 ghost use Rattle.std.specs.Prelude.{◌≡◌, ◌≤◌, ◌++◌, length, codes, decimal};
 ghost use Rattle.ix_run.specs.Lines.{with_line_feed};
-ghost use Rattle.ix_run.specs.Script.{error_name, reply_text, items_text, more_items_text};
+ghost use Rattle.ix_run.specs.ReplyTexts.{error_name, reply_text, items_text};
 ghost use Rattle.ix_run.specs.Writing.{WriteResult, Writes, WritesPart};
 
 use crate::run::limits::MAX_DIGITS;
+use crate::run::listing::Listing;
 use crate::run::reply_buffer::ReplyBuffer;
 use crate::run::{Reply, ReplyError, ScriptFault};
-use ix_cells::Table;
-use ix_maps::MetaQueue;
 use std::io::Write;
 
 /// The length of the longest line `some X`: the word and its space, the digits, and the line feed.
 const MAX_VALUE_LINE_LEN: usize = 5 + MAX_DIGITS + 1;
 
 /// Appends the line `some X`.
+#[inline(always)]
 fn append_value<W: Write>(
     replies: &mut ReplyBuffer,
     writer: &mut W,
@@ -30,33 +30,37 @@ fn append_value<W: Write>(
     replies.append(writer, &line[start..])
 }
 
-/// Appends a space and an item.
+/// Appends a separator of at most 8 bytes, and a number.
 #[tactic(auto, using(crate::proofs::Writing::WriteResult_append, crate::proofs::Writing::WritesPart_append))]
-fn append_after_space<W: Write>(
+fn append_after<W: Write>(
     replies: &mut ReplyBuffer,
     writer: &mut W,
-    item: u64,
+    separator: &[u8],
+    number: u64,
 ) -> Result<(), ScriptFault>
-    ensures { WriteResult (W.contents writer.old) replies.old (codes " " ++ decimal item)
+    requires { length separator.now ≤ 8 }
+    ensures { WriteResult (W.contents writer.old) replies.old (separator.now ++ decimal number)
         (W.contents writer.new) replies.new result }
 {
-    replies.append(writer, b" ")?;
-    replies.append_number(writer, item)
+    replies.append(writer, separator)?;
+    replies.append_number(writer, number)
 }
 
-/// Appends two numbers separated by a space.
+/// Appends two numbers with a separator of at most 8 bytes between them.
 #[tactic(auto, using(crate::proofs::Writing::WriteResult_append, crate::proofs::Writing::WritesPart_append))]
-fn append_pair<W: Write>(
+pub fn append_pair<W: Write>(
     replies: &mut ReplyBuffer,
     writer: &mut W,
     key: u64,
+    separator: &[u8],
     value: u64,
 ) -> Result<(), ScriptFault>
-    ensures { WriteResult (W.contents writer.old) replies.old
-        (decimal key ++ (codes " " ++ decimal value)) (W.contents writer.new) replies.new result }
+    requires { length separator.now ≤ 8 }
+    ensures { WriteResult (W.contents writer.old) replies.old (decimal key ++ (separator.now ++ decimal value))
+        (W.contents writer.new) replies.new result }
 {
     replies.append_number(writer, key)?;
-    append_after_space(replies, writer, value)
+    append_after(replies, writer, separator, value)
 }
 
 /// Appends the line of two numbers.
@@ -71,7 +75,7 @@ fn append_pair_line<W: Write>(
         (with_line_feed (decimal key ++ (codes " " ++ decimal value)))
         (W.contents writer.new) replies.new result }
 {
-    append_pair(replies, writer, key, value)?;
+    append_pair(replies, writer, key, b" ", value)?;
     replies.append(writer, b"\n")
 }
 
@@ -135,6 +139,7 @@ fn append_number_line<W: Write>(
 }
 
 /// Appends the line of a reply.
+#[inline(always)]
 pub fn append_reply<W: Write>(
     replies: &mut ReplyBuffer,
     writer: &mut W,
@@ -157,34 +162,21 @@ pub fn append_reply<W: Write>(
 }
 
 /// Appends the items separated by single spaces, or a dash if there are none.
-fn append_items<S: Table<u64>, W: Write>(
+pub fn append_items<L: Listing, W: Write>(
     replies: &mut ReplyBuffer,
     writer: &mut W,
-    queue: &MetaQueue<u64, S>,
+    list: &L,
 ) -> Result<(), ScriptFault>
-    ensures { WriteResult (W.contents writer.old) replies.old (items_text queue.now.items)
+    ensures { WriteResult (W.contents writer.old) replies.old (items_text decimal (L.items list.now))
         (W.contents writer.new) replies.new result }
 {
-    if queue.is_empty() {
+    let len = list.item_count();
+    if len == 0 {
         return replies.append(writer, b"-");
     }
-    replies.append_number(writer, queue.get(0))?;
-    for i in 1..queue.len() {
-        append_after_space(replies, writer, queue.get(i))?;
+    replies.append_number(writer, list.item(0))?;
+    for i in 1..len {
+        append_after(replies, writer, b" ", list.item(i))?;
     }
     Ok(())
-}
-
-/// Appends the line that shows the items.
-#[tactic(auto, using(crate::proofs::Writing::WriteResult_append, crate::proofs::Writing::WritesPart_append))]
-pub fn append_items_line<S: Table<u64>, W: Write>(
-    replies: &mut ReplyBuffer,
-    writer: &mut W,
-    queue: &MetaQueue<u64, S>,
-) -> Result<(), ScriptFault>
-    ensures { WriteResult (W.contents writer.old) replies.old
-        (with_line_feed (items_text queue.now.items)) (W.contents writer.new) replies.new result }
-{
-    append_items(replies, writer, queue)?;
-    replies.append(writer, b"\n")
 }

@@ -1,35 +1,39 @@
 //! Scripts: input bytes to reply bytes.
-ghost use Rattle.std.specs.Prelude.{◌≡◌, ◌≢◌, IfErr, OnOk, OnErr};
-ghost use Rattle.ix_run.specs.Input.{ReadsOnce};
+ghost use Rattle.std.specs.Prelude.{[], false, OnOk, OnErr};
 ghost use Rattle.ix_run.specs.Outcome.{WritesReplies, WritesPartOfReplies};
-ghost use Rattle.ix_run.specs.declared.run.fault.ScriptFault.TheVariants as ScriptFault;
+ghost use Rattle.ix_run.specs.Progress.{FinishResult};
+ghost use Rattle.ix_run.specs.Script.{replies_to};
 
 use crate::run::ScriptFault;
-use crate::run::engine::Engine;
-use crate::run::limits::BUFFER_LEN;
+use crate::run::opening::Opening;
+use crate::run::session::Session;
 use std::alloc::Global;
-use std::io::{ErrorKind, Read, Write};
+use std::io::{Read, Write};
 
-/// Reads once, and returns the number of bytes, or `None` if the read was interrupted.
-fn read_once<R: Read>(reader: &mut R, buffer: &mut [u8]) -> Result<Option<usize>, ScriptFault>
-    ensures { ReadsOnce (R.remaining reader.old) (R.remaining reader.new) result buffer.new }
+/// Runs a script. The replies to the lines before the header are question marks.
+fn run_script<R: Read, W: Write>(
+    alloc: Global,
+    reader: &mut R,
+    writer: &mut W,
+) -> Result<(), ScriptFault>
+    ensures { FinishResult false (R.remaining reader.old) (W.contents writer.old) [] replies_to
+        (R.remaining reader.new) (W.contents writer.new) result }
 {
-    match reader.read(buffer) {
-        Ok(count) => Ok(Some(count)),
-        Err(error) => {
-            if error.kind() == ErrorKind::Interrupted {
-                return Ok(None);
-            }
-            Err(ScriptFault::Read)
-        }
+    let mut session = Session::new();
+    let mut opening = Opening::new();
+    let is_at_end = session.reply_to_lines(&mut opening, reader, writer)?;
+    match opening.header {
+        Some(header) => session.serve_header(alloc, header, is_at_end, reader, writer),
+        None => session.finish(writer),
     }
 }
 
 /// Runs a script: reads commands, one a line, and writes one line of reply to each.
 ///
-/// The first command is a header, `queue fixed S`, where S is 0, 1, 3 or 8. It makes a queue of that capacity, and the
-/// reply is `ready`. After it the commands are `push X`, `over X`, `pop` and `show`, where X is a decimal number from 0 to
-/// 18,446,744,073,709,551,615 without leading zeros. The reply to any other line, and to one of more than 200 bytes, is
+/// The first command is a header, which makes a container; the reply is `ready`. It is `C fixed S`, `C heap N` or
+/// `C arena N`, where C is `queue`, `vec`, `slot`, `flat` or `text`, S is 0, 1, 3 or 8, and N a number up to 1,000: a
+/// container of the fixed kind, an allocated one, or a relocatable one in an arena. After it the commands are those of the
+/// container, as the README lists them, and `show`. The reply to any other line, and to one of more than 200 bytes, is
 /// `?`, and the line changes nothing. A line ends with a line feed, which the last one may lack.
 ///
 /// ```text
@@ -43,15 +47,17 @@ fn read_once<R: Read>(reader: &mut R, buffer: &mut [u8]) -> Result<Option<usize>
 /// pop 1            ?
 /// ```
 ///
-/// O(length of the input and of the replies). Does not allocate: the input is read in pieces of at most 8,192 bytes, and
-/// the replies wait in a buffer of that size. All of them are written before the next read. The writer is flushed once,
-/// at the end. Interrupted reads and writes are tried again.
+/// O(length of the input and of the replies) beside the calls of the container. Allocates the container of an allocated or
+/// a relocatable kind from `alloc`, and nothing else: the input is read in pieces of at most 8,192 bytes, and the replies
+/// wait in a buffer of that size. All of them are written before the next read. The writer is flushed once, at the end.
+/// Interrupted reads and writes are tried again.
 ///
-/// Returns [`ScriptFault::Read`] if a read fails or the input has no end after 18,446,744,073,709,551,615 reads, and
-/// [`ScriptFault::Write`] if a write or the flush fails or a write takes no byte. The replies to a first part of the
-/// input, or a first part of these, are written then.
+/// Returns [`ScriptFault::Read`] if a read fails or the input has no end after 18,446,744,073,709,551,615 reads,
+/// [`ScriptFault::Write`] if a write or the flush fails or a write takes no byte, and [`ScriptFault::OutOfMemory`] if there
+/// is no memory for the container. The replies to a first part of the input, or a first part of these, are written then.
+#[tactic(auto, using(crate::proofs::Progress::WritesReplies_of_FinishResult, crate::proofs::Progress::WritesPartOfReplies_of_FinishResult))]
 pub fn script<R: Read, W: Write>(
-    _alloc: Global,
+    alloc: Global,
     reader: &mut R,
     writer: &mut W,
 ) -> Result<(), ScriptFault>
@@ -61,16 +67,6 @@ pub fn script<R: Read, W: Write>(
     ensures err { OnErr result
         (WritesPartOfReplies (R.remaining reader.old) (W.contents writer.old)
         (R.remaining reader.new) (W.contents writer.new)) }
-    ensures memory { IfErr result (λ e. e ≢ ScriptFault.OutOfMemory) }
 {
-    let mut input = [0u8; BUFFER_LEN];
-    let mut engine = Engine::new();
-    for _ in 0..u64::MAX {
-        match read_once(reader, &mut input)? {
-            None => {}
-            Some(0) => return engine.finish(writer),
-            Some(count) => engine.feed(&input[..count], writer)?,
-        }
-    }
-    Err(ScriptFault::Read)
+    run_script(alloc, reader, writer)
 }

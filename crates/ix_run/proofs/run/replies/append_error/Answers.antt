@@ -1,7 +1,7 @@
 use Rattle.std.proofs.Common.{codes}
 use Rattle.std.proofs.lemmas.Result.{err_from_is_err_and}
 use Rattle.ix_run.specs.Lines.{with_line_feed}
-use Rattle.ix_run.specs.Script.{error_name}
+use Rattle.ix_run.specs.ReplyTexts.{error_name}
 use Rattle.ix_run.proofs.Writing.{WriteResult_append, WritesPart_append}
 use Rattle.ix_run.proofs.run.replies.append_error.Goals as goal
 

@@ -1,6 +1,6 @@
 use Rattle.std.proofs.Common.{◌+◌, ◌++◌, ◌∙◌, ap, sym, codes, decimal, drop, append_assoc}
 use Rattle.std.proofs.lemmas.Result.{err_from_is_err_and}
-use Rattle.ix_run.specs.Script.{more_items_text}
+use Rattle.ix_run.specs.ReplyTexts.{more_items_text}
 use Rattle.ix_run.proofs.Pieces.{items_text-slice_get, more_items_text-drop}
 use Rattle.ix_run.proofs.Writing.{Writes-append, WritesPart-Writes, WritesPart_append}
 use Rattle.ix_run.proofs.run.replies.append_items.Goals as goal
@@ -8,34 +8,34 @@ use Rattle.ix_run.proofs.run.replies.append_items.Goals as goal
 pub returns-in_err-append_number : goal.returns-in_err-append_number
 returns-in_err-append_number g c =
     let p = err_from_is_err_and c.from_residual.result c.from_residual.ensures.1 in
-    let items = c.args.queue.now.items in
-    rw (p.1, p.2, items_text-slice_get items _ c.get.ensures) (
+    let items = g.L.Listing.items c.args.list.now in
+    rw (p.1, p.2, items_text-slice_get decimal items _ c.item.ensures) (
       c.in_err-append_number.ensures.0,
-      WritesPart_append _ _ _ (decimal c.get.result) (more_items_text (drop 1 items)) c.in_err-append_number.ensures.1,
+      WritesPart_append _ _ _ (decimal c.item.result) (more_items_text decimal (drop 1 items)) c.in_err-append_number.ensures.1,
     )
 
 pub loop-i-init : goal.loop-i-init
-loop-i-init g c = (decimal c.get.result, items_text-slice_get c.args.queue.now.items _ c.get.ensures, c.in_ok-append_number.ensures)
+loop-i-init g c = (decimal c.item.result, items_text-slice_get decimal (g.L.Listing.items c.args.list.now) _ c.item.ensures, c.in_ok-append_number.ensures)
 
-pub returns-in_err-append_after_space : goal.returns-in_err-append_after_space
-returns-in_err-append_after_space g c =
-    let p = err_from_is_err_and c.from_residual-in_err-append_after_space.result c.from_residual-in_err-append_after_space.ensures.1 in
-    let items = c.args.queue.now.items in
+pub returns-in_err-append_after : goal.returns-in_err-append_after
+returns-in_err-append_after g c =
+    let p = err_from_is_err_and c.from_residual-in_err-append_after.result c.from_residual-in_err-append_after.ensures.1 in
+    let items = g.L.Listing.items c.args.list.now in
     let i = c.loop-i.i in
     let at = c.loop-i.invariant in
-    let word = codes " " ++ decimal c.get-in-loop-i.result in
-    let rest = more_items_text (drop (i + 1) items) in
-    let whole = at.1 ∙ ap (λ l. at.0 ++ l) (more_items_text-drop items i _ c.get-in-loop-i.ensures) ∙ sym (append_assoc at.0 word rest) in
+    let word = codes " " ++ decimal c.item-in-loop-i.result in
+    let rest = more_items_text decimal (drop (i + 1) items) in
+    let whole = at.1 ∙ ap (λ l. at.0 ++ l) (more_items_text-drop decimal items i _ c.item-in-loop-i.ensures) ∙ sym (append_assoc at.0 word rest) in
     rw (p.1, p.2, whole) (
-      c.in_err-append_after_space.ensures.0,
-      WritesPart_append _ _ _ (at.0 ++ word) rest (WritesPart-Writes _ _ _ _ _ at.0 word at.2 c.in_err-append_after_space.ensures.1),
+      c.in_err-append_after.ensures.0,
+      WritesPart_append _ _ _ (at.0 ++ word) rest (WritesPart-Writes _ _ _ _ _ at.0 word at.2 c.in_err-append_after.ensures.1),
     )
 
 pub loop-i-preserved : goal.loop-i-preserved
 loop-i-preserved g c =
-    let items = c.args.queue.now.items in
+    let items = g.L.Listing.items c.args.list.now in
     let i = c.loop-i.i in
     let at = c.loop-i.invariant in
-    let word = codes " " ++ decimal c.get-in-loop-i.result in
-    let whole = at.1 ∙ ap (λ l. at.0 ++ l) (more_items_text-drop items i _ c.get-in-loop-i.ensures) ∙ sym (append_assoc at.0 word (more_items_text (drop (i + 1) items))) in
-    (at.0 ++ word, whole, Writes-append _ _ _ _ _ _ at.0 word at.2 c.in_ok-append_after_space.ensures)
+    let word = codes " " ++ decimal c.item-in-loop-i.result in
+    let whole = at.1 ∙ ap (λ l. at.0 ++ l) (more_items_text-drop decimal items i _ c.item-in-loop-i.ensures) ∙ sym (append_assoc at.0 word (more_items_text decimal (drop (i + 1) items))) in
+    (at.0 ++ word, whole, Writes-append _ _ _ _ _ _ at.0 word at.2 c.in_ok-append_after.ensures)

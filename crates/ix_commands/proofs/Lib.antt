@@ -1,0 +1,4 @@
+pub mod Copies
+pub mod Tests
+pub mod TextMatches
+pub mod TextRetain

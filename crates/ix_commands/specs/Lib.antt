@@ -1,0 +1,7 @@
+pub mod FlatRun
+pub mod QueueRun
+pub mod Replies
+pub mod Run
+pub mod SlotRun
+pub mod TextRun
+pub mod VecRun

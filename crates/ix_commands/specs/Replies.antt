@@ -1,0 +1,42 @@
+-- Replies to commands of containers, as values.
+use Rattle.std.specs.Prelude.{Option, None, Some, Result, Ok, Err}
+use Rattle.ix_cells.specs.declared.vector.modification_error.VectorModificationError.{VectorModificationError}
+use Rattle.ix_cells.specs.declared.vector.modification_error.VectorModificationError.TheVariants as vec_error
+use Rattle.ix_maps.specs.declared.flatmap.flat_map_error.FlatMapError.{FlatMapError}
+use Rattle.ix_maps.specs.declared.flatmap.flat_map_error.FlatMapError.TheVariants as flat_error
+use Rattle.ix_commands.specs.declared.reply.Reply.{Reply}
+use Rattle.ix_commands.specs.declared.reply.Reply.TheVariants as reply
+use Rattle.ix_commands.specs.declared.reply.ReplyError.{ReplyError}
+use Rattle.ix_commands.specs.declared.reply.ReplyError.TheVariants as error
+
+module _ {K X : Type 0} where
+  -- an optional item as a reply
+  abbrev pub option_reply : Option X → Reply K X
+  option_reply None = reply.None
+  option_reply (Some x) = reply.Value x
+
+  -- an optional key as a reply
+  abbrev pub key_reply : Option K → Reply K X
+  key_reply None = reply.None
+  key_reply (Some key) = reply.Key key
+
+  -- an optional key with its value as a reply
+  abbrev pub entry_reply : Option (K × X) → Reply K X
+  entry_reply None = reply.None
+  entry_reply (Some entry) = reply.Entry entry.0 entry.1
+
+  -- whether a change was made, or why it was refused
+  abbrev pub result_reply : {E : Type 0} → (E → ReplyError) → Result (Unit {0}) E → Reply K X
+  result_reply named (Ok u) = reply.Done
+  result_reply named (Err e) = reply.Error (named e)
+
+-- the name of an error of a vector; without clones, memory is never lacking
+abbrev pub vec_reply_error : VectorModificationError → ReplyError
+vec_reply_error vec_error.OutOfBounds = error.OutOfBounds
+vec_reply_error vec_error.InsertWouldExceedCapacity = error.InsertWouldExceedCapacity
+vec_reply_error vec_error.OutOfMemory = error.InsertWouldExceedCapacity
+
+-- the name of an error of a flat map
+abbrev pub flat_reply_error : FlatMapError → ReplyError
+flat_reply_error flat_error.KeyAlreadyExists = error.KeyAlreadyExists
+flat_reply_error flat_error.IsFull = error.IsFull

@@ -1,0 +1,156 @@
+//! The commands of each container.
+
+/// A command of a queue of `T`.
+#[derive(Clone, Copy, PartialEq, Eq, Debug)]
+pub enum QueueCommand<T> {
+    /// `push X`: appends the item, unless the queue is full.
+    Push(T),
+    /// `over X`: appends the item, after removing the oldest one if the queue is full.
+    Over(T),
+    /// `pop`: removes the oldest item.
+    Pop,
+    /// `peek`: reads the oldest item.
+    Peek,
+    /// `set X`: overwrites the oldest item.
+    Set(T),
+    /// `at I`: reads the item at index I, counted from the oldest.
+    At(usize),
+    /// `clear`: removes all items.
+    Clear,
+    /// `len`: the number of items.
+    Len,
+    /// `capacity`: the maximum number of items.
+    Capacity,
+    /// `empty`: whether there is no item.
+    Empty,
+    /// `full`: whether the length equals the capacity.
+    Full,
+}
+
+/// A command of a vector of `T`.
+#[derive(Clone, Copy)]
+pub enum VecCommand<'a, T> {
+    /// `push X`: appends the item.
+    Push(T),
+    /// `insert I X`: inserts the item at index I.
+    Insert(usize, T),
+    /// `extend X..`: appends the items, if there is room for all.
+    Extend(&'a [T]),
+    /// `resize N X`: removes the items from index N on, or appends copies of X up to length N.
+    Resize(usize, T),
+    /// `pop`: removes the last item.
+    Pop,
+    /// `remove I`: removes the item at index I.
+    Remove(usize),
+    /// `at I`: reads the item at index I.
+    At(usize),
+    /// `set I X`: overwrites the item at index I.
+    Set(usize, T),
+    /// `truncate N`: keeps the first N items.
+    Truncate(usize),
+    /// `clear`: removes all items.
+    Clear,
+    /// `len`: the number of items.
+    Len,
+    /// `capacity`: the maximum number of items.
+    Capacity,
+    /// `empty`: whether there is no item.
+    Empty,
+    /// `full`: whether the length equals the capacity.
+    Full,
+}
+
+/// A command of a slot map of `T`.
+#[derive(Clone, Copy, PartialEq, Eq, Debug)]
+pub enum SlotCommand<T> {
+    /// `insert X`: inserts the value at the next free key.
+    Insert(T),
+    /// `next`: the next free key.
+    Next,
+    /// `insert_at K X`: inserts the value at key K, or overwrites the value there.
+    InsertAt(usize, T),
+    /// `remove K`: removes the value at key K.
+    Remove(usize),
+    /// `get K`: reads the value at key K.
+    Get(usize),
+    /// `set K X`: overwrites the value at key K.
+    Set(usize, T),
+    /// `contains K`: whether key K has a value.
+    Contains(usize),
+    /// `from K`: the least key that has a value and is not below K, and the value.
+    From(usize),
+    /// `len`: the number of values.
+    Len,
+    /// `capacity`: the maximum number of values.
+    Capacity,
+    /// `empty`: whether there is no value.
+    Empty,
+    /// `full`: whether every key has a value.
+    Full,
+}
+
+/// A command of a flat map from `K` to `V`.
+#[derive(Clone, Copy, PartialEq, Eq, Debug)]
+pub enum FlatCommand<K, V> {
+    /// `insert K V`: inserts the value at key K, unless the map has the key.
+    Insert(K, V),
+    /// `get K`: reads the value at key K.
+    Get(K),
+    /// `set K V`: overwrites the value at key K.
+    Set(K, V),
+    /// `remove K`: removes the key and its value.
+    Remove(K),
+    /// `contains K`: whether the map has the key.
+    Contains(K),
+    /// `key N`: the key that is listed after N others.
+    Key(usize),
+    /// `len`: the number of keys.
+    Len,
+    /// `empty`: whether there is no key.
+    Empty,
+    /// `full`: whether there is no room for another key.
+    Full,
+}
+
+/// A command of a string.
+#[derive(Clone, Copy)]
+pub enum TextCommand<'a> {
+    /// `push B`: appends the byte.
+    Push(u8),
+    /// `append B..`: appends the bytes.
+    Append(&'a [u8]),
+    /// `insert I B`: inserts the byte at index I.
+    Insert(usize, u8),
+    /// `insert_bytes I B..`: inserts the bytes at index I.
+    InsertBytes(usize, &'a [u8]),
+    /// `pop`: removes the last byte.
+    Pop,
+    /// `remove I`: removes the byte at index I.
+    Remove(usize),
+    /// `remove_range I N`: removes the N bytes from index I on.
+    RemoveRange(usize, usize),
+    /// `find B..`: the least index at which the bytes occur.
+    Find(&'a [u8]),
+    /// `rfind B..`: the greatest index at which the bytes occur.
+    Rfind(&'a [u8]),
+    /// `strip_prefix B..`: removes the bytes from the start.
+    StripPrefix(&'a [u8]),
+    /// `strip_suffix B..`: removes the bytes from the end.
+    StripSuffix(&'a [u8]),
+    /// `drop B`: removes each byte that equals B.
+    Drop(u8),
+    /// `at I`: reads the byte at index I.
+    At(usize),
+    /// `truncate N`: keeps the first N bytes.
+    Truncate(usize),
+    /// `clear`: removes all bytes.
+    Clear,
+    /// `len`: the number of bytes.
+    Len,
+    /// `capacity`: the maximum number of bytes.
+    Capacity,
+    /// `empty`: whether there is no byte.
+    Empty,
+    /// `full`: whether the length equals the capacity.
+    Full,
+}

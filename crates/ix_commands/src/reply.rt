@@ -1,0 +1,74 @@
+//! The replies to commands.
+ghost use Rattle.std.specs.Prelude.{◌≡◌};
+ghost use Rattle.ix_commands.specs.Replies.{option_reply, key_reply, entry_reply};
+
+/// The reply to a command of a container with keys of type `K` and items of type `X`.
+#[derive(Clone, Copy, PartialEq, Eq, Debug)]
+pub enum Reply<K, X> {
+    /// `ok`: the command was done.
+    Done,
+    /// `true` or `false`: whether the command was done, or what it asks is so.
+    Bool(bool),
+    /// A number.
+    Number(usize),
+    /// `none`: there is nothing to return.
+    None,
+    /// `some K`: a key, or an index.
+    Key(K),
+    /// `some X`: an item.
+    Value(X),
+    /// `some K X`: a key and its value.
+    Entry(K, X),
+    /// `error` and the name: the command was refused.
+    Error(ReplyError),
+}
+
+/// Why a command was refused.
+#[derive(Clone, Copy, PartialEq, Eq, Debug)]
+pub enum ReplyError {
+    /// An index is out of bounds.
+    OutOfBounds,
+    /// The length would exceed the capacity.
+    InsertWouldExceedCapacity,
+    /// A byte is 0 or above 127.
+    InvalidCharacter,
+    /// The flat map has the key.
+    KeyAlreadyExists,
+    /// The flat map has no room.
+    IsFull,
+    /// An index is past the end of a string, which was not called.
+    IndexPastEnd,
+}
+
+/// Returns an optional item as a reply.
+#[inline]
+pub fn reply_of_option<K: Copy, T: Copy>(item: Option<T>) -> Reply<K, T>
+    ensures { result ≡ option_reply item }
+{
+    match item {
+        Some(item) => Reply::Value(item),
+        None => Reply::None,
+    }
+}
+
+/// Returns an optional key as a reply.
+#[inline]
+pub fn reply_of_key<K: Copy, T: Copy>(key: Option<K>) -> Reply<K, T>
+    ensures { result ≡ key_reply key }
+{
+    match key {
+        Some(key) => Reply::Key(key),
+        None => Reply::None,
+    }
+}
+
+/// Returns an optional key with its value as a reply.
+#[inline]
+pub fn reply_of_entry<K: Copy, T: Copy>(entry: Option<(K, T)>) -> Reply<K, T>
+    ensures { result ≡ entry_reply entry }
+{
+    match entry {
+        Some((key, value)) => Reply::Entry(key, value),
+        None => Reply::None,
+    }
+}

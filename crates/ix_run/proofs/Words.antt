@@ -1,0 +1,242 @@
+-- Words of a line.
+use Rattle.std.proofs.Common.{ℕ, ◌≡◌, ◌≤◌, ◌<◌, ◌+◌, ◌-◌, List, [], ◌∷◌, ◌++◌, Option, Some, None, IfSome, All, ◌^◌, decimal, bytes_eq, length, take, drop, set, Bool, true, false, ◌&&◌, append_assoc, cond, refl, sym, ap, ◌∙◌, arith}
+use Rattle.std.specs.List.{list_all, slice_split, position_or_len, before_first, after_first, join_with_byte}
+use Rattle.std.specs.Str.{all_ascii_digits}
+use Rattle.std.specs.Char.{is_ascii_digit}
+use Rattle.std.specs.Option.{option_and_then, option_map}
+use Rattle.std.specs.Map.{lookup}
+use Rattle.std.proofs.lemmas.Bool.{and_parts}
+use Rattle.std.proofs.lemmas.Grind.{common_steps, take-set_at}
+use Rattle.std.proofs.lemmas.List.{take_all, drop-drop, length-drop}
+use Rattle.std.proofs.lemmas.List.Elements.{All-cons, All-nil}
+use Rattle.std.proofs.lemmas.List.Sums.{prefix_len-le-length, fails_before_first}
+use Rattle.std.proofs.lemmas.List.Splits.{slice_split_first, slice_split_none, length-slice_split, join_with_byte-slice_split}
+use Rattle.ix_run.specs.Reading.{number_of}
+use Rattle.ix_run.specs.Words.{Form, is_space, numbers_in, name_and_numbers, fits_byte, byte_of, make_named, command_of, alone, one, two, many, one_byte, number_byte, many_bytes, number_many_bytes}
+use Rattle.ix_run.proofs.Numbers.{IsNumeral-decimal, number_of-IfSome}
+
+pub position_or_len_bound : (bytes : List ℕ) → position_or_len is_space bytes ≤ length bytes
+position_or_len_bound bytes = prefix_len-le-length _ bytes
+
+-- bytes without a space are one word
+pub split_last_word : (bytes word rest : List ℕ) (n : ℕ) → n ≡ position_or_len is_space bytes → word ≡ take n bytes → rest ≡ drop n bytes → length rest ≡ 0 → slice_split is_space bytes ≡ word ∷ []
+split_last_word bytes word rest n e w r none =
+    let all : word ≡ bytes = grind (arith, common_steps) in
+    let end : length bytes ≤ position_or_len is_space bytes = grind (arith, common_steps) in
+    rw all (slice_split_none is_space bytes (λ k d l. fails_before_first is_space bytes k d (omega (arith, end, l))))
+
+-- the bytes before the first space, and those after it
+pub split_first_word : (bytes word rest : List ℕ) (n : ℕ) → n ≡ position_or_len is_space bytes → word ≡ take n bytes → rest ≡ drop n bytes → 0 < length rest
+    → slice_split is_space bytes ≡ word ∷ slice_split is_space (take (length rest - 1) (drop 1 rest))
+split_first_word bytes word rest n e w r some =
+    let short : position_or_len is_space bytes < length bytes = grind (arith, common_steps) in
+    let front : word ≡ before_first is_space bytes = rw (sym e) w in
+    let all : take (length rest - 1) (drop 1 rest) ≡ drop 1 rest = take_all _ _ (simp length-drop (omega arith)) in
+    let next : drop 1 rest ≡ drop (n + 1) bytes = rw r (drop-drop 1 n bytes) in
+    let back : take (length rest - 1) (drop 1 rest) ≡ after_first is_space bytes = all ∙ next ∙ ap (λ k. drop (k + 1) bytes) e in
+    rw (front, back) (slice_split_first is_space bytes 0 short)
+
+pub ruleset first_word = (position_or_len_bound, split_last_word, split_first_word)
+
+-- no digit is a space
+pub digits-All : (digits : List ℕ) → all_ascii_digits digits ≡ true → All (λ b. is_space b ≡ false) digits
+digits-All [] h = All-nil (λ b. is_space b ≡ false)
+digits-All (c ∷ digits) h =
+    let parts = and_parts (is_ascii_digit c) (all_ascii_digits digits) h in
+    All-cons (λ b. is_space b ≡ false) c digits (grind (arith, common_steps)) (digits-All digits parts.1)
+
+-- the text of a number has no space
+pub decimal-All : (n : ℕ) → n < 2 ^ 64 → All (λ b. is_space b ≡ false) (decimal n)
+decimal-All n h = digits-All (decimal n) (IsNumeral-decimal (decimal n) n h refl).digits
+
+-- the numbers of a word and of those after it, from what each gives
+abbrev pub cons_number : Option ℕ → Option (List ℕ) → Option (List ℕ)
+cons_number number numbers = option_and_then (λ n. option_map (λ ns. n ∷ ns) numbers) number
+
+one-two_words : (first second : Option ℕ) (numbers : Option (List ℕ)) → option_and_then (one (λ n. n)) (cons_number first (cons_number second numbers)) ≡ None
+one-two_words None second numbers = refl
+one-two_words (Some n) None numbers = refl
+one-two_words (Some n) (Some m) None = refl
+one-two_words (Some n) (Some m) (Some ns) = refl
+
+-- words are one number only if they are one word
+one-parts : (parts : List (List ℕ)) (bytes : List ℕ) → join_with_byte 32 parts ≡ bytes → number_of bytes ≡ None → option_and_then (one (λ n. n)) (numbers_in parts) ≡ None
+one-parts [] bytes e none = refl
+one-parts (word ∷ []) bytes e none = rw (e, none) refl
+one-parts (word ∷ next ∷ parts) bytes e none = one-two_words (number_of word) (number_of next) (numbers_in parts)
+
+number_of_last-None : (bytes : List ℕ) (r : Option ℕ) → number_of bytes ≡ r → IfSome r (λ n. (bytes ≡ decimal n) × (n < 2 ^ 64)) → r ≡ option_and_then (one (λ n. n)) (numbers_in (slice_split is_space bytes))
+number_of_last-None bytes None e h = sym (one-parts (slice_split is_space bytes) bytes (join_with_byte-slice_split 32 bytes) e)
+number_of_last-None bytes (Some n) e (d, h) =
+    let word : slice_split is_space bytes ≡ bytes ∷ [] = slice_split_none is_space bytes (digits-All bytes (IsNumeral-decimal bytes n h d).digits) in
+    rw (word, e) refl
+
+-- a number is one word
+pub number_of_last : (bytes : List ℕ) → number_of bytes ≡ option_and_then (one (λ n. n)) (numbers_in (slice_split is_space bytes))
+number_of_last bytes = number_of_last-None bytes (number_of bytes) refl (number_of-IfSome bytes)
+
+-- a second number after the first
+pub two_after_number : (n : ℕ) (numbers : Option (List ℕ))
+    → option_and_then {U = ℕ × ℕ} (two (λ m k. (m, k))) (option_map (λ ns. n ∷ ns) numbers) ≡ option_map (λ m. (n, m)) (option_and_then (one (λ m. m)) numbers)
+two_after_number n None = refl
+two_after_number n (Some []) = refl
+two_after_number n (Some (m ∷ [])) = refl
+two_after_number n (Some (m ∷ k ∷ ns)) = refl
+
+cond-byte : {C : Type 0} (make : ℕ → C) (b : ℕ) (fits : Bool) → cond fits (Some (make b)) None ≡ option_map make (cond fits (Some b) None)
+cond-byte make b true = refl
+cond-byte make b false = refl
+
+-- one byte, as one number that is a byte
+one_byte-one : (numbers : Option (List ℕ)) → option_and_then (one_byte (λ b. b)) numbers ≡ option_and_then (λ n. cond (fits_byte n) (Some n) None) (option_and_then (one (λ n. n)) numbers)
+one_byte-one None = refl
+one_byte-one (Some []) = refl
+one_byte-one (Some (n ∷ [])) = refl
+one_byte-one (Some (n ∷ m ∷ ns)) = refl
+
+-- a byte is one word
+pub byte_of_last : (bytes : List ℕ) → byte_of bytes ≡ option_and_then (one_byte (λ b. b)) (numbers_in (slice_split is_space bytes))
+byte_of_last bytes = ap (option_and_then (λ n. cond (fits_byte n) (Some n) None)) (number_of_last bytes) ∙ sym (one_byte-one (numbers_in (slice_split is_space bytes)))
+
+-- a byte after a number
+pub byte_after_number : (n : ℕ) (numbers : Option (List ℕ))
+    → option_and_then {U = ℕ × ℕ} (number_byte (λ m b. (m, b))) (option_map (λ ns. n ∷ ns) numbers) ≡ option_map (λ b. (n, b)) (option_and_then (one_byte (λ b. b)) numbers)
+byte_after_number n None = refl
+byte_after_number n (Some []) = refl
+byte_after_number n (Some (b ∷ [])) = cond-byte (λ m. (n, m)) b (fits_byte b)
+byte_after_number n (Some (b ∷ k ∷ ns)) = refl
+
+cond-bytes : {C : Type 0} (make : List ℕ → C) (bs : List ℕ) (fit : Bool) → cond fit (Some (make bs)) None ≡ option_map make (cond fit (Some bs) None)
+cond-bytes make bs true = refl
+cond-bytes make bs false = refl
+
+-- bytes after a number
+pub bytes_after_number : (n : ℕ) (numbers : Option (List ℕ))
+    → option_and_then {U = ℕ × List ℕ} (number_many_bytes (λ m bs. (m, bs))) (option_map (λ ns. n ∷ ns) numbers) ≡ option_map (λ bs. (n, bs)) (option_and_then (many_bytes (λ bs. bs)) numbers)
+bytes_after_number n None = refl
+bytes_after_number n (Some bs) = cond-bytes (λ m. (n, m)) bs (list_all fits_byte bs)
+
+alone-word : {C : Type 0} (command : C) (first : Option ℕ) (numbers : Option (List ℕ)) → option_and_then (alone command) (cons_number first numbers) ≡ None
+alone-word command None numbers = refl
+alone-word command (Some n) None = refl
+alone-word command (Some n) (Some ns) = refl
+
+alone-parts : {C : Type 0} (command : C) (parts : List (List ℕ)) → 0 < length parts → option_and_then (alone command) (numbers_in parts) ≡ None
+alone-parts command [] h = absurd (omega (arith, h))
+alone-parts command (word ∷ parts) h = alone-word command (number_of word) (numbers_in parts)
+
+-- no command without numbers has a further word
+pub alone_not_last : {C : Type 0} (command : C) (bytes : List ℕ) → None ≡ option_and_then (alone command) (numbers_in (slice_split is_space bytes))
+alone_not_last command bytes = sym (alone-parts command (slice_split is_space bytes) (let l = length-slice_split is_space bytes in omega (arith, l)))
+
+-- what a form makes, from the numbers that were read
+pub one_made : {C : Type 0} (make : ℕ → C) (numbers : Option (List ℕ)) → option_and_then (one make) numbers ≡ option_map make (option_and_then (one (λ n. n)) numbers)
+one_made make None = refl
+one_made make (Some []) = refl
+one_made make (Some (n ∷ [])) = refl
+one_made make (Some (n ∷ m ∷ ns)) = refl
+
+pub two_made : {C : Type 0} (make : ℕ → ℕ → C) (numbers : Option (List ℕ))
+    → option_and_then (two make) numbers ≡ option_map (λ p. make p.0 p.1) (option_and_then {U = ℕ × ℕ} (two (λ n m. (n, m))) numbers)
+two_made make None = refl
+two_made make (Some []) = refl
+two_made make (Some (n ∷ [])) = refl
+two_made make (Some (n ∷ m ∷ [])) = refl
+two_made make (Some (n ∷ m ∷ k ∷ ns)) = refl
+
+pub one_byte_made : {C : Type 0} (make : ℕ → C) (numbers : Option (List ℕ)) → option_and_then (one_byte make) numbers ≡ option_map make (option_and_then (one_byte (λ b. b)) numbers)
+one_byte_made make None = refl
+one_byte_made make (Some []) = refl
+one_byte_made make (Some (b ∷ [])) = cond-byte make b (fits_byte b)
+one_byte_made make (Some (b ∷ m ∷ ns)) = refl
+
+cond-number_byte : {C : Type 0} (make : ℕ → ℕ → C) (n b : ℕ) (fits : Bool) → cond fits (Some (make n b)) None ≡ option_map (λ p. make p.0 p.1) (cond {A = Option (ℕ × ℕ)} fits (Some (n, b)) None)
+cond-number_byte make n b true = refl
+cond-number_byte make n b false = refl
+
+pub number_byte_made : {C : Type 0} (make : ℕ → ℕ → C) (numbers : Option (List ℕ))
+    → option_and_then (number_byte make) numbers ≡ option_map (λ p. make p.0 p.1) (option_and_then {U = ℕ × ℕ} (number_byte (λ n b. (n, b))) numbers)
+number_byte_made make None = refl
+number_byte_made make (Some []) = refl
+number_byte_made make (Some (n ∷ [])) = refl
+number_byte_made make (Some (n ∷ b ∷ [])) = cond-number_byte make n b (fits_byte b)
+number_byte_made make (Some (n ∷ b ∷ k ∷ ns)) = refl
+
+pub many_made : {C : Type 0} (make : List ℕ → C) (numbers : Option (List ℕ)) → option_and_then (many make) numbers ≡ option_map make numbers
+many_made make None = refl
+many_made make (Some ns) = refl
+
+pub many_bytes_made : {C : Type 0} (make : List ℕ → C) (numbers : Option (List ℕ)) → option_and_then (many_bytes make) numbers ≡ option_map make (option_and_then (many_bytes (λ bs. bs)) numbers)
+many_bytes_made make None = refl
+many_bytes_made make (Some bs) = cond-bytes make bs (list_all fits_byte bs)
+
+cond-number_bytes : {C : Type 0} (make : ℕ → List ℕ → C) (n : ℕ) (bs : List ℕ) (fit : Bool) → cond fit (Some (make n bs)) None ≡ option_map (λ p. make p.0 p.1) (cond {A = Option (ℕ × List ℕ)} fit (Some (n, bs)) None)
+cond-number_bytes make n bs true = refl
+cond-number_bytes make n bs false = refl
+
+pub number_many_bytes_made : {C : Type 0} (make : ℕ → List ℕ → C) (numbers : Option (List ℕ))
+    → option_and_then (number_many_bytes make) numbers ≡ option_map (λ p. make p.0 p.1) (option_and_then {U = ℕ × List ℕ} (number_many_bytes (λ n bs. (n, bs))) numbers)
+number_many_bytes_made make None = refl
+number_many_bytes_made make (Some []) = refl
+number_many_bytes_made make (Some (n ∷ bs)) = cond-number_bytes make n bs (list_all fits_byte bs)
+
+-- the forms of the commands of strings
+pub ruleset bytes_made = (one_made, two_made, one_byte_made, number_byte_made, many_bytes_made, number_many_bytes_made)
+
+-- the items of a list of words, one item more
+pub item_after : (items : List ℕ) (n : ℕ) (others : Option (List ℕ)) → option_map (λ ns. items ++ ns) (option_map (λ ns. n ∷ ns) others) ≡ option_map (λ ns. (items ++ n ∷ []) ++ ns) others
+item_after items n None = refl
+item_after items n (Some ns) = ap Some (sym (append_assoc items (n ∷ []) ns))
+
+-- the items in a buffer, one item more
+pub buffer_after : (buffer : List ℕ) (count n : ℕ) (start others : Option (List ℕ)) → count < length buffer
+    → start ≡ option_map (λ ns. take count buffer ++ ns) (option_map (λ ns. n ∷ ns) others) → start ≡ option_map (λ ns. take (count + 1) (set buffer count n) ++ ns) others
+buffer_after buffer count n start others h e = rw (take-set_at buffer count (count + 1) n refl h) (e ∙ item_after (take count buffer) n others)
+
+-- a number has a digit
+pub number_of-length : (word : List ℕ) (n : ℕ) → number_of word ≡ Some n → 0 < length word
+number_of-length word n e = let d = rw e at (number_of-IfSome word) in (IsNumeral-decimal word n d.1 d.0).some
+
+byte_of-length-by : (word : List ℕ) (b : ℕ) (number : Option ℕ) → number_of word ≡ number → option_and_then (λ n. cond (fits_byte n) (Some n) None) number ≡ Some b → 0 < length word
+byte_of-length-by word b None e h = cc
+byte_of-length-by word b (Some n) e h = number_of-length word n e
+
+-- a byte has a digit
+pub byte_of-length : (word : List ℕ) (b : ℕ) → byte_of word ≡ Some b → 0 < length word
+byte_of-length word b e = byte_of-length-by word b (number_of word) refl e
+
+bytes-cons : (n : ℕ) (bs : List ℕ) (one others : Bool) → cond (one && others) (Some (n ∷ bs)) None ≡ option_and_then (λ b. option_map (λ ns. b ∷ ns) (cond others (Some bs) None)) (cond one (Some n) None)
+bytes-cons n bs false others = refl
+bytes-cons n bs true true = refl
+bytes-cons n bs true false = refl
+
+bytes-None : (n : ℕ) (one : Bool) → None ≡ option_and_then {U = List ℕ} (λ b. None) (cond one (Some n) None)
+bytes-None n true = refl
+bytes-None n false = refl
+
+bytes-numbers : (number : Option ℕ) (numbers : Option (List ℕ)) → option_and_then (many_bytes (λ bs. bs)) (cons_number number numbers)
+    ≡ option_and_then (λ b. option_map (λ ns. b ∷ ns) (option_and_then (many_bytes (λ bs. bs)) numbers)) (option_and_then (λ n. cond (fits_byte n) (Some n) None) number)
+bytes-numbers None numbers = refl
+bytes-numbers (Some n) None = bytes-None n (fits_byte n)
+bytes-numbers (Some n) (Some bs) = bytes-cons n bs (fits_byte n) (list_all fits_byte bs)
+
+-- the bytes of a word and of those after it
+pub bytes_of_word : (word : List ℕ) (words : List (List ℕ)) → option_and_then (many_bytes (λ bs. bs)) (numbers_in (word ∷ words))
+    ≡ option_and_then (λ b. option_map (λ ns. b ∷ ns) (option_and_then (many_bytes (λ bs. bs)) (numbers_in words))) (byte_of word)
+bytes_of_word word words = bytes-numbers (number_of word) (numbers_in words)
+
+module _ {C : Type 0} where
+  pub make_named-None : (make : Option (List ℕ → Option C)) → option_and_then (λ m. option_and_then m None) make ≡ None
+  make_named-None None = refl
+  make_named-None (Some m) = refl
+
+  command_of-words : (forms : List (Form C)) (name : List ℕ) (words : List (List ℕ)) (numbers : Option (List ℕ)) → numbers_in words ≡ numbers → lookup (bytes_eq []) forms ≡ None
+      → option_and_then (λ w. make_named forms w.0 (Some w.1)) (name_and_numbers (name ∷ words)) ≡ make_named forms name numbers
+  command_of-words forms [] words numbers e none = rw none refl
+  command_of-words forms (b ∷ name) words None e none = rw e (sym (make_named-None (lookup (bytes_eq (b ∷ name)) forms)))
+  command_of-words forms (b ∷ name) words (Some ns) e none = rw e refl
+
+  -- the command of a line that was split into its first word and the others
+  pub command_of_split : (forms : List (Form C)) (line name : List ℕ) (words : List (List ℕ)) → slice_split is_space line ≡ name ∷ words → lookup (bytes_eq []) forms ≡ None
+      → command_of forms line ≡ make_named forms name (numbers_in words)
+  command_of_split forms line name words e none = rw e (command_of-words forms name words (numbers_in words) refl none)

@@ -1,0 +1,10 @@
+use Rattle.std.proofs.Common.{ℕ, List, ◌≡◌, ◌++◌, drop}
+use Rattle.ix_string.specs.Escape.{escaped_text}
+use Rattle.ix_run.specs.Writing.{Writes}
+use Rattle.ix_run.proofs.run.text_lines.append_escaped_bytes.Given as goal
+
+abbrev pub invariant-loop-byte : goal.invariant-loop-byte
+invariant-loop-byte g l =
+    (so_far : List ℕ)
+    × (escaped_text l.bytes ≡ so_far ++ escaped_text (drop l.byte-index l.bytes))
+    × Writes (g.W.Write.contents l.fn.writer) l.fn.pending so_far (g.W.Write.contents l.writer) l.pending

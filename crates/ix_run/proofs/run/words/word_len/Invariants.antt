@@ -1,0 +1,12 @@
+use Rattle.std.proofs.Common.{ℕ, ◌≡◌, ◌≤◌, ◌<◌, ◌-◌, false, length, get_or}
+use Rattle.ix_run.specs.Words.{is_space}
+use Rattle.ix_run.proofs.run.words.word_len.Given as goal
+
+abbrev pub invariant-loop-len : goal.invariant-loop-len
+invariant-loop-len l = record {
+  within : l.len ≤ length l.bytes;
+  before : (k : ℕ) → k < l.len → is_space (get_or l.bytes k 0) ≡ false;
+}
+
+abbrev pub decreases-loop-len : goal.decreases-loop-len
+decreases-loop-len l = length l.bytes - l.len

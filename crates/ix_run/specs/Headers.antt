@@ -1,0 +1,79 @@
+-- Headers: a container, and its storage. Each header has exactly one text.
+use Rattle.std.specs.Prelude.{ℕ, ◌≤◌, ◌==◌, List, [], ◌∷◌, ◌++◌, nat_le, if◌then◌else◌, Option, None, Some, option_map, option_and_then, codes, bytes_eq, find, ⊤}
+use Rattle.std.specs.List.{slice_split}
+use Rattle.ix_run.specs.Words.{is_space, words_text, numbers_in, Form, make_named}
+use Rattle.ix_run.specs.declared.run.header.FixedCapacity.{FixedCapacity}
+use Rattle.ix_run.specs.declared.run.header.FixedCapacity.TheVariants.{Zero, One, Three, Eight}
+use Rattle.ix_run.specs.declared.run.limits.TheConstants.{MAX_CAPACITY}
+use Rattle.ix_run.specs.declared.run.header.Container.{Container}
+use Rattle.ix_run.specs.declared.run.header.Container.TheVariants.{Queue, Vec, Slot, Flat, Text}
+use Rattle.ix_run.specs.declared.run.header.Storage.{Storage}
+use Rattle.ix_run.specs.declared.run.header.Storage.TheVariants.{Fixed, Heap, Arena}
+use Rattle.ix_run.specs.declared.run.header.Header.{Header}
+
+abbrev pub fixed_capacity : FixedCapacity → ℕ
+fixed_capacity Zero = 0
+fixed_capacity One = 1
+fixed_capacity Three = 3
+fixed_capacity Eight = 8
+
+-- the capacity that a header asks for
+abbrev pub capacity_of : Storage → ℕ
+capacity_of (Fixed capacity) = fixed_capacity capacity
+capacity_of (Heap n) = n
+capacity_of (Arena n) = n
+
+abbrev pub container_name : Container → List ℕ
+container_name Queue = codes "queue"
+container_name Vec = codes "vec"
+container_name Slot = codes "slot"
+container_name Flat = codes "flat"
+container_name Text = codes "text"
+
+abbrev pub storage_text : Storage → List ℕ
+storage_text (Fixed capacity) = words_text (codes "fixed") (fixed_capacity capacity ∷ [])
+storage_text (Heap n) = words_text (codes "heap") (n ∷ [])
+storage_text (Arena n) = words_text (codes "arena") (n ∷ [])
+
+-- the capacity is at most MAX_CAPACITY
+abbrev pub IsStorage : Storage → Type 0
+IsStorage (Fixed capacity) = ⊤
+IsStorage (Heap n) = n ≤ MAX_CAPACITY
+IsStorage (Arena n) = n ≤ MAX_CAPACITY
+
+-- the text of a header
+abbrev pub header_text : Header → List ℕ
+header_text header = container_name header.container ++ (codes " " ++ storage_text header.storage)
+
+abbrev pub containers : List Container
+containers = Queue ∷ Vec ∷ Slot ∷ Flat ∷ Text ∷ []
+
+abbrev pub fixed_capacities : List FixedCapacity
+fixed_capacities = Zero ∷ One ∷ Three ∷ Eight ∷ []
+
+-- the container with this name
+abbrev pub named_container : List ℕ → Option Container
+named_container name = find (λ container. bytes_eq name (container_name container)) containers
+
+-- one number, which is a fixed capacity
+abbrev pub fixed : List ℕ → Option Storage
+fixed (n ∷ []) = option_map Fixed (find (λ capacity. fixed_capacity capacity == n) fixed_capacities)
+fixed other = None
+
+-- one number, which is at most MAX_CAPACITY
+abbrev pub up_to_max : {C : Type 0} → (ℕ → C) → List ℕ → Option C
+up_to_max make (n ∷ []) = if nat_le n MAX_CAPACITY then Some (make n) else None
+up_to_max make other = None
+
+abbrev pub storage_forms : List (Form Storage)
+storage_forms = (codes "fixed", fixed) ∷ (codes "heap", up_to_max Heap) ∷ (codes "arena", up_to_max Arena) ∷ []
+
+-- a container's name, and the name and the numbers of a storage
+abbrev pub header_of_words : List (List ℕ) → Option Header
+header_of_words (name ∷ storage ∷ words) =
+    option_and_then (λ c. option_map (λ s. record { container = c; storage = s }) (make_named storage_forms storage (numbers_in words))) (named_container name)
+header_of_words other = None
+
+-- the header that a line is
+abbrev pub header_of : List ℕ → Option Header
+header_of line = header_of_words (slice_split is_space line)

@@ -1,0 +1,52 @@
+-- The texts of replies, and of items that are shown.
+use Rattle.std.specs.Prelude.{ℕ, List, [], ◌∷◌, ◌++◌, Bool, true, false, codes, decimal}
+use Rattle.ix_commands.specs.declared.reply.Reply.{Reply}
+use Rattle.ix_commands.specs.declared.reply.Reply.TheVariants as reply
+use Rattle.ix_commands.specs.declared.reply.ReplyError.{ReplyError}
+use Rattle.ix_commands.specs.declared.reply.ReplyError.TheVariants.{OutOfBounds, InsertWouldExceedCapacity, InvalidCharacter, KeyAlreadyExists, IsFull, IndexPastEnd}
+
+-- the name of an error
+abbrev pub error_name : ReplyError → List ℕ
+error_name OutOfBounds = codes "OutOfBounds"
+error_name InsertWouldExceedCapacity = codes "InsertWouldExceedCapacity"
+error_name InvalidCharacter = codes "InvalidCharacter"
+error_name KeyAlreadyExists = codes "KeyAlreadyExists"
+error_name IsFull = codes "IsFull"
+error_name IndexPastEnd = codes "IndexPastEnd"
+
+-- the text of a reply
+abbrev pub reply_text : Reply ℕ ℕ → List ℕ
+reply_text reply.Done = codes "ok"
+reply_text (reply.Bool true) = codes "true"
+reply_text (reply.Bool false) = codes "false"
+reply_text (reply.Number n) = decimal n
+reply_text reply.None = codes "none"
+reply_text (reply.Key k) = codes "some " ++ decimal k
+reply_text (reply.Value x) = codes "some " ++ decimal x
+reply_text (reply.Entry k x) = codes "some " ++ (decimal k ++ (codes " " ++ decimal x))
+reply_text (reply.Error e) = codes "error " ++ error_name e
+
+-- a key and its value
+abbrev pub entry_text : (ℕ × ℕ) → List ℕ
+entry_text entry = decimal entry.0 ++ (codes "=" ++ decimal entry.1)
+
+-- an item's text, after a space unless it is the first
+abbrev pub next_text : Bool → List ℕ → List ℕ
+next_text true text = text
+next_text false text = codes " " ++ text
+
+module _ {X : Type 0} (text : X → List ℕ) where
+  -- items, each after a space
+  abbrev pub more_items_text : List X → List ℕ
+  more_items_text [] = []
+  more_items_text (x ∷ items) = codes " " ++ text x ++ more_items_text items
+
+  -- items separated by single spaces, or a dash if there are none
+  abbrev pub items_text : List X → List ℕ
+  items_text [] = codes "-"
+  items_text (x ∷ items) = text x ++ more_items_text items
+
+  -- the texts of items that are still to come
+  abbrev pub items_left_text : Bool → List X → List ℕ
+  items_left_text is_first [] = []
+  items_left_text is_first (x ∷ items) = next_text is_first (text x) ++ more_items_text items

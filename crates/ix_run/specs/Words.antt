@@ -1,0 +1,108 @@
+-- A line as words: a name, and numbers. A form is a name, with what the numbers after it make.
+use Rattle.std.specs.Prelude.{ℕ, ◌≡◌, List, [], ◌∷◌, ◌++◌, ◌+◌, length, Bool, true, not, ◌&&◌, nat_eq, nat_lt, nat_le, if◌then◌else◌, Option, None, Some, option_map, option_and_then, codes, decimal, bytes_eq, flat_map}
+use Rattle.std.specs.Borrow.{Bor}
+use Rattle.std.specs.List.{slice_split, IsDistinct, list_all, list_any}
+use Rattle.std.specs.Map.{lookup, keys_of}
+use Rattle.ix_run.specs.Reading.{number_of}
+
+abbrev pub is_space : ℕ → Bool
+is_space byte = nat_eq byte 32
+
+-- the text of a name and numbers: one space before each number
+abbrev pub words_text : List ℕ → List ℕ → List ℕ
+words_text name numbers = name ++ flat_map (λ n. codes " " ++ decimal n) numbers
+
+-- the numbers below 2^64 whose texts the words are
+abbrev pub numbers_in : List (List ℕ) → Option (List ℕ)
+numbers_in [] = Some []
+numbers_in (word ∷ words) = option_and_then (λ n. option_map (λ ns. n ∷ ns) (numbers_in words)) (number_of word)
+
+-- the first word as a name, which is not empty, and the others as numbers
+abbrev pub name_and_numbers : List (List ℕ) → Option (List ℕ × List ℕ)
+name_and_numbers ((b ∷ name) ∷ words) = option_map (λ numbers. (b ∷ name, numbers)) (numbers_in words)
+name_and_numbers other = None
+
+-- the name and the numbers whose text the line is
+abbrev pub words_of : List ℕ → Option (List ℕ × List ℕ)
+words_of line = name_and_numbers (slice_split is_space line)
+
+-- the words of what stands after a space, if a space was there
+abbrev pub words_after : Option (List ℕ) → List (List ℕ)
+words_after None = []
+words_after (Some bytes) = slice_split is_space bytes
+
+-- the number of bytes of a space and of what stands after it, or 0 if there is none
+abbrev pub len_after : Option (List ℕ) → ℕ
+len_after None = 0
+len_after (Some bytes) = length bytes + 1
+
+-- a number is a byte
+abbrev pub fits_byte : ℕ → Bool
+fits_byte n = nat_le n 255
+
+-- the byte whose decimal text the word is
+abbrev pub byte_of : List ℕ → Option ℕ
+byte_of word = option_and_then (λ n. if fits_byte n then Some n else None) (number_of word)
+
+-- a name, and what numbers make
+abbrev pub Form : Type 0 → Type 0
+Form C = List ℕ × (List ℕ → Option C)
+
+-- a slice, whose address is left open
+abbrev pub slice_of : {X : Type 0} → List X → Bor (List X)
+slice_of xs = record { ref_ptr = (0, 0); now = xs }
+
+-- a name has a byte, and no space
+abbrev pub is_name : List ℕ → Bool
+is_name name = nat_lt 0 (length name) && not (list_any is_space name)
+
+module _ {C : Type 0} where
+  -- what the form with this name makes of numbers
+  abbrev pub make_named : List (Form C) → List ℕ → Option (List ℕ) → Option C
+  make_named forms name numbers = option_and_then (λ make. option_and_then make numbers) (lookup (bytes_eq name) forms)
+
+  -- the command that a line spells
+  abbrev pub command_of : List (Form C) → List ℕ → Option C
+  command_of forms line = option_and_then (λ words. make_named forms words.0 (Some words.1)) (words_of line)
+
+  -- the names are words, and no two of them are equal
+  abbrev pub HasNames : List (Form C) → Type 0
+  HasNames forms = (list_all is_name (keys_of forms) ≡ true) × IsDistinct bytes_eq (keys_of forms)
+
+  -- no numbers
+  abbrev pub alone : C → List ℕ → Option C
+  alone command [] = Some command
+  alone command other = None
+
+  -- one number
+  abbrev pub one : (ℕ → C) → List ℕ → Option C
+  one make (n ∷ []) = Some (make n)
+  one make other = None
+
+  -- two numbers
+  abbrev pub two : (ℕ → ℕ → C) → List ℕ → Option C
+  two make (n ∷ m ∷ []) = Some (make n m)
+  two make other = None
+
+  -- zero or more numbers
+  abbrev pub many : (List ℕ → C) → List ℕ → Option C
+  many make ns = Some (make ns)
+
+  -- one byte
+  abbrev pub one_byte : (ℕ → C) → List ℕ → Option C
+  one_byte make (b ∷ []) = if fits_byte b then Some (make b) else None
+  one_byte make other = None
+
+  -- a number and a byte
+  abbrev pub number_byte : (ℕ → ℕ → C) → List ℕ → Option C
+  number_byte make (n ∷ b ∷ []) = if fits_byte b then Some (make n b) else None
+  number_byte make other = None
+
+  -- zero or more bytes
+  abbrev pub many_bytes : (List ℕ → C) → List ℕ → Option C
+  many_bytes make bs = if list_all fits_byte bs then Some (make bs) else None
+
+  -- a number, and zero or more bytes
+  abbrev pub number_many_bytes : (ℕ → List ℕ → C) → List ℕ → Option C
+  number_many_bytes make (n ∷ bs) = if list_all fits_byte bs then Some (make n bs) else None
+  number_many_bytes make [] = None

@@ -1,0 +1,75 @@
+//! Lines of a script for a flat map.
+ghost use Rattle.std.specs.Prelude.{◌≡◌};
+
+use crate::run::listing::Listing;
+use crate::run::replies::append_items;
+use crate::run::reply_buffer::ReplyBuffer;
+use crate::run::served::Served;
+use crate::run::{Reply, Runs, ScriptFault, read_flat_command};
+use ix_cells::Table;
+use ix_maps::{Link, MetaFlatMap, Pair};
+use std::io::Write;
+
+/// Returns the reply with its key as a `usize`.
+#[inline]
+fn with_usize_key(reply: Reply<u64, u64>) -> Reply<usize, u64>
+    ensures { result ≡ reply }
+{
+    match reply {
+        Reply::Done => Reply::Done,
+        Reply::Bool(is_so) => Reply::Bool(is_so),
+        Reply::Number(number) => Reply::Number(number),
+        Reply::None => Reply::None,
+        Reply::Key(key) => Reply::Key(key as usize),
+        Reply::Value(value) => Reply::Value(value),
+        Reply::Entry(key, value) => Reply::Entry(key as usize, value),
+        Reply::Error(error) => Reply::Error(error),
+    }
+}
+
+impl<S: Table<Pair<u64, u64>>, L: Table<Link>> Listing for MetaFlatMap<u64, u64, S, L> {
+    ghost use Rattle.ix_maps.specs.FlatState.{flat_keys};
+
+    ghost items = { λ map. flat_keys map };
+
+    #[inline]
+    fn item_count(&self) -> usize {
+        self.len()
+    }
+
+    fn item(&self, index: usize) -> u64 {
+        match self.nth_key(index) {
+            Some(key) => *key,
+            None => unreachable!(),
+        }
+    }
+}
+
+impl<S: Table<Pair<u64, u64>>, L: Table<Link>> Served for MetaFlatMap<u64, u64, S, L> {
+    ghost use Rattle.std.specs.Prelude.{ℕ, nat_eq};
+    ghost use Rattle.ix_maps.specs.SlotState.{SlotState};
+    ghost use Rattle.ix_maps.specs.declared.flatmap.pair.Pair.{Pair};
+    ghost use Rattle.ix_commands.specs.FlatRun.{flat_reply, flat_after};
+    ghost use Rattle.ix_run.specs.Forms.{flat_forms};
+    ghost use Rattle.ix_run.specs.Script.{spelled_reply, spelled_after, flat_shown};
+
+    ghost Model = { SlotState (Pair ℕ ℕ) };
+
+    ghost model = { λ map. map };
+
+    ghost reply = { spelled_reply flat_forms (flat_reply nat_eq) };
+
+    ghost after = { spelled_after flat_forms (flat_after nat_eq) };
+
+    ghost shown = { flat_shown };
+
+    #[inline]
+    fn run_line(&mut self, line: &[u8]) -> Option<Reply<usize, u64>> {
+        let command = read_flat_command(line)?;
+        Some(with_usize_key(self.run_command(command)))
+    }
+
+    fn show<W: Write>(&self, pending: &mut ReplyBuffer, writer: &mut W) -> Result<(), ScriptFault> {
+        append_items(pending, writer, self)
+    }
+}

@@ -1,0 +1,132 @@
+//! Headers: the first line of a script, which makes its container.
+ghost use Rattle.std.specs.Prelude.{ℕ, ◌≡◌, ◌==◌, Some, IfSome, option_and_then, option_copied};
+ghost use Rattle.std.specs.List.{find};
+ghost use Rattle.ix_run.specs.Words.{words_after, numbers_in, one, make_named};
+ghost use Rattle.ix_run.specs.Headers.{IsStorage, header_of, header_text};
+ghost use Rattle.ix_run.specs.Headers.{named_container, storage_forms, fixed_capacity, fixed_capacities, up_to_max};
+ghost use Rattle.ix_run.specs.declared.run.header.Header.{Header};
+
+use crate::run::limits::MAX_CAPACITY;
+use crate::run::words::{is_word, one_number, split_word};
+
+/// A container that a header may name.
+#[derive(Clone, Copy, PartialEq, Eq, Debug)]
+pub enum Container {
+    /// `queue`: a queue of numbers.
+    Queue,
+    /// `vec`: a vector of numbers.
+    Vec,
+    /// `slot`: a slot map of numbers.
+    Slot,
+    /// `flat`: a flat map from numbers to numbers.
+    Flat,
+    /// `text`: a string.
+    Text,
+}
+
+/// A capacity that a header may name for a fixed kind.
+#[derive(Clone, Copy, PartialEq, Eq, Debug)]
+pub enum FixedCapacity {
+    Zero,
+    One,
+    Three,
+    Eight,
+}
+
+/// Where a header asks the items to be stored, and their maximum number.
+#[derive(Clone, Copy, PartialEq, Eq, Debug)]
+pub enum Storage {
+    /// `fixed S`: inline. S is 0, 1, 3 or 8.
+    Fixed(FixedCapacity),
+    /// `heap N`: in the machine's memory. N is at most [`MAX_CAPACITY`].
+    Heap(usize),
+    /// `arena N`: in an arena over the machine's memory. N is at most [`MAX_CAPACITY`].
+    Arena(usize),
+}
+
+/// A header: a container, and its storage.
+#[derive(Clone, Copy, PartialEq, Eq, Debug)]
+pub struct Header {
+    pub container: Container,
+    pub storage: Storage,
+}
+
+/// Returns the header that `line` is: a container, and its storage; or `None` for any other line. O(length).
+#[tactic(auto, using(crate::proofs::Headers::header_of_text, crate::proofs::Headers::header_of_header_text))]
+pub fn read_header(line: &[u8]) -> Option<Header>
+    ensures value { result ≡ header_of line.now }
+    ensures text { IfSome result (λ header. IsStorage header.storage × (line.now ≡ header_text header)) }
+    ensures each { (header : Header) → IsStorage header.storage → line.now ≡ header_text header → result ≡ Some header }
+{
+    header_in(line)
+}
+
+fn header_in(line: &[u8]) -> Option<Header>
+    ensures { result ≡ header_of line.now }
+{
+    let (name, rest) = split_word(line);
+    let container = container_named(name)?;
+    let (name, rest) = split_word(rest?);
+    let storage = storage_named(name, rest)?;
+    Some(Header { container, storage })
+}
+
+fn container_named(name: &[u8]) -> Option<Container>
+    ensures { result ≡ named_container name.now }
+{
+    if is_word(name, b"queue") {
+        return Some(Container::Queue);
+    }
+    if is_word(name, b"vec") {
+        return Some(Container::Vec);
+    }
+    if is_word(name, b"slot") {
+        return Some(Container::Slot);
+    }
+    if is_word(name, b"flat") {
+        return Some(Container::Flat);
+    }
+    if is_word(name, b"text") {
+        return Some(Container::Text);
+    }
+    None
+}
+
+#[tactic(auto, using(crate::proofs::Headers::fixed_made, crate::proofs::Headers::up_to_max_made))]
+fn storage_named(name: &[u8], rest: Option<&[u8]>) -> Option<Storage>
+    ensures { result ≡ make_named storage_forms name.now (numbers_in (words_after (option_copied rest.entry))) }
+{
+    if is_word(name, b"fixed") {
+        return Some(Storage::Fixed(fixed_capacity_of(one_number(rest)?)?));
+    }
+    if is_word(name, b"heap") {
+        return Some(Storage::Heap(capacity_up_to_max(rest)?));
+    }
+    if is_word(name, b"arena") {
+        return Some(Storage::Arena(capacity_up_to_max(rest)?));
+    }
+    None
+}
+
+fn fixed_capacity_of(number: u64) -> Option<FixedCapacity>
+    ensures { result ≡ find (λ capacity. fixed_capacity capacity == number) fixed_capacities }
+{
+    match number {
+        0 => Some(FixedCapacity::Zero),
+        1 => Some(FixedCapacity::One),
+        3 => Some(FixedCapacity::Three),
+        8 => Some(FixedCapacity::Eight),
+        _ => None,
+    }
+}
+
+#[tactic(auto, using(crate::proofs::Headers::up_to_max_one))]
+fn capacity_up_to_max(rest: Option<&[u8]>) -> Option<usize>
+    ensures { result ≡ option_and_then (up_to_max (λ n. n)) (numbers_in (words_after (option_copied rest.entry))) }
+{
+    let number = one_number(rest)?;
+    if number > MAX_CAPACITY as u64 {
+        return None;
+    }
+    Some(number as usize)
+}

@@ -1,0 +1,51 @@
+//! Lines of a script for a queue.
+use crate::run::listing::Listing;
+use crate::run::replies::append_items;
+use crate::run::reply_buffer::ReplyBuffer;
+use crate::run::served::Served;
+use crate::run::{Reply, Runs, ScriptFault, read_queue_command};
+use ix_cells::Table;
+use ix_maps::MetaQueue;
+use std::io::Write;
+
+impl<S: Table<u64>> Listing for MetaQueue<u64, S> {
+    ghost items = { λ queue. queue.items };
+
+    #[inline]
+    fn item_count(&self) -> usize {
+        self.len()
+    }
+
+    #[inline]
+    fn item(&self, index: usize) -> u64 {
+        self.get(index)
+    }
+}
+
+impl<S: Table<u64>> Served for MetaQueue<u64, S> {
+    ghost use Rattle.std.specs.Prelude.{ℕ};
+    ghost use Rattle.ix_cells.specs.Bounded.{Bounded};
+    ghost use Rattle.ix_commands.specs.QueueRun.{queue_reply, queue_after};
+    ghost use Rattle.ix_run.specs.Forms.{queue_forms};
+    ghost use Rattle.ix_run.specs.Script.{spelled_reply, spelled_after, list_shown};
+
+    ghost Model = { Bounded ℕ };
+
+    ghost model = { λ queue. queue };
+
+    ghost reply = { spelled_reply queue_forms queue_reply };
+
+    ghost after = { spelled_after queue_forms queue_after };
+
+    ghost shown = { list_shown };
+
+    #[inline(always)]
+    fn run_line(&mut self, line: &[u8]) -> Option<Reply<usize, u64>> {
+        let command = read_queue_command(line)?;
+        Some(self.run_command(command))
+    }
+
+    fn show<W: Write>(&self, pending: &mut ReplyBuffer, writer: &mut W) -> Result<(), ScriptFault> {
+        append_items(pending, writer, self)
+    }
+}

@@ -1,0 +1,80 @@
+//! Lines of a script for a slot map.
+ghost use Rattle.std.specs.Prelude.{◌≡◌};
+ghost use Rattle.ix_maps.specs.SlotState.{entries};
+ghost use Rattle.ix_run.specs.ReplyTexts.{items_text, entry_text, next_text};
+ghost use Rattle.ix_run.specs.Writing.{WriteResult};
+
+use crate::run::replies::append_pair;
+use crate::run::reply_buffer::ReplyBuffer;
+use crate::run::served::Served;
+use crate::run::{Reply, Runs, ScriptFault, read_slot_command};
+use ix_cells::Table;
+use ix_maps::{Link, MetaSlotMap};
+use std::io::Write;
+
+/// Appends a key with its value, and before it a space unless it is the first.
+#[tactic(auto, using(crate::proofs::Writing::WriteResult_append, crate::proofs::Writing::WritesPart_append))]
+fn append_next_entry<W: Write>(
+    pending: &mut ReplyBuffer,
+    writer: &mut W,
+    is_first: bool,
+    key: u64,
+    value: u64,
+) -> Result<(), ScriptFault>
+    ensures { WriteResult (W.contents writer.old) pending.old (next_text is_first (entry_text (key, value)))
+        (W.contents writer.new) pending.new result }
+{
+    if is_first {
+        return append_pair(pending, writer, key, b"=", value);
+    }
+    pending.append(writer, b" ")?;
+    append_pair(pending, writer, key, b"=", value)
+}
+
+/// Appends the keys with their values, separated by single spaces, or a dash if there are none.
+fn append_entries<S: Table<u64>, L: Table<Link>, W: Write>(
+    pending: &mut ReplyBuffer,
+    writer: &mut W,
+    map: &MetaSlotMap<u64, S, L>,
+) -> Result<(), ScriptFault>
+    ensures { WriteResult (W.contents writer.old) pending.old (items_text entry_text (entries map.now))
+        (W.contents writer.new) pending.new result }
+{
+    if map.is_empty() {
+        return pending.append(writer, b"-");
+    }
+    let mut is_first = true;
+    for (key, value) in map.iter() {
+        append_next_entry(pending, writer, is_first, key.value() as u64, *value)?;
+        is_first = false;
+    }
+    Ok(())
+}
+
+impl<S: Table<u64>, L: Table<Link>> Served for MetaSlotMap<u64, S, L> {
+    ghost use Rattle.std.specs.Prelude.{ℕ};
+    ghost use Rattle.ix_maps.specs.SlotState.{SlotState};
+    ghost use Rattle.ix_commands.specs.SlotRun.{slot_reply, slot_after};
+    ghost use Rattle.ix_run.specs.Forms.{slot_forms};
+    ghost use Rattle.ix_run.specs.Script.{spelled_reply, spelled_after, slot_shown};
+
+    ghost Model = { SlotState ℕ };
+
+    ghost model = { λ map. map };
+
+    ghost reply = { spelled_reply slot_forms slot_reply };
+
+    ghost after = { spelled_after slot_forms slot_after };
+
+    ghost shown = { slot_shown };
+
+    #[inline]
+    fn run_line(&mut self, line: &[u8]) -> Option<Reply<usize, u64>> {
+        let command = read_slot_command(line)?;
+        Some(self.run_command(command))
+    }
+
+    fn show<W: Write>(&self, pending: &mut ReplyBuffer, writer: &mut W) -> Result<(), ScriptFault> {
+        append_entries(pending, writer, self)
+    }
+}

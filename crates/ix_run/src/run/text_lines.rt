@@ -1,0 +1,146 @@
+//! Lines of a script for a string.
+ghost use Rattle.std.specs.Prelude.{◌≡◌, ◌<◌, ◌≤◌, ◌++◌, ◌∷◌, [], codes, length, take};
+ghost use Rattle.ix_string.specs.Escape.{escaped_byte, escaped_text, hex_digit};
+ghost use Rattle.ix_run.specs.Writing.{WriteResult, WritesPart};
+
+use crate::run::limits::MAX_NUMBERS;
+use crate::run::reply_buffer::ReplyBuffer;
+use crate::run::served::Served;
+use crate::run::{Reply, Runs, ScriptFault, read_text_command};
+use ix_string::String;
+use std::io::Write;
+
+/// A string, and room for the bytes of a line.
+#[derive(Drop)]
+pub struct TextLines<S: String> {
+    pub string: S,
+    bytes: [u8; MAX_NUMBERS],
+}
+
+impl<S: String> TextLines<S> {
+    pub fn new(string: S) -> TextLines<S>
+        ensures { S.bounded result.string ≡ S.bounded string }
+    {
+        TextLines {
+            string,
+            bytes: [0; MAX_NUMBERS],
+        }
+    }
+}
+
+/// Returns the reply with its value as a `u64`.
+#[inline]
+fn with_u64_value(reply: Reply<usize, u8>) -> Reply<usize, u64>
+    ensures { result ≡ reply }
+{
+    match reply {
+        Reply::Done => Reply::Done,
+        Reply::Bool(is_so) => Reply::Bool(is_so),
+        Reply::Number(number) => Reply::Number(number),
+        Reply::None => Reply::None,
+        Reply::Key(key) => Reply::Key(key),
+        Reply::Value(value) => Reply::Value(value as u64),
+        Reply::Entry(key, value) => Reply::Entry(key, value as u64),
+        Reply::Error(error) => Reply::Error(error),
+    }
+}
+
+/// Returns the lower-case hexadecimal digit.
+fn hex_byte(digit: u8) -> u8
+    requires { digit < 16 }
+    ensures { result ≡ hex_digit digit }
+{
+    if digit < 10 { 48 + digit } else { 87 + digit }
+}
+
+/// Appends a byte that is printed escaped.
+fn append_escaped<W: Write>(
+    pending: &mut ReplyBuffer,
+    writer: &mut W,
+    byte: u8,
+) -> Result<(), ScriptFault>
+    ensures { WriteResult (W.contents writer.old) pending.old (escaped_byte byte)
+        (W.contents writer.new) pending.new result }
+{
+    match byte {
+        9 => pending.append(writer, b"\\t"),
+        13 => pending.append(writer, b"\\r"),
+        10 => pending.append(writer, b"\\n"),
+        32..=127 => pending.append(writer, &[byte]),
+        _ => pending.append(
+            writer,
+            &[b'\\', b'x', hex_byte(byte / 16), hex_byte(byte % 16)],
+        ),
+    }
+}
+
+/// Appends bytes that are printed escaped.
+fn append_escaped_bytes<W: Write>(
+    pending: &mut ReplyBuffer,
+    writer: &mut W,
+    bytes: &[u8],
+) -> Result<(), ScriptFault>
+    ensures { WriteResult (W.contents writer.old) pending.old (escaped_text bytes.now)
+        (W.contents writer.new) pending.new result }
+{
+    for byte in bytes {
+        append_escaped(pending, writer, *byte)?;
+    }
+    Ok(())
+}
+
+/// Appends bytes that are printed escaped, and a double quote.
+#[tactic(auto, using(crate::proofs::Writing::WriteResult_append, crate::proofs::Writing::WritesPart_append))]
+fn append_escaped_then_quote<W: Write>(
+    pending: &mut ReplyBuffer,
+    writer: &mut W,
+    bytes: &[u8],
+) -> Result<(), ScriptFault>
+    ensures { WriteResult (W.contents writer.old) pending.old (escaped_text bytes.now ++ codes "\"")
+        (W.contents writer.new) pending.new result }
+{
+    append_escaped_bytes(pending, writer, bytes)?;
+    pending.append(writer, b"\"")
+}
+
+/// Appends bytes that are printed escaped, between double quotes.
+#[tactic(auto, using(crate::proofs::Writing::WriteResult_append, crate::proofs::Writing::WritesPart_append))]
+fn append_quoted<W: Write>(
+    pending: &mut ReplyBuffer,
+    writer: &mut W,
+    bytes: &[u8],
+) -> Result<(), ScriptFault>
+    ensures { WriteResult (W.contents writer.old) pending.old (codes "\"" ++ (escaped_text bytes.now ++ codes "\""))
+        (W.contents writer.new) pending.new result }
+{
+    pending.append(writer, b"\"")?;
+    append_escaped_then_quote(pending, writer, bytes)
+}
+
+impl<S: String> Served for TextLines<S> {
+    ghost use Rattle.std.specs.Prelude.{ℕ};
+    ghost use Rattle.ix_cells.specs.Bounded.{Bounded};
+    ghost use Rattle.ix_commands.specs.TextRun.{text_reply, text_after};
+    ghost use Rattle.ix_run.specs.Forms.{text_forms};
+    ghost use Rattle.ix_run.specs.Script.{spelled_reply, spelled_after, text_shown};
+
+    ghost Model = { Bounded ℕ };
+
+    ghost model = { λ lines. S.bounded lines.string };
+
+    ghost reply = { spelled_reply text_forms text_reply };
+
+    ghost after = { spelled_after text_forms text_after };
+
+    ghost shown = { text_shown };
+
+    #[inline]
+    fn run_line(&mut self, line: &[u8]) -> Option<Reply<usize, u64>> {
+        let command = read_text_command(line, &mut self.bytes)?;
+        Some(with_u64_value(self.string.run_command(command)))
+    }
+
+    fn show<W: Write>(&self, pending: &mut ReplyBuffer, writer: &mut W) -> Result<(), ScriptFault> {
+        append_quoted(pending, writer, self.string.as_bytes())
+    }
+}

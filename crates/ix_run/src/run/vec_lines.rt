@@ -1,0 +1,71 @@
+//! Lines of a script for a vector.
+ghost use Rattle.std.specs.Prelude.{◌≡◌};
+
+use crate::run::limits::MAX_NUMBERS;
+use crate::run::listing::Listing;
+use crate::run::replies::append_items;
+use crate::run::reply_buffer::ReplyBuffer;
+use crate::run::served::Served;
+use crate::run::{Reply, Runs, ScriptFault, read_vec_command};
+use ix_cells::Vector;
+use std::io::Write;
+
+/// A vector, and room for the numbers of a line.
+#[derive(Drop)]
+pub struct VecLines<V: Vector<u64>> {
+    pub vector: V,
+    numbers: [u64; MAX_NUMBERS],
+}
+
+impl<V: Vector<u64>> VecLines<V> {
+    pub fn new(vector: V) -> VecLines<V>
+        ensures { V.bounded result.vector ≡ V.bounded vector }
+    {
+        VecLines {
+            vector,
+            numbers: [0; MAX_NUMBERS],
+        }
+    }
+}
+
+impl<V: Vector<u64>> Listing for VecLines<V> {
+    ghost items = { λ lines. (V.bounded lines.vector).items };
+
+    #[inline]
+    fn item_count(&self) -> usize {
+        self.vector.len()
+    }
+
+    #[inline]
+    fn item(&self, index: usize) -> u64 {
+        self.vector.as_slice()[index]
+    }
+}
+
+impl<V: Vector<u64>> Served for VecLines<V> {
+    ghost use Rattle.std.specs.Prelude.{ℕ};
+    ghost use Rattle.ix_cells.specs.Bounded.{Bounded};
+    ghost use Rattle.ix_commands.specs.VecRun.{vec_reply, vec_after};
+    ghost use Rattle.ix_run.specs.Forms.{vec_forms};
+    ghost use Rattle.ix_run.specs.Script.{spelled_reply, spelled_after, list_shown};
+
+    ghost Model = { Bounded ℕ };
+
+    ghost model = { λ lines. V.bounded lines.vector };
+
+    ghost reply = { spelled_reply vec_forms vec_reply };
+
+    ghost after = { spelled_after vec_forms vec_after };
+
+    ghost shown = { list_shown };
+
+    #[inline]
+    fn run_line(&mut self, line: &[u8]) -> Option<Reply<usize, u64>> {
+        let command = read_vec_command(line, &mut self.numbers)?;
+        Some(self.vector.run_command(command))
+    }
+
+    fn show<W: Write>(&self, pending: &mut ReplyBuffer, writer: &mut W) -> Result<(), ScriptFault> {
+        append_items(pending, writer, self)
+    }
+}

@@ -1,0 +1,161 @@
+//! Lines as words: a name, and numbers. A function takes what stands behind the last space that was read, or `None` if no
+//! word is left.
+ghost use Rattle.std.specs.Prelude.{ℕ, ◌≡◌, ◌≤◌, ◌*◌, ◌+◌, List, ◌∷◌, length, bytes_eq};
+ghost use Rattle.std.specs.Option.{option_map, option_and_then, option_copied};
+ghost use Rattle.std.specs.List.{position_or_len, slice_split};
+ghost use Rattle.ix_run.specs.Words.{is_space, words_after, len_after, numbers_in, byte_of};
+ghost use Rattle.ix_run.specs.Words.{alone, one, two, one_byte, number_byte, many_bytes, number_many_bytes};
+
+use crate::run::reading::number_in;
+
+/// Returns the number of bytes before the first space.
+fn word_len(bytes: &[u8]) -> usize
+    ensures { result ≡ position_or_len is_space bytes.now }
+{
+    let mut len = 0;
+    while len < bytes.len() && bytes[len] != b' ' {
+        len += 1;
+    }
+    len
+}
+
+/// Returns the first word of `bytes`, and what stands behind the space after it.
+#[tactic(auto, using(crate::proofs::Words::first_word))]
+#[inline]
+pub(crate) fn split_word(bytes: &[u8]) -> (&[u8], Option<&[u8]>)
+    ensures words { slice_split is_space bytes.now ≡ result.0.now ∷ words_after (option_copied result.1) }
+    ensures len { length result.0.now + len_after (option_copied result.1) ≡ length bytes.now }
+{
+    let (word, rest) = bytes.split_at(word_len(bytes));
+    if rest.is_empty() {
+        (word, None)
+    } else {
+        (word, Some(&rest[1..]))
+    }
+}
+
+/// Returns whether the words are equal.
+#[inline]
+pub(crate) fn is_word(word: &[u8], other: &[u8]) -> bool
+    ensures { result ≡ bytes_eq word.now other.now }
+{
+    word == other
+}
+
+/// Returns the command, if no word is left.
+#[inline]
+pub(crate) fn alone<C: Copy>(rest: Option<&[u8]>, command: C) -> Option<C>
+    ensures { result ≡ option_and_then (alone command) (numbers_in (words_after (option_copied rest.entry))) }
+{
+    match rest {
+        Some(_) => None,
+        None => Some(command),
+    }
+}
+
+/// Returns the number, if one word is left and is a number.
+#[tactic(auto, using(crate::proofs::Words::number_of_last))]
+#[inline]
+pub(crate) fn one_number(rest: Option<&[u8]>) -> Option<u64>
+    ensures { result ≡ option_and_then (one (λ n. n)) (numbers_in (words_after (option_copied rest.entry))) }
+{
+    number_in(rest?)
+}
+
+/// Returns the numbers, if two words are left and are numbers.
+#[tactic(auto, using(crate::proofs::Words::two_after_number))]
+#[inline]
+pub(crate) fn two_numbers(rest: Option<&[u8]>) -> Option<(u64, u64)>
+    ensures { result ≡ option_and_then (two (λ n m. (n, m))) (numbers_in (words_after (option_copied rest.entry))) }
+{
+    let (word, rest) = split_word(rest?);
+    let first = number_in(word)?;
+    let second = one_number(rest)?;
+    Some((first, second))
+}
+
+/// Returns the numbers, in `buffer`, if each word that is left is a number.
+pub(crate) fn many_numbers<'a>(rest: Option<&[u8]>, buffer: &'a mut [u64]) -> Option<&'a [u64]>
+    requires room { len_after (option_copied rest) ≤ 2 * length buffer.now }
+    ensures { option_copied result ≡ numbers_in (words_after (option_copied rest.entry)) }
+{
+    let mut left = rest;
+    let mut count = 0;
+    while let Some(bytes) = left {
+        let (word, more) = split_word(bytes);
+        let number = number_in(word)?;
+        buffer[count] = number;
+        count += 1;
+        left = more;
+    }
+    Some(&buffer[..count])
+}
+
+/// Returns the byte whose decimal text `word` is.
+#[inline]
+fn byte_in(word: &[u8]) -> Option<u8>
+    ensures { result ≡ byte_of word.now }
+{
+    let number = number_in(word)?;
+    if number > 255 {
+        return None;
+    }
+    Some(number as u8)
+}
+
+/// Returns the byte, if one word is left and is a byte.
+#[tactic(auto, using(crate::proofs::Words::byte_of_last))]
+#[inline]
+pub(crate) fn one_byte(rest: Option<&[u8]>) -> Option<u8>
+    ensures { result ≡ option_and_then (one_byte (λ b. b)) (numbers_in (words_after (option_copied rest.entry))) }
+{
+    byte_in(rest?)
+}
+
+/// Returns the number and the byte, if two words are left and are these.
+#[tactic(auto, using(crate::proofs::Words::byte_after_number))]
+#[inline]
+pub(crate) fn number_and_byte(rest: Option<&[u8]>) -> Option<(u64, u8)>
+    ensures { result ≡ option_and_then (number_byte (λ n b. (n, b))) (numbers_in (words_after (option_copied rest.entry))) }
+{
+    let (word, rest) = split_word(rest?);
+    let number = number_in(word)?;
+    let byte = one_byte(rest)?;
+    Some((number, byte))
+}
+
+/// Returns the bytes, in `buffer`, if each word that is left is a byte.
+pub(crate) fn bytes_of_words<'a>(rest: Option<&[u8]>, buffer: &'a mut [u8]) -> Option<&'a [u8]>
+    requires room { len_after (option_copied rest) ≤ 2 * length buffer.now }
+    ensures { option_copied result
+        ≡ option_and_then (many_bytes (λ bs. bs)) (numbers_in (words_after (option_copied rest.entry))) }
+{
+    let mut left = rest;
+    let mut count = 0;
+    while let Some(bytes) = left {
+        let (word, more) = split_word(bytes);
+        let byte = byte_in(word)?;
+        buffer[count] = byte;
+        count += 1;
+        left = more;
+    }
+    Some(&buffer[..count])
+}
+
+/// Returns the number, and the bytes in `buffer`, if the words that are left are a number and bytes.
+#[tactic(auto, using(crate::proofs::Words::bytes_after_number))]
+#[inline]
+pub(crate) fn number_and_bytes<'a>(
+    rest: Option<&[u8]>,
+    buffer: &'a mut [u8],
+) -> Option<(u64, &'a [u8])>
+    requires room { len_after (option_copied rest) ≤ 2 * length buffer.now }
+    ensures { option_map {U = ℕ × List ℕ} (λ r. (r.0, r.1.now)) result
+        ≡ option_and_then {U = ℕ × List ℕ} (number_many_bytes (λ n bs. (n, bs)))
+        (numbers_in (words_after (option_copied rest.entry))) }
+{
+    let (word, rest) = split_word(rest?);
+    let number = number_in(word)?;
+    let bytes = bytes_of_words(rest, buffer)?;
+    Some((number, bytes))
+}
