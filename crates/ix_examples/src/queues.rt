@@ -19,7 +19,7 @@ pub fn fixed() -> (Option<u64>, FixedSizeQueue<u64, 2>)
     (oldest, queue)
 }
 
-/// An allocated queue allocates once, when it is made. Returns a queue of the items of `items`.
+/// An allocated queue allocates when it is made, and never after. Returns a queue of the items of `items`.
 pub fn allocated<A: Allocator>(alloc: A, items: &[u64]) -> Result<Queue<u64, A>, AllocError>
     ensures queue { IfOk result (λ queue. queue.items ≡ items.now) }
     ensures capacity { IfOk result (λ queue. queue.capacity ≡ length items.now) }

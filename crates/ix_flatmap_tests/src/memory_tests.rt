@@ -1,4 +1,4 @@
-//! Maps for which there is not enough memory, at the first allocation or at the second: nothing stays allocated.
+//! Maps for which there is not enough memory, at each of the four allocations: nothing stays allocated.
 use ix_cells::{HeapTable, InitError, RelocatableContainer, Table};
 use ix_expect::Findings;
 use ix_maps::FlatMapError::IsFull;
@@ -76,18 +76,19 @@ fn check_heap(findings: &Findings, heap: &LocalHeap, ample: Global, found: bool)
     check_made(findings, heap, used, FlatMap::new(heap, 0), (0, true));
 }
 
-/// Allocates a block of the heap, and checks makings of maps. The first allocation of a map succeeds if `first`, both
-/// if `both`.
+/// Allocates a block of the heap, and checks makings of maps. The first table of a map can be made if `first`, both if
+/// `both`.
 fn check_blocks(findings: &Findings, heap: &LocalHeap, ample: Global, (first, both): (bool, bool)) {
     let held = Box::new(heap, 0u64);
     findings.expect(held.is_ok(), "a block");
-    findings.expect_same(has_first(heap), first, "the first allocation");
+    findings.expect_same(has_first(heap), first, "the first table");
     check_heap(findings, heap, ample, both);
 }
 
-/// The number of blocks of 16 bytes of a heap, and whether the first allocation succeeds, and both. One block is held,
-/// two pairs take three, and two links four.
+/// The number of blocks of 16 bytes of a heap, and whether the first table can be made, and both. One block is held. Two
+/// pairs take two and their marks one, two links three and their marks one.
 const BLOCKS: &[(usize, bool, bool)] = &[
+    (1, false, false),
     (3, false, false),
     (4, true, false),
     (7, true, false),

@@ -1,6 +1,6 @@
 //! Flat maps: bounded maps from keys of your own to values, for keys that can only be compared for equality.
 //!
-//! [`FixedSizeFlatMap`] is stored inline, [`FlatMap`] and [`RelocatableFlatMap`] allocate once, when they are made.
+//! [`FixedSizeFlatMap`] is stored inline, [`FlatMap`] and [`RelocatableFlatMap`] allocate only when they are made.
 //!
 //! ```text
 //! let mut map = FixedSizeFlatMap::<u16, char, 3>::new();

@@ -1,6 +1,6 @@
 //! Queues: bounded lists, in which items are appended at the back and removed at the front.
 //!
-//! [`FixedSizeQueue`] is stored inline, [`Queue`] and [`RelocatableQueue`] allocate once, when they are made.
+//! [`FixedSizeQueue`] is stored inline, [`Queue`] and [`RelocatableQueue`] allocate only when they are made.
 //!
 //! ```text
 //! let mut queue = FixedSizeQueue::<u64, 2>::new();

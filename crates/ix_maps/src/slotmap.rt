@@ -1,6 +1,6 @@
 //! Slot maps: bounded maps that choose the key of each value, by which it is found in constant time.
 //!
-//! [`FixedSizeSlotMap`] is stored inline, [`SlotMap`] and [`RelocatableSlotMap`] allocate once, when they are made.
+//! [`FixedSizeSlotMap`] is stored inline, [`SlotMap`] and [`RelocatableSlotMap`] allocate only when they are made.
 //!
 //! ```text
 //! let mut map = FixedSizeSlotMap::<char, 3>::new();

@@ -93,6 +93,24 @@ const NONE: &[Row<u64>] = &[
     (Pop, Item(None)),
 ];
 
+/// Calls of a queue of capacity 3: what is appended past it removes the oldest items in turn.
+const OVERFLOWS: &[Row<u64>] = &[
+    (PushWithOverflow(0), Item(None)),
+    (PushWithOverflow(1), Item(None)),
+    (PushWithOverflow(2), Item(None)),
+    (PushWithOverflow(3), Item(Some(0))),
+    (PushWithOverflow(4), Item(Some(1))),
+    (PushWithOverflow(5), Item(Some(2))),
+    (PushWithOverflow(6), Item(Some(3))),
+    (PushWithOverflow(7), Item(Some(4))),
+    (PushWithOverflow(8), Item(Some(5))),
+    (PushWithOverflow(9), Item(Some(6))),
+    (Pop, Item(Some(7))),
+    (Pop, Item(Some(8))),
+    (Pop, Item(Some(9))),
+    (Pop, Item(None)),
+];
+
 /// Calls of a queue of capacity 2.
 const OF_TWO: &[&[Row<u64>]] = &[SIZES, PUSHES, READS, CHANGES, REPLACEMENTS];
 
@@ -153,6 +171,7 @@ fn check_examples<A: Allocator + Copy>(findings: &Findings, alloc: A, memory: &s
     for rows in OF_TWO {
         check_in(findings, alloc, 2, &[*rows], memory);
     }
+    check_in(findings, alloc, 3, &[OVERFLOWS], memory);
     check_in(findings, alloc, 1, &[ONE], memory);
     check_in(findings, alloc, 0, &[NONE], memory);
 }

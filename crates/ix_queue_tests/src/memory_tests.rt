@@ -69,11 +69,12 @@ fn check_heap(findings: &Findings, heap: &LocalHeap, ample: Global, capacity: us
     check_again(findings, refused, ample, capacity);
 }
 
-/// Allocates a block of the heap, and checks makings of queues. Each of the other `blocks` is enough for one number.
+/// Allocates a block of the heap, and checks makings of queues. Each of the other `blocks` is enough for one number, or
+/// for its mark.
 fn check_blocks(findings: &Findings, heap: &LocalHeap, ample: Global, blocks: usize) {
     let held = Box::new(heap, 0u64);
     findings.expect(held.is_ok(), "a block");
-    check_heap(findings, heap, ample, 1, blocks > 0);
+    check_heap(findings, heap, ample, 1, blocks > 1);
     check_heap(findings, heap, ample, 0, true);
 }
 
@@ -105,7 +106,7 @@ fn check_past_all_memory<A: Allocator + Copy>(findings: &Findings, alloc: A, cap
 /// Checks makings that fail; `heap` has 64 bytes.
 fn check_too_little(findings: &Findings, alloc: Global, heap: &LocalHeap) {
     let bump = Bump::new(alloc);
-    for capacity in &[usize::MAX, usize::MAX / 16 + 1, usize::MAX / 32 + 1] {
+    for capacity in &[usize::MAX, usize::MAX / 8, usize::MAX / 16 + 1] {
         check_past_all_memory(findings, alloc, *capacity);
         check_past_all_memory(findings, &bump, *capacity);
         check_past_all_memory(findings, heap, *capacity);

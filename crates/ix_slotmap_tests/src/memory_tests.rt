@@ -1,4 +1,4 @@
-//! Maps for which there is not enough memory, at the first allocation or at the second: nothing stays allocated.
+//! Maps for which there is not enough memory, at each of the four allocations: nothing stays allocated.
 use ix_cells::{HeapTable, InitError, RelocatableContainer, Table};
 use ix_expect::Findings;
 use ix_maps::{Link, MetaSlotMap, SlotMap, UninitSlotMap};
@@ -63,17 +63,24 @@ fn check_heap(findings: &Findings, heap: &LocalHeap, ample: Global, found: bool)
     check_made(findings, heap, used, SlotMap::new(heap, 0), (0, true));
 }
 
-/// Allocates a block of the heap, and checks makings of maps. The first allocation of a map succeeds if `first`, both
-/// if `both`.
+/// Allocates a block of the heap, and checks makings of maps. The first table of a map can be made if `first`, both if
+/// `both`.
 fn check_blocks(findings: &Findings, heap: &LocalHeap, ample: Global, (first, both): (bool, bool)) {
     let held = Box::new(heap, 0u64);
     findings.expect(held.is_ok(), "a block");
-    findings.expect_same(has_first(heap), first, "the first allocation");
+    findings.expect_same(has_first(heap), first, "the first table");
     check_heap(findings, heap, ample, both);
 }
 
-/// The number of blocks of a heap, and whether the first allocation succeeds, and both.
-const BLOCKS: &[(usize, bool, bool)] = &[(2, false, false), (3, true, false), (8, true, true)];
+/// The number of blocks of 16 bytes of a heap, and whether the first table can be made, and both. One block is held. Two
+/// values take one and their marks another, two links three and their marks one.
+const BLOCKS: &[(usize, bool, bool)] = &[
+    (1, false, false),
+    (2, false, false),
+    (3, true, false),
+    (6, true, false),
+    (7, true, true),
+];
 
 #[test]
 fn makings_refused(rt: HostRuntime) -> Result<(), Fail> {
@@ -90,7 +97,7 @@ fn makings_refused(rt: HostRuntime) -> Result<(), Fail> {
 #[test]
 fn past_all_memory(rt: HostRuntime) -> Result<(), Fail> {
     let findings = Findings::new();
-    for capacity in &[usize::MAX, usize::MAX / 16] {
+    for capacity in &[usize::MAX, usize::MAX / 16 + 1] {
         let made = SlotMap::<u64, Global>::new(rt.alloc(), *capacity);
         findings.expect(made.is_err(), "`new` refuses");
         match UninitSlotMap::<u64>::new_uninit(*capacity).init(rt.alloc()) {

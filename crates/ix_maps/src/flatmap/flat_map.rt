@@ -27,7 +27,7 @@ pub type FlatMap<K, V, A = Global> = MetaFlatMap<
 impl<K: Eq + Drop, V: Drop, A: Allocator + Copy> FlatMap<K, V, A> {
     /// Creates an empty map with room for `capacity` keys.
     ///
-    /// O(`capacity`). Allocates from `alloc` at most twice. Returns `AllocError` if there is not enough memory; what
+    /// O(`capacity`). Allocates from `alloc` at most four times. Returns `AllocError` if there is not enough memory; what
     /// was allocated is deallocated then. A capacity of 0 needs no memory.
     pub fn new(alloc: A, capacity: usize) -> Result<Self, AllocError>
         ensures value { IfOk result (λ map. map ≡ slot_new capacity) }

@@ -29,7 +29,7 @@ impl<K: Eq + Drop, V: Drop, A: Allocator + Copy> ContainerFamily<A> for FlatMapF
 
     ghost is_empty_with = { λ capacity map. map ≡ slot_new capacity };
 
-    /// Creates an empty map with room for `capacity` keys. O(`capacity`). Allocates from `alloc` at most twice.
+    /// Creates an empty map with room for `capacity` keys. O(`capacity`). Allocates from `alloc` at most four times.
     #[inline]
     fn with_capacity(alloc: A, capacity: usize) -> Result<RelocatableFlatMap<K, V, A>, AllocError> {
         FlatMap::new(alloc, capacity)

@@ -38,7 +38,7 @@ pub type RelocatableQueue<T, A = Global> = MetaQueue<T, HeapTable<T, A>>;
 impl<T: Drop, A: Allocator> Queue<T, A> {
     /// Creates an empty queue with memory for `capacity` items.
     ///
-    /// O(`capacity`). Allocates from `alloc` at most once. Returns `AllocError` if there is not enough memory, and for
+    /// O(`capacity`). Allocates from `alloc` at most twice. Returns `AllocError` if there is not enough memory, and for
     /// any capacity whose items would fill more than `isize::MAX` bytes. A capacity of 0 needs no memory.
     pub fn new(alloc: A, capacity: usize) -> Result<Self, AllocError>
         ensures value { IfOk result (λ queue. queue ≡ bounded_new capacity) }

@@ -18,7 +18,7 @@ impl<T: Drop, A: Allocator> ContainerFamily<A> for QueueFamily<T> {
 
     ghost is_empty_with = { λ capacity queue. queue ≡ bounded_new capacity };
 
-    /// Creates an empty queue with memory for `capacity` items. O(`capacity`). Allocates from `alloc` at most once.
+    /// Creates an empty queue with memory for `capacity` items. O(`capacity`). Allocates from `alloc` at most twice.
     #[inline]
     fn with_capacity(alloc: A, capacity: usize) -> Result<RelocatableQueue<T, A>, AllocError> {
         Queue::new(alloc, capacity)

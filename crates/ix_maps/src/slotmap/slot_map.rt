@@ -21,7 +21,7 @@ pub type SlotMap<T, A = Global> = MetaSlotMap<T, HeapTable<T, A>, HeapTable<Link
 impl<T: Drop, A: Allocator + Copy> SlotMap<T, A> {
     /// Creates an empty map with `capacity` keys.
     ///
-    /// O(`capacity`). Allocates from `alloc` at most twice. Returns `AllocError` if there is not enough memory; what
+    /// O(`capacity`). Allocates from `alloc` at most four times. Returns `AllocError` if there is not enough memory; what
     /// was allocated is deallocated then. A capacity of 0 needs no memory.
     pub fn new(alloc: A, capacity: usize) -> Result<Self, AllocError>
         ensures value { IfOk result (λ map. map ≡ slot_new capacity) }

@@ -29,7 +29,7 @@ impl<T: Drop, A: Allocator + Copy> ContainerFamily<A> for SlotMapFamily<T> {
 
     ghost is_empty_with = { λ capacity map. map ≡ slot_new capacity };
 
-    /// Creates an empty map with `capacity` keys. O(`capacity`). Allocates from `alloc` at most twice.
+    /// Creates an empty map with `capacity` keys. O(`capacity`). Allocates from `alloc` at most four times.
     #[inline]
     fn with_capacity(alloc: A, capacity: usize) -> Result<RelocatableSlotMap<T, A>, AllocError> {
         SlotMap::new(alloc, capacity)
