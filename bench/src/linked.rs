@@ -26,6 +26,7 @@ operations! {
     overflow_fixed = ix_bench_overflow_fixed, 64, "VecDeque", plain::overflow;
     overflow_heap = ix_bench_overflow_heap, 64, "VecDeque", plain::overflow;
     queue_big = ix_bench_queue_big, 16, "VecDeque", plain::queue_big;
+    queue_big_heap = ix_bench_queue_big_heap, 16, "VecDeque", plain::queue_big;
     queue_new = ix_bench_queue_new, 64, "VecDeque", plain::queue_new;
     slot_churn_fixed = ix_bench_slot_churn_fixed, 512, "HashMap", plain::slot_churn;
     slot_churn_heap = ix_bench_slot_churn_heap, 512, "HashMap", plain::slot_churn;

@@ -40,7 +40,13 @@ pub extern "C" fn ix_bench_overflow_heap(alloc: Global, rounds: u64, param: u64)
 /// Push and pop of items of 256 bytes on a fixed queue of 16 that holds 5.
 #[unsafe(no_mangle)]
 pub extern "C" fn ix_bench_queue_big(rounds: u64, _param: u64) -> u64 {
-    queues::large_items(rounds)
+    queues::fixed_large(rounds)
+}
+
+/// Push and pop of items of 256 bytes on an allocated queue of `param` that holds 5.
+#[unsafe(no_mangle)]
+pub extern "C" fn ix_bench_queue_big_heap(alloc: Global, rounds: u64, param: u64) -> u64 {
+    queues::allocated_large(alloc, rounds, param as usize)
 }
 
 /// Makes a fixed queue of 64, pushes an item and pops it.

@@ -187,8 +187,8 @@ fn many_lines(rt: HostRuntime) -> Result<(), Fail> {
     let input = repeated(alloc, b"queue fixed 1\n", b"over 7\npop\n\nshow\n", 10_000);
     let output = repeated(alloc, b"ready\n", b"none\nsome 7\n?\n-\n", 10_000);
     check_both_made(&findings, alloc, input, output);
-    let input = repeated(alloc, b"", b"\n", 20_000);
-    let output = repeated(alloc, b"", b"?\n", 20_000);
+    let input = repeated(alloc, b"", b"\n", 80_000);
+    let output = repeated(alloc, b"", b"?\n", 80_000);
     check_both_made(&findings, alloc, input, output);
     findings.verdict()
 }

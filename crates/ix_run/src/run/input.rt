@@ -121,7 +121,7 @@ impl Input {
     }
 
     /// Appends the rest of the piece to the current line up to the first line feed, and returns `true` if there is one.
-    #[inline]
+    #[inline(always)]
     fn take_line(&mut self) -> bool
         requires { self.old.in_place ≡ [] }
         ensures { TakesLine self.old self.new result }
@@ -166,7 +166,7 @@ impl Input {
     }
 
     /// Takes the next line, and returns `true` if it ends with a line feed. All pending replies are written before a read.
-    #[inline]
+    #[inline(always)]
     pub fn next_line<R: Read, W: Write>(
         &mut self,
         reader: &mut R,

@@ -4,7 +4,7 @@
 pub const MAX_LINE_LEN: usize = 200;
 
 /// The number of bytes of the buffer of input, and of that of replies.
-pub const BUFFER_LEN: usize = 8192;
+pub const BUFFER_LEN: usize = 32_768;
 
 /// The maximum number of digits of a `u64`.
 pub const MAX_DIGITS: usize = 20;

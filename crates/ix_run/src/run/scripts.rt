@@ -48,7 +48,7 @@ fn run_script<R: Read, W: Write>(
 /// ```
 ///
 /// O(length of the input and of the replies) beside the calls of the container. Allocates the container of an allocated or
-/// a relocatable kind from `alloc`, and nothing else: the input is read in pieces of at most 8,192 bytes, and the replies
+/// a relocatable kind from `alloc`, and nothing else: the input is read in pieces of at most 32,768 bytes, and the replies
 /// wait in a buffer of that size. All of them are written before the next read. The writer is flushed once, at the end.
 /// Interrupted reads and writes are tried again.
 ///

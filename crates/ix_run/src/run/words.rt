@@ -35,11 +35,14 @@ pub(crate) fn split_word(bytes: &[u8]) -> (&[u8], Option<&[u8]>)
 }
 
 /// Returns whether the words are equal.
-#[inline]
+#[inline(always)]
 pub(crate) fn is_word(word: &[u8], other: &[u8]) -> bool
     ensures { result ≡ bytes_eq word.now other.now }
 {
-    word == other
+    match word.strip_prefix(other) {
+        Some(rest) => rest.is_empty(),
+        None => false,
+    }
 }
 
 /// Returns the command, if no word is left.
