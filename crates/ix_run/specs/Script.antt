@@ -76,9 +76,13 @@ container_replies Slot n = replies_to_lines (spelled_reply slot_forms slot_reply
 container_replies Flat n = replies_to_lines (spelled_reply flat_forms (flat_reply nat_eq)) (spelled_after flat_forms (flat_after nat_eq)) flat_shown (slot_new n)
 container_replies Text n = replies_to_lines (spelled_reply text_forms text_reply) (spelled_after text_forms text_after) text_shown (bounded_new n)
 
+-- the replies once a container of this capacity is made, and to the lines that come for it
+abbrev pub replies_from_ready : Container → ℕ → List LimitedLine → List ℕ
+replies_from_ready container n lines = with_line_feed (codes "ready") ++ container_replies container n lines
+
 -- the replies to a header and the lines after it
 abbrev pub replies_from_header : Header → List LimitedLine → List ℕ
-replies_from_header header lines = with_line_feed (codes "ready") ++ container_replies header.container (capacity_of header.storage) lines
+replies_from_header header lines = replies_from_ready header.container (capacity_of header.storage) lines
 
 -- the replies to a line that may be a header, and to the lines after it; others: the replies to these if it is none
 abbrev pub replies_to_opening : Option Header → List LimitedLine → List ℕ → List ℕ

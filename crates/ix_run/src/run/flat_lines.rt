@@ -1,14 +1,18 @@
 //! Lines of a script for a flat map.
 ghost use Rattle.std.specs.Prelude.{◌≡◌};
 
+use crate::run::containers::{Makes, MakesInline};
 use crate::run::listing::Listing;
 use crate::run::replies::append_items;
 use crate::run::reply_buffer::ReplyBuffer;
 use crate::run::served::Served;
+use crate::run::session::Session;
 use crate::run::{Reply, Runs, ScriptFault, read_flat_command};
-use ix_cells::Table;
-use ix_maps::{Link, MetaFlatMap, Pair};
-use std::io::Write;
+use bumpalo::Bump;
+use ix_cells::{RelocatableContainer, Table};
+use ix_maps::{FixedSizeFlatMap, FlatMap, Link, MetaFlatMap, Pair, UninitFlatMap};
+use std::alloc::Global;
+use std::io::{Read, Write};
 
 /// Returns the reply with its key as a `usize`.
 #[inline]
@@ -71,5 +75,54 @@ impl<S: Table<Pair<u64, u64>>, L: Table<Link>> Served for MetaFlatMap<u64, u64, 
 
     fn show<W: Write>(&self, pending: &mut ReplyBuffer, writer: &mut W) -> Result<(), ScriptFault> {
         append_items(pending, writer, self)
+    }
+}
+
+/// The flat maps that headers name.
+pub struct FlatMaps;
+
+impl Makes for FlatMaps {
+    ghost use Rattle.ix_run.specs.declared.run.header.Container.TheVariants as container;
+
+    ghost container = { container.Flat };
+
+    fn serve_heap<R: Read, W: Write>(
+        session: &mut Session,
+        alloc: Global,
+        capacity: usize,
+        is_at_end: bool,
+        reader: &mut R,
+        writer: &mut W,
+    ) -> Result<(), ScriptFault> {
+        let made = FlatMap::<u64, u64>::new(alloc, capacity);
+        session.serve_made(made, is_at_end, reader, writer)
+    }
+
+    fn serve_arena<R: Read, W: Write>(
+        session: &mut Session,
+        arena: &Bump<Global>,
+        capacity: usize,
+        is_at_end: bool,
+        reader: &mut R,
+        writer: &mut W,
+    ) -> Result<(), ScriptFault> {
+        let made = UninitFlatMap::<u64, u64>::new_uninit(capacity).init(arena);
+        session.serve_made(made, is_at_end, reader, writer)
+    }
+}
+
+impl<const N: usize> MakesInline<N> for FlatMaps {
+    fn serve_inline<R: Read, W: Write>(
+        session: &mut Session,
+        is_at_end: bool,
+        reader: &mut R,
+        writer: &mut W,
+    ) -> Result<(), ScriptFault> {
+        session.serve(
+            FixedSizeFlatMap::<u64, u64, N>::new(),
+            is_at_end,
+            reader,
+            writer,
+        )
     }
 }

@@ -1,12 +1,16 @@
 //! Lines of a script for a queue.
+use crate::run::containers::{Makes, MakesInline};
 use crate::run::listing::Listing;
 use crate::run::replies::append_items;
 use crate::run::reply_buffer::ReplyBuffer;
 use crate::run::served::Served;
+use crate::run::session::Session;
 use crate::run::{Reply, Runs, ScriptFault, read_queue_command};
-use ix_cells::Table;
-use ix_maps::MetaQueue;
-use std::io::Write;
+use bumpalo::Bump;
+use ix_cells::{RelocatableContainer, Table};
+use ix_maps::{FixedSizeQueue, MetaQueue, Queue, UninitQueue};
+use std::alloc::Global;
+use std::io::{Read, Write};
 
 impl<S: Table<u64>> Listing for MetaQueue<u64, S> {
     ghost items = { λ queue. queue.items };
@@ -47,5 +51,49 @@ impl<S: Table<u64>> Served for MetaQueue<u64, S> {
 
     fn show<W: Write>(&self, pending: &mut ReplyBuffer, writer: &mut W) -> Result<(), ScriptFault> {
         append_items(pending, writer, self)
+    }
+}
+
+/// The queues that headers name.
+pub struct Queues;
+
+impl Makes for Queues {
+    ghost use Rattle.ix_run.specs.declared.run.header.Container.TheVariants as container;
+
+    ghost container = { container.Queue };
+
+    fn serve_heap<R: Read, W: Write>(
+        session: &mut Session,
+        alloc: Global,
+        capacity: usize,
+        is_at_end: bool,
+        reader: &mut R,
+        writer: &mut W,
+    ) -> Result<(), ScriptFault> {
+        let made = Queue::<u64>::new(alloc, capacity);
+        session.serve_made(made, is_at_end, reader, writer)
+    }
+
+    fn serve_arena<R: Read, W: Write>(
+        session: &mut Session,
+        arena: &Bump<Global>,
+        capacity: usize,
+        is_at_end: bool,
+        reader: &mut R,
+        writer: &mut W,
+    ) -> Result<(), ScriptFault> {
+        let made = UninitQueue::<u64>::new_uninit(capacity).init(arena);
+        session.serve_made(made, is_at_end, reader, writer)
+    }
+}
+
+impl<const N: usize> MakesInline<N> for Queues {
+    fn serve_inline<R: Read, W: Write>(
+        session: &mut Session,
+        is_at_end: bool,
+        reader: &mut R,
+        writer: &mut W,
+    ) -> Result<(), ScriptFault> {
+        session.serve(FixedSizeQueue::<u64, N>::new(), is_at_end, reader, writer)
     }
 }

@@ -4,13 +4,17 @@ ghost use Rattle.ix_maps.specs.SlotState.{entries};
 ghost use Rattle.ix_run.specs.ReplyTexts.{items_text, entry_text, next_text};
 ghost use Rattle.ix_run.specs.Writing.{WriteResult};
 
+use crate::run::containers::{Makes, MakesInline};
 use crate::run::replies::append_pair;
 use crate::run::reply_buffer::ReplyBuffer;
 use crate::run::served::Served;
+use crate::run::session::Session;
 use crate::run::{Reply, Runs, ScriptFault, read_slot_command};
-use ix_cells::Table;
-use ix_maps::{Link, MetaSlotMap};
-use std::io::Write;
+use bumpalo::Bump;
+use ix_cells::{RelocatableContainer, Table};
+use ix_maps::{FixedSizeSlotMap, Link, MetaSlotMap, SlotMap, UninitSlotMap};
+use std::alloc::Global;
+use std::io::{Read, Write};
 
 /// Appends a key with its value, and before it a space unless it is the first.
 #[tactic(auto, using(crate::proofs::Writing::WriteResult_append, crate::proofs::Writing::WritesPart_append))]
@@ -76,5 +80,49 @@ impl<S: Table<u64>, L: Table<Link>> Served for MetaSlotMap<u64, S, L> {
 
     fn show<W: Write>(&self, pending: &mut ReplyBuffer, writer: &mut W) -> Result<(), ScriptFault> {
         append_entries(pending, writer, self)
+    }
+}
+
+/// The slot maps that headers name.
+pub struct SlotMaps;
+
+impl Makes for SlotMaps {
+    ghost use Rattle.ix_run.specs.declared.run.header.Container.TheVariants as container;
+
+    ghost container = { container.Slot };
+
+    fn serve_heap<R: Read, W: Write>(
+        session: &mut Session,
+        alloc: Global,
+        capacity: usize,
+        is_at_end: bool,
+        reader: &mut R,
+        writer: &mut W,
+    ) -> Result<(), ScriptFault> {
+        let made = SlotMap::<u64>::new(alloc, capacity);
+        session.serve_made(made, is_at_end, reader, writer)
+    }
+
+    fn serve_arena<R: Read, W: Write>(
+        session: &mut Session,
+        arena: &Bump<Global>,
+        capacity: usize,
+        is_at_end: bool,
+        reader: &mut R,
+        writer: &mut W,
+    ) -> Result<(), ScriptFault> {
+        let made = UninitSlotMap::<u64>::new_uninit(capacity).init(arena);
+        session.serve_made(made, is_at_end, reader, writer)
+    }
+}
+
+impl<const N: usize> MakesInline<N> for SlotMaps {
+    fn serve_inline<R: Read, W: Write>(
+        session: &mut Session,
+        is_at_end: bool,
+        reader: &mut R,
+        writer: &mut W,
+    ) -> Result<(), ScriptFault> {
+        session.serve(FixedSizeSlotMap::<u64, N>::new(), is_at_end, reader, writer)
     }
 }

@@ -3,12 +3,17 @@ ghost use Rattle.std.specs.Prelude.{◌≡◌, ◌<◌, ◌≤◌, ◌++◌, ◌
 ghost use Rattle.ix_string.specs.Escape.{escaped_byte, escaped_text, hex_digit};
 ghost use Rattle.ix_run.specs.Writing.{WriteResult, WritesPart};
 
+use crate::run::containers::{Makes, MakesInline};
 use crate::run::limits::MAX_NUMBERS;
 use crate::run::reply_buffer::ReplyBuffer;
 use crate::run::served::Served;
+use crate::run::session::Session;
 use crate::run::{Reply, Runs, ScriptFault, read_text_command};
-use ix_string::String;
-use std::io::Write;
+use bumpalo::Bump;
+use ix_cells::RelocatableContainer;
+use ix_string::{PolymorphicString, StaticString, String, UninitString};
+use std::alloc::Global;
+use std::io::{Read, Write};
 
 /// A string, and room for the bytes of a line.
 #[derive(Drop)]
@@ -142,5 +147,56 @@ impl<S: String> Served for TextLines<S> {
 
     fn show<W: Write>(&self, pending: &mut ReplyBuffer, writer: &mut W) -> Result<(), ScriptFault> {
         append_quoted(pending, writer, self.string.as_bytes())
+    }
+}
+
+/// The strings that headers name.
+pub struct Strings;
+
+impl Makes for Strings {
+    ghost use Rattle.ix_run.specs.declared.run.header.Container.TheVariants as container;
+
+    ghost container = { container.Text };
+
+    fn serve_heap<R: Read, W: Write>(
+        session: &mut Session,
+        alloc: Global,
+        capacity: usize,
+        is_at_end: bool,
+        reader: &mut R,
+        writer: &mut W,
+    ) -> Result<(), ScriptFault> {
+        let made = PolymorphicString::new(alloc, capacity).map(TextLines::new);
+        session.serve_made(made, is_at_end, reader, writer)
+    }
+
+    fn serve_arena<R: Read, W: Write>(
+        session: &mut Session,
+        arena: &Bump<Global>,
+        capacity: usize,
+        is_at_end: bool,
+        reader: &mut R,
+        writer: &mut W,
+    ) -> Result<(), ScriptFault> {
+        let made = UninitString::new_uninit(capacity)
+            .init(arena)
+            .map(TextLines::new);
+        session.serve_made(made, is_at_end, reader, writer)
+    }
+}
+
+impl<const N: usize> MakesInline<N> for Strings {
+    fn serve_inline<R: Read, W: Write>(
+        session: &mut Session,
+        is_at_end: bool,
+        reader: &mut R,
+        writer: &mut W,
+    ) -> Result<(), ScriptFault> {
+        session.serve(
+            TextLines::new(StaticString::<N>::new()),
+            is_at_end,
+            reader,
+            writer,
+        )
     }
 }

@@ -1,14 +1,18 @@
 //! Lines of a script for a vector.
 ghost use Rattle.std.specs.Prelude.{◌≡◌};
 
+use crate::run::containers::{Makes, MakesInline};
 use crate::run::limits::MAX_NUMBERS;
 use crate::run::listing::Listing;
 use crate::run::replies::append_items;
 use crate::run::reply_buffer::ReplyBuffer;
 use crate::run::served::Served;
+use crate::run::session::Session;
 use crate::run::{Reply, Runs, ScriptFault, read_vec_command};
-use ix_cells::Vector;
-use std::io::Write;
+use bumpalo::Bump;
+use ix_cells::{PolymorphicVec, RelocatableContainer, StaticVec, UninitVec, Vector};
+use std::alloc::Global;
+use std::io::{Read, Write};
 
 /// A vector, and room for the numbers of a line.
 #[derive(Drop)]
@@ -67,5 +71,56 @@ impl<V: Vector<u64>> Served for VecLines<V> {
 
     fn show<W: Write>(&self, pending: &mut ReplyBuffer, writer: &mut W) -> Result<(), ScriptFault> {
         append_items(pending, writer, self)
+    }
+}
+
+/// The vectors that headers name.
+pub struct Vectors;
+
+impl Makes for Vectors {
+    ghost use Rattle.ix_run.specs.declared.run.header.Container.TheVariants as container;
+
+    ghost container = { container.Vec };
+
+    fn serve_heap<R: Read, W: Write>(
+        session: &mut Session,
+        alloc: Global,
+        capacity: usize,
+        is_at_end: bool,
+        reader: &mut R,
+        writer: &mut W,
+    ) -> Result<(), ScriptFault> {
+        let made = PolymorphicVec::<u64>::new(alloc, capacity).map(VecLines::new);
+        session.serve_made(made, is_at_end, reader, writer)
+    }
+
+    fn serve_arena<R: Read, W: Write>(
+        session: &mut Session,
+        arena: &Bump<Global>,
+        capacity: usize,
+        is_at_end: bool,
+        reader: &mut R,
+        writer: &mut W,
+    ) -> Result<(), ScriptFault> {
+        let made = UninitVec::<u64>::new_uninit(capacity)
+            .init(arena)
+            .map(VecLines::new);
+        session.serve_made(made, is_at_end, reader, writer)
+    }
+}
+
+impl<const N: usize> MakesInline<N> for Vectors {
+    fn serve_inline<R: Read, W: Write>(
+        session: &mut Session,
+        is_at_end: bool,
+        reader: &mut R,
+        writer: &mut W,
+    ) -> Result<(), ScriptFault> {
+        session.serve(
+            VecLines::new(StaticVec::<u64, N>::new()),
+            is_at_end,
+            reader,
+            writer,
+        )
     }
 }

@@ -1,0 +1,118 @@
+-- One answer a clause: where an arm is wrong, nothing else is tried.
+use Rattle.std.proofs.Common.{arith, rules}
+use Rattle.std.proofs.lemmas.Grind.{common_steps}
+use Rattle.ix_commands.proofs.strings.AnyRunsTextCommand.run_command.Goals as goal
+
+pub returns-in-Push-clause-value : goal.returns-in-Push-clause-value
+returns-in-Push-clause-value g c = search rules
+
+pub returns-in-Push-clause-model : goal.returns-in-Push-clause-model
+returns-in-Push-clause-model g c = search rules
+
+pub returns-in-Append-clause-value : goal.returns-in-Append-clause-value
+returns-in-Append-clause-value g c = search rules
+
+pub returns-in-Append-clause-model : goal.returns-in-Append-clause-model
+returns-in-Append-clause-model g c = search rules
+
+pub returns-in-Insert-clause-value : goal.returns-in-Insert-clause-value
+returns-in-Insert-clause-value g c = search rules
+
+pub returns-in-Insert-clause-model : goal.returns-in-Insert-clause-model
+returns-in-Insert-clause-model g c = search rules
+
+pub returns-in-InsertBytes-clause-value : goal.returns-in-InsertBytes-clause-value
+returns-in-InsertBytes-clause-value g c = search rules
+
+pub returns-in-InsertBytes-clause-model : goal.returns-in-InsertBytes-clause-model
+returns-in-InsertBytes-clause-model g c = search rules
+
+pub returns-in-Pop-clause-value : goal.returns-in-Pop-clause-value
+returns-in-Pop-clause-value g c = search rules
+
+pub returns-in-Pop-clause-model : goal.returns-in-Pop-clause-model
+returns-in-Pop-clause-model g c = search rules
+
+pub returns-in-Remove-clause-value : goal.returns-in-Remove-clause-value
+returns-in-Remove-clause-value g c = search rules
+
+pub returns-in-Remove-clause-model : goal.returns-in-Remove-clause-model
+returns-in-Remove-clause-model g c = search rules
+
+pub returns-in-RemoveRange-clause-value : goal.returns-in-RemoveRange-clause-value
+returns-in-RemoveRange-clause-value g c = search rules
+
+pub returns-in-RemoveRange-clause-model : goal.returns-in-RemoveRange-clause-model
+returns-in-RemoveRange-clause-model g c = search rules
+
+pub returns-in-Find-clause-value : goal.returns-in-Find-clause-value
+returns-in-Find-clause-value g c = search rules
+
+pub returns-in-Find-clause-model : goal.returns-in-Find-clause-model
+returns-in-Find-clause-model g c = search rules
+
+pub returns-in-Rfind-clause-value : goal.returns-in-Rfind-clause-value
+returns-in-Rfind-clause-value g c = search rules
+
+pub returns-in-Rfind-clause-model : goal.returns-in-Rfind-clause-model
+returns-in-Rfind-clause-model g c = search rules
+
+pub returns-in-StripPrefix-clause-value : goal.returns-in-StripPrefix-clause-value
+returns-in-StripPrefix-clause-value g c = search rules
+
+pub returns-in-StripPrefix-clause-model : goal.returns-in-StripPrefix-clause-model
+returns-in-StripPrefix-clause-model g c = search rules
+
+pub returns-in-StripSuffix-clause-value : goal.returns-in-StripSuffix-clause-value
+returns-in-StripSuffix-clause-value g c = search rules
+
+pub returns-in-StripSuffix-clause-model : goal.returns-in-StripSuffix-clause-model
+returns-in-StripSuffix-clause-model g c = search rules
+
+pub returns-in-Drop-clause-value : goal.returns-in-Drop-clause-value
+returns-in-Drop-clause-value g c = search rules
+
+pub returns-in-Drop-clause-model : goal.returns-in-Drop-clause-model
+returns-in-Drop-clause-model g c = search rules
+
+pub returns-in-At-clause-value : goal.returns-in-At-clause-value
+returns-in-At-clause-value g c = search rules
+
+pub returns-in-At-clause-model : goal.returns-in-At-clause-model
+returns-in-At-clause-model g c = search rules
+
+pub returns-in-Truncate-clause-value : goal.returns-in-Truncate-clause-value
+returns-in-Truncate-clause-value g c = search rules
+
+pub returns-in-Truncate-clause-model : goal.returns-in-Truncate-clause-model
+returns-in-Truncate-clause-model g c = search rules
+
+pub returns-in-Clear-clause-value : goal.returns-in-Clear-clause-value
+returns-in-Clear-clause-value g c = search rules
+
+pub returns-in-Clear-clause-model : goal.returns-in-Clear-clause-model
+returns-in-Clear-clause-model g c = search rules
+
+pub returns-in-Len-clause-value : goal.returns-in-Len-clause-value
+returns-in-Len-clause-value g c = search rules
+
+pub returns-in-Len-clause-model : goal.returns-in-Len-clause-model
+returns-in-Len-clause-model g c = search rules
+
+pub returns-in-Capacity-clause-value : goal.returns-in-Capacity-clause-value
+returns-in-Capacity-clause-value g c = search rules
+
+pub returns-in-Capacity-clause-model : goal.returns-in-Capacity-clause-model
+returns-in-Capacity-clause-model g c = search rules
+
+pub returns-in-Empty-clause-value : goal.returns-in-Empty-clause-value
+returns-in-Empty-clause-value g c = grind (arith, common_steps)
+
+pub returns-in-Empty-clause-model : goal.returns-in-Empty-clause-model
+returns-in-Empty-clause-model g c = search rules
+
+pub returns-in-Full-clause-value : goal.returns-in-Full-clause-value
+returns-in-Full-clause-value g c = search rules
+
+pub returns-in-Full-clause-model : goal.returns-in-Full-clause-model
+returns-in-Full-clause-model g c = search rules
