@@ -1,6 +1,7 @@
 -- An input that is read in pieces and taken line by line.
 use Rattle.std.specs.Prelude.{ℕ, ◌≡◌, ◌<◌, ◌≤◌, List, [], ◌∷◌, ◌++◌, nat_eq, if◌then◌else◌, length, take, Option, None, Some, Bool, true, false, Result, Ok, Err}
 use Rattle.std.specs.Io.KnownBytes.{Consumes, IsAtEnd, Keeps}
+use Rattle.ix_run.specs.Faults.{IsDeviceFault}
 use Rattle.ix_run.specs.Lines.{LimitedLine, limited_line, limited_line_append, line_feed, IsOneLine}
 use Rattle.ix_run.specs.Writing.{Writes, WritesPart}
 use Rattle.ix_run.specs.declared.run.fault.ScriptFault.{ScriptFault}
@@ -67,7 +68,7 @@ FillResult input unread input' unread' (Ok false) =
     Consumes input input' unread'.rest × (unread'.in_place ≡ []) × (unread'.joined ≡ unread.joined) × (unread'.fuel < unread.fuel)
 FillResult input unread input' unread' (Err e) = (e ≡ fault.Read) × Keeps input input'
 
--- on Ok true the current line is the next one; on Ok false it is the last one, if it is not empty
+-- on Ok true the current line is the next one; on Ok false it is the last one, if it is not empty; on Err a device failed
 abbrev pub NextLine : Option (List ℕ) → Option (List ℕ) → List ℕ → Unread → Option (List ℕ) → Option (List ℕ) → List ℕ → Unread → Result Bool ScriptFault → Type 0
 NextLine input contents pending unread input' contents' pending' unread' (Ok true) =
     (read : List ℕ)
@@ -83,4 +84,4 @@ NextLine input contents pending unread input' contents' pending' unread' (Ok fal
     × (lines_to_come unread read ≡ last_line (current_line unread'))
     × (unread'.rest ≡ [])
 NextLine input contents pending unread input' contents' pending' unread' (Err e) =
-    (read : List ℕ) × Consumes input input' read × WritesPart contents pending [] contents'
+    (read : List ℕ) × Consumes input input' read × WritesPart contents pending [] contents' × IsDeviceFault e

@@ -1,8 +1,9 @@
 //! Scripts: input bytes to reply bytes.
-ghost use Rattle.std.specs.Prelude.{[], false, OnOk, OnErr};
-ghost use Rattle.ix_run.specs.Outcome.{WritesReplies, WritesPartOfReplies};
+ghost use Rattle.std.specs.Prelude.{◌≡◌, [], false, Err, OnOk, OnErr};
+ghost use Rattle.ix_run.specs.Outcome.{WritesReplies, WritesPartOfReplies, WritesRepliesBeforeReady};
 ghost use Rattle.ix_run.specs.Progress.{FinishResult};
 ghost use Rattle.ix_run.specs.Script.{replies_to};
+ghost use Rattle.ix_run.specs.declared.run.fault.ScriptFault.TheVariants.{OutOfMemory};
 
 use crate::run::ScriptFault;
 use crate::run::opening::Opening;
@@ -54,8 +55,9 @@ fn run_script<R: Read, W: Write>(
 ///
 /// Returns [`ScriptFault::Read`] if a read fails or the input has no end after 18,446,744,073,709,551,615 reads,
 /// [`ScriptFault::Write`] if a write or the flush fails or a write takes no byte, and [`ScriptFault::OutOfMemory`] if there
-/// is no memory for the container. The replies to a first part of the input, or a first part of these, are written then.
-#[tactic(auto, using(crate::proofs::Progress::WritesReplies_of_FinishResult, crate::proofs::Progress::WritesPartOfReplies_of_FinishResult))]
+/// is no memory for the container. The replies to a first part of the input, or a first part of these, are written then;
+/// without memory they are all those before `ready`.
+#[tactic(auto, using(crate::proofs::Progress::WritesReplies_of_FinishResult, crate::proofs::Progress::WritesPartOfReplies_of_FinishResult, crate::proofs::Progress::WritesRepliesBeforeReady_of_FinishResult))]
 pub fn script<R: Read, W: Write>(
     alloc: Global,
     reader: &mut R,
@@ -67,6 +69,8 @@ pub fn script<R: Read, W: Write>(
     ensures err { OnErr result
         (WritesPartOfReplies (R.remaining reader.old) (W.contents writer.old)
         (R.remaining reader.new) (W.contents writer.new)) }
+    ensures out_of_memory { result ≡ Err OutOfMemory → WritesRepliesBeforeReady (R.remaining reader.old) (W.contents writer.old)
+        (R.remaining reader.new) (W.contents writer.new) }
 {
     run_script(alloc, reader, writer)
 }

@@ -16,7 +16,7 @@ returns-in_err-is_at_end g c =
     let from : List ℕ → List ℕ = λ m. opening_replies c.new-opening.result.header (lines_to_come c.new-session.result.input m) in
     let same : (m : List ℕ) → replies_to m ≡ from m = λ m. rw (c.new-opening.ensures, c.new-session.ensures.rest) (replies_to-lines_from m) in
     let lines = rw c.new-session.ensures.replies at c.in_err-is_at_end.ensures.replies in
-    rw p.1 (FinishResult-DriveResult_err _ _ _ _ _ [] [] [] [] replies_to from from p.0 p.0 ([], Appends-nil _, refl) lines same)
+    rw (p.1, p.2) (FinishResult-DriveResult_err _ _ _ _ _ [] [] [] [] replies_to from from _ ([], Appends-nil _, refl) lines same)
 
 pub returns-in-Some : goal.returns-in-Some
 returns-in-Some g c =

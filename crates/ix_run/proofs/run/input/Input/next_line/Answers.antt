@@ -1,6 +1,7 @@
 use Rattle.std.proofs.Common.{◌++◌, ◌∙◌, ◌∷◌, [], refl, sym, ap, arith, append_assoc, append-nil}
 use Rattle.std.proofs.lemmas.Result.{err_from_is_err_and}
 use Rattle.ix_run.specs.Input.{lines_from, lines_to_come, last_line, line_at}
+use Rattle.ix_run.proofs.Faults.{IsDeviceFault-Write}
 use Rattle.ix_run.proofs.Input.{lines_from-append, lines_from-line_feed, lines_from-last_line}
 use Rattle.ix_run.proofs.KnownBytes.{Consumes-nil, Appends-nil, Consumes-append, Consumes-Consumes_nil}
 use Rattle.ix_run.proofs.Pieces.{Lacks-IsOneLine}
@@ -23,7 +24,7 @@ returns-in_err-write_to g c =
     let p = err_from_is_err_and c.from_residual.result c.from_residual.ensures.1 in
     let at = c.loop-replies.invariant in
     let wrote = c.in_err-write_to.ensures.writer in
-    rw p.1 (at.1, at.2, Writes-WritesPart_nil _ _ _ _ c.loop-replies.replies [] at.3 wrote.1)
+    rw (p.1, p.2) (at.1, at.2, Writes-WritesPart_nil _ _ _ _ c.loop-replies.replies [] at.3 wrote.1, IsDeviceFault-Write _ wrote.0)
 
 pub returns-then-branch : goal.returns-then-branch
 returns-then-branch g c =

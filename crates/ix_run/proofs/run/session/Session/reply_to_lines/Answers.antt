@@ -16,7 +16,7 @@ returns-in_err-next_line-clause-replies g c =
     let next = c.in_err-next_line.ensures in
     let from : List ℕ → List ℕ = λ m. g.C.Scripted.replies (g.C.Scripted.state c.args.container.now) (lines_to_come c.args.self.now.input m) in
     let here : List ℕ → List ℕ = λ m. g.C.Scripted.replies (g.C.Scripted.state c.loop-self.container) (lines_to_come c.loop-self.self.input m) in
-    rw p.1 (DriveResult-unread _ _ _ _ _ _ c.args.self.now.replies c.loop-self.self.replies [] at.1 next.0 from here here p.0 at.2 at.3 next.1 next.2)
+    rw (p.1, p.2) (DriveResult-unread _ _ _ _ _ _ c.args.self.now.replies c.loop-self.self.replies [] at.1 next.0 from here here _ at.2 at.3 next.1 next.2 next.3)
 
 pub returns-in_err-reply_to_line-clause-replies : goal.returns-in_err-reply_to_line-clause-replies
 returns-in_err-reply_to_line-clause-replies g c =
@@ -29,8 +29,8 @@ returns-in_err-reply_to_line-clause-replies g c =
     let here : List ℕ → List ℕ = λ m. g.C.Scripted.replies state (lines_to_come c.loop-self.self.input m) in
     let line : List LimitedLine → List ℕ = λ lines. g.C.Scripted.replies state (current_line after ∷ lines) in
     let is_next : here next.0 ≡ line (lines_to_come after []) = ap here (sym (append-nil next.0)) ∙ ap (λ l. g.C.Scripted.replies state l) (next.3 []) in
-    rw p.1 (
-    DriveResult-part {L = List LimitedLine} _ _ _ _ _ _ _ c.args.self.now.replies c.loop-self.self.replies c.next_line.new.replies [] at.1 next.0 from here here line (lines_to_come after []) p.0
+    rw (p.1, p.2) (
+    DriveResult-part {L = List LimitedLine} _ _ _ _ _ _ _ c.args.self.now.replies c.loop-self.self.replies c.next_line.new.replies [] at.1 next.0 from here here line (lines_to_come after []) _
     at.2 at.3 next.1 next.2 is_next c.in_err-reply_to_line.ensures.reply
     )
 
@@ -78,8 +78,8 @@ returns-in_err-reply_to_last-clause-replies g c =
     let from : List ℕ → List ℕ = λ m. g.C.Scripted.replies (g.C.Scripted.state c.args.container.now) (lines_to_come c.args.self.now.input m) in
     let here : List ℕ → List ℕ = λ m. g.C.Scripted.replies state (lines_to_come c.loop-self.self.input m) in
     let last : Unit {0} → List ℕ = λ none. g.C.Scripted.replies state (last_line (current_line c.next_line.new.self)) in
-    rw p.1 (
-    DriveResult-part {L = Unit {0}} _ _ _ _ _ _ _ c.args.self.now.replies c.loop-self.self.replies c.next_line.new.replies [] at.1 next.0 from here here last tt p.0 at.2 at.3 next.1 next.3
+    rw (p.1, p.2) (
+    DriveResult-part {L = Unit {0}} _ _ _ _ _ _ _ c.args.self.now.replies c.loop-self.self.replies c.next_line.new.replies [] at.1 next.0 from here here last tt _ at.2 at.3 next.1 next.3
     (ap (λ l. g.C.Scripted.replies state l) next.4) c.in_err-reply_to_last.ensures.reply
     )
 

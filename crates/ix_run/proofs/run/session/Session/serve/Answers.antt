@@ -12,7 +12,7 @@ returns-in_err-append g c =
     let p = err_from_is_err_and c.from_residual.result c.from_residual.ensures.1 in
     let from : List ℕ → List ℕ = λ m. with_line_feed (codes "ready") ++ replies_to_lines g.C.Served.reply g.C.Served.after g.C.Served.shown (g.C.Served.model c.args.container) (lines_to_come c.args.self.now.input m) in
     let replies = replies_to_lines g.C.Served.reply g.C.Served.after g.C.Served.shown (g.C.Served.model c.args.container) (lines_to_come c.args.self.now.input []) in
-    rw p.1 (FinishResult-part c.args.is_at_end _ _ _ c.args.self.now.replies (with_line_feed (codes "ready")) replies from p.0 c.in_err-append.ensures.1 refl)
+    rw (p.1, p.2) (FinishResult-part c.args.is_at_end _ _ _ c.args.self.now.replies (with_line_feed (codes "ready")) replies from _ c.in_err-append.ensures refl)
 
 pub returns-then-is_at_end : goal.returns-then-is_at_end
 returns-then-is_at_end g c =
@@ -26,8 +26,8 @@ returns-in_err-reply_to_lines g c =
     let ready = with_line_feed (codes "ready") in
     let here : List ℕ → List ℕ = λ m. replies_to_lines g.C.Served.reply g.C.Served.after g.C.Served.shown (g.C.Served.model c.args.container) (lines_to_come c.args.self.now.input m) in
     let from : List ℕ → List ℕ = λ m. ready ++ here m in
-    rw (p.1, c.if-is_at_end.false) (
-    FinishResult-DriveResult_err _ _ _ _ _ c.args.self.now.replies c.append.new.self [] ready from here here p.0 p.0 c.in_ok-append.ensures c.in_err-reply_to_lines.ensures.replies (λ m. refl)
+    rw (p.1, p.2, c.if-is_at_end.false) (
+    FinishResult-DriveResult_err _ _ _ _ _ c.args.self.now.replies c.append.new.self [] ready from here here _ c.in_ok-append.ensures c.in_err-reply_to_lines.ensures.replies (λ m. refl)
     )
 
 pub returns : goal.returns

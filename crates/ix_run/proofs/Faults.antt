@@ -1,0 +1,17 @@
+-- Which faults come from a device.
+use Rattle.std.proofs.Common.{ℕ, ◌≡◌, List}
+use Rattle.ix_run.specs.Faults.{IsDeviceFault, LeftUnwritten}
+use Rattle.ix_run.specs.declared.run.fault.ScriptFault.{ScriptFault}
+use Rattle.ix_run.specs.declared.run.fault.ScriptFault.TheVariants.{Read, Write, OutOfMemory}
+
+pub IsDeviceFault-Write : (x : ScriptFault) → x ≡ Write → IsDeviceFault x
+IsDeviceFault-Write x is = rw is tt
+
+-- after a device failed nothing is known of the replies that were not written
+pub LeftUnwritten-device : (x : ScriptFault) (replies : List ℕ) → IsDeviceFault x → LeftUnwritten x replies
+LeftUnwritten-device Read replies device = tt
+LeftUnwritten-device Write replies device = tt
+LeftUnwritten-device OutOfMemory replies device = absurd device
+
+pub LeftUnwritten-Write : (x : ScriptFault) (replies : List ℕ) → x ≡ Write → LeftUnwritten x replies
+LeftUnwritten-Write x replies is = LeftUnwritten-device x replies (IsDeviceFault-Write x is)
