@@ -35,9 +35,9 @@ pub WriteResult_append : (c d e : Option (List ℕ)) (o p q xs ys : List ℕ) (r
 WriteResult_append c d e o p q xs ys (Ok u) a b = Writes-append c d e o p q xs ys a b
 WriteResult_append c d e o p q xs ys (Err f) a b = (b.0, WritesPart-Writes c d e o p xs ys a b.1)
 
--- all pending bytes are written, and then bytes are appended
-pub Writes_after_nil : (c d : Option (List ℕ)) (o bytes : List ℕ) → Writes c o [] d [] → Writes c o bytes d bytes
-Writes_after_nil c d o bytes p = Writes-append c d d o [] bytes [] bytes p (Writes_pending d [] bytes)
+-- bytes are put behind the pending ones
+pub Writes_put : (c d : Option (List ℕ)) (o p bytes : List ℕ) → Writes c o [] d p → Writes c o bytes d (p ++ bytes)
+Writes_put c d o p bytes w = Writes-append c d d o p (p ++ bytes) [] bytes w (Writes_pending d p bytes)
 
 pub WritesPart_after_nil : (c d : Option (List ℕ)) (o bytes : List ℕ) → WritesPart c o [] d → WritesPart c o bytes d
 WritesPart_after_nil c d o bytes b = WritesPart_append c d o [] bytes b

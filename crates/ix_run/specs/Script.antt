@@ -1,5 +1,5 @@
 -- The replies to a script: one line for each line, in order.
-use Rattle.std.specs.Prelude.{ℕ, List, [], ◌∷◌, ◌++◌, if◌then◌else◌, Option, None, Some, option_map, option_and_then, map, codes, decimal, bytes_eq, nat_eq}
+use Rattle.std.specs.Prelude.{ℕ, ◌≡◌, List, [], ◌∷◌, ◌++◌, if◌then◌else◌, Option, None, Some, option_map, option_and_then, map, codes, decimal, bytes_eq, nat_eq}
 use Rattle.ix_cells.specs.Bounded.{Bounded, bounded_new}
 use Rattle.ix_maps.specs.SlotState.{SlotState, slot_new, entries}
 use Rattle.ix_maps.specs.FlatState.{flat_keys}
@@ -75,6 +75,10 @@ container_replies Vec n = replies_to_lines (spelled_reply vec_forms vec_reply) (
 container_replies Slot n = replies_to_lines (spelled_reply slot_forms slot_reply) (spelled_after slot_forms slot_after) slot_shown (slot_new n)
 container_replies Flat n = replies_to_lines (spelled_reply flat_forms (flat_reply nat_eq)) (spelled_after flat_forms (flat_after nat_eq)) flat_shown (slot_new n)
 container_replies Text n = replies_to_lines (spelled_reply text_forms text_reply) (spelled_after text_forms text_after) text_shown (bounded_new n)
+
+-- the model is that of an empty container of this capacity: it brings the same replies
+abbrev pub IsEmptyContainer : {M : Type 0} → (M → List ℕ → Option (Reply ℕ ℕ)) → (M → List ℕ → M) → (M → List ℕ) → M → Container → ℕ → Type 0
+IsEmptyContainer reply after shown m container n = (lines : List LimitedLine) → replies_to_lines reply after shown m lines ≡ container_replies container n lines
 
 -- the replies once a container of this capacity is made, and to the lines that come for it
 abbrev pub replies_from_ready : Container → ℕ → List LimitedLine → List ℕ

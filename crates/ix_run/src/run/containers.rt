@@ -1,14 +1,15 @@
 //! The container that a header asks for.
-ghost use Rattle.std.specs.Prelude.{◌≡◌, ◌≤◌, [], true};
+ghost use Rattle.std.specs.Prelude.{◌≡◌, ◌≤◌, [], true, IfSome};
 ghost use Rattle.ix_cells.specs.declared.cells.table.TheConstants.{MAX_FIXED_CAPACITY};
 ghost use Rattle.ix_run.specs.Headers.{capacity_of, fixed_capacity};
 ghost use Rattle.ix_run.specs.Input.{lines_to_come};
 ghost use Rattle.ix_run.specs.Progress.{FinishResult};
-ghost use Rattle.ix_run.specs.Script.{replies_from_ready, replies_from_header};
+ghost use Rattle.ix_run.specs.Script.{IsEmptyContainer, replies_from_ready, replies_from_header};
 ghost use Rattle.ix_run.specs.declared.run.header.Container.{Container};
 
 use crate::run::flat_lines::FlatMaps;
 use crate::run::queue_lines::Queues;
+use crate::run::served::Served;
 use crate::run::session::Session;
 use crate::run::slot_lines::SlotMaps;
 use crate::run::text_lines::Strings;
@@ -18,55 +19,39 @@ use bumpalo::Bump;
 use std::alloc::Global;
 use std::io::{Read, Write};
 
-/// A container that a header may name. Each call makes an empty one, and replies `ready` and then to the lines that come,
-/// unless the input is at its end.
-pub trait Makes {
-    /// What headers name.
+/// A container that headers name.
+pub trait Named {
     ghost container: { Container };
-
-    /// Makes a container in the machine's memory, or stops if there is none.
-    fn serve_heap<R: Read, W: Write>(
-        session: &mut Session,
-        alloc: Global,
-        capacity: usize,
-        is_at_end: bool,
-        reader: &mut R,
-        writer: &mut W,
-    ) -> Result<(), ScriptFault>
-        requires end { is_at_end ≡ true → session.old.input.rest ≡ [] }
-        ensures { FinishResult is_at_end (R.remaining reader.old) (W.contents writer.old) session.old.replies
-            (λ more. replies_from_ready container capacity (lines_to_come session.old.input more))
-            (R.remaining reader.new) (W.contents writer.new) result };
-
-    /// Makes a container in the arena, or stops if it has no memory.
-    fn serve_arena<R: Read, W: Write>(
-        session: &mut Session,
-        arena: &Bump<Global>,
-        capacity: usize,
-        is_at_end: bool,
-        reader: &mut R,
-        writer: &mut W,
-    ) -> Result<(), ScriptFault>
-        requires end { is_at_end ≡ true → session.old.input.rest ≡ [] }
-        ensures { FinishResult is_at_end (R.remaining reader.old) (W.contents writer.old) session.old.replies
-            (λ more. replies_from_ready container capacity (lines_to_come session.old.input more))
-            (R.remaining reader.new) (W.contents writer.new) result };
 }
 
-/// A container that a header may name, stored inline with a capacity of `N`.
-pub trait MakesInline<const N: usize>: Makes {
-    /// Makes a container that is stored inline.
-    fn serve_inline<R: Read, W: Write>(
-        session: &mut Session,
-        is_at_end: bool,
-        reader: &mut R,
-        writer: &mut W,
-    ) -> Result<(), ScriptFault>
-        requires capacity { N ≤ MAX_FIXED_CAPACITY }
-        requires end { is_at_end ≡ true → session.old.input.rest ≡ [] }
-        ensures { FinishResult is_at_end (R.remaining reader.old) (W.contents writer.old) session.old.replies
-            (λ more. replies_from_ready Self.container N (lines_to_come session.old.input more))
-            (R.remaining reader.new) (W.contents writer.new) result };
+/// A container that is stored inline, with a capacity of `N`.
+pub trait MakesInline<const N: usize>: Named {
+    type Inline: Served + Drop;
+
+    /// Returns an empty container.
+    fn inline() -> Self::Inline
+        requires { N ≤ MAX_FIXED_CAPACITY }
+        ensures { IsEmptyContainer Self.Inline.reply Self.Inline.after Self.Inline.shown (Self.Inline.model result) Self.container N };
+}
+
+/// A container in the machine's memory.
+pub trait MakesOnHeap: Named {
+    type OnHeap: Served + Drop;
+
+    /// Returns an empty container, or `None` if there is no memory.
+    fn on_heap(alloc: Global, capacity: usize) -> Option<Self::OnHeap>
+        ensures { IfSome result (λ made.
+            IsEmptyContainer Self.OnHeap.reply Self.OnHeap.after Self.OnHeap.shown (Self.OnHeap.model made) Self.container capacity) };
+}
+
+/// A container in an arena.
+pub trait MakesInArena<'a>: Named {
+    type InArena: Served + Drop;
+
+    /// Returns an empty container, or `None` if there is no memory.
+    fn in_arena(arena: &'a Bump<Global>, capacity: usize) -> Option<Self::InArena>
+        ensures { IfSome result (λ made.
+            IsEmptyContainer Self.InArena.reply Self.InArena.after Self.InArena.shown (Self.InArena.model made) Self.container capacity) };
 }
 
 impl Session {
@@ -88,28 +73,39 @@ impl Session {
             (R.remaining reader.new) (W.contents writer.new) result }
     {
         match capacity {
-            FixedCapacity::Zero => <C as MakesInline<0>>::serve_inline(
-                self, is_at_end, reader, writer,
-            ),
-            FixedCapacity::One => <C as MakesInline<1>>::serve_inline(
-                self, is_at_end, reader, writer,
-            ),
-            FixedCapacity::Three => <C as MakesInline<3>>::serve_inline(
-                self, is_at_end, reader, writer,
-            ),
-            FixedCapacity::Eight => <C as MakesInline<8>>::serve_inline(
-                self, is_at_end, reader, writer,
-            ),
+            FixedCapacity::Zero => {
+                let made = <C as MakesInline<0>>::inline();
+                self.serve_made(Some(made), is_at_end, reader, writer)
+            }
+            FixedCapacity::One => {
+                let made = <C as MakesInline<1>>::inline();
+                self.serve_made(Some(made), is_at_end, reader, writer)
+            }
+            FixedCapacity::Three => {
+                let made = <C as MakesInline<3>>::inline();
+                self.serve_made(Some(made), is_at_end, reader, writer)
+            }
+            FixedCapacity::Eight => {
+                let made = <C as MakesInline<8>>::inline();
+                self.serve_made(Some(made), is_at_end, reader, writer)
+            }
         }
     }
 
     /// Makes a container in the storage, and replies to the lines that come.
     fn serve_storage<
-        C: MakesInline<0> + MakesInline<1> + MakesInline<3> + MakesInline<8>,
+        'a,
+        C: MakesInline<0>
+            + MakesInline<1>
+            + MakesInline<3>
+            + MakesInline<8>
+            + MakesOnHeap
+            + MakesInArena<'a>,
         R: Read,
         W: Write,
     >(
         &mut self,
+        arena: &'a Bump<Global>,
         alloc: Global,
         storage: Storage,
         is_at_end: bool,
@@ -126,11 +122,12 @@ impl Session {
                 self.serve_fixed::<C, R, W>(capacity, is_at_end, reader, writer)
             }
             Storage::Heap(capacity) => {
-                C::serve_heap(self, alloc, capacity, is_at_end, reader, writer)
+                let made = C::on_heap(alloc, capacity);
+                self.serve_made(made, is_at_end, reader, writer)
             }
             Storage::Arena(capacity) => {
-                let arena = Bump::new(alloc);
-                C::serve_arena(self, &arena, capacity, is_at_end, reader, writer)
+                let made = C::in_arena(arena, capacity);
+                self.serve_made(made, is_at_end, reader, writer)
             }
         }
     }
@@ -150,22 +147,23 @@ impl Session {
             (R.remaining reader.new) (W.contents writer.new) result }
     {
         let storage = header.storage;
+        let arena = &Bump::new(alloc);
         match header.container {
             Container::Queue => {
-                self.serve_storage::<Queues, R, W>(alloc, storage, is_at_end, reader, writer)
+                self.serve_storage::<Queues, R, W>(arena, alloc, storage, is_at_end, reader, writer)
             }
-            Container::Vec => {
-                self.serve_storage::<Vectors, R, W>(alloc, storage, is_at_end, reader, writer)
-            }
-            Container::Slot => {
-                self.serve_storage::<SlotMaps, R, W>(alloc, storage, is_at_end, reader, writer)
-            }
-            Container::Flat => {
-                self.serve_storage::<FlatMaps, R, W>(alloc, storage, is_at_end, reader, writer)
-            }
-            Container::Text => {
-                self.serve_storage::<Strings, R, W>(alloc, storage, is_at_end, reader, writer)
-            }
+            Container::Vec => self.serve_storage::<Vectors, R, W>(
+                arena, alloc, storage, is_at_end, reader, writer,
+            ),
+            Container::Slot => self.serve_storage::<SlotMaps, R, W>(
+                arena, alloc, storage, is_at_end, reader, writer,
+            ),
+            Container::Flat => self.serve_storage::<FlatMaps, R, W>(
+                arena, alloc, storage, is_at_end, reader, writer,
+            ),
+            Container::Text => self.serve_storage::<Strings, R, W>(
+                arena, alloc, storage, is_at_end, reader, writer,
+            ),
         }
     }
 }

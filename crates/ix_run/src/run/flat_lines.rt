@@ -1,18 +1,19 @@
 //! Lines of a script for a flat map.
 ghost use Rattle.std.specs.Prelude.{◌≡◌};
 
-use crate::run::containers::{Makes, MakesInline};
+use crate::run::containers::{MakesInArena, MakesInline, MakesOnHeap, Named};
 use crate::run::listing::Listing;
 use crate::run::replies::append_items;
 use crate::run::reply_buffer::ReplyBuffer;
 use crate::run::served::Served;
-use crate::run::session::Session;
 use crate::run::{Reply, Runs, ScriptFault, read_flat_command};
 use bumpalo::Bump;
 use ix_cells::{RelocatableContainer, Table};
-use ix_maps::{FixedSizeFlatMap, FlatMap, Link, MetaFlatMap, Pair, UninitFlatMap};
+use ix_maps::{
+    FixedSizeFlatMap, FlatMap, Link, MetaFlatMap, Pair, RelocatableFlatMap, UninitFlatMap,
+};
 use std::alloc::Global;
-use std::io::{Read, Write};
+use std::io::Write;
 
 /// Returns the reply with its key as a `usize`.
 #[inline]
@@ -81,48 +82,35 @@ impl<S: Table<Pair<u64, u64>>, L: Table<Link>> Served for MetaFlatMap<u64, u64, 
 /// The flat maps that headers name.
 pub struct FlatMaps;
 
-impl Makes for FlatMaps {
+impl Named for FlatMaps {
     ghost use Rattle.ix_run.specs.declared.run.header.Container.TheVariants as container;
 
     ghost container = { container.Flat };
-
-    fn serve_heap<R: Read, W: Write>(
-        session: &mut Session,
-        alloc: Global,
-        capacity: usize,
-        is_at_end: bool,
-        reader: &mut R,
-        writer: &mut W,
-    ) -> Result<(), ScriptFault> {
-        let made = FlatMap::<u64, u64>::new(alloc, capacity);
-        session.serve_made(made, is_at_end, reader, writer)
-    }
-
-    fn serve_arena<R: Read, W: Write>(
-        session: &mut Session,
-        arena: &Bump<Global>,
-        capacity: usize,
-        is_at_end: bool,
-        reader: &mut R,
-        writer: &mut W,
-    ) -> Result<(), ScriptFault> {
-        let made = UninitFlatMap::<u64, u64>::new_uninit(capacity).init(arena);
-        session.serve_made(made, is_at_end, reader, writer)
-    }
 }
 
 impl<const N: usize> MakesInline<N> for FlatMaps {
-    fn serve_inline<R: Read, W: Write>(
-        session: &mut Session,
-        is_at_end: bool,
-        reader: &mut R,
-        writer: &mut W,
-    ) -> Result<(), ScriptFault> {
-        session.serve(
-            FixedSizeFlatMap::<u64, u64, N>::new(),
-            is_at_end,
-            reader,
-            writer,
-        )
+    type Inline = FixedSizeFlatMap<u64, u64, N>;
+
+    fn inline() -> FixedSizeFlatMap<u64, u64, N> {
+        FixedSizeFlatMap::new()
+    }
+}
+
+impl MakesOnHeap for FlatMaps {
+    type OnHeap = FlatMap<u64, u64>;
+
+    fn on_heap(alloc: Global, capacity: usize) -> Option<FlatMap<u64, u64>> {
+        FlatMap::new(alloc, capacity).ok()
+    }
+}
+
+impl<'a> MakesInArena<'a> for FlatMaps {
+    type InArena = RelocatableFlatMap<u64, u64, &'a Bump<Global>>;
+
+    fn in_arena(
+        arena: &'a Bump<Global>,
+        capacity: usize,
+    ) -> Option<RelocatableFlatMap<u64, u64, &'a Bump<Global>>> {
+        UninitFlatMap::new_uninit(capacity).init(arena).ok()
     }
 }

@@ -9,6 +9,9 @@ pub const BUFFER_LEN: usize = 32_768;
 /// The maximum number of digits of a `u64`.
 pub const MAX_DIGITS: usize = 20;
 
+/// A reply of a line is at most this long, but for that of `show`.
+pub const MAX_REPLY_LEN: usize = 64;
+
 /// The maximum capacity that a header may name for a container in the machine's memory or in an arena.
 pub const MAX_CAPACITY: usize = 1000;
 

@@ -1,16 +1,15 @@
 //! Lines of a script for a queue.
-use crate::run::containers::{Makes, MakesInline};
+use crate::run::containers::{MakesInArena, MakesInline, MakesOnHeap, Named};
 use crate::run::listing::Listing;
 use crate::run::replies::append_items;
 use crate::run::reply_buffer::ReplyBuffer;
 use crate::run::served::Served;
-use crate::run::session::Session;
 use crate::run::{Reply, Runs, ScriptFault, read_queue_command};
 use bumpalo::Bump;
 use ix_cells::{RelocatableContainer, Table};
-use ix_maps::{FixedSizeQueue, MetaQueue, Queue, UninitQueue};
+use ix_maps::{FixedSizeQueue, MetaQueue, Queue, RelocatableQueue, UninitQueue};
 use std::alloc::Global;
-use std::io::{Read, Write};
+use std::io::Write;
 
 impl<S: Table<u64>> Listing for MetaQueue<u64, S> {
     ghost items = { λ queue. queue.items };
@@ -57,43 +56,35 @@ impl<S: Table<u64>> Served for MetaQueue<u64, S> {
 /// The queues that headers name.
 pub struct Queues;
 
-impl Makes for Queues {
+impl Named for Queues {
     ghost use Rattle.ix_run.specs.declared.run.header.Container.TheVariants as container;
 
     ghost container = { container.Queue };
-
-    fn serve_heap<R: Read, W: Write>(
-        session: &mut Session,
-        alloc: Global,
-        capacity: usize,
-        is_at_end: bool,
-        reader: &mut R,
-        writer: &mut W,
-    ) -> Result<(), ScriptFault> {
-        let made = Queue::<u64>::new(alloc, capacity);
-        session.serve_made(made, is_at_end, reader, writer)
-    }
-
-    fn serve_arena<R: Read, W: Write>(
-        session: &mut Session,
-        arena: &Bump<Global>,
-        capacity: usize,
-        is_at_end: bool,
-        reader: &mut R,
-        writer: &mut W,
-    ) -> Result<(), ScriptFault> {
-        let made = UninitQueue::<u64>::new_uninit(capacity).init(arena);
-        session.serve_made(made, is_at_end, reader, writer)
-    }
 }
 
 impl<const N: usize> MakesInline<N> for Queues {
-    fn serve_inline<R: Read, W: Write>(
-        session: &mut Session,
-        is_at_end: bool,
-        reader: &mut R,
-        writer: &mut W,
-    ) -> Result<(), ScriptFault> {
-        session.serve(FixedSizeQueue::<u64, N>::new(), is_at_end, reader, writer)
+    type Inline = FixedSizeQueue<u64, N>;
+
+    fn inline() -> FixedSizeQueue<u64, N> {
+        FixedSizeQueue::new()
+    }
+}
+
+impl MakesOnHeap for Queues {
+    type OnHeap = Queue<u64>;
+
+    fn on_heap(alloc: Global, capacity: usize) -> Option<Queue<u64>> {
+        Queue::new(alloc, capacity).ok()
+    }
+}
+
+impl<'a> MakesInArena<'a> for Queues {
+    type InArena = RelocatableQueue<u64, &'a Bump<Global>>;
+
+    fn in_arena(
+        arena: &'a Bump<Global>,
+        capacity: usize,
+    ) -> Option<RelocatableQueue<u64, &'a Bump<Global>>> {
+        UninitQueue::new_uninit(capacity).init(arena).ok()
     }
 }

@@ -1,99 +1,14 @@
 //! The texts of replies.
-ghost use Rattle.std.specs.Prelude.{◌≡◌, ◌≤◌, ◌++◌, length, codes, decimal};
+ghost use Rattle.std.specs.Prelude.{◌≡◌, ◌≤◌, ◌+◌, ◌++◌, length, codes, decimal};
 ghost use Rattle.ix_run.specs.Lines.{with_line_feed};
 ghost use Rattle.ix_run.specs.ReplyTexts.{error_name, reply_text, items_text};
-ghost use Rattle.ix_run.specs.Writing.{WriteResult, Writes, WritesPart};
+ghost use Rattle.ix_run.specs.Writing.{WriteResult};
+ghost use Rattle.ix_run.specs.declared.run.limits.TheConstants.{BUFFER_LEN, MAX_REPLY_LEN};
 
-use crate::run::limits::MAX_DIGITS;
 use crate::run::listing::Listing;
 use crate::run::reply_buffer::ReplyBuffer;
 use crate::run::{Reply, ReplyError, ScriptFault};
 use std::io::Write;
-
-/// The length of the longest line `some X`: the word and its space, the digits, and the line feed.
-const MAX_VALUE_LINE_LEN: usize = 5 + MAX_DIGITS + 1;
-
-/// Appends the line `some X`.
-#[inline(always)]
-fn append_value<W: Write>(
-    replies: &mut ReplyBuffer,
-    writer: &mut W,
-    value: u64,
-) -> Result<(), ScriptFault>
-    ensures { WriteResult (W.contents writer.old) replies.old
-        (with_line_feed (codes "some " ++ decimal value)) (W.contents writer.new) replies.new result }
-{
-    let mut line = [b'\n'; MAX_VALUE_LINE_LEN];
-    let digits = itoa::write_digits(value, &mut line, MAX_VALUE_LINE_LEN - 1);
-    let start = digits - 5;
-    line[start..digits].copy_from_slice(b"some ");
-    replies.append(writer, &line[start..])
-}
-
-/// Appends a separator of at most 8 bytes, and a number.
-#[tactic(auto, using(crate::proofs::Writing::WriteResult_append, crate::proofs::Writing::WritesPart_append))]
-fn append_after<W: Write>(
-    replies: &mut ReplyBuffer,
-    writer: &mut W,
-    separator: &[u8],
-    number: u64,
-) -> Result<(), ScriptFault>
-    requires { length separator.now ≤ 8 }
-    ensures { WriteResult (W.contents writer.old) replies.old (separator.now ++ decimal number)
-        (W.contents writer.new) replies.new result }
-{
-    replies.append(writer, separator)?;
-    replies.append_number(writer, number)
-}
-
-/// Appends two numbers with a separator of at most 8 bytes between them.
-#[tactic(auto, using(crate::proofs::Writing::WriteResult_append, crate::proofs::Writing::WritesPart_append))]
-pub fn append_pair<W: Write>(
-    replies: &mut ReplyBuffer,
-    writer: &mut W,
-    key: u64,
-    separator: &[u8],
-    value: u64,
-) -> Result<(), ScriptFault>
-    requires { length separator.now ≤ 8 }
-    ensures { WriteResult (W.contents writer.old) replies.old (decimal key ++ (separator.now ++ decimal value))
-        (W.contents writer.new) replies.new result }
-{
-    replies.append_number(writer, key)?;
-    append_after(replies, writer, separator, value)
-}
-
-/// Appends the line of two numbers.
-#[tactic(auto, using(crate::proofs::Writing::WriteResult_append, crate::proofs::Writing::WritesPart_append))]
-fn append_pair_line<W: Write>(
-    replies: &mut ReplyBuffer,
-    writer: &mut W,
-    key: u64,
-    value: u64,
-) -> Result<(), ScriptFault>
-    ensures { WriteResult (W.contents writer.old) replies.old
-        (with_line_feed (decimal key ++ (codes " " ++ decimal value)))
-        (W.contents writer.new) replies.new result }
-{
-    append_pair(replies, writer, key, b" ", value)?;
-    replies.append(writer, b"\n")
-}
-
-/// Appends the line `some K X`.
-#[tactic(auto, using(crate::proofs::Writing::WriteResult_append, crate::proofs::Writing::WritesPart_append))]
-fn append_entry<W: Write>(
-    replies: &mut ReplyBuffer,
-    writer: &mut W,
-    key: u64,
-    value: u64,
-) -> Result<(), ScriptFault>
-    ensures { WriteResult (W.contents writer.old) replies.old
-        (with_line_feed (codes "some " ++ (decimal key ++ (codes " " ++ decimal value))))
-        (W.contents writer.new) replies.new result }
-{
-    replies.append(writer, b"some ")?;
-    append_pair_line(replies, writer, key, value)
-}
 
 /// Returns the line that names an error.
 fn error_line(error: ReplyError) -> &'static [u8]
@@ -110,35 +25,68 @@ fn error_line(error: ReplyError) -> &'static [u8]
     }
 }
 
-/// Appends the line of an error.
-#[tactic(auto, using(crate::proofs::Writing::WriteResult_append, crate::proofs::Writing::WritesPart_append))]
-fn append_error<W: Write>(
-    replies: &mut ReplyBuffer,
-    writer: &mut W,
-    error: ReplyError,
-) -> Result<(), ScriptFault>
-    ensures { WriteResult (W.contents writer.old) replies.old
-        (with_line_feed (codes "error " ++ error_name error)) (W.contents writer.new) replies.new result }
+/// Appends the line of a number.
+fn put_number_line(replies: &mut ReplyBuffer, number: u64)
+    requires { length replies.old + MAX_REPLY_LEN ≤ BUFFER_LEN }
+    ensures { replies.new ≡ replies.old ++ with_line_feed (decimal number) }
 {
-    replies.append(writer, b"error ")?;
-    replies.append(writer, error_line(error))
+    replies.put_number(number);
+    replies.put(b"\n");
 }
 
-/// Appends the line of a number.
-#[tactic(auto, using(crate::proofs::Writing::WriteResult_append, crate::proofs::Writing::WritesPart_append))]
-fn append_number_line<W: Write>(
-    replies: &mut ReplyBuffer,
-    writer: &mut W,
-    number: u64,
-) -> Result<(), ScriptFault>
-    ensures { WriteResult (W.contents writer.old) replies.old (with_line_feed (decimal number))
-        (W.contents writer.new) replies.new result }
+/// Appends the line `some X`.
+#[inline]
+fn put_value(replies: &mut ReplyBuffer, value: u64)
+    requires { length replies.old + MAX_REPLY_LEN ≤ BUFFER_LEN }
+    ensures { replies.new ≡ replies.old ++ with_line_feed (codes "some " ++ decimal value) }
 {
-    replies.append_number(writer, number)?;
-    replies.append(writer, b"\n")
+    replies.put(b"some ");
+    replies.put_number(value);
+    replies.put(b"\n");
+}
+
+/// Appends the line `some K X`.
+fn put_entry(replies: &mut ReplyBuffer, key: u64, value: u64)
+    requires { length replies.old + MAX_REPLY_LEN ≤ BUFFER_LEN }
+    ensures { replies.new ≡ replies.old ++ with_line_feed (codes "some " ++ (decimal key ++ (codes " " ++ decimal value))) }
+{
+    replies.put(b"some ");
+    replies.put_number(key);
+    replies.put(b" ");
+    replies.put_number(value);
+    replies.put(b"\n");
+}
+
+/// Appends the line of an error.
+fn put_error(replies: &mut ReplyBuffer, error: ReplyError)
+    requires { length replies.old + MAX_REPLY_LEN ≤ BUFFER_LEN }
+    ensures { replies.new ≡ replies.old ++ with_line_feed (codes "error " ++ error_name error) }
+{
+    replies.put(b"error ");
+    replies.put(error_line(error));
 }
 
 /// Appends the line of a reply.
+#[inline(always)]
+fn put_reply(replies: &mut ReplyBuffer, reply: Reply<usize, u64>)
+    requires { length replies.old + MAX_REPLY_LEN ≤ BUFFER_LEN }
+    ensures { replies.new ≡ replies.old ++ with_line_feed (reply_text reply) }
+{
+    match reply {
+        Reply::Done => replies.put(b"ok\n"),
+        Reply::Bool(true) => replies.put(b"true\n"),
+        Reply::Bool(false) => replies.put(b"false\n"),
+        Reply::Number(number) => put_number_line(replies, number as u64),
+        Reply::None => replies.put(b"none\n"),
+        Reply::Key(key) => put_value(replies, key as u64),
+        Reply::Value(value) => put_value(replies, value),
+        Reply::Entry(key, value) => put_entry(replies, key as u64, value),
+        Reply::Error(error) => put_error(replies, error),
+    }
+}
+
+/// Appends the line of a reply.
+#[tactic(auto, using(crate::proofs::Writing::Writes_put, crate::proofs::Writing::WritesPart_after_nil))]
 #[inline(always)]
 pub fn append_reply<W: Write>(
     replies: &mut ReplyBuffer,
@@ -148,17 +96,40 @@ pub fn append_reply<W: Write>(
     ensures { WriteResult (W.contents writer.old) replies.old (with_line_feed (reply_text reply))
         (W.contents writer.new) replies.new result }
 {
-    match reply {
-        Reply::Done => replies.append(writer, b"ok\n"),
-        Reply::Bool(true) => replies.append(writer, b"true\n"),
-        Reply::Bool(false) => replies.append(writer, b"false\n"),
-        Reply::Number(number) => append_number_line(replies, writer, number as u64),
-        Reply::None => replies.append(writer, b"none\n"),
-        Reply::Key(key) => append_value(replies, writer, key as u64),
-        Reply::Value(value) => append_value(replies, writer, value),
-        Reply::Entry(key, value) => append_entry(replies, writer, key as u64, value),
-        Reply::Error(error) => append_error(replies, writer, error),
-    }
+    replies.reserve(writer)?;
+    put_reply(replies, reply);
+    Ok(())
+}
+
+/// Appends a number.
+#[tactic(auto, using(crate::proofs::Writing::Writes_put, crate::proofs::Writing::WritesPart_after_nil))]
+pub fn append_number<W: Write>(
+    replies: &mut ReplyBuffer,
+    writer: &mut W,
+    number: u64,
+) -> Result<(), ScriptFault>
+    ensures { WriteResult (W.contents writer.old) replies.old (decimal number)
+        (W.contents writer.new) replies.new result }
+{
+    replies.reserve(writer)?;
+    replies.put_number(number);
+    Ok(())
+}
+
+/// Appends a space and a number.
+#[tactic(auto, using(crate::proofs::Writing::Writes_put, crate::proofs::Writing::WritesPart_after_nil))]
+fn append_next_number<W: Write>(
+    replies: &mut ReplyBuffer,
+    writer: &mut W,
+    number: u64,
+) -> Result<(), ScriptFault>
+    ensures { WriteResult (W.contents writer.old) replies.old (codes " " ++ decimal number)
+        (W.contents writer.new) replies.new result }
+{
+    replies.reserve(writer)?;
+    replies.put(b" ");
+    replies.put_number(number);
+    Ok(())
 }
 
 /// Appends the items separated by single spaces, or a dash if there are none.
@@ -174,9 +145,9 @@ pub fn append_items<L: Listing, W: Write>(
     if len == 0 {
         return replies.append(writer, b"-");
     }
-    replies.append_number(writer, list.item(0))?;
+    append_number(replies, writer, list.item(0))?;
     for i in 1..len {
-        append_after(replies, writer, b" ", list.item(i))?;
+        append_next_number(replies, writer, list.item(i))?;
     }
     Ok(())
 }

@@ -3,10 +3,10 @@ ghost use Rattle.std.specs.Prelude.{◌≡◌, ◌<◌, ◌≤◌, ◌+◌, ◌�
 ghost use Rattle.std.specs.Io.KnownBytes.{Appends, Keeps};
 ghost use Rattle.ix_run.specs.Writing.{WriteResult, Writes, WritesPart};
 ghost use Rattle.ix_run.specs.declared.run.fault.ScriptFault.TheVariants as ScriptFault;
-ghost use Rattle.ix_run.specs.declared.run.limits.TheConstants.{BUFFER_LEN};
+ghost use Rattle.ix_run.specs.declared.run.limits.TheConstants.{BUFFER_LEN, MAX_DIGITS, MAX_REPLY_LEN};
 
 use crate::run::ScriptFault;
-use crate::run::limits::{BUFFER_LEN, MAX_DIGITS};
+use crate::run::limits::{BUFFER_LEN, MAX_DIGITS, MAX_REPLY_LEN};
 use std::io::{ErrorKind, Write};
 use std::marker::Model;
 
@@ -85,15 +85,22 @@ impl ReplyBuffer {
         Ok(())
     }
 
+    /// Makes room for a reply: writes the bytes of the buffer if less than [`MAX_REPLY_LEN`] bytes are free.
     #[inline]
-    fn has_room(&self, more: usize) -> bool
-        ensures { IsTrue result ↔ (length self.now + more ≤ BUFFER_LEN) }
+    pub fn reserve<W: Write>(&mut self, writer: &mut W) -> Result<(), ScriptFault>
+        ensures writer { WriteResult (W.contents writer.old) self.old []
+            (W.contents writer.new) self.new result }
+        ensures room { OnOk result (length self.new + MAX_REPLY_LEN ≤ BUFFER_LEN) }
     {
-        more <= BUFFER_LEN - self.len
+        if self.len > BUFFER_LEN - MAX_REPLY_LEN {
+            return self.write_to(writer);
+        }
+        Ok(())
     }
 
+    /// Appends bytes for which there is room.
     #[inline]
-    fn append_within_capacity(&mut self, bytes: &[u8])
+    pub fn put(&mut self, bytes: &[u8])
         requires { length self.old + length bytes.now ≤ BUFFER_LEN }
         ensures { self.new ≡ self.old ++ bytes.now }
     {
@@ -102,32 +109,28 @@ impl ReplyBuffer {
         self.len = end;
     }
 
-    /// Appends at most [`BUFFER_LEN`] bytes. Writes those of the buffer first if there is no room.
+    /// Appends the decimal text of a number, for which there is room.
     #[inline]
-    #[tactic(auto, using(crate::proofs::Writing::Writes_pending, crate::proofs::Writing::Writes_after_nil, crate::proofs::Writing::WritesPart_after_nil))]
-    pub fn append<W: Write>(&mut self, writer: &mut W, bytes: &[u8]) -> Result<(), ScriptFault>
-        requires { length bytes.now ≤ BUFFER_LEN }
-        ensures { WriteResult (W.contents writer.old) self.old bytes.now
-            (W.contents writer.new) self.new result }
-    {
-        if !self.has_room(bytes.len()) {
-            self.write_to(writer)?;
-        }
-        self.append_within_capacity(bytes);
-        Ok(())
-    }
-
-    /// Appends the decimal text of a number.
-    pub fn append_number<W: Write>(
-        &mut self,
-        writer: &mut W,
-        number: u64,
-    ) -> Result<(), ScriptFault>
-        ensures { WriteResult (W.contents writer.old) self.old (decimal number)
-            (W.contents writer.new) self.new result }
+    pub fn put_number(&mut self, number: u64)
+        requires { length self.old + MAX_DIGITS ≤ BUFFER_LEN }
+        ensures value { self.new ≡ self.old ++ decimal number }
+        ensures len { length self.new ≤ length self.old + MAX_DIGITS }
     {
         let mut digits = [0u8; MAX_DIGITS];
         let start = itoa::write_digits(number, &mut digits, MAX_DIGITS);
-        self.append(writer, &digits[start..])
+        self.put(&digits[start..]);
+    }
+
+    /// Appends at most [`MAX_REPLY_LEN`] bytes. Writes those of the buffer first if there is no room.
+    #[inline]
+    #[tactic(auto, using(crate::proofs::Writing::Writes_put, crate::proofs::Writing::WritesPart_after_nil))]
+    pub fn append<W: Write>(&mut self, writer: &mut W, bytes: &[u8]) -> Result<(), ScriptFault>
+        requires { length bytes.now ≤ MAX_REPLY_LEN }
+        ensures { WriteResult (W.contents writer.old) self.old bytes.now
+            (W.contents writer.new) self.new result }
+    {
+        self.reserve(writer)?;
+        self.put(bytes);
+        Ok(())
     }
 }

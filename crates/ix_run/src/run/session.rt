@@ -1,10 +1,11 @@
 //! A running script: its input, and the replies that are not written yet.
-ghost use Rattle.std.specs.Prelude.{◌≡◌, ◌∷◌, ◌++◌, [], true, false, IfOk, codes};
+ghost use Rattle.std.specs.Prelude.{ℕ, ◌≡◌, ◌∷◌, ◌++◌, [], true, false, IfOk, IfSome, codes};
 ghost use Rattle.ix_run.specs.Input.{current_line, last_line, lines_to_come};
 ghost use Rattle.ix_run.specs.Lines.{with_line_feed};
 ghost use Rattle.ix_run.specs.Progress.{AdvanceResult, DriveResult, FinishResult, StopResult};
-ghost use Rattle.ix_run.specs.Script.{replies_to_lines};
+ghost use Rattle.ix_run.specs.Script.{IsEmptyContainer, replies_to_lines, replies_from_ready};
 ghost use Rattle.ix_run.specs.Writing.{WriteResult};
+ghost use Rattle.ix_run.specs.declared.run.header.Container.{Container};
 
 use crate::run::ScriptFault;
 use crate::run::input::Input;
@@ -135,21 +136,21 @@ impl Session {
     }
 
     /// Does what [`Session::serve`] does with the container, or stops if it was not made.
-    pub fn serve_made<C: Served + Drop, E: Drop, R: Read, W: Write>(
+    pub fn serve_made<C: Served + Drop, R: Read, W: Write>(
         &mut self,
-        made: Result<C, E>,
+        made: Option<C>,
         is_at_end: bool,
         reader: &mut R,
         writer: &mut W,
     ) -> Result<(), ScriptFault>
         requires { is_at_end ≡ true → self.old.input.rest ≡ [] }
-        ensures { (model : C.Model) → IfOk made (λ container. C.model container ≡ model)
+        ensures { (container : Container) (capacity : ℕ)
+            → IfSome made (λ made. IsEmptyContainer C.reply C.after C.shown (C.model made) container capacity)
             → FinishResult is_at_end (R.remaining reader.old) (W.contents writer.old) self.old.replies
-            (λ more. with_line_feed (codes "ready")
-            ++ replies_to_lines C.reply C.after C.shown model (lines_to_come self.old.input more))
+            (λ more. replies_from_ready container capacity (lines_to_come self.old.input more))
             (R.remaining reader.new) (W.contents writer.new) result }
     {
-        let Ok(container) = made else {
+        let Some(container) = made else {
             return self.stop_without_memory(writer);
         };
         self.serve(container, is_at_end, reader, writer)

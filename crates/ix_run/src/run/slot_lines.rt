@@ -1,23 +1,35 @@
 //! Lines of a script for a slot map.
-ghost use Rattle.std.specs.Prelude.{◌≡◌};
+ghost use Rattle.std.specs.Prelude.{◌≡◌, ◌≤◌, ◌+◌, ◌++◌, length};
 ghost use Rattle.ix_maps.specs.SlotState.{entries};
 ghost use Rattle.ix_run.specs.ReplyTexts.{items_text, entry_text, next_text};
 ghost use Rattle.ix_run.specs.Writing.{WriteResult};
+ghost use Rattle.ix_run.specs.declared.run.limits.TheConstants.{BUFFER_LEN, MAX_REPLY_LEN};
 
-use crate::run::containers::{Makes, MakesInline};
-use crate::run::replies::append_pair;
+use crate::run::containers::{MakesInArena, MakesInline, MakesOnHeap, Named};
 use crate::run::reply_buffer::ReplyBuffer;
 use crate::run::served::Served;
-use crate::run::session::Session;
 use crate::run::{Reply, Runs, ScriptFault, read_slot_command};
 use bumpalo::Bump;
 use ix_cells::{RelocatableContainer, Table};
-use ix_maps::{FixedSizeSlotMap, Link, MetaSlotMap, SlotMap, UninitSlotMap};
+use ix_maps::{FixedSizeSlotMap, Link, MetaSlotMap, RelocatableSlotMap, SlotMap, UninitSlotMap};
 use std::alloc::Global;
-use std::io::{Read, Write};
+use std::io::Write;
 
 /// Appends a key with its value, and before it a space unless it is the first.
-#[tactic(auto, using(crate::proofs::Writing::WriteResult_append, crate::proofs::Writing::WritesPart_append))]
+fn put_next_entry(pending: &mut ReplyBuffer, is_first: bool, key: u64, value: u64)
+    requires { length pending.old + MAX_REPLY_LEN ≤ BUFFER_LEN }
+    ensures { pending.new ≡ pending.old ++ next_text is_first (entry_text (key, value)) }
+{
+    if !is_first {
+        pending.put(b" ");
+    }
+    pending.put_number(key);
+    pending.put(b"=");
+    pending.put_number(value);
+}
+
+/// Appends a key with its value, and before it a space unless it is the first.
+#[tactic(auto, using(crate::proofs::Writing::Writes_put, crate::proofs::Writing::WritesPart_after_nil))]
 fn append_next_entry<W: Write>(
     pending: &mut ReplyBuffer,
     writer: &mut W,
@@ -28,11 +40,9 @@ fn append_next_entry<W: Write>(
     ensures { WriteResult (W.contents writer.old) pending.old (next_text is_first (entry_text (key, value)))
         (W.contents writer.new) pending.new result }
 {
-    if is_first {
-        return append_pair(pending, writer, key, b"=", value);
-    }
-    pending.append(writer, b" ")?;
-    append_pair(pending, writer, key, b"=", value)
+    pending.reserve(writer)?;
+    put_next_entry(pending, is_first, key, value);
+    Ok(())
 }
 
 /// Appends the keys with their values, separated by single spaces, or a dash if there are none.
@@ -86,43 +96,35 @@ impl<S: Table<u64>, L: Table<Link>> Served for MetaSlotMap<u64, S, L> {
 /// The slot maps that headers name.
 pub struct SlotMaps;
 
-impl Makes for SlotMaps {
+impl Named for SlotMaps {
     ghost use Rattle.ix_run.specs.declared.run.header.Container.TheVariants as container;
 
     ghost container = { container.Slot };
-
-    fn serve_heap<R: Read, W: Write>(
-        session: &mut Session,
-        alloc: Global,
-        capacity: usize,
-        is_at_end: bool,
-        reader: &mut R,
-        writer: &mut W,
-    ) -> Result<(), ScriptFault> {
-        let made = SlotMap::<u64>::new(alloc, capacity);
-        session.serve_made(made, is_at_end, reader, writer)
-    }
-
-    fn serve_arena<R: Read, W: Write>(
-        session: &mut Session,
-        arena: &Bump<Global>,
-        capacity: usize,
-        is_at_end: bool,
-        reader: &mut R,
-        writer: &mut W,
-    ) -> Result<(), ScriptFault> {
-        let made = UninitSlotMap::<u64>::new_uninit(capacity).init(arena);
-        session.serve_made(made, is_at_end, reader, writer)
-    }
 }
 
 impl<const N: usize> MakesInline<N> for SlotMaps {
-    fn serve_inline<R: Read, W: Write>(
-        session: &mut Session,
-        is_at_end: bool,
-        reader: &mut R,
-        writer: &mut W,
-    ) -> Result<(), ScriptFault> {
-        session.serve(FixedSizeSlotMap::<u64, N>::new(), is_at_end, reader, writer)
+    type Inline = FixedSizeSlotMap<u64, N>;
+
+    fn inline() -> FixedSizeSlotMap<u64, N> {
+        FixedSizeSlotMap::new()
+    }
+}
+
+impl MakesOnHeap for SlotMaps {
+    type OnHeap = SlotMap<u64>;
+
+    fn on_heap(alloc: Global, capacity: usize) -> Option<SlotMap<u64>> {
+        SlotMap::new(alloc, capacity).ok()
+    }
+}
+
+impl<'a> MakesInArena<'a> for SlotMaps {
+    type InArena = RelocatableSlotMap<u64, &'a Bump<Global>>;
+
+    fn in_arena(
+        arena: &'a Bump<Global>,
+        capacity: usize,
+    ) -> Option<RelocatableSlotMap<u64, &'a Bump<Global>>> {
+        UninitSlotMap::new_uninit(capacity).init(arena).ok()
     }
 }

@@ -1,19 +1,19 @@
 //! Lines of a script for a string.
-ghost use Rattle.std.specs.Prelude.{◌≡◌, ◌<◌, ◌≤◌, ◌++◌, ◌∷◌, [], codes, length, take};
+ghost use Rattle.std.specs.Prelude.{◌≡◌, ◌<◌, ◌≤◌, ◌+◌, ◌++◌, ◌∷◌, [], codes, length, take};
 ghost use Rattle.ix_string.specs.Escape.{escaped_byte, escaped_text, hex_digit};
 ghost use Rattle.ix_run.specs.Writing.{WriteResult, WritesPart};
+ghost use Rattle.ix_run.specs.declared.run.limits.TheConstants.{BUFFER_LEN, MAX_REPLY_LEN};
 
-use crate::run::containers::{Makes, MakesInline};
+use crate::run::containers::{MakesInArena, MakesInline, MakesOnHeap, Named};
 use crate::run::limits::MAX_NUMBERS;
 use crate::run::reply_buffer::ReplyBuffer;
 use crate::run::served::Served;
-use crate::run::session::Session;
 use crate::run::{Reply, Runs, ScriptFault, read_text_command};
 use bumpalo::Bump;
 use ix_cells::RelocatableContainer;
-use ix_string::{PolymorphicString, StaticString, String, UninitString};
+use ix_string::{PolymorphicString, RelocatableString, StaticString, String, UninitString};
 use std::alloc::Global;
-use std::io::{Read, Write};
+use std::io::Write;
 
 /// A string, and room for the bytes of a line.
 #[derive(Drop)]
@@ -59,6 +59,21 @@ fn hex_byte(digit: u8) -> u8
 }
 
 /// Appends a byte that is printed escaped.
+fn put_escaped(pending: &mut ReplyBuffer, byte: u8)
+    requires { length pending.old + MAX_REPLY_LEN ≤ BUFFER_LEN }
+    ensures { pending.new ≡ pending.old ++ escaped_byte byte }
+{
+    match byte {
+        9 => pending.put(b"\\t"),
+        13 => pending.put(b"\\r"),
+        10 => pending.put(b"\\n"),
+        32..=127 => pending.put(&[byte]),
+        _ => pending.put(&[b'\\', b'x', hex_byte(byte / 16), hex_byte(byte % 16)]),
+    }
+}
+
+/// Appends a byte that is printed escaped. Writes the bytes of the buffer first if there is no room.
+#[tactic(auto, using(crate::proofs::Writing::Writes_put, crate::proofs::Writing::WritesPart_after_nil))]
 fn append_escaped<W: Write>(
     pending: &mut ReplyBuffer,
     writer: &mut W,
@@ -67,16 +82,9 @@ fn append_escaped<W: Write>(
     ensures { WriteResult (W.contents writer.old) pending.old (escaped_byte byte)
         (W.contents writer.new) pending.new result }
 {
-    match byte {
-        9 => pending.append(writer, b"\\t"),
-        13 => pending.append(writer, b"\\r"),
-        10 => pending.append(writer, b"\\n"),
-        32..=127 => pending.append(writer, &[byte]),
-        _ => pending.append(
-            writer,
-            &[b'\\', b'x', hex_byte(byte / 16), hex_byte(byte % 16)],
-        ),
-    }
+    pending.reserve(writer)?;
+    put_escaped(pending, byte);
+    Ok(())
 }
 
 /// Appends bytes that are printed escaped.
@@ -153,50 +161,35 @@ impl<S: String> Served for TextLines<S> {
 /// The strings that headers name.
 pub struct Strings;
 
-impl Makes for Strings {
+impl Named for Strings {
     ghost use Rattle.ix_run.specs.declared.run.header.Container.TheVariants as container;
 
     ghost container = { container.Text };
-
-    fn serve_heap<R: Read, W: Write>(
-        session: &mut Session,
-        alloc: Global,
-        capacity: usize,
-        is_at_end: bool,
-        reader: &mut R,
-        writer: &mut W,
-    ) -> Result<(), ScriptFault> {
-        let made = PolymorphicString::new(alloc, capacity).map(TextLines::new);
-        session.serve_made(made, is_at_end, reader, writer)
-    }
-
-    fn serve_arena<R: Read, W: Write>(
-        session: &mut Session,
-        arena: &Bump<Global>,
-        capacity: usize,
-        is_at_end: bool,
-        reader: &mut R,
-        writer: &mut W,
-    ) -> Result<(), ScriptFault> {
-        let made = UninitString::new_uninit(capacity)
-            .init(arena)
-            .map(TextLines::new);
-        session.serve_made(made, is_at_end, reader, writer)
-    }
 }
 
 impl<const N: usize> MakesInline<N> for Strings {
-    fn serve_inline<R: Read, W: Write>(
-        session: &mut Session,
-        is_at_end: bool,
-        reader: &mut R,
-        writer: &mut W,
-    ) -> Result<(), ScriptFault> {
-        session.serve(
-            TextLines::new(StaticString::<N>::new()),
-            is_at_end,
-            reader,
-            writer,
-        )
+    type Inline = TextLines<StaticString<N>>;
+
+    fn inline() -> TextLines<StaticString<N>> {
+        TextLines::new(StaticString::new())
+    }
+}
+
+impl MakesOnHeap for Strings {
+    type OnHeap = TextLines<PolymorphicString>;
+
+    fn on_heap(alloc: Global, capacity: usize) -> Option<TextLines<PolymorphicString>> {
+        Some(TextLines::new(PolymorphicString::new(alloc, capacity).ok()?))
+    }
+}
+
+impl<'a> MakesInArena<'a> for Strings {
+    type InArena = TextLines<RelocatableString<&'a Bump<Global>>>;
+
+    fn in_arena(
+        arena: &'a Bump<Global>,
+        capacity: usize,
+    ) -> Option<TextLines<RelocatableString<&'a Bump<Global>>>> {
+        Some(TextLines::new(UninitString::new_uninit(capacity).init(arena).ok()?))
     }
 }

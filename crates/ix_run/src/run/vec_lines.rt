@@ -1,18 +1,19 @@
 //! Lines of a script for a vector.
 ghost use Rattle.std.specs.Prelude.{◌≡◌};
 
-use crate::run::containers::{Makes, MakesInline};
+use crate::run::containers::{MakesInArena, MakesInline, MakesOnHeap, Named};
 use crate::run::limits::MAX_NUMBERS;
 use crate::run::listing::Listing;
 use crate::run::replies::append_items;
 use crate::run::reply_buffer::ReplyBuffer;
 use crate::run::served::Served;
-use crate::run::session::Session;
 use crate::run::{Reply, Runs, ScriptFault, read_vec_command};
 use bumpalo::Bump;
-use ix_cells::{PolymorphicVec, RelocatableContainer, StaticVec, UninitVec, Vector};
+use ix_cells::{
+    PolymorphicVec, RelocatableContainer, RelocatableVec, StaticVec, UninitVec, Vector,
+};
 use std::alloc::Global;
-use std::io::{Read, Write};
+use std::io::Write;
 
 /// A vector, and room for the numbers of a line.
 #[derive(Drop)]
@@ -77,50 +78,35 @@ impl<V: Vector<u64>> Served for VecLines<V> {
 /// The vectors that headers name.
 pub struct Vectors;
 
-impl Makes for Vectors {
+impl Named for Vectors {
     ghost use Rattle.ix_run.specs.declared.run.header.Container.TheVariants as container;
 
     ghost container = { container.Vec };
-
-    fn serve_heap<R: Read, W: Write>(
-        session: &mut Session,
-        alloc: Global,
-        capacity: usize,
-        is_at_end: bool,
-        reader: &mut R,
-        writer: &mut W,
-    ) -> Result<(), ScriptFault> {
-        let made = PolymorphicVec::<u64>::new(alloc, capacity).map(VecLines::new);
-        session.serve_made(made, is_at_end, reader, writer)
-    }
-
-    fn serve_arena<R: Read, W: Write>(
-        session: &mut Session,
-        arena: &Bump<Global>,
-        capacity: usize,
-        is_at_end: bool,
-        reader: &mut R,
-        writer: &mut W,
-    ) -> Result<(), ScriptFault> {
-        let made = UninitVec::<u64>::new_uninit(capacity)
-            .init(arena)
-            .map(VecLines::new);
-        session.serve_made(made, is_at_end, reader, writer)
-    }
 }
 
 impl<const N: usize> MakesInline<N> for Vectors {
-    fn serve_inline<R: Read, W: Write>(
-        session: &mut Session,
-        is_at_end: bool,
-        reader: &mut R,
-        writer: &mut W,
-    ) -> Result<(), ScriptFault> {
-        session.serve(
-            VecLines::new(StaticVec::<u64, N>::new()),
-            is_at_end,
-            reader,
-            writer,
-        )
+    type Inline = VecLines<StaticVec<u64, N>>;
+
+    fn inline() -> VecLines<StaticVec<u64, N>> {
+        VecLines::new(StaticVec::new())
+    }
+}
+
+impl MakesOnHeap for Vectors {
+    type OnHeap = VecLines<PolymorphicVec<u64>>;
+
+    fn on_heap(alloc: Global, capacity: usize) -> Option<VecLines<PolymorphicVec<u64>>> {
+        Some(VecLines::new(PolymorphicVec::new(alloc, capacity).ok()?))
+    }
+}
+
+impl<'a> MakesInArena<'a> for Vectors {
+    type InArena = VecLines<RelocatableVec<u64, &'a Bump<Global>>>;
+
+    fn in_arena(
+        arena: &'a Bump<Global>,
+        capacity: usize,
+    ) -> Option<VecLines<RelocatableVec<u64, &'a Bump<Global>>>> {
+        Some(VecLines::new(UninitVec::new_uninit(capacity).init(arena).ok()?))
     }
 }

@@ -17,9 +17,9 @@ returns-in_err-append_number g c =
 pub loop-i-init : goal.loop-i-init
 loop-i-init g c = (decimal c.item.result, items_text-slice_get decimal (g.L.Listing.items c.args.list.now) _ c.item.ensures, c.in_ok-append_number.ensures)
 
-pub returns-in_err-append_after : goal.returns-in_err-append_after
-returns-in_err-append_after g c =
-    let p = err_from_is_err_and c.from_residual-in_err-append_after.result c.from_residual-in_err-append_after.ensures.1 in
+pub returns-in_err-append_next_number : goal.returns-in_err-append_next_number
+returns-in_err-append_next_number g c =
+    let p = err_from_is_err_and c.from_residual-in_err-append_next_number.result c.from_residual-in_err-append_next_number.ensures.1 in
     let items = g.L.Listing.items c.args.list.now in
     let i = c.loop-i.i in
     let at = c.loop-i.invariant in
@@ -27,8 +27,8 @@ returns-in_err-append_after g c =
     let rest = more_items_text decimal (drop (i + 1) items) in
     let whole = at.1 ∙ ap (λ l. at.0 ++ l) (more_items_text-drop decimal items i _ c.item-in-loop-i.ensures) ∙ sym (append_assoc at.0 word rest) in
     rw (p.1, p.2, whole) (
-      c.in_err-append_after.ensures.0,
-      WritesPart_append _ _ _ (at.0 ++ word) rest (WritesPart-Writes _ _ _ _ _ at.0 word at.2 c.in_err-append_after.ensures.1),
+      c.in_err-append_next_number.ensures.0,
+      WritesPart_append _ _ _ (at.0 ++ word) rest (WritesPart-Writes _ _ _ _ _ at.0 word at.2 c.in_err-append_next_number.ensures.1),
     )
 
 pub loop-i-preserved : goal.loop-i-preserved
@@ -38,4 +38,4 @@ loop-i-preserved g c =
     let at = c.loop-i.invariant in
     let word = codes " " ++ decimal c.item-in-loop-i.result in
     let whole = at.1 ∙ ap (λ l. at.0 ++ l) (more_items_text-drop decimal items i _ c.item-in-loop-i.ensures) ∙ sym (append_assoc at.0 word (more_items_text decimal (drop (i + 1) items))) in
-    (at.0 ++ word, whole, Writes-append _ _ _ _ _ _ at.0 word at.2 c.in_ok-append_after.ensures)
+    (at.0 ++ word, whole, Writes-append _ _ _ _ _ _ at.0 word at.2 c.in_ok-append_next_number.ensures)

@@ -1,14 +1,18 @@
-use Rattle.std.proofs.Common.{◌++◌, codes, sym}
+use Rattle.std.proofs.Common.{ℕ, List, ◌++◌, codes, sym, ap}
 use Rattle.ix_run.specs.Input.{lines_to_come}
 use Rattle.ix_run.specs.Lines.{with_line_feed}
-use Rattle.ix_run.specs.Script.{replies_to_lines}
-use Rattle.ix_run.proofs.Progress.{FinishResult-StopResult}
+use Rattle.ix_run.specs.Script.{container_replies, replies_to_lines}
+use Rattle.ix_run.proofs.Progress.{FinishResult-StopResult, FinishResult-same}
 use Rattle.ix_run.proofs.run.session.Session.serve_made.Goals as goal
 
 pub returns-in_default : goal.returns-in_default
-returns-in_default g c = λ model is.
-    FinishResult-StopResult c.args.is_at_end _ _ _ c.args.self.now.replies
-    (λ more. replies_to_lines g.C.Served.reply g.C.Served.after g.C.Served.shown model (lines_to_come c.args.self.now.input more)) _ c.stop_without_memory.ensures
+returns-in_default g c = λ container capacity is.
+    FinishResult-StopResult c.args.is_at_end _ _ _ c.args.self.now.replies (λ more. container_replies container capacity (lines_to_come c.args.self.now.input more)) _ c.stop_without_memory.ensures
 
 pub returns : goal.returns
-returns g c = λ model is. let same = rw c.in-Ok.is at is in rw (sym same) c.serve.ensures
+returns g c = λ container capacity is.
+    let ready = with_line_feed (codes "ready") in
+    let here : List ℕ → List ℕ = λ m. ready ++ replies_to_lines g.C.Served.reply g.C.Served.after g.C.Served.shown (g.C.Served.model c.in-Some.container) (lines_to_come c.args.self.now.input m) in
+    let from : List ℕ → List ℕ = λ m. ready ++ container_replies container capacity (lines_to_come c.args.self.now.input m) in
+    let empty = rw c.in-Some.is at is in
+    FinishResult-same c.args.is_at_end _ _ _ _ c.args.self.now.replies here from _ (λ m. ap (λ l. ready ++ l) (sym (empty (lines_to_come c.args.self.now.input m)))) c.serve.ensures

@@ -1,5 +1,0 @@
-use Rattle.std.proofs.Common.{rules}
-use Rattle.ix_run.proofs.run.flat_lines.FlatMapsMakes.serve_heap.Goals as goal
-
-pub returns : goal.returns
-returns g c = c.serve_made.ensures _ (search rules)
