@@ -56,6 +56,22 @@ pub trait MakesInArena<'a>: Named {
 
 impl Session {
     /// Makes a container that is stored inline, and replies to the lines that come.
+    fn serve_inline<const N: usize, C: MakesInline<N>, R: Read, W: Write>(
+        &mut self,
+        is_at_end: bool,
+        reader: &mut R,
+        writer: &mut W,
+    ) -> Result<(), ScriptFault>
+        requires capacity { N ≤ MAX_FIXED_CAPACITY }
+        requires end { is_at_end ≡ true → self.old.input.rest ≡ [] }
+        ensures { FinishResult is_at_end (R.remaining reader.old) (W.contents writer.old) self.old.replies
+            (λ more. replies_from_ready C.container N (lines_to_come self.old.input more))
+            (R.remaining reader.new) (W.contents writer.new) result }
+    {
+        self.serve_made(Some(C::inline()), is_at_end, reader, writer)
+    }
+
+    /// Makes a container of a capacity that headers name for the fixed kinds, and replies to the lines that come.
     fn serve_fixed<
         C: MakesInline<0> + MakesInline<1> + MakesInline<3> + MakesInline<8>,
         R: Read,
@@ -73,22 +89,10 @@ impl Session {
             (R.remaining reader.new) (W.contents writer.new) result }
     {
         match capacity {
-            FixedCapacity::Zero => {
-                let made = <C as MakesInline<0>>::inline();
-                self.serve_made(Some(made), is_at_end, reader, writer)
-            }
-            FixedCapacity::One => {
-                let made = <C as MakesInline<1>>::inline();
-                self.serve_made(Some(made), is_at_end, reader, writer)
-            }
-            FixedCapacity::Three => {
-                let made = <C as MakesInline<3>>::inline();
-                self.serve_made(Some(made), is_at_end, reader, writer)
-            }
-            FixedCapacity::Eight => {
-                let made = <C as MakesInline<8>>::inline();
-                self.serve_made(Some(made), is_at_end, reader, writer)
-            }
+            FixedCapacity::Zero => self.serve_inline::<0, C, R, W>(is_at_end, reader, writer),
+            FixedCapacity::One => self.serve_inline::<1, C, R, W>(is_at_end, reader, writer),
+            FixedCapacity::Three => self.serve_inline::<3, C, R, W>(is_at_end, reader, writer),
+            FixedCapacity::Eight => self.serve_inline::<8, C, R, W>(is_at_end, reader, writer),
         }
     }
 
@@ -133,8 +137,9 @@ impl Session {
     }
 
     /// Makes the container that the header asks for, and replies to the lines that come.
-    pub fn serve_header<R: Read, W: Write>(
+    fn serve_header_in<'a, R: Read, W: Write>(
         &mut self,
+        arena: &'a Bump<Global>,
         alloc: Global,
         header: Header,
         is_at_end: bool,
@@ -147,7 +152,6 @@ impl Session {
             (R.remaining reader.new) (W.contents writer.new) result }
     {
         let storage = header.storage;
-        let arena = &Bump::new(alloc);
         match header.container {
             Container::Queue => {
                 self.serve_storage::<Queues, R, W>(arena, alloc, storage, is_at_end, reader, writer)
@@ -165,5 +169,24 @@ impl Session {
                 arena, alloc, storage, is_at_end, reader, writer,
             ),
         }
+    }
+
+    /// Makes the container that the header asks for, and replies to the lines that come. An arena is made in any case; it
+    /// allocates nothing for itself.
+    pub fn serve_header<R: Read, W: Write>(
+        &mut self,
+        alloc: Global,
+        header: Header,
+        is_at_end: bool,
+        reader: &mut R,
+        writer: &mut W,
+    ) -> Result<(), ScriptFault>
+        requires { is_at_end ≡ true → self.old.input.rest ≡ [] }
+        ensures { FinishResult is_at_end (R.remaining reader.old) (W.contents writer.old) self.old.replies
+            (λ more. replies_from_header header (lines_to_come self.old.input more))
+            (R.remaining reader.new) (W.contents writer.new) result }
+    {
+        let arena = Bump::new(alloc);
+        self.serve_header_in(&arena, alloc, header, is_at_end, reader, writer)
     }
 }

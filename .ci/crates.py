@@ -1,0 +1,45 @@
+"""The crates of this repository: what each stands on, and a hash of their files."""
+
+import hashlib
+import os
+
+ROOT = os.path.dirname(os.path.dirname(os.path.abspath(__file__)))
+
+
+def read(path):
+    with open(os.path.join(ROOT, path), "rb") as file:
+        return file.read()
+
+
+def libraries_of_crates():
+    """Returns the libraries that each crate uses, by its name, in the order of crates.txt."""
+    uses = {}
+    for line in read("crates.txt").decode().splitlines():
+        head, _, libraries = line.partition("#")[0].partition(":")
+        if head.strip():
+            uses[head.split()[0]] = libraries.split()
+    return uses
+
+
+def below(crate, uses):
+    """Returns the crates of this repository that a crate stands on, each once, lowest first."""
+    found = {}
+    for library in uses[crate]:
+        if library in uses:
+            found.update(dict.fromkeys([*below(library, uses), library]))
+    return list(found)
+
+
+def files(crate, parts):
+    """Yields each file in these folders of a crate, as its path from the root."""
+    for part in parts:
+        for folder, folders, names in os.walk(os.path.join(ROOT, "crates", crate, part)):
+            folders.sort()
+            for name in sorted(names):
+                yield os.path.relpath(os.path.join(folder, name), ROOT)
+
+
+def digest(words, paths):
+    """Returns a hash of words, and of files with their paths."""
+    lines = [*words, *(f"{path} {hashlib.sha256(read(path)).hexdigest()}" for path in paths)]
+    return hashlib.sha256("\n".join(lines).encode()).hexdigest()
