@@ -1,12 +1,12 @@
 //! The texts of replies.
 ghost use Rattle.std.specs.Prelude.{◌≡◌, ◌≤◌, ◌+◌, ◌++◌, length, codes, decimal};
 ghost use Rattle.ix_run.specs.Lines.{with_line_feed};
-ghost use Rattle.ix_run.specs.ReplyTexts.{error_name, reply_text, items_text};
+ghost use Rattle.ix_run.specs.ReplyTexts.{error_name, reply_text, items_text, next_text};
 ghost use Rattle.ix_run.specs.Writing.{WriteResult};
 ghost use Rattle.ix_run.specs.declared.run.limits.TheConstants.{BUFFER_LEN, MAX_REPLY_LEN};
 
 use crate::run::listing::Listing;
-use crate::run::reply_buffer::ReplyBuffer;
+use crate::run::reply_buffer::{Piece, ReplyBuffer};
 use crate::run::{Reply, ReplyError, ScriptFault};
 use std::io::Write;
 
@@ -66,70 +66,42 @@ fn put_error(replies: &mut ReplyBuffer, error: ReplyError)
     replies.put(error_line(error));
 }
 
-/// Appends the line of a reply.
-#[inline(always)]
-fn put_reply(replies: &mut ReplyBuffer, reply: Reply<usize, u64>)
-    requires { length replies.old + MAX_REPLY_LEN ≤ BUFFER_LEN }
-    ensures { replies.new ≡ replies.old ++ with_line_feed (reply_text reply) }
-{
-    match reply {
-        Reply::Done => replies.put(b"ok\n"),
-        Reply::Bool(true) => replies.put(b"true\n"),
-        Reply::Bool(false) => replies.put(b"false\n"),
-        Reply::Number(number) => put_number_line(replies, number as u64),
-        Reply::None => replies.put(b"none\n"),
-        Reply::Key(key) => put_value(replies, key as u64),
-        Reply::Value(value) => put_value(replies, value),
-        Reply::Entry(key, value) => put_entry(replies, key as u64, value),
-        Reply::Error(error) => put_error(replies, error),
+/// The line of a reply.
+impl Piece for Reply<usize, u64> {
+    ghost text = { λ reply. with_line_feed (reply_text reply) };
+
+    #[inline(always)]
+    fn put_into(self, replies: &mut ReplyBuffer) {
+        match self {
+            Reply::Done => replies.put(b"ok\n"),
+            Reply::Bool(true) => replies.put(b"true\n"),
+            Reply::Bool(false) => replies.put(b"false\n"),
+            Reply::Number(number) => put_number_line(replies, number as u64),
+            Reply::None => replies.put(b"none\n"),
+            Reply::Key(key) => put_value(replies, key as u64),
+            Reply::Value(value) => put_value(replies, value),
+            Reply::Entry(key, value) => put_entry(replies, key as u64, value),
+            Reply::Error(error) => put_error(replies, error),
+        }
     }
 }
 
-/// Appends the line of a reply.
-#[tactic(auto, using(crate::proofs::Writing::Writes_put, crate::proofs::Writing::WritesPart_after_nil))]
-#[inline(always)]
-pub fn append_reply<W: Write>(
-    replies: &mut ReplyBuffer,
-    writer: &mut W,
-    reply: Reply<usize, u64>,
-) -> Result<(), ScriptFault>
-    ensures { WriteResult (W.contents writer.old) replies.old (with_line_feed (reply_text reply))
-        (W.contents writer.new) replies.new result }
-{
-    replies.reserve(writer)?;
-    put_reply(replies, reply);
-    Ok(())
+/// A number of a list, after a space unless it is the first.
+#[derive(Drop)]
+struct ListedNumber {
+    is_first: bool,
+    number: u64,
 }
 
-/// Appends a number.
-#[tactic(auto, using(crate::proofs::Writing::Writes_put, crate::proofs::Writing::WritesPart_after_nil))]
-pub fn append_number<W: Write>(
-    replies: &mut ReplyBuffer,
-    writer: &mut W,
-    number: u64,
-) -> Result<(), ScriptFault>
-    ensures { WriteResult (W.contents writer.old) replies.old (decimal number)
-        (W.contents writer.new) replies.new result }
-{
-    replies.reserve(writer)?;
-    replies.put_number(number);
-    Ok(())
-}
+impl Piece for ListedNumber {
+    ghost text = { λ listed. next_text listed.is_first (decimal listed.number) };
 
-/// Appends a space and a number.
-#[tactic(auto, using(crate::proofs::Writing::Writes_put, crate::proofs::Writing::WritesPart_after_nil))]
-fn append_next_number<W: Write>(
-    replies: &mut ReplyBuffer,
-    writer: &mut W,
-    number: u64,
-) -> Result<(), ScriptFault>
-    ensures { WriteResult (W.contents writer.old) replies.old (codes " " ++ decimal number)
-        (W.contents writer.new) replies.new result }
-{
-    replies.reserve(writer)?;
-    replies.put(b" ");
-    replies.put_number(number);
-    Ok(())
+    fn put_into(self, replies: &mut ReplyBuffer) {
+        if !self.is_first {
+            replies.put(b" ");
+        }
+        replies.put_number(self.number);
+    }
 }
 
 /// Appends the items separated by single spaces, or a dash if there are none.
@@ -145,9 +117,22 @@ pub fn append_items<L: Listing, W: Write>(
     if len == 0 {
         return replies.append(writer, b"-");
     }
-    append_number(replies, writer, list.item(0))?;
+    replies.append_piece(
+        writer,
+        ListedNumber {
+            is_first: true,
+            number: list.item(0),
+        },
+    )?;
     for i in 1..len {
-        append_next_number(replies, writer, list.item(i))?;
+        let number = list.item(i);
+        replies.append_piece(
+            writer,
+            ListedNumber {
+                is_first: false,
+                number,
+            },
+        )?;
     }
     Ok(())
 }

@@ -1,5 +1,5 @@
 //! Replies on their way to a writer.
-ghost use Rattle.std.specs.Prelude.{◌≡◌, ◌<◌, ◌≤◌, ◌+◌, ◌↔◌, ◌++◌, [], length, take, decimal, IsTrue, MatchResult, OnOk};
+ghost use Rattle.std.specs.Prelude.{ℕ, List, ◌≡◌, ◌<◌, ◌≤◌, ◌+◌, ◌↔◌, ◌++◌, [], length, take, decimal, IsTrue, MatchResult, OnOk};
 ghost use Rattle.std.specs.Io.KnownBytes.{Appends, Keeps};
 ghost use Rattle.ix_run.specs.Writing.{WriteResult, Writes, WritesPart};
 ghost use Rattle.ix_run.specs.declared.run.fault.ScriptFault.TheVariants as ScriptFault;
@@ -42,6 +42,17 @@ fn write_all<W: Write>(writer: &mut W, bytes: &[u8]) -> Result<(), ScriptFault>
         rest = &rest[n..];
     }
     Ok(())
+}
+
+/// What is appended at once: at most [`MAX_REPLY_LEN`] bytes.
+pub trait Piece {
+    /// Its bytes.
+    ghost text: { Self → List ℕ };
+
+    /// Appends the bytes, for which there is room.
+    fn put_into(self, replies: &mut ReplyBuffer)
+        requires { length replies.old + MAX_REPLY_LEN ≤ BUFFER_LEN }
+        ensures { replies.new ≡ replies.old ++ text self };
 }
 
 /// The replies that are not written yet, at most [`BUFFER_LEN`] bytes, so that one write carries many of them.
@@ -131,6 +142,22 @@ impl ReplyBuffer {
     {
         self.reserve(writer)?;
         self.put(bytes);
+        Ok(())
+    }
+
+    /// Appends a piece. Writes the bytes of the buffer first if there is no room.
+    #[inline(always)]
+    #[tactic(auto, using(crate::proofs::Writing::Writes_put, crate::proofs::Writing::WritesPart_after_nil))]
+    pub fn append_piece<P: Piece + Drop, W: Write>(
+        &mut self,
+        writer: &mut W,
+        piece: P,
+    ) -> Result<(), ScriptFault>
+        ensures { WriteResult (W.contents writer.old) self.old (P.text piece)
+            (W.contents writer.new) self.new result }
+    {
+        self.reserve(writer)?;
+        piece.put_into(self);
         Ok(())
     }
 }

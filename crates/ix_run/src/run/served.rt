@@ -6,7 +6,6 @@ ghost use Rattle.ix_run.specs.Script.{line_reply, line_after};
 ghost use Rattle.ix_run.specs.Writing.{WriteResult};
 ghost use Rattle.ix_run.specs.declared.run.limits.TheConstants.{MAX_LINE_LEN};
 
-use crate::run::replies::append_reply;
 use crate::run::reply_buffer::ReplyBuffer;
 use crate::run::scripted::Scripted;
 use crate::run::{Reply, ScriptFault};
@@ -79,7 +78,7 @@ impl<C: Served> Serving<C> {
             return self.show(pending, writer);
         }
         match self.container.run_line(line) {
-            Some(reply) => append_reply(pending, writer, reply),
+            Some(reply) => pending.append_piece(writer, reply),
             None => pending.append(writer, b"?\n"),
         }
     }

@@ -1,12 +1,11 @@
 //! Lines of a script for a slot map.
-ghost use Rattle.std.specs.Prelude.{◌≡◌, ◌≤◌, ◌+◌, ◌++◌, length};
+ghost use Rattle.std.specs.Prelude.{◌≡◌};
 ghost use Rattle.ix_maps.specs.SlotState.{entries};
 ghost use Rattle.ix_run.specs.ReplyTexts.{items_text, entry_text, next_text};
 ghost use Rattle.ix_run.specs.Writing.{WriteResult};
-ghost use Rattle.ix_run.specs.declared.run.limits.TheConstants.{BUFFER_LEN, MAX_REPLY_LEN};
 
 use crate::run::containers::{MakesInArena, MakesInline, MakesOnHeap, Named};
-use crate::run::reply_buffer::ReplyBuffer;
+use crate::run::reply_buffer::{Piece, ReplyBuffer};
 use crate::run::served::Served;
 use crate::run::{Reply, Runs, ScriptFault, read_slot_command};
 use bumpalo::Bump;
@@ -15,34 +14,25 @@ use ix_maps::{FixedSizeSlotMap, Link, MetaSlotMap, RelocatableSlotMap, SlotMap, 
 use std::alloc::Global;
 use std::io::Write;
 
-/// Appends a key with its value, and before it a space unless it is the first.
-fn put_next_entry(pending: &mut ReplyBuffer, is_first: bool, key: u64, value: u64)
-    requires { length pending.old + MAX_REPLY_LEN ≤ BUFFER_LEN }
-    ensures { pending.new ≡ pending.old ++ next_text is_first (entry_text (key, value)) }
-{
-    if !is_first {
-        pending.put(b" ");
-    }
-    pending.put_number(key);
-    pending.put(b"=");
-    pending.put_number(value);
-}
-
-/// Appends a key with its value, and before it a space unless it is the first.
-#[tactic(auto, using(crate::proofs::Writing::Writes_put, crate::proofs::Writing::WritesPart_after_nil))]
-fn append_next_entry<W: Write>(
-    pending: &mut ReplyBuffer,
-    writer: &mut W,
+/// A key with its value, after a space unless it is the first.
+#[derive(Drop)]
+struct ListedEntry {
     is_first: bool,
     key: u64,
     value: u64,
-) -> Result<(), ScriptFault>
-    ensures { WriteResult (W.contents writer.old) pending.old (next_text is_first (entry_text (key, value)))
-        (W.contents writer.new) pending.new result }
-{
-    pending.reserve(writer)?;
-    put_next_entry(pending, is_first, key, value);
-    Ok(())
+}
+
+impl Piece for ListedEntry {
+    ghost text = { λ listed. next_text listed.is_first (entry_text (listed.key, listed.value)) };
+
+    fn put_into(self, replies: &mut ReplyBuffer) {
+        if !self.is_first {
+            replies.put(b" ");
+        }
+        replies.put_number(self.key);
+        replies.put(b"=");
+        replies.put_number(self.value);
+    }
 }
 
 /// Appends the keys with their values, separated by single spaces, or a dash if there are none.
@@ -59,7 +49,12 @@ fn append_entries<S: Table<u64>, L: Table<Link>, W: Write>(
     }
     let mut is_first = true;
     for (key, value) in map.iter() {
-        append_next_entry(pending, writer, is_first, key.value() as u64, *value)?;
+        let entry = ListedEntry {
+            is_first,
+            key: key.value() as u64,
+            value: *value,
+        };
+        pending.append_piece(writer, entry)?;
         is_first = false;
     }
     Ok(())

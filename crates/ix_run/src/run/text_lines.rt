@@ -2,11 +2,10 @@
 ghost use Rattle.std.specs.Prelude.{◌≡◌, ◌<◌, ◌≤◌, ◌+◌, ◌++◌, ◌∷◌, [], codes, length, take};
 ghost use Rattle.ix_string.specs.Escape.{escaped_byte, escaped_text, hex_digit};
 ghost use Rattle.ix_run.specs.Writing.{WriteResult, WritesPart};
-ghost use Rattle.ix_run.specs.declared.run.limits.TheConstants.{BUFFER_LEN, MAX_REPLY_LEN};
 
 use crate::run::containers::{MakesInArena, MakesInline, MakesOnHeap, Named};
 use crate::run::limits::MAX_NUMBERS;
-use crate::run::reply_buffer::ReplyBuffer;
+use crate::run::reply_buffer::{Piece, ReplyBuffer};
 use crate::run::served::Served;
 use crate::run::{Reply, Runs, ScriptFault, read_text_command};
 use bumpalo::Bump;
@@ -58,33 +57,23 @@ fn hex_byte(digit: u8) -> u8
     if digit < 10 { 48 + digit } else { 87 + digit }
 }
 
-/// Appends a byte that is printed escaped.
-fn put_escaped(pending: &mut ReplyBuffer, byte: u8)
-    requires { length pending.old + MAX_REPLY_LEN ≤ BUFFER_LEN }
-    ensures { pending.new ≡ pending.old ++ escaped_byte byte }
-{
-    match byte {
-        9 => pending.put(b"\\t"),
-        13 => pending.put(b"\\r"),
-        10 => pending.put(b"\\n"),
-        32..=127 => pending.put(&[byte]),
-        _ => pending.put(&[b'\\', b'x', hex_byte(byte / 16), hex_byte(byte % 16)]),
-    }
-}
+/// A byte that is printed escaped.
+#[derive(Drop)]
+struct EscapedByte(u8);
 
-/// Appends a byte that is printed escaped. Writes the bytes of the buffer first if there is no room.
-#[tactic(auto, using(crate::proofs::Writing::Writes_put, crate::proofs::Writing::WritesPart_after_nil))]
-fn append_escaped<W: Write>(
-    pending: &mut ReplyBuffer,
-    writer: &mut W,
-    byte: u8,
-) -> Result<(), ScriptFault>
-    ensures { WriteResult (W.contents writer.old) pending.old (escaped_byte byte)
-        (W.contents writer.new) pending.new result }
-{
-    pending.reserve(writer)?;
-    put_escaped(pending, byte);
-    Ok(())
+impl Piece for EscapedByte {
+    ghost text = { λ escaped. escaped_byte escaped.0 };
+
+    fn put_into(self, replies: &mut ReplyBuffer) {
+        let EscapedByte(byte) = self;
+        match byte {
+            9 => replies.put(b"\\t"),
+            13 => replies.put(b"\\r"),
+            10 => replies.put(b"\\n"),
+            32..=127 => replies.put(&[byte]),
+            _ => replies.put(&[b'\\', b'x', hex_byte(byte / 16), hex_byte(byte % 16)]),
+        }
+    }
 }
 
 /// Appends bytes that are printed escaped.
@@ -97,7 +86,7 @@ fn append_escaped_bytes<W: Write>(
         (W.contents writer.new) pending.new result }
 {
     for byte in bytes {
-        append_escaped(pending, writer, *byte)?;
+        pending.append_piece(writer, EscapedByte(*byte))?;
     }
     Ok(())
 }

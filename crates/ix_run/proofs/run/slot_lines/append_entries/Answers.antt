@@ -19,8 +19,8 @@ loop-key-init g c =
     let some : length all ≡ 0 → ⊥ = λ e. let none = c.if-is_empty.ensures.1 (sym (length-entries c.args.map.now.values) ∙ e) in cc in
     ([], items_left_text-first entry_text all some ∙ ap (items_left_text entry_text true) same, ([], Appends-nil _, append-nil c.args.pending.now))
 
-pub returns-in_err-append_next_entry : goal.returns-in_err-append_next_entry
-returns-in_err-append_next_entry g c =
+pub returns-in_err-append_piece : goal.returns-in_err-append_piece
+returns-in_err-append_piece g c =
     let p = err_from_is_err_and c.from_residual.result c.from_residual.ensures.1 in
     let at = c.loop-key.invariant in
     let step : c.loop-key.key-iterator ≡ (c.value.result, c.in-Some.value.now) ∷ c.next.new.self = search rules in
@@ -28,8 +28,8 @@ returns-in_err-append_next_entry g c =
     let rest = more_items_text entry_text c.next.new.self in
     let whole = at.1 ∙ ap (λ l. at.0 ++ items_left_text entry_text c.loop-key.is_first l) step ∙ sym (append_assoc at.0 word rest) in
     rw (p.1, p.2, whole) (
-      c.in_err-append_next_entry.ensures.0,
-      WritesPart_append _ _ _ (at.0 ++ word) rest (WritesPart-Writes _ _ _ _ _ at.0 word at.2 c.in_err-append_next_entry.ensures.1),
+      c.in_err-append_piece.ensures.0,
+      WritesPart_append _ _ _ (at.0 ++ word) rest (WritesPart-Writes _ _ _ _ _ at.0 word at.2 c.in_err-append_piece.ensures.1),
     )
 
 pub loop-key-preserved : goal.loop-key-preserved
@@ -39,4 +39,4 @@ loop-key-preserved g c =
     let word = next_text c.loop-key.is_first (entry_text (c.value.result, c.in-Some.value.now)) in
     let rest = more_items_text entry_text c.next.new.self in
     let whole = at.1 ∙ ap (λ l. at.0 ++ items_left_text entry_text c.loop-key.is_first l) step ∙ sym (append_assoc at.0 word rest) in
-    (at.0 ++ word, whole ∙ ap (λ l. (at.0 ++ word) ++ l) (sym (items_left_text-more entry_text c.next.new.self)), Writes-append _ _ _ _ _ _ at.0 word at.2 c.in_ok-append_next_entry.ensures)
+    (at.0 ++ word, whole ∙ ap (λ l. (at.0 ++ word) ++ l) (sym (items_left_text-more entry_text c.next.new.self)), Writes-append _ _ _ _ _ _ at.0 word at.2 c.in_ok-append_piece.ensures)

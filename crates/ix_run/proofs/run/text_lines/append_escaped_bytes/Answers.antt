@@ -5,8 +5,8 @@ use Rattle.ix_string.specs.Escape.{escaped_byte, escaped_text}
 use Rattle.ix_run.proofs.Writing.{Writes-append, WritesPart-Writes, WritesPart_append}
 use Rattle.ix_run.proofs.run.text_lines.append_escaped_bytes.Goals as goal
 
-pub returns-in_err-append_escaped : goal.returns-in_err-append_escaped
-returns-in_err-append_escaped g c =
+pub returns-in_err-append_piece : goal.returns-in_err-append_piece
+returns-in_err-append_piece g c =
     let p = err_from_is_err_and c.from_residual.result c.from_residual.ensures.1 in
     let bytes = c.args.bytes.now in
     let i = c.loop-byte.byte-index in
@@ -15,8 +15,8 @@ returns-in_err-append_escaped g c =
     let rest = escaped_text (drop (i + 1) bytes) in
     let whole = at.1 ∙ ap (λ l. at.0 ++ escaped_text l) (drop_more bytes i 0 c.loop-byte-test.true) ∙ sym (append_assoc at.0 word rest) in
     rw (p.1, p.2, whole) (
-      c.in_err-append_escaped.ensures.0,
-      WritesPart_append _ _ _ (at.0 ++ word) rest (WritesPart-Writes _ _ _ _ _ at.0 word at.2 c.in_err-append_escaped.ensures.1),
+      c.in_err-append_piece.ensures.0,
+      WritesPart_append _ _ _ (at.0 ++ word) rest (WritesPart-Writes _ _ _ _ _ at.0 word at.2 c.in_err-append_piece.ensures.1),
     )
 
 pub loop-byte-preserved : goal.loop-byte-preserved
@@ -27,4 +27,4 @@ loop-byte-preserved g c =
     let word = escaped_byte (get_or bytes i 0) in
     let rest = escaped_text (drop (i + 1) bytes) in
     let whole = at.1 ∙ ap (λ l. at.0 ++ escaped_text l) (drop_more bytes i 0 c.loop-byte-test.true) ∙ sym (append_assoc at.0 word rest) in
-    (at.0 ++ word, whole, Writes-append _ _ _ _ _ _ at.0 word at.2 c.in_ok-append_escaped.ensures)
+    (at.0 ++ word, whole, Writes-append _ _ _ _ _ _ at.0 word at.2 c.in_ok-append_piece.ensures)
