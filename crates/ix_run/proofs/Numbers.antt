@@ -1,5 +1,5 @@
 -- Words that are numbers.
-use Rattle.std.proofs.Common.{ℕ, ◌≡◌, ◌≤◌, ◌<◌, ◌+◌, ◌-◌, ◌*◌, ◌^◌, zero, suc, List, [], ◌∷◌, Option, Some, None, IfSome, SomeIff, length, drop, get_or, nat_eq, nat_lt, bytes_eq, Bool, true, false, ◌&&◌, refl, sym, ap, ◌∙◌, rules, arith, decimal, cond}
+use Rattle.std.proofs.Common.{ℕ, ◌≡◌, ◌<◌, ◌^◌, zero, suc, List, Option, Some, None, IfSome, SomeIff, length, get_or, nat_eq, nat_lt, bytes_eq, Bool, true, false, ◌&&◌, refl, sym, ap, ◌∙◌, rules, arith, decimal, cond}
 use Rattle.std.specs.Str.{all_ascii_digits}
 use Rattle.std.specs.Str.Parse.{AllDigits, digits_value, without_leading_plus}
 use Rattle.std.proofs.lemmas.Bool.{and_parts, eqb-true}

@@ -1,6 +1,5 @@
-use Rattle.std.proofs.Common.{◌++◌, codes, sym}
+use Rattle.std.proofs.Common.{sym}
 use Rattle.ix_run.specs.Input.{lines_to_come}
-use Rattle.ix_run.specs.Lines.{with_line_feed}
 use Rattle.ix_run.specs.Script.{replies_to_lines}
 use Rattle.ix_run.proofs.Progress.{FinishResult-StopResult}
 use Rattle.ix_run.proofs.run.session.Session.serve_made.Goals as goal
