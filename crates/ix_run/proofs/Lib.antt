@@ -11,6 +11,7 @@ pub mod Pieces
 pub mod Plain
 pub mod Progress
 pub mod Spelling
+pub mod Tables
 mod WorkedScripts
 pub mod Words
 pub mod Writing

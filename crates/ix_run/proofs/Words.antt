@@ -12,7 +12,7 @@ use Rattle.std.proofs.lemmas.List.Elements.{All-cons, All-nil}
 use Rattle.std.proofs.lemmas.List.Sums.{prefix_len-le-length, fails_before_first}
 use Rattle.std.proofs.lemmas.List.Splits.{slice_split_first, slice_split_none, length-slice_split, join_with_byte-slice_split}
 use Rattle.ix_run.specs.Reading.{number_of}
-use Rattle.ix_run.specs.Words.{Form, is_space, numbers_in, name_and_numbers, fits_byte, byte_of, make_named, command_of, alone, one, two, many, one_byte, number_byte, many_bytes, number_many_bytes}
+use Rattle.ix_run.specs.Words.{Form, is_space, numbers_in, name_and_numbers, fits_byte, byte_of, make_named, command_of, alone, one, two, one_byte, number_byte, many_bytes, number_many_bytes}
 use Rattle.ix_run.proofs.Numbers.{IsNumeral-decimal, number_of-IfSome}
 
 pub position_or_len_bound : (bytes : List ℕ) → position_or_len is_space bytes ≤ length bytes
@@ -128,60 +128,6 @@ alone-parts command (word ∷ parts) h = alone-word command (number_of word) (nu
 -- no command without numbers has a further word
 pub alone_not_last : {C : Type 0} (command : C) (bytes : List ℕ) → None ≡ option_and_then (alone command) (numbers_in (slice_split is_space bytes))
 alone_not_last command bytes = sym (alone-parts command (slice_split is_space bytes) (let l = length-slice_split is_space bytes in omega (arith, l)))
-
--- what a form makes, from the numbers that were read
-pub one_made : {C : Type 0} (make : ℕ → C) (numbers : Option (List ℕ)) → option_and_then (one make) numbers ≡ option_map make (option_and_then (one (λ n. n)) numbers)
-one_made make None = refl
-one_made make (Some []) = refl
-one_made make (Some (n ∷ [])) = refl
-one_made make (Some (n ∷ m ∷ ns)) = refl
-
-pub two_made : {C : Type 0} (make : ℕ → ℕ → C) (numbers : Option (List ℕ))
-    → option_and_then (two make) numbers ≡ option_map (λ p. make p.0 p.1) (option_and_then {U = ℕ × ℕ} (two (λ n m. (n, m))) numbers)
-two_made make None = refl
-two_made make (Some []) = refl
-two_made make (Some (n ∷ [])) = refl
-two_made make (Some (n ∷ m ∷ [])) = refl
-two_made make (Some (n ∷ m ∷ k ∷ ns)) = refl
-
-pub one_byte_made : {C : Type 0} (make : ℕ → C) (numbers : Option (List ℕ)) → option_and_then (one_byte make) numbers ≡ option_map make (option_and_then (one_byte (λ b. b)) numbers)
-one_byte_made make None = refl
-one_byte_made make (Some []) = refl
-one_byte_made make (Some (b ∷ [])) = cond-byte make b (fits_byte b)
-one_byte_made make (Some (b ∷ m ∷ ns)) = refl
-
-cond-number_byte : {C : Type 0} (make : ℕ → ℕ → C) (n b : ℕ) (fits : Bool) → cond fits (Some (make n b)) None ≡ option_map (λ p. make p.0 p.1) (cond {A = Option (ℕ × ℕ)} fits (Some (n, b)) None)
-cond-number_byte make n b true = refl
-cond-number_byte make n b false = refl
-
-pub number_byte_made : {C : Type 0} (make : ℕ → ℕ → C) (numbers : Option (List ℕ))
-    → option_and_then (number_byte make) numbers ≡ option_map (λ p. make p.0 p.1) (option_and_then {U = ℕ × ℕ} (number_byte (λ n b. (n, b))) numbers)
-number_byte_made make None = refl
-number_byte_made make (Some []) = refl
-number_byte_made make (Some (n ∷ [])) = refl
-number_byte_made make (Some (n ∷ b ∷ [])) = cond-number_byte make n b (fits_byte b)
-number_byte_made make (Some (n ∷ b ∷ k ∷ ns)) = refl
-
-pub many_made : {C : Type 0} (make : List ℕ → C) (numbers : Option (List ℕ)) → option_and_then (many make) numbers ≡ option_map make numbers
-many_made make None = refl
-many_made make (Some ns) = refl
-
-pub many_bytes_made : {C : Type 0} (make : List ℕ → C) (numbers : Option (List ℕ)) → option_and_then (many_bytes make) numbers ≡ option_map make (option_and_then (many_bytes (λ bs. bs)) numbers)
-many_bytes_made make None = refl
-many_bytes_made make (Some bs) = cond-bytes make bs (list_all fits_byte bs)
-
-cond-number_bytes : {C : Type 0} (make : ℕ → List ℕ → C) (n : ℕ) (bs : List ℕ) (fit : Bool) → cond fit (Some (make n bs)) None ≡ option_map (λ p. make p.0 p.1) (cond {A = Option (ℕ × List ℕ)} fit (Some (n, bs)) None)
-cond-number_bytes make n bs true = refl
-cond-number_bytes make n bs false = refl
-
-pub number_many_bytes_made : {C : Type 0} (make : ℕ → List ℕ → C) (numbers : Option (List ℕ))
-    → option_and_then (number_many_bytes make) numbers ≡ option_map (λ p. make p.0 p.1) (option_and_then {U = ℕ × List ℕ} (number_many_bytes (λ n bs. (n, bs))) numbers)
-number_many_bytes_made make None = refl
-number_many_bytes_made make (Some []) = refl
-number_many_bytes_made make (Some (n ∷ bs)) = cond-number_bytes make n bs (list_all fits_byte bs)
-
--- the forms of the commands of strings
-pub ruleset bytes_made = (one_made, two_made, one_byte_made, number_byte_made, many_bytes_made, number_many_bytes_made)
 
 -- the items of a list of words, one item more
 pub item_after : (items : List ℕ) (n : ℕ) (others : Option (List ℕ)) → option_map (λ ns. items ++ ns) (option_map (λ ns. n ∷ ns) others) ≡ option_map (λ ns. (items ++ n ∷ []) ++ ns) others

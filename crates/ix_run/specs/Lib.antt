@@ -9,5 +9,6 @@ pub mod Progress
 pub mod Reading
 pub mod ReplyTexts
 pub mod Script
+pub mod Tables
 pub mod Words
 pub mod Writing

@@ -28,6 +28,7 @@ mod served;
 mod session;
 mod slot_lines;
 mod spelling;
+mod tables;
 mod text_lines;
 mod vec_lines;
 mod words;

@@ -1,10 +1,24 @@
 //! Lines as commands of flat maps.
-ghost use Rattle.std.specs.Prelude.{◌≡◌, option_copied};
-ghost use Rattle.ix_run.specs.Words.{words_after, numbers_in, make_named, command_of};
+ghost use Rattle.std.specs.Prelude.{◌≡◌};
+ghost use Rattle.ix_run.specs.Words.{command_of};
 ghost use Rattle.ix_run.specs.Forms.{flat_forms};
+ghost use Rattle.ix_run.specs.Tables.{flat_with};
 
 use crate::run::FlatCommand;
-use crate::run::words::{alone, is_word, one_number, split_word, two_numbers};
+use crate::run::tables::{Takes, read_by_table};
+
+/// The commands by name, with zeros for their numbers.
+const COMMANDS: [(&[u8], (Takes, FlatCommand<u64, u64>)); 9] = [
+    (b"insert", (Takes::TwoNumbers, FlatCommand::Insert(0, 0))),
+    (b"get", (Takes::Number, FlatCommand::Get(0))),
+    (b"set", (Takes::TwoNumbers, FlatCommand::Set(0, 0))),
+    (b"remove", (Takes::Number, FlatCommand::Remove(0))),
+    (b"contains", (Takes::Number, FlatCommand::Contains(0))),
+    (b"key", (Takes::Number, FlatCommand::Key(0))),
+    (b"len", (Takes::Nothing, FlatCommand::Len)),
+    (b"empty", (Takes::Nothing, FlatCommand::Empty)),
+    (b"full", (Takes::Nothing, FlatCommand::Full)),
+];
 
 /// Returns the command of a flat map that `line` spells: the name and the numbers, with one space before each number, as
 /// the commands say; or `None` for any other line. O(length).
@@ -12,42 +26,22 @@ use crate::run::words::{alone, is_word, one_number, split_word, two_numbers};
 pub fn read_flat_command(line: &[u8]) -> Option<FlatCommand<u64, u64>>
     ensures value { result ≡ command_of flat_forms line.now }
 {
-    let (name, rest) = split_word(line);
-    command_named(name, rest)
+    let (command, (first, second)) = read_by_table(&COMMANDS, line)?;
+    Some(with_numbers(command, first, second))
 }
 
-#[tactic(auto, using(crate::proofs::Words::one_made, crate::proofs::Words::two_made))]
-fn command_named(name: &[u8], rest: Option<&[u8]>) -> Option<FlatCommand<u64, u64>>
-    ensures { result ≡ make_named flat_forms name.now (numbers_in (words_after (option_copied rest.entry))) }
+/// Returns the command with these numbers.
+#[inline]
+fn with_numbers(command: FlatCommand<u64, u64>, first: u64, second: u64) -> FlatCommand<u64, u64>
+    ensures { result ≡ flat_with command first second }
 {
-    if is_word(name, b"insert") {
-        let (key, value) = two_numbers(rest)?;
-        return Some(FlatCommand::Insert(key, value));
+    match command {
+        FlatCommand::Insert(_, _) => FlatCommand::Insert(first, second),
+        FlatCommand::Get(_) => FlatCommand::Get(first),
+        FlatCommand::Set(_, _) => FlatCommand::Set(first, second),
+        FlatCommand::Remove(_) => FlatCommand::Remove(first),
+        FlatCommand::Contains(_) => FlatCommand::Contains(first),
+        FlatCommand::Key(_) => FlatCommand::Key(first as usize),
+        other => other,
     }
-    if is_word(name, b"get") {
-        return Some(FlatCommand::Get(one_number(rest)?));
-    }
-    if is_word(name, b"set") {
-        let (key, value) = two_numbers(rest)?;
-        return Some(FlatCommand::Set(key, value));
-    }
-    if is_word(name, b"remove") {
-        return Some(FlatCommand::Remove(one_number(rest)?));
-    }
-    if is_word(name, b"contains") {
-        return Some(FlatCommand::Contains(one_number(rest)?));
-    }
-    if is_word(name, b"key") {
-        return Some(FlatCommand::Key(one_number(rest)? as usize));
-    }
-    if is_word(name, b"len") {
-        return alone(rest, FlatCommand::Len);
-    }
-    if is_word(name, b"empty") {
-        return alone(rest, FlatCommand::Empty);
-    }
-    if is_word(name, b"full") {
-        return alone(rest, FlatCommand::Full);
-    }
-    None
 }

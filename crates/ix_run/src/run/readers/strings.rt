@@ -1,15 +1,66 @@
 //! Lines as commands of strings.
-ghost use Rattle.std.specs.Prelude.{◌≡◌, ◌≤◌, ◌*◌, length, drop, option_map, option_copied};
-ghost use Rattle.ix_run.specs.Words.{words_after, len_after, numbers_in, make_named, command_of};
+ghost use Rattle.std.specs.Prelude.{◌≡◌, ◌≤◌, length, bytes_eq, option_map};
+ghost use Rattle.std.specs.Map.{lookup};
+ghost use Rattle.ix_run.specs.Words.{command_of};
 ghost use Rattle.ix_run.specs.Forms.{text_forms, text_plain};
+ghost use Rattle.ix_run.specs.Tables.{constant_rows, text_named};
+ghost use Rattle.ix_run.specs.declared.run.readers.strings.TheConstants.{NAMES};
 ghost use Rattle.ix_run.specs.declared.run.limits.TheConstants.{MAX_LINE_LEN};
 
 use crate::run::limits::MAX_NUMBERS;
-use crate::run::words::{
-    alone, bytes_of_words, is_word, number_and_byte, number_and_bytes, one_byte, one_number,
-    split_word, two_numbers,
-};
+use crate::run::tables::{Takes, read_bytes, value_named};
+use crate::run::words::split_word;
 use crate::run::{MAX_LINE_LEN, TextCommand};
+
+/// The name of a command.
+#[derive(Clone, Copy)]
+enum TextName {
+    Push,
+    Append,
+    Insert,
+    InsertBytes,
+    Pop,
+    Remove,
+    RemoveRange,
+    Find,
+    Rfind,
+    StripPrefix,
+    StripSuffix,
+    Drop,
+    At,
+    Truncate,
+    Clear,
+    Len,
+    Capacity,
+    Empty,
+    Full,
+}
+
+/// The names of the commands, and what each takes.
+const NAMES: [(&[u8], (Takes, TextName)); 19] = [
+    (b"push", (Takes::Byte, TextName::Push)),
+    (b"append", (Takes::Bytes, TextName::Append)),
+    (b"insert", (Takes::NumberAndByte, TextName::Insert)),
+    (
+        b"insert_bytes",
+        (Takes::NumberAndBytes, TextName::InsertBytes),
+    ),
+    (b"pop", (Takes::Nothing, TextName::Pop)),
+    (b"remove", (Takes::Number, TextName::Remove)),
+    (b"remove_range", (Takes::TwoNumbers, TextName::RemoveRange)),
+    (b"find", (Takes::Bytes, TextName::Find)),
+    (b"rfind", (Takes::Bytes, TextName::Rfind)),
+    (b"strip_prefix", (Takes::Bytes, TextName::StripPrefix)),
+    (b"strip_suffix", (Takes::Bytes, TextName::StripSuffix)),
+    (b"drop", (Takes::Byte, TextName::Drop)),
+    (b"at", (Takes::Number, TextName::At)),
+    (b"truncate", (Takes::Number, TextName::Truncate)),
+    (b"clear", (Takes::Nothing, TextName::Clear)),
+    (b"len", (Takes::Nothing, TextName::Len)),
+    (b"capacity", (Takes::Nothing, TextName::Capacity)),
+    (b"empty", (Takes::Nothing, TextName::Empty)),
+    (b"full", (Takes::Nothing, TextName::Full)),
+];
 
 /// Returns the command of a string that `line` spells: the name and the numbers, with one space before each number, as
 /// the commands say; or `None` for any other line. The bytes of a list are put in `bytes`. O(length).
@@ -22,101 +73,47 @@ pub fn read_text_command<'a>(
     ensures value { option_map text_plain result ≡ command_of text_forms line.now }
 {
     let (name, rest) = split_word(line);
-    command_named(name, rest, bytes)
+    let (takes, name) = form_named(name)?;
+    let (first, second, byte, bytes) = read_bytes(takes, rest, bytes)?;
+    Some(command_named(name, first, second, byte, bytes))
 }
 
-#[tactic(auto, using(crate::proofs::Words::bytes_made))]
+/// Returns what the command with this name takes, and which command it is.
+fn form_named(name: &[u8]) -> Option<(Takes, TextName)>
+    ensures { result ≡ lookup (bytes_eq name.now) (constant_rows NAMES) }
+{
+    value_named(&NAMES, name)
+}
+
+/// Returns the command with this name, of these numbers, this byte or these bytes.
 fn command_named<'a>(
-    name: &[u8],
-    rest: Option<&[u8]>,
-    bytes: &'a mut [u8],
-) -> Option<TextCommand<'a>>
-    requires room { len_after (option_copied rest) ≤ 2 * length bytes.now }
-    ensures { option_map text_plain result
-        ≡ make_named text_forms name.now (numbers_in (words_after (option_copied rest.entry))) }
+    name: TextName,
+    first: u64,
+    second: u64,
+    byte: u8,
+    bytes: &'a [u8],
+) -> TextCommand<'a>
+    ensures { text_plain result ≡ text_named name first second byte bytes.now }
 {
-    if is_word(name, b"push") {
-        return Some(TextCommand::Push(one_byte(rest)?));
+    match name {
+        TextName::Push => TextCommand::Push(byte),
+        TextName::Append => TextCommand::Append(bytes),
+        TextName::Insert => TextCommand::Insert(first as usize, byte),
+        TextName::InsertBytes => TextCommand::InsertBytes(first as usize, bytes),
+        TextName::Pop => TextCommand::Pop,
+        TextName::Remove => TextCommand::Remove(first as usize),
+        TextName::RemoveRange => TextCommand::RemoveRange(first as usize, second as usize),
+        TextName::Find => TextCommand::Find(bytes),
+        TextName::Rfind => TextCommand::Rfind(bytes),
+        TextName::StripPrefix => TextCommand::StripPrefix(bytes),
+        TextName::StripSuffix => TextCommand::StripSuffix(bytes),
+        TextName::Drop => TextCommand::Drop(byte),
+        TextName::At => TextCommand::At(first as usize),
+        TextName::Truncate => TextCommand::Truncate(first as usize),
+        TextName::Clear => TextCommand::Clear,
+        TextName::Len => TextCommand::Len,
+        TextName::Capacity => TextCommand::Capacity,
+        TextName::Empty => TextCommand::Empty,
+        TextName::Full => TextCommand::Full,
     }
-    if is_word(name, b"append") {
-        return Some(TextCommand::Append(bytes_of_words(rest, bytes)?));
-    }
-    if is_word(name, b"insert") {
-        let (index, byte) = number_and_byte(rest)?;
-        return Some(TextCommand::Insert(index as usize, byte));
-    }
-    if is_word(name, b"insert_bytes") {
-        let (index, bytes) = number_and_bytes(rest, bytes)?;
-        return Some(TextCommand::InsertBytes(index as usize, bytes));
-    }
-    if is_word(name, b"pop") {
-        return alone(rest, TextCommand::Pop);
-    }
-    if is_word(name, b"remove") {
-        return Some(TextCommand::Remove(one_number(rest)? as usize));
-    }
-    search_named(name, rest, bytes)
-}
-
-/// The forms after the first six.
-#[tactic(auto, using(crate::proofs::Words::bytes_made))]
-fn search_named<'a>(
-    name: &[u8],
-    rest: Option<&[u8]>,
-    bytes: &'a mut [u8],
-) -> Option<TextCommand<'a>>
-    requires room { len_after (option_copied rest) ≤ 2 * length bytes.now }
-    ensures { option_map text_plain result
-        ≡ make_named (drop 6 text_forms) name.now (numbers_in (words_after (option_copied rest.entry))) }
-{
-    if is_word(name, b"remove_range") {
-        let (index, count) = two_numbers(rest)?;
-        return Some(TextCommand::RemoveRange(index as usize, count as usize));
-    }
-    if is_word(name, b"find") {
-        return Some(TextCommand::Find(bytes_of_words(rest, bytes)?));
-    }
-    if is_word(name, b"rfind") {
-        return Some(TextCommand::Rfind(bytes_of_words(rest, bytes)?));
-    }
-    if is_word(name, b"strip_prefix") {
-        return Some(TextCommand::StripPrefix(bytes_of_words(rest, bytes)?));
-    }
-    if is_word(name, b"strip_suffix") {
-        return Some(TextCommand::StripSuffix(bytes_of_words(rest, bytes)?));
-    }
-    if is_word(name, b"drop") {
-        return Some(TextCommand::Drop(one_byte(rest)?));
-    }
-    other_command_named(name, rest)
-}
-
-/// The forms after the first twelve.
-#[tactic(auto, using(crate::proofs::Words::one_made))]
-fn other_command_named<'a>(name: &[u8], rest: Option<&[u8]>) -> Option<TextCommand<'a>>
-    ensures { option_map text_plain result
-        ≡ make_named (drop 12 text_forms) name.now (numbers_in (words_after (option_copied rest.entry))) }
-{
-    if is_word(name, b"at") {
-        return Some(TextCommand::At(one_number(rest)? as usize));
-    }
-    if is_word(name, b"truncate") {
-        return Some(TextCommand::Truncate(one_number(rest)? as usize));
-    }
-    if is_word(name, b"clear") {
-        return alone(rest, TextCommand::Clear);
-    }
-    if is_word(name, b"len") {
-        return alone(rest, TextCommand::Len);
-    }
-    if is_word(name, b"capacity") {
-        return alone(rest, TextCommand::Capacity);
-    }
-    if is_word(name, b"empty") {
-        return alone(rest, TextCommand::Empty);
-    }
-    if is_word(name, b"full") {
-        return alone(rest, TextCommand::Full);
-    }
-    None
 }

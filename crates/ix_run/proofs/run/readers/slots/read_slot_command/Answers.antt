@@ -1,10 +1,15 @@
-use Rattle.std.proofs.Common.{◌∙◌, sym, refl, option_copied}
-use Rattle.ix_run.specs.Forms.{slot_forms}
-use Rattle.ix_run.specs.Words.{words_after}
-use Rattle.ix_run.proofs.Words.{command_of_split}
+use Rattle.std.proofs.Common.{Some, ◌∙◌, sym, ap, option_map}
+use Rattle.ix_run.specs.Tables.{constant_rows, slot_with}
+use Rattle.ix_run.proofs.Tables.{completed, command_completed}
+use Rattle.ix_run.specs.declared.run.readers.slots.TheConstants.{COMMANDS}
 use Rattle.ix_run.proofs.run.readers.slots.read_slot_command.Goals as goal
 
+pub returns-in_err-command : goal.returns-in_err-command
+returns-in_err-command c = record {
+  value = c.from_residual.ensures ∙ (ap (option_map (completed slot_with)) c.in_err-command.ensures ∙ sym (command_completed slot_with (constant_rows COMMANDS) c.args.line.now));
+}
+
 pub returns : goal.returns
-returns c =
-    let words = words_after (option_copied c.split_word.result.1) in
-    record { value = c.command_named.ensures ∙ sym (command_of_split slot_forms c.args.line.now c.split_word.result.0.now words c.split_word.ensures.words refl) }
+returns c = record {
+  value = ap Some c.with_numbers.ensures ∙ (ap (option_map (completed slot_with)) c.in_ok-command.ensures ∙ sym (command_completed slot_with (constant_rows COMMANDS) c.args.line.now));
+}

@@ -1,10 +1,35 @@
-use Rattle.std.proofs.Common.{◌∙◌, sym, refl, option_copied}
-use Rattle.ix_run.specs.Forms.{text_forms}
-use Rattle.ix_run.specs.Words.{words_after}
-use Rattle.ix_run.proofs.Words.{command_of_split}
+use Rattle.std.proofs.Common.{ℕ, List, Option, Some, ◌∙◌, refl, sym, ap, option_map, option_copied}
+use Rattle.ix_run.specs.Forms.{text_plain}
+use Rattle.ix_run.specs.Words.{words_after, numbers_in}
+use Rattle.ix_run.specs.Tables.{constant_rows, bytes_taken, text_named}
+use Rattle.ix_run.specs.declared.run.tables.Takes.{Takes}
+use Rattle.ix_run.specs.declared.run.readers.strings.TextName.{TextName}
+use Rattle.ix_run.specs.declared.run.readers.strings.TheConstants.{NAMES}
+use Rattle.ix_commands.specs.declared.command.TextCommand.{TextCommand}
+use Rattle.ix_run.proofs.Tables.{spelled, bytes_made, made_of, line_of_forms}
 use Rattle.ix_run.proofs.run.readers.strings.read_text_command.Goals as goal
+
+abbrev make : Takes × TextName → List ℕ → Option TextCommand
+make v = bytes_taken v.0 (text_named v.1)
+
+pub returns-in_err-takes : goal.returns-in_err-takes
+returns-in_err-takes c =
+    let words = words_after (option_copied c.split_word.result.1) in
+    let line = line_of_forms make (constant_rows NAMES) c.args.line.now c.split_word.result.0.now words c.split_word.ensures.words refl in
+    record { value = ap (option_map text_plain) c.from_residual.ensures ∙ (ap (made_of make (numbers_in words)) c.in_err-takes.ensures ∙ sym line) }
+
+pub returns-in_err-first : goal.returns-in_err-first
+returns-in_err-first c =
+    let words = words_after (option_copied c.split_word.result.1) in
+    let line = line_of_forms make (constant_rows NAMES) c.args.line.now c.split_word.result.0.now words c.split_word.ensures.words refl in
+    let made = bytes_made c.in_ok-takes.takes (text_named c.in_ok-takes.name) (numbers_in words) in
+    let read = ap (option_map (spelled (text_named c.in_ok-takes.name))) c.in_err-first.ensures ∙ sym made in
+    record { value = ap (option_map text_plain) c.from_residual-in_err-first.ensures ∙ (read ∙ (ap (made_of make (numbers_in words)) c.in_ok-takes.ensures ∙ sym line)) }
 
 pub returns : goal.returns
 returns c =
     let words = words_after (option_copied c.split_word.result.1) in
-    record { value = c.command_named.ensures ∙ sym (command_of_split text_forms c.args.line.now c.split_word.result.0.now words c.split_word.ensures.words refl) }
+    let line = line_of_forms make (constant_rows NAMES) c.args.line.now c.split_word.result.0.now words c.split_word.ensures.words refl in
+    let made = bytes_made c.in_ok-takes.takes (text_named c.in_ok-takes.name) (numbers_in words) in
+    let read = ap (option_map (spelled (text_named c.in_ok-takes.name))) c.in_ok-first.ensures ∙ sym made in
+    record { value = ap Some c.command_named.ensures ∙ (read ∙ (ap (made_of make (numbers_in words)) c.in_ok-takes.ensures ∙ sym line)) }
