@@ -1,5 +1,6 @@
-use Rattle.std.proofs.Common.{ℕ, ◌≡◌, ◌+◌, ◌<◌, List, [], ◌∷◌, ◌++◌, length, drop, get_or, append_assoc, add-one, arith, rules, refl, ap}
+use Rattle.std.proofs.Common.{ℕ, ◌≡◌, ◌+◌, ◌<◌, List, [], ◌∷◌, ◌++◌, length, drop, get_or, append_assoc, add-one, arith, rules, refl, ap, sym, ◌∙◌}
 use Rattle.std.proofs.Math.Seq.{drop-cons}
+use Rattle.std.proofs.lemmas.List.{append-nil, drop_all}
 use Rattle.ix_commands.specs.Run.{run_replies, run_state}
 use Rattle.ix_commands.proofs.runs.run_all.Goals as goal
 
@@ -32,3 +33,22 @@ loop-command-preserved g c =
     replies_step g.T.Runs.reply g.T.Runs.after (model c.loop-command.container) (model c.run_command-reply.new.self) _ _ _ c.run_command-reply.result
     c.loop-command.replies.items c.push.new.self.items _ first run.value run.model c.in-Ok.ensures.items c.loop-command.invariant.0 in
     (replies, cc, omega (arith, c.in-Ok.ensures.capacity), omega (arith, c.in-Ok.ensures.len))
+
+pub unreachable-requires : goal.unreachable-requires
+unreachable-requires g c =
+    let is = c.loop-command.invariant in
+    let room = c.in_default.ensures.succeeds (omega (arith, is.2, is.3)) in
+    cc
+
+pub returns-clause-value : goal.returns-clause-value
+returns-clause-value g c =
+    let is = c.loop-command.invariant in
+    let none = drop_all c.loop-command.command-index c.args.commands.now c.loop-command-test.false in
+    let later = run_replies g.T.Runs.reply g.T.Runs.after (g.T.Runs.model c.loop-command.container) in
+    let items = c.loop-command.replies.items in
+    sym (is.0 ∙ ap (λ (rest : List g.row.C.Denot). items ++ later rest) none ∙ append-nil items)
+
+pub returns-clause-model : goal.returns-clause-model
+returns-clause-model g c =
+    let none = drop_all c.loop-command.command-index c.args.commands.now c.loop-command-test.false in
+    sym (c.loop-command.invariant.1 ∙ ap (run_state g.T.Runs.after (g.T.Runs.model c.loop-command.container)) none)
