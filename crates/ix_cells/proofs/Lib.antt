@@ -3,6 +3,7 @@ pub mod Counts
 pub mod Fronts
 pub mod Lists
 pub mod Loans
+pub mod Places
 pub mod RawNames
 pub mod RawParts
 pub mod RawSending

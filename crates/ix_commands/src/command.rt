@@ -1,7 +1,10 @@
 //! The commands of each container.
+ghost use Rattle.std.specs.Prelude.{◌≡◌, ⊤};
+
+use std::alloc::AllocError;
 
 /// A command of a queue of `T`.
-#[derive(Clone, Copy, PartialEq, Eq, Debug)]
+#[derive(Copy, PartialEq, Eq, Debug)]
 pub enum QueueCommand<T> {
     /// `push X`: appends the item, unless the queue is full.
     Push(T),
@@ -25,6 +28,16 @@ pub enum QueueCommand<T> {
     Empty,
     /// `full`: whether the length equals the capacity.
     Full,
+}
+
+impl<T: Copy> Clone for QueueCommand<T> {
+    ghost is_clone = { λ command copy. copy ≡ command };
+
+    ghost is_infallible = { λ _. ⊤ };
+
+    fn clone(&self) -> Result<Self, AllocError> {
+        Ok(*self)
+    }
 }
 
 /// A command of a vector of `T`.
@@ -61,7 +74,7 @@ pub enum VecCommand<'a, T> {
 }
 
 /// A command of a slot map of `T`.
-#[derive(Clone, Copy, PartialEq, Eq, Debug)]
+#[derive(Copy, PartialEq, Eq, Debug)]
 pub enum SlotCommand<T> {
     /// `insert X`: inserts the value at the next free key.
     Insert(T),
@@ -89,8 +102,18 @@ pub enum SlotCommand<T> {
     Full,
 }
 
+impl<T: Copy> Clone for SlotCommand<T> {
+    ghost is_clone = { λ command copy. copy ≡ command };
+
+    ghost is_infallible = { λ _. ⊤ };
+
+    fn clone(&self) -> Result<Self, AllocError> {
+        Ok(*self)
+    }
+}
+
 /// A command of a flat map from `K` to `V`.
-#[derive(Clone, Copy, PartialEq, Eq, Debug)]
+#[derive(Copy, PartialEq, Eq, Debug)]
 pub enum FlatCommand<K, V> {
     /// `insert K V`: inserts the value at key K, unless the map has the key.
     Insert(K, V),
@@ -110,6 +133,16 @@ pub enum FlatCommand<K, V> {
     Empty,
     /// `full`: whether there is no room for another key.
     Full,
+}
+
+impl<K: Copy, V: Copy> Clone for FlatCommand<K, V> {
+    ghost is_clone = { λ command copy. copy ≡ command };
+
+    ghost is_infallible = { λ _. ⊤ };
+
+    fn clone(&self) -> Result<Self, AllocError> {
+        Ok(*self)
+    }
 }
 
 /// A command of a string.

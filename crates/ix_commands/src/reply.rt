@@ -1,9 +1,11 @@
 //! The replies to commands.
-ghost use Rattle.std.specs.Prelude.{◌≡◌};
+ghost use Rattle.std.specs.Prelude.{◌≡◌, ⊤};
 ghost use Rattle.ix_commands.specs.Replies.{option_reply, key_reply, entry_reply};
 
+use std::alloc::AllocError;
+
 /// The reply to a command of a container with keys of type `K` and items of type `X`.
-#[derive(Clone, Copy, PartialEq, Eq, Debug)]
+#[derive(Copy, PartialEq, Eq, Debug)]
 pub enum Reply<K, X> {
     /// `ok`: the command was done.
     Done,
@@ -21,6 +23,16 @@ pub enum Reply<K, X> {
     Entry(K, X),
     /// `error` and the name: the command was refused.
     Error(ReplyError),
+}
+
+impl<K: Copy, X: Copy> Clone for Reply<K, X> {
+    ghost is_clone = { λ reply copy. copy ≡ reply };
+
+    ghost is_infallible = { λ _. ⊤ };
+
+    fn clone(&self) -> Result<Self, AllocError> {
+        Ok(*self)
+    }
 }
 
 /// Why a command was refused.

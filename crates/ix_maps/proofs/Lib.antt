@@ -11,3 +11,4 @@ pub mod Entries
 pub mod FlatEntries
 pub mod FlatSteps
 pub mod FlatCalls
+pub mod VacantTables
