@@ -31,7 +31,8 @@ pub trait MakesInline<const N: usize>: Named {
     /// Returns an empty container.
     fn inline() -> Self::Inline
         requires { N ≤ MAX_FIXED_CAPACITY }
-        ensures { IsEmptyContainer Self.Inline.reply Self.Inline.after Self.Inline.shown (Self.Inline.model result) Self.container N };
+        ensures { IsEmptyContainer Self.Inline.reply Self.Inline.after Self.Inline.shown
+            (Self.Inline.model result) Self.container N };
 }
 
 /// A container in the machine's memory.
@@ -41,7 +42,8 @@ pub trait MakesOnHeap: Named {
     /// Returns an empty container, or `None` if there is no memory.
     fn on_heap(alloc: Global, capacity: usize) -> Option<Self::OnHeap>
         ensures { IfSome result (λ made.
-            IsEmptyContainer Self.OnHeap.reply Self.OnHeap.after Self.OnHeap.shown (Self.OnHeap.model made) Self.container capacity) };
+            IsEmptyContainer Self.OnHeap.reply Self.OnHeap.after Self.OnHeap.shown
+            (Self.OnHeap.model made) Self.container capacity) };
 }
 
 /// A container in an arena.
@@ -51,7 +53,8 @@ pub trait MakesInArena<'a>: Named {
     /// Returns an empty container, or `None` if there is no memory.
     fn in_arena(arena: &'a Bump<Global>, capacity: usize) -> Option<Self::InArena>
         ensures { IfSome result (λ made.
-            IsEmptyContainer Self.InArena.reply Self.InArena.after Self.InArena.shown (Self.InArena.model made) Self.container capacity) };
+            IsEmptyContainer Self.InArena.reply Self.InArena.after Self.InArena.shown
+            (Self.InArena.model made) Self.container capacity) };
 }
 
 impl Session {

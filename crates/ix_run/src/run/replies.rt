@@ -48,7 +48,8 @@ fn put_value(replies: &mut ReplyBuffer, value: u64)
 /// Appends the line `some K X`.
 fn put_entry(replies: &mut ReplyBuffer, key: u64, value: u64)
     requires { length replies.old + MAX_REPLY_LEN ≤ BUFFER_LEN }
-    ensures { replies.new ≡ replies.old ++ with_line_feed (codes "some " ++ (decimal key ++ (codes " " ++ decimal value))) }
+    ensures { replies.new ≡ replies.old
+        ++ with_line_feed (codes "some " ++ (decimal key ++ (codes " " ++ decimal value))) }
 {
     replies.put(b"some ");
     replies.put_number(key);

@@ -39,7 +39,8 @@ pub(crate) fn value_named<V: Copy>(table: &[(&[u8], V)], name: &[u8]) -> Option<
 /// Returns the numbers, with zeros for those that are missing, if `takes` is what is left: at most two numbers.
 #[inline]
 pub(crate) fn read_numbers(takes: Takes, rest: Option<&[u8]>) -> Option<(u64, u64)>
-    ensures { result ≡ option_and_then {U = ℕ × ℕ} (numbers_taken takes (λ n m. (n, m))) (numbers_in (words_after (option_copied rest.entry))) }
+    ensures { result ≡ option_and_then {U = ℕ × ℕ} (numbers_taken takes (λ n m. (n, m)))
+        (numbers_in (words_after (option_copied rest.entry))) }
 {
     match takes {
         Takes::Nothing => alone(rest, (0, 0)),
