@@ -84,7 +84,7 @@ module _ {T : Type 0} (IsEncoding : T → List ℕ → Type 0) where
   pub load_version : (slots id : ℕ) (seat : Seated T) → (seat.0.is_writer ≡ true → parity seat.0.stage ≡ 0)
       → Allows Rule slots id seat 0 (λ word. word) (LoadVersionStep IsEncoding (step slots 0 0 0 none) seat)
   load_version slots id seat idle table rule _ at _ = let knows = rule.seats id seat.0 at in let n : ℕ = version table in
-      let after : SeatView T = record seat.0 { known = history rule.content; seen = seat.0.seen ++ n ∷ []; stage = Reading n [] } in (
+      let after : SeatView T = record seat.0 { known = history rule.content; seen = seat.0.seen ++ n ∷ []; stage = Reading n []; touched = seat.0.touched ++ 0 ∷ [] } in (
         after,
         keeps,
         tt,
@@ -102,6 +102,7 @@ module _ {T : Type 0} (IsEncoding : T → List ℕ → Type 0) where
             known = knows.known;
             up_to = rule.version;
             stage = refl;
+            touched = refl;
             front = front_of_last table rule id seat.0.stage knows.stage;
             writer = λ is. (sym (knows.writer is).1, (knows.writer is).2 ∙ idle is);
           },
@@ -122,7 +123,7 @@ module _ {T : Type 0} (IsEncoding : T → List ℕ → Type 0) where
       let word : n ≡ get_or (words_of content.bytes) k 0 = get_or-tail table.words k ∙ ap (λ words. get_or words k 0) (words-tail table rule) ∙ ap (λ bytes. get_or (words_of bytes) k 0) rest in
       load-more size k n content.bytes loaded (subst (AreBelow 256) rest rule.byte_range) (sized content.last content.bytes rule.last) inside count (holds.1 same even) word in
       let next : Holds (version table) content id (Reading first (loaded ++ got)) = subst (λ bytes. Holds (version table) content id (Reading first (loaded ++ bytes))) same_part (holds.0, longer) in
-      let after : SeatView T = view_bytes got seat.0 in (
+      let after : SeatView T = view_bytes (k + 1) got seat.0 in (
         after,
         keeps,
         tt,
@@ -182,7 +183,7 @@ module _ {T : Type 0} (IsEncoding : T → List ℕ → Type 0) where
       let old = rule.content in let rest = cell_bytes-rest old (rule.between_writes even) in
       let content : Content T = record { earlier = old.earlier; last = old.last; bytes = old.bytes; front = []; writer = id } in
       let words : set table.words 0 n ≡ n ∷ words_of (cell_bytes content) = ap (λ (l : List ℕ). set l 0 n) rule.words ∙ ap (λ (l : List ℕ). n ∷ words_of l) rest in
-      let after : Seated T = seated_stage (Writing []) seat in (
+      let after : Seated T = seated_stage (0 ∷ []) (Writing []) seat in (
         after.0,
         keeps,
         tt,
@@ -211,7 +212,7 @@ module _ {T : Type 0} (IsEncoding : T → List ℕ → Type 0) where
       let front : old.front ++ chunk ≡ take (8 * (k + 1)) bytes = ap (λ (l : List ℕ). l ++ chunk) (sym same) ∙ chunk_at-more k bytes in
       let begins : Begins (old.front ++ chunk) bytes = (drop (8 * (k + 1)) bytes, sym (ap (λ (l : List ℕ). l ++ drop (8 * (k + 1)) bytes) front ∙ take-append-drop (8 * (k + 1)) bytes)) in
       let stage : stage_bytes got seat.0.stage ≡ Writing (old.front ++ chunk) = ap (stage_bytes got) is ∙ stage_bytes-Writing got stored ∙ ap Writing (λ i. same i ++ unpacks i) in
-      let after : SeatView T = view_bytes got seat.0 in (
+      let after : SeatView T = view_bytes (k + 1) got seat.0 in (
         after,
         keeps,
         tt,

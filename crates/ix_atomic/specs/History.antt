@@ -1,6 +1,7 @@
 -- The history of a sequenced cell: its finished values in order, the opening one first. And what the holder of a seat knows of it.
-use Rattle.std.specs.Prelude.{◌≡◌, ℕ, ◌+◌, ◌-◌, ◌*◌, ◌/◌, ◌%◌, ◌≤◌, List, [], ◌∷◌, ◌++◌, length, Option, slice_get, All, codes}
+use Rattle.std.specs.Prelude.{◌≡◌, ℕ, zero, suc, ◌+◌, ◌-◌, ◌*◌, ◌/◌, ◌%◌, ◌≤◌, List, [], ◌∷◌, ◌++◌, length, Option, slice_get, All, codes}
 use Rattle.atomic_table.specs.Seated.{TableId}
+use Rattle.ix_atomic.specs.Words.{word_count}
 
 -- the version after the last finished value
 abbrev pub version_of : {T : Type 0} → List T → ℕ
@@ -24,16 +25,27 @@ IsOdd version = version % 2 ≡ 1
 abbrev pub Begins : {T : Type 0} → List T → List T → Type 0
 Begins {T} items list = (rest : List T) × (list ≡ items ++ rest)
 
--- the writer's seat: its cell, and the history
+-- the numbers of so many words of bytes, in order: word 0 is the version
+abbrev pub data_words : ℕ → List ℕ
+data_words zero = []
+data_words (suc count) = data_words count ++ suc count ∷ []
+
+-- all words of a value of this size: the version, each word of bytes, and the version again
+abbrev pub all_words : ℕ → List ℕ
+all_words size = 0 ∷ (data_words (word_count size) ++ 0 ∷ [])
+
+-- the writer's seat: its cell, the history, and the words that it has loaded or stored, in order
 pub record Writer (T : Type 0) : Type 0 where
   pub cell : TableId
   pub history : List T
+  pub touched : List ℕ
 
--- a reader's seat: its cell, the beginning of the history that it knows, and the versions that it has loaded, in order
+-- a reader's seat: its cell, the beginning of the history that it knows, and the versions and the words that it has loaded, in order
 pub record Reader (T : Type 0) : Type 0 where
   pub cell : TableId
   pub known : List T
   pub seen : List ℕ
+  pub touched : List ℕ
 
 -- One load of the version by a reader's seat. The version is less than none that the seat had loaded or knew of; then the
 -- seat knows the history up to it.

@@ -30,37 +30,39 @@ bytes_at size index = min 8 (size - 8 * (index - 1))
 module _ {T : Type 0} where
   -- the writer's seat of a new cell
   abbrev pub view_new : T → SeatView T
-  view_new value = record { is_writer = true; known = value ∷ []; seen = []; stage = Idle }
+  view_new value = record { is_writer = true; known = value ∷ []; seen = []; stage = Idle; touched = [] }
 
-  abbrev pub view_stage : Stage → SeatView T → SeatView T
-  view_stage stage view = record view { stage = stage }
+  -- these words are touched, and then the stage is this one
+  abbrev pub view_stage : List ℕ → Stage → SeatView T → SeatView T
+  view_stage words stage view = record view { stage = stage; touched = view.touched ++ words }
 
-  abbrev pub view_bytes : List ℕ → SeatView T → SeatView T
-  view_bytes bytes view = view_stage (stage_bytes bytes view.stage) view
+  -- the word is touched, of which these bytes are loaded or stored
+  abbrev pub view_bytes : ℕ → List ℕ → SeatView T → SeatView T
+  view_bytes word bytes view = view_stage (word ∷ []) (stage_bytes bytes view.stage) view
 
   abbrev pub view_end : T → SeatView T → SeatView T
-  view_end value view = record view { known = view.known ++ value ∷ []; stage = Idle }
+  view_end value view = record view { known = view.known ++ value ∷ []; stage = Idle; touched = view.touched ++ 0 ∷ [] }
 
   -- a new reader's seat, made from the writer's
   abbrev pub view_reader : SeatView T → SeatView T
-  view_reader view = record { is_writer = false; known = view.known; seen = []; stage = Idle }
+  view_reader view = record { is_writer = false; known = view.known; seen = []; stage = Idle; touched = [] }
 
-  abbrev pub seated_stage : Stage → Seated T → Seated T
-  seated_stage stage seat = (view_stage stage seat.0, seat.1)
+  abbrev pub seated_stage : List ℕ → Stage → Seated T → Seated T
+  seated_stage words stage seat = (view_stage words stage seat.0, seat.1)
 
   abbrev pub reader_of : TableId → SeatView T → Reader T
-  reader_of cell view = record { cell = cell; known = view.known; seen = view.seen }
+  reader_of cell view = record { cell = cell; known = view.known; seen = view.seen; touched = view.touched }
 
   abbrev pub writer_of : TableId → SeatView T → Writer T
-  writer_of cell view = record { cell = cell; history = view.known }
+  writer_of cell view = record { cell = cell; history = view.known; touched = view.touched }
 
   -- the store of an odd version
   abbrev pub BeginStep : Step (Unit {0}) → Seated T → ℕ → Seated T → Type 0
-  BeginStep step before word after = after ≡ seated_stage (Writing []) before
+  BeginStep step before word after = after ≡ seated_stage (step.word ∷ []) (Writing []) before
 
   -- The store or load of a word of bytes stands for those of its bytes, in rising order with nothing between.
   abbrev pub WordStep : ℕ → Step (Unit {0}) → Seated T → ℕ → Seated T → Type 0
-  WordStep size step before word after = after ≡ (view_bytes (bytes_of_word (bytes_at size step.word) word) before.0, before.1)
+  WordStep size step before word after = after ≡ (view_bytes step.word (bytes_of_word (bytes_at size step.word) word) before.0, before.1)
 
   -- the store of an even version: if the stored bytes encode a value, it is finished
   abbrev pub EndStep : (T → List ℕ → Type 0) → Step (Unit {0}) → Seated T → ℕ → Seated T → Type 0
@@ -80,6 +82,7 @@ pub record ViewLoads {T : Type 0} (IsEncoding : T → List ℕ → Type 0) (befo
   pub known : Begins before.known after.known
   pub up_to : length after.known ≡ version / 2 + 1
   pub stage : after.stage ≡ Reading version []
+  pub touched : after.touched ≡ before.touched ++ 0 ∷ []
   pub front : IsFrontOf IsEncoding after.known version before.stage
   pub writer : before.is_writer ≡ true → (after.known ≡ before.known) × IsEven version
 

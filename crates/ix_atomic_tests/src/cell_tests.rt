@@ -1,5 +1,5 @@
 //! What one thread reads from a cell is what it wrote, in each kind of cell and in each memory.
-ghost use Rattle.std.specs.Prelude.{◌≡◌, ◌<◌};
+ghost use Rattle.std.specs.Prelude.{◌≡◌, ◌≤◌};
 
 use crate::foo::Foo;
 use bumpalo::Bump;
@@ -13,14 +13,14 @@ use std::fmt::Debug;
 use std::test::Fail;
 
 /// Checks a fixed cell that is made with the first value and then holds the second.
-fn check_fixed<T: AtomicCopy + PartialEq + Debug, const SIZE: usize>(
+pub fn check_fixed<T: AtomicCopy + PartialEq + Debug, const SIZE: usize>(
     findings: &Findings,
     first: T,
     second: T,
     place: &str,
 )
     requires size { SIZE ≡ T.SIZE }
-    requires fits { SIZE < 256 }
+    requires fits { SIZE ≤ 256 }
 {
     let cell = FixedSizeByteAtomic::<T, SIZE>::new(first);
     findings.expect_same(cell.read().assume_consistent(), Some(first), place);
@@ -29,7 +29,7 @@ fn check_fixed<T: AtomicCopy + PartialEq + Debug, const SIZE: usize>(
 }
 
 /// As `check_fixed`, of a relocatable cell that was made.
-fn check_made<T: AtomicCopy + PartialEq + Debug, const SIZE: usize, A: Allocator>(
+pub fn check_made<T: AtomicCopy + PartialEq + Debug, const SIZE: usize, A: Allocator>(
     findings: &Findings,
     made: Result<RelocatableByteAtomic<T, SIZE, A>, InitError<UninitByteAtomic<T, SIZE>>>,
     first: T,
@@ -85,15 +85,5 @@ fn a_relocatable_cell(rt: HostRuntime) -> Result<(), Fail> {
         }
         Err(_) => findings.miss("a heap"),
     }
-    findings.verdict()
-}
-
-#[test]
-fn a_relocatable_cell_of_each_size(rt: HostRuntime) -> Result<(), Fail> {
-    let findings = Findings::new();
-    let empty = RelocatableByteAtomic::<(), 0>::new_uninit().init(rt.alloc(), ());
-    check_made(&findings, empty, (), (), "no bytes");
-    let eight = RelocatableByteAtomic::<u64, 8>::new_uninit().init(rt.alloc(), 0);
-    check_made(&findings, eight, 0, u64::MAX, "eight bytes");
     findings.verdict()
 }

@@ -18,6 +18,8 @@ mod sequenced_tests;
 #[cfg(test)]
 mod sequenced_threads;
 #[cfg(test)]
+mod size_tests;
+#[cfg(test)]
 mod steps;
 #[cfg(test)]
 mod thread_tests;

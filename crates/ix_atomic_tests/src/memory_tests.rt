@@ -1,4 +1,6 @@
 //! Cells for which there is no memory: nothing stays allocated, and the uninitialised cell is returned.
+ghost use Rattle.std.specs.Prelude.{◌≤◌};
+
 use ix_atomic::UninitByteAtomic;
 use ix_cells::InitError;
 use ix_expect::Findings;
@@ -6,42 +8,74 @@ use linked_list_allocator::LocalHeap;
 use std::alloc::Global;
 use std::test::Fail;
 
+type Uninit<const SIZE: usize> = UninitByteAtomic<[u8; SIZE], SIZE>;
+
 /// The error holds the uninitialised cell, for which `ample` has memory.
-fn check_again(findings: &Findings, error: InitError<UninitByteAtomic<u16, 2>>, ample: Global) {
-    match error.into_uninit().init(ample, 258) {
-        Ok(cell) => findings.expect_same(cell.read().assume_consistent(), Some(258), "again"),
-        Err(_) => findings.miss("there is memory"),
+fn check_again<const SIZE: usize>(
+    findings: &Findings,
+    error: InitError<Uninit<SIZE>>,
+    ample: Global,
+    place: &str,
+)
+    requires { SIZE ≤ 256 }
+{
+    match error.into_uninit().init(ample, [7; SIZE]) {
+        Ok(cell) => findings.expect_same(cell.read().assume_consistent(), Some([7; SIZE]), place),
+        Err(_) => findings.miss(place),
     }
 }
 
-/// Besides one block that is in use, the heap has a block of 16 bytes if `found`. `ample` has memory.
-fn check_blocks(findings: &Findings, heap: &LocalHeap, ample: Global, found: bool) {
+/// The heap has one block that is in use, and memory for a cell of this size besides if `found`. `ample` has memory.
+fn check_heap<const SIZE: usize>(
+    findings: &Findings,
+    heap: &LocalHeap,
+    ample: Global,
+    found: bool,
+    place: &str,
+)
+    requires { SIZE ≤ 256 }
+{
     let held = Box::new(heap, 0u64);
     findings.expect(held.is_ok(), "a block");
     let used = heap.used();
-    match UninitByteAtomic::<u16, 2>::new_uninit().init(heap, 258) {
+    match Uninit::<SIZE>::new_uninit().init(heap, [7; SIZE]) {
         Ok(cell) => {
-            findings.expect(found, "memory is refused");
-            findings.expect_same(cell.read().assume_consistent(), Some(258), "a cell");
-            findings.expect(heap.used() > used, "memory is allocated");
+            findings.expect(found, place);
+            findings.expect_same(cell.read().assume_consistent(), Some([7; SIZE]), place);
+            findings.expect(heap.used() > used, place);
         }
         Err(error) => {
-            findings.expect(!found, "memory is found");
-            findings.expect_same(heap.used(), used, "nothing stays allocated");
-            check_again(findings, error, ample);
+            findings.expect(!found, place);
+            findings.expect_same(heap.used(), used, place);
+            check_again(findings, error, ample, place);
         }
     }
-    findings.expect_same(heap.used(), used, "after the cell");
+    findings.expect_same(heap.used(), used, place);
+}
+
+/// Heaps whose free memory rises by 16 bytes, from none to more than a cell of this size takes: it takes `blocks` times 16, as
+/// an allocation of no bytes takes 16 too.
+fn check_size<const SIZE: usize>(findings: &Findings, ample: Global, blocks: usize, place: &str)
+    requires size { SIZE ≤ 256 }
+    requires blocks { blocks ≤ 256 }
+{
+    for free in 0..blocks + 2 {
+        match LocalHeap::new(ample, 16 * (free + 1)) {
+            Ok(heap) => check_heap::<SIZE>(findings, &heap, ample, free >= blocks, place),
+            Err(_) => findings.miss("a heap"),
+        }
+    }
 }
 
 #[test]
 fn cells_refused(rt: HostRuntime) -> Result<(), Fail> {
     let findings = Findings::new();
-    for blocks in 0..3usize {
-        match LocalHeap::new(rt.alloc(), 16 * (blocks + 1)) {
-            Ok(heap) => check_blocks(&findings, &heap, rt.alloc(), blocks > 0),
-            Err(_) => findings.miss("a heap"),
-        }
-    }
+    check_size::<0>(&findings, rt.alloc(), 1, "no bytes");
+    check_size::<1>(&findings, rt.alloc(), 1, "1 byte");
+    check_size::<8>(&findings, rt.alloc(), 1, "8 bytes");
+    check_size::<16>(&findings, rt.alloc(), 1, "16 bytes");
+    check_size::<17>(&findings, rt.alloc(), 2, "17 bytes");
+    check_size::<33>(&findings, rt.alloc(), 3, "33 bytes");
+    check_size::<200>(&findings, rt.alloc(), 13, "200 bytes");
     findings.verdict()
 }

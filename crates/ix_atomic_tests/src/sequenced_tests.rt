@@ -1,7 +1,6 @@
 //! The calls of a sequenced cell in one thread: what each returns.
 use ix_atomic::SequencedByteAtomic;
 use ix_expect::Findings;
-use ix_string::StaticString;
 use std::test::Fail;
 
 #[test]
@@ -32,32 +31,5 @@ fn a_cell_that_no_write_changed(rt: HostRuntime) -> Result<(), Fail> {
     findings.expect_same(cell.try_read(&mut reader), Ok(-1), "a read");
     findings.expect_same(cell.read_own(&mut writer), -1, "the writer's own read");
     findings.expect_same(cell.close(writer), -1, "the last value");
-    findings.verdict()
-}
-
-#[test]
-fn a_cell_of_a_text(rt: HostRuntime) -> Result<(), Fail> {
-    let text = StaticString::try_from("ab").expect(&rt, "a text of two bytes");
-    let empty = StaticString::<3>::new();
-    let (cell, mut writer, mut reader) = SequencedByteAtomic::<StaticString<3>, 3>::new(
-        rt.alloc(),
-        empty,
-    )?;
-    let findings = Findings::new();
-    findings.expect_same(cell.try_read(&mut reader), Ok(empty), "before the write");
-    findings.expect_same(cell.write(&mut writer, text), Ok(()), "write ab");
-    findings.expect_same(cell.try_read(&mut reader), Ok(text), "after the write");
-    findings.expect_same(cell.close(writer), text, "the last value");
-    findings.verdict()
-}
-
-#[test]
-fn a_cell_of_no_bytes(rt: HostRuntime) -> Result<(), Fail> {
-    let (cell, mut writer, mut reader) = SequencedByteAtomic::<(), 0>::new(rt.alloc(), ())?;
-    let findings = Findings::new();
-    findings.expect_same(cell.write(&mut writer, ()), Ok(()), "write");
-    findings.expect_same(cell.version(&mut reader), 2, "the version");
-    findings.expect_same(cell.try_read(&mut reader), Ok(()), "a read");
-    cell.close(writer);
     findings.verdict()
 }

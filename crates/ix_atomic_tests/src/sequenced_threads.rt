@@ -1,9 +1,10 @@
 //! Sequenced cells that one thread writes while another reads.
-ghost use Rattle.std.specs.Prelude.{◌≡◌};
+ghost use Rattle.std.specs.Prelude.{◌≡◌, ◌≤◌};
 
 use ix_atomic::{Interfered, ReaderSeat, SequencedByteAtomic, WriterSeat};
 use ix_expect::Findings;
 use ix_string::{StaticString, String};
+use std::alloc::Global;
 use std::fmt::InlineText;
 use std::test::Fail;
 use std::thread;
@@ -138,12 +139,15 @@ fn three_times(number: u32) -> Text {
     }
 }
 
-/// Returns whether the text is three equal groups of eight bytes, or empty, as the first one is.
-fn is_whole(text: &Text) -> bool {
+/// Returns a number that is greater the later the text was written: its digits, if it is three equal groups of eight bytes, or
+/// 0 if it is empty, as the first one is. Returns `None` if it is neither.
+fn text_order(text: &Text) -> Option<u64> {
     let bytes = text.as_bytes();
-    match (bytes.get(..8), bytes.get(8..16), bytes.get(16..)) {
-        (Some(first), Some(second), Some(third)) => first == second && second == third,
-        _ => bytes.is_empty(),
+    match (bytes.first_chunk::<8>(), bytes.get(8..16), bytes.get(16..)) {
+        (Some(first), Some(second), Some(third)) if first.as_slice() == second && second == third =>
+            { Some(u64::from_be_bytes(*first)) }
+        _ if bytes.is_empty() => Some(0),
+        _ => None,
     }
 }
 
@@ -161,7 +165,7 @@ fn write_texts(cell: &TextCell, writer: &mut WriterSeat<Text>) -> bool
 /// What a reader has found so far.
 #[derive(Drop)]
 struct Readings {
-    latest: Text,
+    latest: u64,
     last: u64,
     are_expected: bool,
 }
@@ -169,22 +173,24 @@ struct Readings {
 impl Readings {
     fn new() -> Self {
         Readings {
-            latest: Text::new(),
+            latest: 0,
             last: 0,
             are_expected: true,
         }
     }
 
-    /// Texts of eight digits are ordered as their numbers are, and the empty one is the least.
-    fn note(&mut self, read: Result<Text, Interfered>) {
+    /// Notes the order of a value that was read, which is `None` if it is not whole: it is not less than the latest one. Of an
+    /// error, the first version is odd or less than the last one, and not less than the last one of an earlier error.
+    fn note(&mut self, read: Result<Option<u64>, Interfered>) {
         match read {
-            Ok(text) => {
-                self.are_expected &= is_whole(&text) && self.latest <= text;
-                self.latest = text;
+            Ok(Some(order)) => {
+                self.are_expected &= self.latest <= order;
+                self.latest = order;
             }
+            Ok(None) => self.are_expected = false,
             Err(Interfered { first, last }) => {
                 self.are_expected &= (first % 2 == 1 || first < last) && self.last <= first;
-                self.last = last;
+                self.last = self.last.max(last);
             }
         }
     }
@@ -196,7 +202,10 @@ fn read_texts(cell: &TextCell, reader: &mut ReaderSeat<Text>) -> bool
 {
     let mut readings = Readings::new();
     for _ in 0..READS {
-        readings.note(cell.try_read(reader));
+        readings.note(match cell.try_read(reader) {
+            Ok(text) => Ok(text_order(&text)),
+            Err(interfered) => Err(interfered),
+        });
     }
     readings.are_expected
 }
@@ -234,5 +243,98 @@ fn texts_are_whole(rt: HostRuntime) -> Result<(), Fail> {
     );
     findings.expect_same(cell.try_read(&mut reader), Ok(last), "the read after them");
     findings.expect_same(cell.close(writer), last, "the last value");
+    findings.verdict()
+}
+
+type Blocks<const SIZE: usize> = SequencedByteAtomic<[u8; SIZE], SIZE>;
+
+/// Returns the byte that all of the block is, or `None` if it is not one byte throughout.
+fn block_order(block: &[u8]) -> Option<u64> {
+    let first = *block.first()?;
+    if block.iter().all(|byte| *byte == first) {
+        Some(u64::from(first))
+    } else {
+        None
+    }
+}
+
+/// Writes blocks of the bytes 0 to 250, each several times.
+fn write_blocks<const SIZE: usize>(cell: &Blocks<SIZE>, writer: &mut WriterSeat<[u8; SIZE]>) -> bool
+    requires size { SIZE ≤ 256 }
+    requires cell { writer.old.cell ≡ cell.now }
+    ensures { writer.new.cell ≡ writer.old.cell }
+{
+    let mut succeeded = true;
+    for number in 1..=WRITES {
+        succeeded &= cell.write(writer, [(number / 4) as u8; SIZE]).is_ok();
+    }
+    succeeded
+}
+
+fn read_blocks<const SIZE: usize>(cell: &Blocks<SIZE>, reader: &mut ReaderSeat<[u8; SIZE]>) -> bool
+    requires size { SIZE ≤ 256 }
+    requires cell { reader.old.cell ≡ cell.now }
+    ensures { reader.new.cell ≡ reader.old.cell }
+{
+    let mut readings = Readings::new();
+    for _ in 0..READS {
+        readings.note(match cell.try_read(reader) {
+            Ok(block) => Ok(block_order(&block)),
+            Err(interfered) => Err(interfered),
+        });
+    }
+    readings.are_expected
+}
+
+fn blocks_in_threads<const SIZE: usize, R: Threads>(
+    rt: &R,
+    cell: &Blocks<SIZE>,
+    writer: &mut WriterSeat<[u8; SIZE]>,
+    reader: &mut ReaderSeat<[u8; SIZE]>,
+) -> (bool, bool)
+    requires size { SIZE ≤ 256 }
+    requires writer { writer.old.cell ≡ cell.now }
+    requires reader { reader.old.cell ≡ cell.now }
+    ensures writer { writer.new.cell ≡ writer.old.cell }
+    ensures reader { reader.new.cell ≡ reader.old.cell }
+{
+    thread::join_mut(
+        rt,
+        &mut ||
+            requires { (SIZE ≤ 256) × (writer.now.cell ≡ cell.now) }
+            ensures { writer.exit.now.cell ≡ writer.entry.now.cell }
+        { write_blocks(cell, writer) },
+        &mut ||
+            requires { (SIZE ≤ 256) × (reader.now.cell ≡ cell.now) }
+            ensures { reader.exit.now.cell ≡ reader.entry.now.cell }
+        { read_blocks(cell, reader) },
+    )
+}
+
+/// Checks a cell of blocks that one thread writes while another reads.
+fn check_blocks<const SIZE: usize, R: Threads>(
+    rt: &R,
+    findings: &Findings,
+    alloc: Global,
+    place: &str,
+)
+    requires { SIZE ≤ 256 }
+{
+    match Blocks::<SIZE>::new(alloc, [0; SIZE]) {
+        Ok((cell, mut writer, mut reader)) => {
+            let found = blocks_in_threads(rt, &cell, &mut writer, &mut reader);
+            findings.expect_same(found, (true, true), place);
+            findings.expect_same(cell.try_read(&mut reader), Ok([250; SIZE]), place);
+            findings.expect_same(cell.close(writer), [250; SIZE], place);
+        }
+        Err(_) => findings.miss(place),
+    }
+}
+
+#[test]
+fn blocks_are_whole(rt: HostRuntime) -> Result<(), Fail> {
+    let findings = Findings::new();
+    check_blocks::<64, HostRuntime>(&rt, &findings, rt.alloc(), "64 bytes");
+    check_blocks::<256, HostRuntime>(&rt, &findings, rt.alloc(), "256 bytes");
     findings.verdict()
 }

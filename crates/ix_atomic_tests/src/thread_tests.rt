@@ -3,6 +3,7 @@ use ix_atomic::{FixedSizeByteAtomic, RelocatableByteAtomic};
 use ix_expect::Findings;
 use std::test::Fail;
 use std::thread;
+use std::thread::Threads;
 
 /// How often each thread reads or writes.
 const ROUNDS: u64 = 10_000;
@@ -16,37 +17,63 @@ fn write_often(cell: &Shared, value: u64) {
     }
 }
 
-/// Returns `true` if each byte that is read is 0 or 255.
-fn reads_zeros_and_ones(cell: &Shared) -> bool {
+/// Returns `true` if each byte that is read is one of `expected`.
+fn reads_one_of(cell: &Shared, expected: &[u8]) -> bool {
     match cell.read().assume_consistent() {
         Some(value) => value
             .to_le_bytes()
             .iter()
-            .all(|byte| *byte == 0 || *byte == 255),
+            .all(|byte| expected.contains(byte)),
         None => false,
     }
 }
 
-/// Returns `true` if each byte of each read is 0 or 255.
-fn read_often(cell: &Shared) -> bool {
+/// Returns `true` if each byte of each read is one of `expected`.
+fn read_often(cell: &Shared, expected: &[u8]) -> bool {
     let mut are_expected = true;
     for _ in 0..ROUNDS {
-        are_expected &= reads_zeros_and_ones(cell);
+        are_expected &= reads_one_of(cell, expected);
     }
     are_expected
+}
+
+/// Two threads write a value each to a cell of `first` while a third reads: each byte that it reads is one of `expected`.
+fn check_two_writers<R: Threads + Sync>(
+    rt: &R,
+    findings: &Findings,
+    first: u64,
+    written: (u64, u64),
+    expected: &[u8],
+) {
+    let cell = Shared::new(first);
+    let (one, other) = written;
+    let (_, (_, found)) = thread::join(
+        rt,
+        || write_often(&cell, one),
+        || {
+            thread::join(
+                rt,
+                || write_often(&cell, other),
+                || read_often(&cell, expected),
+            )
+        },
+    );
+    findings.expect(found, "a byte that no thread wrote");
+    findings.expect(reads_one_of(&cell, expected), "the last bytes");
 }
 
 #[test]
 fn bytes_of_two_writers(rt: HostRuntime) -> Result<(), Fail> {
     let findings = Findings::new();
-    let cell = Shared::new(0);
-    let (_, (_, expected)) = thread::join(
+    check_two_writers(&rt, &findings, 0, (0, u64::MAX), &[0, 255]);
+    // No bit is in both bytes that are written, and the first one is neither: 0 or a mixed byte is not expected.
+    check_two_writers(
         &rt,
-        || write_often(&cell, 0),
-        || { thread::join(&rt, || write_often(&cell, u64::MAX), || read_often(&cell)) },
+        &findings,
+        0x3C3C_3C3C_3C3C_3C3C,
+        (0x0F0F_0F0F_0F0F_0F0F, 0xF0F0_F0F0_F0F0_F0F0),
+        &[0x3C, 0x0F, 0xF0],
     );
-    findings.expect(expected, "a byte that no thread wrote");
-    findings.expect(reads_zeros_and_ones(&cell), "the last bytes");
     findings.verdict()
 }
 

@@ -46,20 +46,25 @@ fn unpacked_words() -> Result<(), Fail> {
     findings.verdict()
 }
 
-/// Checks that a cell of `value` has `words` words, and returns it at its end.
-fn check_words<T: AtomicCopy + PartialEq + Debug, const SIZE: usize>(
+/// Checks a cell of so many words that is made with the first value and then holds the second.
+pub fn check_sequenced<T: AtomicCopy + PartialEq + Debug, const SIZE: usize>(
     findings: &Findings,
     alloc: Global,
-    value: T,
+    first: T,
+    second: T,
     words: usize,
     place: &str,
 )
     requires { SIZE ≡ T.SIZE }
 {
-    match SequencedByteAtomic::<T, SIZE>::new(alloc, value) {
-        Ok((cell, writer, _)) => {
+    match SequencedByteAtomic::<T, SIZE>::new(alloc, first) {
+        Ok((cell, mut writer, mut reader)) => {
             findings.expect_same(cell.words(), words, place);
-            findings.expect_same(cell.close(writer), value, place);
+            findings.expect_same(cell.try_read(&mut reader), Ok(first), place);
+            findings.expect_same(cell.write(&mut writer, second), Ok(()), place);
+            findings.expect_same(cell.try_read(&mut reader), Ok(second), place);
+            findings.expect_same(cell.read_own(&mut writer), second, place);
+            findings.expect_same(cell.close(writer), second, place);
         }
         Err(_) => findings.miss(place),
     }
@@ -68,29 +73,23 @@ fn check_words<T: AtomicCopy + PartialEq + Debug, const SIZE: usize>(
 #[test]
 fn words_of_cells(rt: HostRuntime) -> Result<(), Fail> {
     let findings = Findings::new();
-    let foo = Foo { bar: 1, baz: 2 };
-    check_words::<(), 0>(&findings, rt.alloc(), (), 1, "()");
-    check_words::<u8, 1>(&findings, rt.alloc(), 7, 2, "u8");
-    check_words::<u64, 8>(&findings, rt.alloc(), u64::MAX, 2, "u64");
-    check_words::<StaticString<3>, 3>(&findings, rt.alloc(), StaticString::new(), 2, "a text");
-    check_words::<Foo, 9>(&findings, rt.alloc(), foo, 3, "Foo");
-    findings.verdict()
-}
-
-/// A value of nine bytes has a word of eight and a word of one.
-#[test]
-fn a_cell_of_two_words(rt: HostRuntime) -> Result<(), Fail> {
-    let first = Foo { bar: 1, baz: 2 };
-    let second = Foo {
+    let text = StaticString::try_from("ab").expect(&rt, "a text of two bytes");
+    let one = Foo { bar: 1, baz: 2 };
+    let other = Foo {
         bar: 255,
         baz: 0x0102_0304_0506_0708,
     };
-    let (cell, mut writer, mut reader) = SequencedByteAtomic::<Foo, 9>::new(rt.alloc(), first)?;
-    let findings = Findings::new();
-    findings.expect_same(cell.try_read(&mut reader), Ok(first), "before the write");
-    findings.expect_same(cell.write(&mut writer, second), Ok(()), "a write");
-    findings.expect_same(cell.try_read(&mut reader), Ok(second), "after the write");
-    findings.expect_same(cell.read_own(&mut writer), second, "the writer's own read");
-    findings.expect_same(cell.close(writer), second, "the last value");
+    check_sequenced::<(), 0>(&findings, rt.alloc(), (), (), 1, "()");
+    check_sequenced::<u8, 1>(&findings, rt.alloc(), 7, 9, 2, "u8");
+    check_sequenced::<u64, 8>(&findings, rt.alloc(), u64::MAX, 1, 2, "u64");
+    check_sequenced::<StaticString<3>, 3>(
+        &findings,
+        rt.alloc(),
+        StaticString::new(),
+        text,
+        2,
+        "a text",
+    );
+    check_sequenced::<Foo, 9>(&findings, rt.alloc(), one, other, 3, "Foo");
     findings.verdict()
 }

@@ -1,6 +1,6 @@
 //! A limit that one thread sets and others read, none of which waits for another.
-ghost use Rattle.std.specs.Prelude.{◌≡◌, ◌++◌, ◌∷◌, ◌⊎◌, ℕ, [], Some, IfOk, IfErr};
-ghost use Rattle.ix_atomic.specs.History.{value_at};
+ghost use Rattle.std.specs.Prelude.{◌≡◌, ◌<◌, ◌++◌, ◌∷◌, ◌⊎◌, ℕ, [], Some, IfOk, IfErr};
+ghost use Rattle.ix_atomic.specs.History.{IsEven, IsOdd, LoadsTwice, value_at};
 
 use ix_atomic::byte_atomic::steps::VersionsUsedUp;
 use ix_atomic::{ReaderSeat, SequencedByteAtomic, WriterSeat};
@@ -22,12 +22,14 @@ pub fn set_limit(
     limit.write(writer, value)
 }
 
-/// Returns a limit that was set, and none from before those that this reader knows of; or `cached` if one is being set
-/// right now.
+/// Returns the limit of the version that it loads before and after it, none from before those that this reader knows of; or
+/// `cached` if one is being set right now: the two versions differ, or they are odd.
 pub fn limit_or(limit: &Limit, reader: &mut ReaderSeat<u64>, cached: u64) -> u64
     requires { reader.old.cell ≡ limit.now }
     ensures cell { reader.new.cell ≡ reader.old.cell }
-    ensures value { (result ≡ cached) ⊎ ((version : ℕ) × (value_at reader.new.known version ≡ Some result)) }
+    ensures value { (first last : ℕ) × LoadsTwice reader.old reader.new first last
+        × (((first ≡ last) × IsEven first × (value_at reader.new.known first ≡ Some result))
+        ⊎ ((IsOdd first ⊎ (first < last)) × (result ≡ cached))) }
 {
     match limit.try_read(reader) {
         Ok(value) => value,

@@ -1,6 +1,7 @@
 //! A registry of services with stable handles.
 ghost use Rattle.std.specs.Prelude.{◌≡◌, ◌≢◌, ◌↔◌, ℕ, [], None, Some, IfSome, IsNone, option_map};
 ghost use Rattle.ix_maps.specs.SlotState.{value_at, IsHeld};
+ghost use Rattle.ix_maps.specs.SlotSteps.{slot_insert};
 
 use ix_maps::{FixedSizeSlotMap, SlotMapKey};
 use ix_string::StaticString;
@@ -15,12 +16,15 @@ pub struct Service {
 /// At most 64 services. `Registry::new()` is empty.
 pub type Registry = FixedSizeSlotMap<Service, 64>;
 
-/// Registers a service and returns its handle, or `None` if the registry is full.
+/// Registers a service and returns its handle, or `None` if the registry is full, which is unchanged then.
 pub fn register(registry: &mut Registry, service: Service) -> Option<SlotMapKey>
     ensures found { IfSome result (λ handle. value_at registry.new handle ≡ Some service) }
     ensures kept { (other : ℕ) → IsHeld registry.old other
         → value_at registry.new other ≡ value_at registry.old other }
     ensures full { IsNone result ↔ (registry.old.free ≡ []) }
+    ensures refused { IsNone result → registry.new ≡ registry.old }
+    // No other service is registered.
+    ensures registry { registry.new ≡ slot_insert registry.old service }
 {
     registry.insert(service)
 }

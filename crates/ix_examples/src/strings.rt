@@ -1,13 +1,14 @@
 //! A string of each kind.
-ghost use Rattle.std.specs.Prelude.{◌≡◌, ◌++◌, Ok, codes, IfSome, IfOk, IfErr};
+ghost use Rattle.std.specs.Prelude.{◌≡◌, ◌↔◌, ◌≤◌, ◌+◌, ◌++◌, length, Ok, codes, IsSome, IfSome, IfOk, IfErr};
 ghost use Rattle.ix_cells.specs.Bounded.{bounded_new};
+ghost use Rattle.ix_string.specs.Text.{IsText};
 
 use ix_cells::{InitError, RelocatableContainer};
 use ix_string::{
     PolymorphicString, RelocatableString, StaticString, String, StringModificationError,
     UninitString,
 };
-use std::alloc::Allocator;
+use std::alloc::{AllocError, Allocator};
 
 /// A fixed string is stored inline. It holds bytes from 1 to 127.
 pub fn fixed() -> Result<StaticString<8>, StringModificationError>
@@ -19,16 +20,26 @@ pub fn fixed() -> Result<StaticString<8>, StringModificationError>
     Ok(string)
 }
 
-/// An allocated string allocates once, when it is made. Returns `folder`, a slash and `name`; or `None` if that is longer
-/// than 64 bytes, has a byte that is 0 or above 127, or there is no memory.
-pub fn allocated<A: Allocator>(alloc: A, folder: &[u8], name: &[u8]) -> Option<PolymorphicString<A>>
-    ensures { IfSome result (λ path. path.items ≡ folder.now ++ codes "/" ++ name.now) }
+/// An allocated string allocates once, when it is made. Returns `folder`, a slash and `name`, or `None` if that is longer
+/// than 64 bytes or has a byte that is 0 or above 127.
+pub fn allocated<A: Allocator>(
+    alloc: A,
+    folder: &[u8],
+    name: &[u8],
+) -> Result<Option<PolymorphicString<A>>, AllocError>
+    ensures path { IfOk result (λ path.
+        IfSome path (λ path. path.items ≡ folder.now ++ codes "/" ++ name.now)) }
+    ensures accepted { IfOk result (λ path. IsSome path
+        ↔ (IsText folder.now × IsText name.now × (length folder.now + 1 + length name.now ≤ 64))) }
 {
-    let mut path = PolymorphicString::new(alloc, 64).ok()?;
-    path.push_bytes(folder).ok()?;
-    path.push(b'/').ok()?;
-    path.push_bytes(name).ok()?;
-    Some(path)
+    let mut path = PolymorphicString::new(alloc, 64)?;
+    if path.push_bytes(folder).is_err()
+        || path.push(b'/').is_err()
+        || path.push_bytes(name).is_err()
+    {
+        return Ok(None);
+    }
+    Ok(Some(path))
 }
 
 /// A relocatable string has a capacity first, and memory later. Returns an empty string in memory of `first`, or of

@@ -7,7 +7,7 @@ use crate::json_message::{Samples, from_json, send, to_json};
 use crate::message::{Message, MessageError};
 use crate::registry::{Registry, Service, port_of, register, unregister};
 use crate::rolling_window::last_samples;
-use crate::scripts::replies;
+use crate::scripts::append_replies;
 use crate::session_table::{Session, SessionTable, close, note_heard, open};
 use crate::unit_name::{UnitName, is_same_unit};
 use crate::{queues, strings, vectors};
@@ -32,8 +32,10 @@ fn queues_of_each_kind(rt: HostRuntime) {
     assert_eq!(rt; allocated.pop(), Some(7));
     assert_eq!(rt; allocated.pop(), Some(9));
     assert_eq!(rt; allocated.pop(), None);
-    let relocatable = queues::relocatable(rt.alloc(), rt.alloc(), 5);
-    assert_eq!(rt; relocatable.map(|queue| queue.capacity()).ok(), Some(5));
+    let many = queues::allocated(rt.alloc(), &[7; 200]).expect(&rt, "there is memory");
+    assert_eq!(rt; (many.len(), many.is_full()), (200, true));
+    let relocatable = queues::relocatable(rt.alloc(), rt.alloc(), 200);
+    assert_eq!(rt; relocatable.map(|queue| queue.capacity()).ok(), Some(200));
 }
 
 #[test]
@@ -42,8 +44,11 @@ fn vectors_of_each_kind(rt: HostRuntime) {
     assert_eq!(rt; fixed.as_slice(), [2, 1].as_slice());
     let squares = vectors::allocated(rt.alloc(), 5).expect(&rt, "there is memory");
     assert_eq!(rt; squares.as_slice(), [0, 1, 4, 9, 16].as_slice());
-    let relocatable = vectors::relocatable(rt.alloc(), rt.alloc(), 5);
-    assert_eq!(rt; relocatable.map(|vector| vector.capacity()).ok(), Some(5));
+    let squares = vectors::allocated(rt.alloc(), 200).expect(&rt, "there is memory");
+    assert_eq!(rt; squares.len(), 200);
+    assert_eq!(rt; squares.as_slice().last().copied(), Some(39_601));
+    let relocatable = vectors::relocatable(rt.alloc(), rt.alloc(), 200);
+    assert_eq!(rt; relocatable.map(|vector| vector.capacity()).ok(), Some(200));
 }
 
 #[test]
@@ -51,11 +56,11 @@ fn strings_of_each_kind(rt: HostRuntime) {
     let fixed = strings::fixed().expect(&rt, "there is room");
     assert_eq!(rt; fixed.as_str(), "hello");
     let path = strings::allocated(rt.alloc(), b"dev", b"shm").expect(&rt, "there is memory");
-    assert_eq!(rt; path.as_str(), "dev/shm");
-    let none = strings::allocated(rt.alloc(), b"dev", b"\x80");
+    assert_eq!(rt; path.expect(&rt, "it is a path").as_str(), "dev/shm");
+    let none = strings::allocated(rt.alloc(), b"dev", b"\x80").expect(&rt, "there is memory");
     assert!(rt; none.is_none());
-    let relocatable = strings::relocatable(rt.alloc(), rt.alloc(), 5);
-    assert_eq!(rt; relocatable.map(|string| string.capacity()).ok(), Some(5));
+    let relocatable = strings::relocatable(rt.alloc(), rt.alloc(), 200);
+    assert_eq!(rt; relocatable.map(|string| string.capacity()).ok(), Some(200));
 }
 
 /// Reads the limit in two threads.
@@ -202,12 +207,11 @@ fn windows(rt: HostRuntime) {
 
 #[test]
 fn scripts_in_memory(rt: HostRuntime) {
-    let output = replies(
-        rt.alloc(),
-        b"queue fixed 1\npush 123\npush 5\nover 456\npop\npop",
-    );
+    let text = b"queue fixed 1\npush 123\npush 5\nover 456\npop\npop";
     let wanted = b"ready\ntrue\nfalse\nsome 123\nsome 456\nnone\n".as_slice();
-    assert_eq!(rt; output.expect(&rt, "there is memory").as_slice(), wanted);
+    let mut output = Vec::new(rt.alloc());
+    assert_eq!(rt; append_replies(rt.alloc(), text, &mut output), Ok(()));
+    assert_eq!(rt; output.as_slice(), wanted);
 }
 
 #[test]

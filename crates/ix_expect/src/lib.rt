@@ -1,5 +1,5 @@
 //! What the crates of tests share: [`Findings`], which note what a test did not expect, items that note their drops, and
-//! [`fed_by`], which tells what a value feeds to a hasher.
+//! [`fed_by`], which tells what a value feeds to a hasher, and [`devices`] that fail.
 //!
 //! ```text
 //! let notes = Notes::new(0);
@@ -9,6 +9,7 @@
 //! ```
 #![tactic(auto)]
 
+pub mod devices;
 mod findings;
 mod noted;
 mod recorder;

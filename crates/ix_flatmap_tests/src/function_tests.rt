@@ -40,6 +40,10 @@ fn texts_of_maps(rt: HostRuntime) -> Result<(), Fail> {
     check_debug(&findings, &fixed, "{}");
     insert_two(&mut fixed);
     check_debug(&findings, &fixed, "{8080: 3, 443: 2}");
+    let mut keys = fixed.keys();
+    check_debug(&findings, &keys, "[8080, 443]");
+    findings.expect_same(keys.next().copied(), Some(8080), "the first key");
+    check_debug(&findings, &keys, "[443]");
     match FlatMap::<u64, u64>::new(rt.alloc(), 3) {
         Ok(mut map) => {
             check_debug(&findings, &map, "{}");

@@ -1,22 +1,11 @@
 //! Maps for which there is not enough memory, at each of the four allocations: nothing stays allocated.
-use ix_cells::{HeapTable, InitError, RelocatableContainer, Table};
+use ix_cells::{InitError, RelocatableContainer, Table};
 use ix_expect::Findings;
 use ix_maps::FlatMapError::IsFull;
 use ix_maps::{FlatMap, Link, MetaFlatMap, Pair, UninitFlatMap};
 use linked_list_allocator::LocalHeap;
-use std::alloc::{AllocError, Global};
+use std::alloc::Global;
 use std::test::Fail;
-
-/// Returns `true` if the heap has memory for two pairs.
-fn has_first(heap: &LocalHeap) -> bool {
-    match HeapTable::<Pair<u64, u64>, &LocalHeap>::new(heap, 2) {
-        Ok(table) => {
-            table.end();
-            true
-        }
-        Err(AllocError) => false,
-    }
-}
 
 /// Checks that an empty map has room for just `capacity` keys.
 fn check_room<S: Table<Pair<u64, u64>>, L: Table<Link>>(
@@ -54,55 +43,72 @@ fn check_again(
     findings: &Findings,
     refused: Option<InitError<UninitFlatMap<u64, u64>>>,
     ample: Global,
+    capacity: u64,
 ) {
     if let Some(error) = refused {
         match error.into_uninit().init(ample) {
-            Ok(mut map) => check_room(findings, &mut map, 2),
+            Ok(mut map) => check_room(findings, &mut map, capacity),
             Err(_) => findings.miss("from ample memory"),
         }
     }
 }
 
-/// Checks makings of maps of 2, which succeed if `found`. `ample` has enough memory.
-fn check_heap(findings: &Findings, heap: &LocalHeap, ample: Global, found: bool) {
-    let used = heap.used();
-    check_made(findings, heap, used, FlatMap::new(heap, 2), (2, found));
-    let made = UninitFlatMap::new_uninit(2).init(heap);
-    check_made(findings, heap, used, made, (2, found));
-    let refused = UninitFlatMap::new_uninit(2).init(heap).err();
-    findings.expect_same(refused.is_none(), found, "in two steps");
-    findings.expect_same(heap.used(), used, "bytes in use after a refusal");
-    check_again(findings, refused, ample);
-    check_made(findings, heap, used, FlatMap::new(heap, 0), (0, true));
-}
-
-/// Allocates a block of the heap, and checks makings of maps. The first table of a map can be made if `first`, both if
-/// `both`.
-fn check_blocks(findings: &Findings, heap: &LocalHeap, ample: Global, (first, both): (bool, bool)) {
+/// Allocates a block of the heap, and checks makings of maps, which succeed if `found`. `ample` has enough memory.
+fn check_heap(
+    findings: &Findings,
+    heap: &LocalHeap,
+    ample: Global,
+    (capacity, found): (u64, bool),
+) {
     let held = Box::new(heap, 0u64);
     findings.expect(held.is_ok(), "a block");
-    findings.expect_same(has_first(heap), first, "the first table");
-    check_heap(findings, heap, ample, both);
+    let used = heap.used();
+    let wanted = (capacity, found);
+    let made = FlatMap::new(heap, capacity as usize);
+    check_made(findings, heap, used, made, wanted);
+    let made = UninitFlatMap::new_uninit(capacity as usize).init(heap);
+    check_made(findings, heap, used, made, wanted);
+    let refused = UninitFlatMap::new_uninit(capacity as usize)
+        .init(heap)
+        .err();
+    findings.expect_same(refused.is_none(), found, "in two steps");
+    findings.expect_same(heap.used(), used, "bytes in use after a refusal");
+    check_again(findings, refused, ample, capacity);
 }
 
-/// The number of blocks of 16 bytes of a heap, and whether the first table can be made, and both. One block is held. Two
-/// pairs take two and their marks one, two links three and their marks one.
-const BLOCKS: &[(usize, bool, bool)] = &[
-    (1, false, false),
-    (3, false, false),
-    (4, true, false),
-    (7, true, false),
-    (8, true, true),
+/// Checks makings of maps of `capacity` in a heap with `free` free blocks.
+fn check_free(findings: &Findings, alloc: Global, capacity: u64, (free, found): (u16, bool)) {
+    match LocalHeap::new(alloc, 16 * (free as usize + 1)) {
+        Ok(heap) => check_heap(findings, &heap, alloc, (capacity, found)),
+        Err(_) => findings.miss("a heap"),
+    }
+}
+
+/// Checks that makings of maps of `capacity` take just `blocks` blocks.
+fn check_size(findings: &Findings, alloc: Global, (capacity, blocks): (u64, u16)) {
+    for free in 0..blocks {
+        check_free(findings, alloc, capacity, (free, false));
+    }
+    check_free(findings, alloc, capacity, (blocks, true));
+}
+
+/// The capacity of a map, and the number of blocks of 16 bytes that it takes: 16 bytes for each pair and 24 for each link,
+/// and one for the mark of either. An allocation takes whole blocks, so a fifth one would take one more.
+const SIZES: &[(u64, u16)] = &[
+    (0, 0),
+    (1, 1 + 1 + 2 + 1),
+    (3, 3 + 1 + 5 + 1),
+    (8, 8 + 1 + 12 + 1),
+    (16, 16 + 1 + 24 + 1),
+    (33, 33 + 3 + 50 + 3),
+    (200, 200 + 13 + 300 + 13),
 ];
 
 #[test]
 fn makings_refused(rt: HostRuntime) -> Result<(), Fail> {
     let findings = Findings::new();
-    for (blocks, first, both) in BLOCKS {
-        match LocalHeap::new(rt.alloc(), 16 * *blocks) {
-            Ok(heap) => check_blocks(&findings, &heap, rt.alloc(), (*first, *both)),
-            Err(_) => findings.miss("a heap"),
-        }
+    for size in SIZES {
+        check_size(&findings, rt.alloc(), *size);
     }
     findings.verdict()
 }

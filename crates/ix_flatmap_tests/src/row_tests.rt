@@ -6,7 +6,7 @@ use crate::caseless::Caseless;
 use crate::keys::{Key, Port};
 use crate::rows::{
     CASE_IGNORED, EVERY_CALL, Example, HELD_BEFORE_FULL, LAST_REMOVED_FIRST, LISTINGS, NO_PLACE,
-    PORTS, SIZE_ZERO, SLOT_ORDER, TEXTS, VALUE_WRITTEN,
+    PORTS, SIZE_ZERO, SLOT_ORDER, TEXTS, UNIT_VALUES, VALUE_WRITTEN,
 };
 use bumpalo::Bump;
 use ix_cells::RelocatableContainer;
@@ -53,6 +53,8 @@ fn other_keys_in_the_value_itself() -> Result<(), Fail> {
     check_calls(&findings, &mut texts, TEXTS, place);
     let mut ports = FixedSizeFlatMap::<Port, u64, 3>::new();
     check_calls(&findings, &mut ports, PORTS, place);
+    let mut set = FixedSizeFlatMap::<u64, (), 3>::new();
+    check_calls(&findings, &mut set, UNIT_VALUES, place);
     let mut units = FixedSizeFlatMap::<(), (), 2>::new();
     check_calls(&findings, &mut units, SIZE_ZERO, place);
     findings.verdict()
@@ -91,6 +93,7 @@ fn check_examples<A: Allocator + Copy>(findings: &Findings, alloc: A, memory: &s
     check_example::<Caseless, u64, A>(findings, alloc, 2, CASE_IGNORED, memory);
     check_example::<StaticString<16>, char, A>(findings, alloc, 2, TEXTS, memory);
     check_example::<Port, u64, A>(findings, alloc, 3, PORTS, memory);
+    check_example::<u64, (), A>(findings, alloc, 3, UNIT_VALUES, memory);
     check_example::<(), (), A>(findings, alloc, 2, SIZE_ZERO, memory);
 }
 

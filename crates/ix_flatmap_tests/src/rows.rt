@@ -15,6 +15,15 @@ pub const HELD_BEFORE_FULL: Example = &[
     (Insert(1, 3), Refused(KeyAlreadyExists)),
     (Insert(2, 4), Refused(Full)),
     (Get(1), Cloned(Ok(Some(2)))),
+    (IsFull, Bool(true)),
+    (Write(1, 5), Value(Some(2))),
+    (ListKeys(None), Keys("1;")),
+    (Remove(2), Value(None)),
+    (Remove(1), Value(Some(5))),
+    (IsEmpty, Bool(true)),
+    (Insert(2, 4), Inserted),
+    (Contains(1), Bool(false)),
+    (GetRef(2), Value(Some(4))),
 ];
 
 /// On a map of 3. A key that is inserted after a removal takes the place of the removed one.
@@ -172,6 +181,22 @@ pub const PORTS: &[Line<(u16, bool), u64>] = &[
         ListKeys(Some(1)),
         Keys("Port { number: 80, is_open: false };"),
     ),
+];
+
+/// On a map of 3, whose values have size zero.
+pub const UNIT_VALUES: &[Line<u64, ()>] = &[
+    (Insert(7, ()), Inserted),
+    (Insert(9, ()), Inserted),
+    (Insert(7, ()), Refused(KeyAlreadyExists)),
+    (Insert(8, ()), Inserted),
+    (Insert(6, ()), Refused(Full)),
+    (Get(8), Cloned(Ok(Some(())))),
+    (Write(9, ()), Value(Some(()))),
+    (Remove(9), Value(Some(()))),
+    (GetRef(9), Value(None)),
+    (ListKeys(None), Keys("7;8;")),
+    (Insert(6, ()), Inserted),
+    (ListKeys(None), Keys("7;6;8;")),
 ];
 
 /// On a map of 2, whose keys and values have size zero: there is only one key.

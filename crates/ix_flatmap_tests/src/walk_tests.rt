@@ -88,6 +88,20 @@ fn check_keys<S: Table<Pair<u64, u64>>, L: Table<Link>>(
     findings.expect_same(found, slow.key_at(last), "a key by its number");
 }
 
+/// Compares the keys that the iterator returns with those of the slow map.
+fn check_iterator<S: Table<Pair<u64, u64>>, L: Table<Link>>(
+    findings: &Findings,
+    map: &MetaFlatMap<u64, u64, S, L>,
+    slow: &SlowMap,
+) {
+    let mut number = 0u64;
+    for key in map.keys() {
+        findings.expect_same(Some(*key), slow.key_at(number), "a key of the iterator");
+        number = number.wrapping_add(1);
+    }
+    findings.expect_same(number, slow.len() as u64, "the number of keys");
+}
+
 /// Compares the contents of both maps, of which no key reaches `keys`.
 fn check_content<S: Table<Pair<u64, u64>>, L: Table<Link>>(
     findings: &Findings,
@@ -96,6 +110,7 @@ fn check_content<S: Table<Pair<u64, u64>>, L: Table<Link>>(
     keys: u64,
 ) {
     check_keys(findings, map, slow, keys);
+    check_iterator(findings, map, slow);
     for key in 0..keys {
         let wanted = slow.get(key);
         findings.expect_same(map.get_ref(&key).copied(), wanted, "a value");

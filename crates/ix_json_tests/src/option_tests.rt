@@ -157,6 +157,8 @@ fn comparisons() -> Result<(), Fail> {
     findings.expect(four != RelocatableOption::Some(5), "other values");
     findings.expect_same(hash_of(&four), hash_of(&same), "one hash");
     findings.expect(hash_of(&four) != hash_of(&nothing), "two hashes");
+    let five = RelocatableOption::Some(5u64);
+    findings.expect(hash_of(&four) != hash_of(&five), "the value is hashed too");
     findings.verdict()
 }
 

@@ -1,5 +1,5 @@
 //! How JSON is read: rows of a text, and the value or the fault.
-use crate::forms::{Empty, Refused};
+use crate::forms::Empty;
 use ix_cells::{StaticVec, Vector};
 use ix_expect::Findings;
 use ix_names::JsonFault::{BadByte, InvalidContent, TooLong, WrongKind};
@@ -115,11 +115,21 @@ const TEXTS_WITHOUT_ROOM: &[Row<&str>] = &[
     ("0", Err(WrongKind)),
 ];
 
+/// Of strings of capacity 1.
+const SINGLE_BYTES: &[Row<&str>] = &[
+    ("\"\"", Ok("")),
+    ("\"a\"", Ok("a")),
+    ("\"ab\"", Err(TooLong)),
+    ("\"é\"", Err(TooLong)),
+    ("\"\\u0000\"", Err(BadByte)),
+];
+
 #[test]
 fn texts(rt: HostRuntime) -> Result<(), Fail> {
     let findings = Findings::new();
     check_strings::<StaticString<3>>(&findings, rt.alloc(), TEXTS);
     check_strings::<StaticString<0>>(&findings, rt.alloc(), TEXTS_WITHOUT_ROOM);
+    check_strings::<StaticString<1>>(&findings, rt.alloc(), SINGLE_BYTES);
     findings.verdict()
 }
 
@@ -158,6 +168,14 @@ const LISTS_WITHOUT_ROOM: &[Row<&[u64]>] = &[
     ("0", Err(WrongKind)),
 ];
 
+/// Of vectors of capacity 1.
+const SINGLE_ITEMS: &[Row<&[u64]>] = &[
+    ("[]", Ok(&[])),
+    ("[1]", Ok(&[1])),
+    ("[null]", Err(WrongKind)),
+    ("[1, 2]", Err(TooLong)),
+];
+
 /// Checks which vector each text is read as.
 fn check_vectors<V: JsonForm + Vector<u64> + Drop>(
     findings: &Findings,
@@ -180,6 +198,7 @@ fn lists(rt: HostRuntime) -> Result<(), Fail> {
     let findings = Findings::new();
     check_vectors::<StaticVec<u64, 3>>(&findings, rt.alloc(), LISTS);
     check_vectors::<StaticVec<u64, 0>>(&findings, rt.alloc(), LISTS_WITHOUT_ROOM);
+    check_vectors::<StaticVec<u64, 1>>(&findings, rt.alloc(), SINGLE_ITEMS);
     for (text, fault) in LISTS_OF_TEXTS {
         check_fault::<StaticVec<StaticString<2>, 3>>(&findings, rt.alloc(), text, *fault);
     }
@@ -278,13 +297,12 @@ fn group_names(rt: HostRuntime) -> Result<(), Fail> {
 }
 
 #[test]
-fn items_of_the_tests(rt: HostRuntime) -> Result<(), Fail> {
+fn items_of_size_zero(rt: HostRuntime) -> Result<(), Fail> {
     let findings = Findings::new();
     check_rows(
         &findings,
         rt.alloc(),
         &[("false", Ok(Empty)), ("0", Err(WrongKind))],
     );
-    check_rows(&findings, rt.alloc(), &[("7", Ok(Refused { number: 7 }))]);
     findings.verdict()
 }

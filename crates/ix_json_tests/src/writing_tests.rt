@@ -1,11 +1,12 @@
 //! Values as JSON and back.
-use crate::forms::{Empty, Refused};
+use crate::forms::{Counted, Empty};
 use ix_cells::{StaticVec, Vector, VectorModificationError};
 use ix_expect::Findings;
 use ix_names::{GroupName, JsonFault, JsonForm, RelocatableOption, Semantic, TrailingSlashRules};
 use ix_string::StaticString;
 use serde_json::Value;
 use std::alloc::{AllocError, Global};
+use std::cell::Cell;
 use std::fmt::Debug;
 use std::test::Fail;
 
@@ -168,43 +169,112 @@ fn options(rt: HostRuntime) -> Result<(), Fail> {
     findings.verdict()
 }
 
-/// Numbers. The conversion of 7 finds no memory.
-const REFUSED: &[&[u64]] = &[&[7], &[7, 1, 2], &[1, 7, 2], &[1, 2, 7], &[7, 7]];
+/// Numbers, and how many of them are converted: the conversion of 7 finds no memory, and those after it are not
+/// converted.
+const REFUSED: &[(&[u64], u64)] = &[
+    (&[7], 1),
+    (&[7, 1, 2], 1),
+    (&[1, 7, 2], 2),
+    (&[1, 2, 7], 3),
+    (&[7, 7], 1),
+];
 
-/// Returns the result of converting a vector of the numbers to JSON.
-fn written(alloc: Global, numbers: &[u64]) -> Option<Result<Value, JsonFault>> {
-    let mut vector = StaticVec::<Refused, 3>::new();
+fn list_of<'a>(numbers: &[u64], conversions: &'a Cell<u64>) -> StaticVec<Counted<'a>, 200> {
+    let mut list = StaticVec::new();
     for number in numbers {
-        if vector.push(Refused { number: *number }).is_err() {
-            return None;
-        }
+        let _ = list.push(Counted::new(*number, conversions));
     }
-    Some(vector.to_value(alloc))
+    list
 }
 
 #[test]
 fn refused_items(rt: HostRuntime) -> Result<(), Fail> {
     let findings = Findings::new();
-    for (row, numbers) in REFUSED.iter().enumerate() {
-        match written(rt.alloc(), numbers) {
-            Some(Err(fault)) => findings.expect_same_at(
-                fault,
-                JsonFault::OutOfMemory,
-                row,
-                "a list",
-            ),
-            _ => findings.expect_at(false, row, "a list is refused"),
-        }
+    let conversions = Cell::new(0u64);
+    let refused = Some(JsonFault::OutOfMemory);
+    for (row, (numbers, converted)) in REFUSED.iter().enumerate() {
+        let list = list_of(numbers, &conversions);
+        findings.expect_same_at(list.to_value(rt.alloc()).err(), refused, row, "a list");
+        findings.expect_same_at(conversions.replace(0), *converted, row, "conversions");
     }
-    let option = RelocatableOption::Some(Refused { number: 7 });
-    findings.expect_same(
-        option.to_value(rt.alloc()).err(),
-        Some(JsonFault::OutOfMemory),
-        "an option",
-    );
-    match written(rt.alloc(), &[1, 2, 8]) {
-        Some(Ok(value)) => check_value(&findings, rt.alloc(), &value, "[1,2,8]"),
-        _ => findings.miss("there is memory for a list"),
+    let option = RelocatableOption::Some(Counted::new(7, &conversions));
+    findings.expect_same(option.to_value(rt.alloc()).err(), refused, "an option");
+    findings.expect_same(conversions.replace(0), 1, "conversions of an option");
+    let option = RelocatableOption::Some(Counted::new(8, &conversions));
+    findings.expect(option.to_value(rt.alloc()).is_ok(), "an option");
+    findings.expect_same(conversions.get(), 1, "conversions of an option");
+    findings.verdict()
+}
+
+/// Lists, each item of which is converted once.
+const LISTS: &[&[u64]] = &[&[], &[1], &[2; 4], &[3; 8], &[4; 16], &[5; 31], &[6; 200]];
+
+#[test]
+fn long_lists(rt: HostRuntime) -> Result<(), Fail> {
+    let findings = Findings::new();
+    let conversions = Cell::new(0u64);
+    for (row, numbers) in LISTS.iter().enumerate() {
+        let list = list_of(numbers, &conversions);
+        match list.to_value(rt.alloc()) {
+            Ok(value) => match StaticVec::<u64, 200>::from_value(&value) {
+                Ok(back) => findings.expect_same_at(back.as_slice(), *numbers, row, "a list"),
+                Err(fault) => findings.expect_same_at(Some(fault), None, row, "no fault"),
+            },
+            Err(fault) => findings.expect_same_at(Some(fault), None, row, "there is memory"),
+        }
+        let converted = numbers.len() as u64;
+        findings.expect_same_at(conversions.replace(0), converted, row, "conversions");
+    }
+    findings.verdict()
+}
+
+/// Letters, of which a text is made.
+const LETTERS: &[&[u8]] = &[
+    b"",
+    b"a",
+    &[b'b'; 6],
+    &[b'c'; 8],
+    &[b'd'; 16],
+    &[b'e'; 31],
+    &[b'f'; 200],
+];
+
+/// Checks the JSON text of a value that is made of letters, and is read back.
+fn check_letters<T: JsonForm + PartialEq + Debug + Copy>(
+    findings: &Findings,
+    alloc: Global,
+    value: T,
+    letters: &[u8],
+) {
+    match value.to_value(alloc) {
+        Ok(written) => {
+            let text = written.as_str().unwrap_or("no text");
+            findings.expect_same(text.as_bytes(), letters, "letters");
+            findings.expect_same(T::from_value(&written), Ok(value), "letters that are read");
+        }
+        Err(_) => findings.miss("there is memory for letters"),
+    }
+}
+
+#[test]
+fn long_texts(rt: HostRuntime) -> Result<(), Fail> {
+    let findings = Findings::new();
+    let alloc = rt.alloc();
+    for letters in LETTERS {
+        if let Ok(text) = StaticString::<200>::from_bytes(letters) {
+            check_letters(&findings, alloc, text, letters);
+            check_letters(&findings, alloc, RelocatableOption::Some(text), letters);
+        } else {
+            findings.miss("there is room for letters");
+        }
+        match Semantic::<TrailingSlashRules, 255>::new(letters) {
+            Ok(path) => check_letters(&findings, alloc, path, letters),
+            Err(_) => findings.miss("a path"),
+        }
+        match GroupName::new(letters) {
+            Ok(name) => check_letters(&findings, alloc, name, letters),
+            Err(_) => findings.expect(letters.is_empty() || letters.len() > 31, "a name"),
+        }
     }
     findings.verdict()
 }

@@ -18,8 +18,8 @@ pub mod queue;
 pub mod slotmap;
 
 pub use flatmap::{
-    CallbackProgression, FixedSizeFlatMap, FlatMap, FlatMapError, FlatMapFamily, MetaFlatMap, Pair,
-    RelocatableFlatMap, UninitFlatMap,
+    CallbackProgression, FixedSizeFlatMap, FlatMap, FlatMapError, FlatMapFamily, Keys, MetaFlatMap,
+    Pair, RelocatableFlatMap, UninitFlatMap,
 };
 pub use queue::{FixedSizeQueue, MetaQueue, Queue, QueueFamily, RelocatableQueue, UninitQueue};
 pub use slotmap::{

@@ -1,4 +1,5 @@
 //! Functions that no table has: sizes, copies, what is made and inserted unchecked, and the functions of the sample rules.
+use crate::own_rules::{EvenLengthRules, NonEmptyRules};
 use ix_expect::Findings;
 use ix_names::{
     GroupName, GroupNameRules, Rules, Semantic, SemanticStringError, TrailingSlashRules,
@@ -46,6 +47,8 @@ fn strings() -> Result<(), Fail> {
     check_made(&findings, made, "");
     let made = Semantic::<TrailingSlashRules, 255>::new(b"/a//");
     check_made(&findings, made, "/a//");
+    check_made(&findings, Semantic::<EvenLengthRules, 0>::new(b""), "");
+    check_made(&findings, Semantic::<NonEmptyRules, 1>::new(b"a"), "a");
     findings.verdict()
 }
 

@@ -1,88 +1,94 @@
 //! How often `retain` calls its closure, and at which bytes, whether the rules accept what is kept or not.
-use crate::own_rules::NonEmptyRules;
+ghost use Rattle.std.specs.Prelude.{◌<◌};
+
+use crate::own_rules::{EvenLengthRules, NonEmptyRules};
 use ix_expect::Findings;
-use ix_names::{GroupName, Rules, Semantic, SemanticStringError};
+use ix_names::{GroupNameRules, Rules, Semantic, SemanticStringError, TrailingSlashRules};
 use std::cell::Cell;
 use std::test::Fail;
 
-/// A text, what the closure returns for each byte, what `retain` returns, the bytes that are left, how often the closure is
-/// called, and at which bytes: three digits for each.
+/// A text, what the closure returns in the order of its calls, what `retain` returns, the bytes that are left, and the
+/// bytes at which the closure is called: three digits for each.
 type Row<'a> = (
     &'a str,
-    bool,
+    &'a [bool],
     Result<(), SemanticStringError>,
     &'a str,
-    u64,
     u64,
 );
 
 const INVALID: Result<(), SemanticStringError> = Err(SemanticStringError::InvalidContent);
 
-const ROWS: &[Row] = &[
-    ("abc", false, Ok(()), "abc", 3, 99_098_097),
-    ("abc", true, INVALID, "abc", 3, 99_098_097),
-    ("a", false, Ok(()), "a", 1, 97),
-    ("a", true, INVALID, "a", 1, 97),
+/// Of texts that may not be empty.
+const TEXTS: &[Row] = &[
+    ("abc", &[false, false, false], Ok(()), "abc", 99_098_097),
+    ("abc", &[true, true, true], INVALID, "abc", 99_098_097),
+    ("a", &[false], Ok(()), "a", 97),
+    ("a", &[true], INVALID, "a", 97),
+];
+
+/// Of group names, whose first byte is a letter.
+const NAMES: &[Row] = &[
+    ("a1", &[false, true], INVALID, "a1", 49_097),
+    ("a-c", &[true, false, false], Ok(()), "a-", 99_045_097),
+    ("a-c", &[false, true, false], Ok(()), "ac", 99_045_097),
+    ("a-c", &[false, false, true], INVALID, "a-c", 99_045_097),
+];
+
+/// Of texts of an even length.
+const PAIRS: &[Row] = &[
+    ("", &[], Ok(()), "", 0),
+    (
+        "abcd",
+        &[true, false, true, false],
+        Ok(()),
+        "ac",
+        100_099_098_097,
+    ),
+    (
+        "abcd",
+        &[false, true, false, false],
+        INVALID,
+        "abcd",
+        100_099_098_097,
+    ),
 ];
 
 fn check_row<R: Rules<CAPACITY>, const CAPACITY: usize>(
     findings: &Findings,
     string: &mut Semantic<R, CAPACITY>,
-    (_, removes, returned, left, number, digits): &Row,
+    (_, results, returned, left, digits): &Row,
     row: usize,
 ) {
-    let (calls, asked) = (Cell::new(0u64), Cell::new(0u64));
+    let (calls, asked) = (Cell::new(0usize), Cell::new(0u64));
     let found = string.retain(|byte: u8| {
-        calls.set(calls.get().wrapping_add(1));
         asked.set(asked.get().wrapping_mul(1000).wrapping_add(byte as u64));
-        *removes
+        let call = calls.replace(calls.get().wrapping_add(1));
+        results.get(call).copied().unwrap_or(false)
     });
     findings.expect_same_at(found, *returned, row, "the result");
     findings.expect_same_at(string.as_bytes(), left.as_bytes(), row, "the text");
-    findings.expect_same_at(
-        (calls.get(), asked.get()),
-        (*number, *digits),
-        row,
-        "the calls",
-    );
+    let found = (calls.get(), asked.get());
+    findings.expect_same_at(found, (results.len(), *digits), row, "the calls");
+}
+
+fn check_rows<R: Rules<CAPACITY>, const CAPACITY: usize>(findings: &Findings, rows: &[Row])
+    requires { CAPACITY < 256 }
+{
+    for (number, row) in rows.iter().enumerate() {
+        match Semantic::<R, CAPACITY>::new(row.0.as_bytes()) {
+            Ok(mut string) => check_row(findings, &mut string, row, number),
+            Err(_) => findings.miss(row.0),
+        }
+    }
 }
 
 #[test]
 fn once_a_byte_from_the_last_to_the_first() -> Result<(), Fail> {
     let findings = Findings::new();
-    for (number, row) in ROWS.iter().enumerate() {
-        match Semantic::<NonEmptyRules, 200>::new(row.0.as_bytes()) {
-            Ok(mut string) => check_row(&findings, &mut string, row, number),
-            Err(_) => findings.miss(row.0),
-        }
-    }
-    findings.verdict()
-}
-
-/// Returns the name without the bytes at which the closure returns `true`: at `call`, counted from 0 at the last byte.
-fn without(mut name: GroupName, call: u64) -> (Result<(), SemanticStringError>, GroupName) {
-    let calls = Cell::new(0u64);
-    let found = name.retain(|_: u8| calls.replace(calls.get().wrapping_add(1)) == call);
-    (found, name)
-}
-
-#[test]
-fn removed_where_the_closure_returns_true() -> Result<(), Fail> {
-    let findings = Findings::new();
-    match GroupName::new(b"a-c") {
-        Ok(name) => {
-            let (found, left) = without(name, 0);
-            findings.expect_same((found, left.eq_str("a-")), (Ok(()), true), "the last byte");
-            let (found, left) = without(name, 1);
-            findings.expect_same((found, left.eq_str("ac")), (Ok(()), true), "the middle one");
-            let (found, left) = without(name, 2);
-            findings.expect_same(
-                (found, left.eq_str("a-c")),
-                (INVALID, true),
-                "the first byte",
-            );
-        }
-        Err(_) => findings.miss("a name"),
-    }
+    check_rows::<NonEmptyRules, 200>(&findings, TEXTS);
+    check_rows::<GroupNameRules, 31>(&findings, NAMES);
+    check_rows::<EvenLengthRules, 4>(&findings, PAIRS);
+    check_rows::<TrailingSlashRules, 255>(&findings, &PAIRS[..2]);
     findings.verdict()
 }

@@ -1,9 +1,13 @@
 //! The worked examples, and a long text that may not be empty.
 use crate::calls::check_rows;
 use crate::own_rules::{EvenLengthRules, NonEmptyRules};
-use crate::rows::{CHANGED_NAMES, EVEN_LENGTHS, NAMES, NO_ROOM, REFUSED_BYTES, SLASHES};
+use crate::rows::{
+    CHANGED_NAMES, EVEN_LENGTHS, NAMES, NO_ROOM, NO_SINGLE_BYTE, REFUSED_BYTES, SINGLE_BYTES,
+    SLASHES,
+};
 use ix_expect::Findings;
 use ix_names::{GroupName, Semantic, SemanticStringError, TrailingSlashRules};
+use std::cell::Cell;
 use std::test::Fail;
 
 #[test]
@@ -32,10 +36,14 @@ fn changes_that_the_rules_refuse() -> Result<(), Fail> {
 }
 
 #[test]
-fn no_room() -> Result<(), Fail> {
+fn capacities_0_and_1() -> Result<(), Fail> {
     let findings = Findings::new();
     let made = Semantic::<EvenLengthRules, 0>::new(b"");
     check_rows(&findings, made, NO_ROOM, "no room");
+    let made = Semantic::<EvenLengthRules, 1>::new(b"");
+    check_rows(&findings, made, NO_SINGLE_BYTE, "no single byte");
+    let made = Semantic::<NonEmptyRules, 1>::new(b"a");
+    check_rows(&findings, made, SINGLE_BYTES, "single bytes");
     let made = Semantic::<NonEmptyRules, 0>::new(b"");
     let invalid = Some(SemanticStringError::InvalidContent);
     findings.expect_same(made.err(), invalid, "no text");
@@ -56,6 +64,9 @@ fn a_long_text_stays() -> Result<(), Fail> {
             findings.expect_same(text.as_bytes(), letters.as_slice(), "unchanged");
             findings.expect_same(text.strip_suffix(&letters), invalid, "strip_suffix");
             findings.expect_same(text.as_bytes(), letters.as_slice(), "unchanged");
+            let calls = Cell::new(0u64);
+            let kept = text.retain(|_: u8| calls.replace(calls.get().wrapping_add(1)) == 130);
+            findings.expect_same((kept, calls.get()), (Ok(()), 130), "calls of a closure");
             findings.expect_same(text.strip_prefix(&letters[1..]), Ok(true), "all but one");
             findings.expect_same(text.as_bytes(), b"a".as_slice(), "one letter");
         }

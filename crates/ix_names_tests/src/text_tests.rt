@@ -1,4 +1,5 @@
 //! Printed texts, texts in the machine's memory, and errors.
+use crate::own_rules::EvenLengthRules;
 use ix_expect::Findings;
 use ix_names::SemanticStringError::{ExceedsMaximumLength, InvalidContent};
 use ix_names::{GroupName, Rules, Semantic, SemanticStringError, TrailingSlashRules};
@@ -56,6 +57,38 @@ fn strings(rt: HostRuntime) -> Result<(), Fail> {
     let made = Semantic::<TrailingSlashRules, 255>::new(b"");
     let debugged = "Semantic { text: StaticString<255> { len: 0, data: \"\" } }";
     check_string(&findings, rt.alloc(), made, ("", "", debugged));
+    let made = Semantic::<EvenLengthRules, 0>::new(b"");
+    let debugged = "Semantic { text: StaticString<0> { len: 0, data: \"\" } }";
+    check_string(&findings, rt.alloc(), made, ("", "", debugged));
+    findings.verdict()
+}
+
+/// Texts of many bytes, which are printed as they are.
+const LONG: &[&[u8]] = &[&[b'a'; 31], &[b'b'; 101], &[b'c'; 200], &[b'd'; 255]];
+
+/// Compares the bytes of a text, if it was made.
+fn check_bytes(findings: &Findings, made: Result<std::string::String, AllocError>, bytes: &[u8]) {
+    match made {
+        Ok(text) => findings.expect_same(text.as_bytes(), bytes, "a long text"),
+        Err(AllocError) => findings.miss("there is memory for a long text"),
+    }
+}
+
+#[test]
+fn long_texts(rt: HostRuntime) -> Result<(), Fail> {
+    let findings = Findings::new();
+    let alloc = rt.alloc();
+    for bytes in LONG {
+        match Semantic::<TrailingSlashRules, 255>::new(bytes) {
+            Ok(path) => {
+                check_bytes(&findings, path.to_text(alloc), bytes);
+                check_bytes(&findings, format!(in alloc; "{path}"), bytes);
+                let debugged = format!(in alloc; "{path:?}");
+                findings.expect(debugged.is_ok(), "a long text by Debug");
+            }
+            Err(_) => findings.miss("a long text is accepted"),
+        }
+    }
     findings.verdict()
 }
 

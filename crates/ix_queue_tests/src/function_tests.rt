@@ -83,6 +83,18 @@ const ONE: &[Row<u64>] = &[
     (Push(123), Bool(true)),
     (PushWithOverflow(456), Item(Some(123))),
     (Pop, Item(Some(456))),
+    (IsEmpty, Bool(true)),
+    (PushWithOverflow(7), Item(None)),
+    (Push(8), Bool(false)),
+    (Len, Number(1)),
+    (IsFull, Bool(true)),
+    (Peek, Item(Some(7))),
+    (Write(9), Item(Some(7))),
+    (ReplaceFront(10), Item(Some(9))),
+    (Get(0), Item(Some(10))),
+    (Clear, Done),
+    (Peek, Item(None)),
+    (Capacity, Number(1)),
 ];
 
 const NONE: &[Row<u64>] = &[
@@ -91,6 +103,14 @@ const NONE: &[Row<u64>] = &[
     (Push(1), Bool(false)),
     (PushWithOverflow(2), Item(Some(2))),
     (Pop, Item(None)),
+    (Peek, Item(None)),
+    (Write(3), Item(None)),
+    (ReplaceFront(4), Item(None)),
+    (Get(0), Item(None)),
+    (Clear, Done),
+    (Len, Number(0)),
+    (Capacity, Number(0)),
+    (IsFull, Bool(true)),
 ];
 
 /// Calls of a queue of capacity 3: what is appended past it removes the oldest items in turn.

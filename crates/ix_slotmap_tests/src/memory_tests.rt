@@ -1,21 +1,10 @@
 //! Maps for which there is not enough memory, at each of the four allocations: nothing stays allocated.
-use ix_cells::{HeapTable, InitError, RelocatableContainer, Table};
+use ix_cells::{InitError, RelocatableContainer, Table};
 use ix_expect::Findings;
 use ix_maps::{Link, MetaSlotMap, SlotMap, UninitSlotMap};
 use linked_list_allocator::LocalHeap;
-use std::alloc::{AllocError, Global};
+use std::alloc::Global;
 use std::test::Fail;
-
-/// Returns `true` if the heap has memory for the values of two keys.
-fn has_first(heap: &LocalHeap) -> bool {
-    match HeapTable::<u64, &LocalHeap>::new(heap, 2) {
-        Ok(table) => {
-            table.end();
-            true
-        }
-        Err(AllocError) => false,
-    }
-}
 
 /// Checks a making of a map with `capacity` keys, which succeeds if `found`. Before it `used` bytes of the heap were in
 /// use.
@@ -38,58 +27,76 @@ fn check_made<S: Table<u64>, L: Table<Link>, E: Drop>(
 }
 
 /// Checks that a refused value can be initialised from `ample`.
-fn check_again(findings: &Findings, refused: Option<InitError<UninitSlotMap<u64>>>, ample: Global) {
+fn check_again(
+    findings: &Findings,
+    refused: Option<InitError<UninitSlotMap<u64>>>,
+    ample: Global,
+    capacity: usize,
+) {
     if let Some(error) = refused {
         match error.into_uninit().init(ample) {
             Ok(map) => {
                 let sizes = (map.capacity(), map.len());
-                findings.expect_same(sizes, (2, 0), "in ample memory");
+                findings.expect_same(sizes, (capacity, 0), "in ample memory");
             }
             Err(_) => findings.miss("from ample memory"),
         }
     }
 }
 
-/// Checks makings of maps with two keys, which succeed if `found`. `ample` has enough memory.
-fn check_heap(findings: &Findings, heap: &LocalHeap, ample: Global, found: bool) {
-    let used = heap.used();
-    check_made(findings, heap, used, SlotMap::new(heap, 2), (2, found));
-    let made = UninitSlotMap::new_uninit(2).init(heap);
-    check_made(findings, heap, used, made, (2, found));
-    let refused = UninitSlotMap::new_uninit(2).init(heap).err();
-    findings.expect_same(refused.is_none(), found, "in two steps");
-    findings.expect_same(heap.used(), used, "bytes in use after a refusal");
-    check_again(findings, refused, ample);
-    check_made(findings, heap, used, SlotMap::new(heap, 0), (0, true));
-}
-
-/// Allocates a block of the heap, and checks makings of maps. The first table of a map can be made if `first`, both if
-/// `both`.
-fn check_blocks(findings: &Findings, heap: &LocalHeap, ample: Global, (first, both): (bool, bool)) {
+/// Allocates a block of the heap, and checks makings of maps, which succeed if `found`. `ample` has enough memory.
+fn check_heap(
+    findings: &Findings,
+    heap: &LocalHeap,
+    ample: Global,
+    (capacity, found): (usize, bool),
+) {
     let held = Box::new(heap, 0u64);
     findings.expect(held.is_ok(), "a block");
-    findings.expect_same(has_first(heap), first, "the first table");
-    check_heap(findings, heap, ample, both);
+    let used = heap.used();
+    let wanted = (capacity, found);
+    check_made(findings, heap, used, SlotMap::new(heap, capacity), wanted);
+    let made = UninitSlotMap::new_uninit(capacity).init(heap);
+    check_made(findings, heap, used, made, wanted);
+    let refused = UninitSlotMap::new_uninit(capacity).init(heap).err();
+    findings.expect_same(refused.is_none(), found, "in two steps");
+    findings.expect_same(heap.used(), used, "bytes in use after a refusal");
+    check_again(findings, refused, ample, capacity);
 }
 
-/// The number of blocks of 16 bytes of a heap, and whether the first table can be made, and both. One block is held. Two
-/// values take one and their marks another, two links three and their marks one.
-const BLOCKS: &[(usize, bool, bool)] = &[
-    (1, false, false),
-    (2, false, false),
-    (3, true, false),
-    (6, true, false),
-    (7, true, true),
+/// Checks makings of maps with `capacity` keys in a heap with `free` free blocks.
+fn check_free(findings: &Findings, alloc: Global, capacity: usize, (free, found): (u16, bool)) {
+    match LocalHeap::new(alloc, 16 * (free as usize + 1)) {
+        Ok(heap) => check_heap(findings, &heap, alloc, (capacity, found)),
+        Err(_) => findings.miss("a heap"),
+    }
+}
+
+/// Checks that makings of maps with `capacity` keys take just `blocks` blocks.
+fn check_size(findings: &Findings, alloc: Global, (capacity, blocks): (usize, u16)) {
+    for free in 0..blocks {
+        check_free(findings, alloc, capacity, (free, false));
+    }
+    check_free(findings, alloc, capacity, (blocks, true));
+}
+
+/// The capacity of a map, and the number of blocks of 16 bytes that it takes: 8 bytes for each value and 24 for each link,
+/// and one for the mark of either.
+const SIZES: &[(usize, u16)] = &[
+    (0, 0),
+    (1, 1 + 1 + 2 + 1),
+    (3, 2 + 1 + 5 + 1),
+    (8, 4 + 1 + 12 + 1),
+    (16, 8 + 1 + 24 + 1),
+    (33, 17 + 3 + 50 + 3),
+    (200, 100 + 13 + 300 + 13),
 ];
 
 #[test]
 fn makings_refused(rt: HostRuntime) -> Result<(), Fail> {
     let findings = Findings::new();
-    for (blocks, first, both) in BLOCKS {
-        match LocalHeap::new(rt.alloc(), 16 * *blocks) {
-            Ok(heap) => check_blocks(&findings, &heap, rt.alloc(), (*first, *both)),
-            Err(_) => findings.miss("a heap"),
-        }
+    for size in SIZES {
+        check_size(&findings, rt.alloc(), *size);
     }
     findings.verdict()
 }

@@ -2,7 +2,7 @@
 use crate::calls::{Line, check_calls, check_made};
 use crate::rows::{
     EVERY_CALL, FIRST_KEY_INSERTED, KEYS_AFTER_THE_FIRST, KEYS_OUT_OF_RANGE, MIDDLE_KEY_INSERTED,
-    NO_KEY, REMOVED_KEY_IS_FIRST, REMOVED_KEY_IS_NEXT, SIZE_ZERO, VALUE_REPLACED,
+    NO_KEY, ONE_KEY, REMOVED_KEY_IS_FIRST, REMOVED_KEY_IS_NEXT, SIZE_ZERO, VALUE_REPLACED,
 };
 use bumpalo::Bump;
 use ix_cells::RelocatableContainer;
@@ -46,6 +46,8 @@ fn in_the_value_itself() -> Result<(), Fail> {
     }
     let four = FixedSizeSlotMap::<char, 4>::new();
     check_calls(&findings, four, MIDDLE_KEY_INSERTED, "of four");
+    let one = FixedSizeSlotMap::<char, 1>::new();
+    check_calls(&findings, one, ONE_KEY, "of one");
     let none = FixedSizeSlotMap::<char, 0>::new();
     check_calls(&findings, none, NO_KEY, "of none");
     let units = FixedSizeSlotMap::<(), 3>::new();
@@ -76,6 +78,7 @@ fn check_examples<A: Allocator + Copy>(findings: &Findings, alloc: A, memory: &s
         check_example(findings, alloc, 2, lines, memory);
     }
     check_example(findings, alloc, 4, MIDDLE_KEY_INSERTED, memory);
+    check_example(findings, alloc, 1, ONE_KEY, memory);
     check_example(findings, alloc, 0, NO_KEY, memory);
     check_example(findings, alloc, 3, SIZE_ZERO, memory);
 }

@@ -55,10 +55,30 @@ pub const KEYS_AFTER_THE_FIRST: &[Line<char>] = &[
     (Insert('f'), Key(None)),
 ];
 
+/// On a map with one key.
+pub const ONE_KEY: &[Line<char>] = &[
+    (NextFreeKey, Key(Some(0))),
+    (Insert('a'), Key(Some(0))),
+    (IsFull, Bool(true)),
+    (NextFreeKey, Key(None)),
+    (Insert('b'), Key(None)),
+    (InsertAt(0, 'c'), Bool(true)),
+    (InsertAt(1, 'd'), Bool(false)),
+    (Contains(0), Bool(true)),
+    (Contains(1), Bool(false)),
+    (Write(0, 'e'), Value(Some('c'))),
+    (Len, Number(1)),
+    (Remove(0), Value(Some('e'))),
+    (IsEmpty, Bool(true)),
+    (Get(0), Value(None)),
+    (Capacity, Number(1)),
+];
+
 /// On a map with no key.
 pub const NO_KEY: &[Line<char>] = &[
     (NextFreeKey, Key(None)),
     (Insert('x'), Key(None)),
+    (Contains(0), Bool(false)),
     (Get(0), Value(None)),
     (InsertAt(0, 'x'), Bool(false)),
     (Remove(0), Value(None)),

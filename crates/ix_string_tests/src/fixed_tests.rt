@@ -69,6 +69,16 @@ fn check_whole_arrays(findings: &Findings) {
     check_made(findings, made, &Ok(""), 3, "from_bytes");
     let made = StaticString::<0>::from_bytes(&[0]);
     check_made(findings, made, full, 4, "from_bytes");
+    let made = StaticString::<0>::try_from(&[0u8; 0]);
+    check_made(findings, made, &Ok(""), 5, "try_from");
+    let made = StaticString::<0>::from_str("");
+    check_made(findings, made, &Ok(""), 6, "from_str");
+    let made = StaticString::<0>::try_from("a");
+    check_made(findings, made, full, 7, "try_from a text");
+    let made = StaticString::<0>::from_c_str(&[0, 97]);
+    check_made(findings, made, &Ok(""), 8, "from_c_str");
+    let made = StaticString::<0>::from_c_str(&[97, 0]);
+    check_made(findings, made, full, 9, "from_c_str");
 }
 
 #[test]
@@ -161,6 +171,8 @@ fn check_unchecked_makings(findings: &Findings) {
     findings.expect_same(cut.as_str(), "ab", "cut");
     let none = StaticString::<5>::from_bytes_unchecked_restricted(&[0, 200], 0);
     findings.expect_same(none.as_str(), "", "cut to nothing");
+    let none = StaticString::<0>::from_bytes_unchecked(b"");
+    findings.expect(none == StaticString::default(), "no room");
 }
 
 #[test]

@@ -2,7 +2,7 @@
 use crate::calls::{Row, check_tables};
 use crate::refusals::{REFUSED_BY_FULL, REFUSED_BYTE, check_refused_bytes};
 use crate::rows::{
-    COMPARISONS, COPIES, INSERTIONS, RANGES, REMOVALS, RETAINED, SEARCHES, STRIPPED,
+    COMPARISONS, COPIES, INSERTIONS, RANGES, REMOVALS, RETAINED, SEARCHES, SINGLE_BYTES, STRIPPED,
     UNCHECKED_INSERTIONS,
 };
 use crate::strings::refill;
@@ -29,55 +29,54 @@ const OF_MORE: &[&[Row]] = &[
     REFUSED_BYTE,
 ];
 
+/// Examples of a string with room for one byte.
+const OF_ONE: &[&[Row]] = &[SINGLE_BYTES];
+
 /// Examples of a string with room for two bytes.
 const OF_TWO: &[&[Row]] = &[COPIES, COMPARISONS, REFUSED_BY_FULL];
 
-/// `retain` calls its closure from the last byte to the first: the digits of `asked` are the bytes, three for each.
-fn check_retaining<S: String>(findings: &Findings, string: &mut S, place: &str) {
-    refill(string, "abc");
-    let (asked, first) = (Cell::new(0u64), Cell::new(true));
-    string.retain(|byte: u8| {
-        asked.set(asked.get().wrapping_mul(1000).wrapping_add(byte as u64));
-        first.replace(false)
-    });
-    findings.expect_same(string.as_str(), "ab", place);
-    findings.expect_same(asked.get(), 99_098_097, place);
-}
+/// A text, what the closure of `retain` returns in the order of its calls, the bytes that are left, and the bytes at
+/// which it is called: three digits for each.
+type RetainRow<'a> = (&'a str, &'a [bool], &'a str, u64);
 
-/// A text, what the closure of `retain` returns for each byte, the bytes that are left, how often it is called, and at
-/// which bytes: three digits for each.
-const RETAIN_CALLS: &[(&str, bool, &str, u64, u64)] = &[
-    ("", true, "", 0, 0),
-    ("", false, "", 0, 0),
-    ("abc", false, "abc", 3, 99_098_097),
-    ("abc", true, "", 3, 99_098_097),
-    ("a", true, "", 1, 97),
-    ("a", false, "a", 1, 97),
+const RETAIN_CALLS: &[RetainRow] = &[
+    ("", &[], "", 0),
+    ("abcd", &[true, false, true, false], "ac", 100_099_098_097),
+    ("abc", &[true, false, false], "ab", 99_098_097),
+    ("abc", &[false, false, false], "abc", 99_098_097),
+    ("abc", &[true, true, true], "", 99_098_097),
+    ("a", &[true], "", 97),
+    ("a", &[false], "a", 97),
 ];
 
-/// `retain` calls its closure once for each byte, in an empty string and where all bytes are kept or all are removed.
+/// `retain` calls its closure once for each byte, from the last to the first, and not once more.
 fn check_retain_calls<S: String>(findings: &Findings, string: &mut S, place: &str) {
-    for (row, (text, result, left, number, digits)) in RETAIN_CALLS.iter().enumerate() {
+    for (row, (text, results, left, digits)) in RETAIN_CALLS.iter().enumerate() {
         refill(string, text);
-        let (calls, asked) = (Cell::new(0u64), Cell::new(0u64));
+        let (calls, asked) = (Cell::new(0usize), Cell::new(0u64));
         string.retain(|byte: u8| {
-            calls.set(calls.get().wrapping_add(1));
             asked.set(asked.get().wrapping_mul(1000).wrapping_add(byte as u64));
-            *result
+            let call = calls.replace(calls.get().wrapping_add(1));
+            results.get(call).copied().unwrap_or(false)
         });
         findings.expect_same_at(string.as_str(), *left, row, place);
-        findings.expect_same_at((calls.get(), asked.get()), (*number, *digits), row, place);
+        let found = (calls.get(), asked.get());
+        findings.expect_same_at(found, (results.len(), *digits), row, place);
     }
 }
 
-/// Makes the examples for a string of capacity two, six or more.
+/// Makes the examples for a string of capacity one, two, six or more.
 fn check_string<S: String>(findings: &Findings, string: &mut S, place: &str) {
-    if string.capacity() == 2 {
-        check_tables(findings, string, OF_TWO, place);
+    if string.capacity() <= 2 {
+        let tables = if string.capacity() == 1 {
+            OF_ONE
+        } else {
+            OF_TWO
+        };
+        check_tables(findings, string, tables, place);
         return;
     }
     check_tables(findings, string, OF_MORE, place);
-    check_retaining(findings, string, place);
     check_retain_calls(findings, string, place);
     if string.capacity() == 6 {
         check_refused_bytes(findings, string, place);
@@ -107,6 +106,8 @@ fn fixed_kinds() -> Result<(), Fail> {
     check_made(&findings, six, 6, "fixed");
     let two = Ok::<_, AllocError>(StaticString::<2>::new());
     check_made(&findings, two, 2, "fixed");
+    let one = Ok::<_, AllocError>(StaticString::<1>::new());
+    check_made(&findings, one, 1, "fixed");
     let long = Ok::<_, AllocError>(StaticString::<123>::new());
     check_made(&findings, long, 123, "a long one");
     findings.verdict()
@@ -121,8 +122,9 @@ fn check_kinds<A: Allocator + Copy>(findings: &Findings, alloc: A, capacity: usi
 }
 
 fn check_kinds_in<A: Allocator + Copy>(findings: &Findings, alloc: A, memory: &str) {
-    check_kinds(findings, alloc, 6, memory);
-    check_kinds(findings, alloc, 2, memory);
+    for capacity in [6, 2, 1] {
+        check_kinds(findings, alloc, capacity, memory);
+    }
 }
 
 /// As above. All memory is deallocated.

@@ -12,3 +12,11 @@ pub fn holding<S: String>(mut string: S, text: &str) -> S {
     refill(&mut string, text);
     string
 }
+
+/// Returns the string filled up with one letter.
+pub fn filled<S: String>(mut string: S) -> S {
+    for _ in 0..string.capacity() {
+        let _ = string.push(b'a');
+    }
+    string
+}

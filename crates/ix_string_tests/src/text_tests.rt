@@ -130,6 +130,60 @@ fn printed_strings(rt: HostRuntime) -> Result<(), Fail> {
     findings.verdict()
 }
 
+/// Letters, which are printed as they are.
+const LONG: &[&[u8]] = &[
+    &[b'a'; 31],
+    &[b'b'; 101],
+    &[b'c'; 124],
+    &[b'd'; 200],
+    &[b'e'; 255],
+];
+
+/// Compares the bytes of a text, if it was made.
+fn check_letters(
+    findings: &Findings,
+    made: Result<std::string::String, AllocError>,
+    letters: &[u8],
+) {
+    match made {
+        Ok(text) => findings.expect_same(text.as_bytes(), letters, "letters"),
+        Err(AllocError) => findings.miss("there is memory for letters"),
+    }
+}
+
+/// Prints the letters from the string, which has room for them.
+fn check_long<S: String + Drop, E: Drop>(findings: &Findings, alloc: Global, made: Result<S, E>) {
+    let Ok(mut string) = made else {
+        return findings.miss("there is memory");
+    };
+    for letters in LONG {
+        string.clear();
+        findings.expect_same(string.push_bytes(letters), Ok(()), "letters");
+        check_letters(findings, format!(in alloc; "{}", string), letters);
+        let debugged = format!(in alloc; "{:?}", string);
+        findings.expect(debugged.is_ok(), "letters by Debug");
+    }
+}
+
+#[test]
+fn long_texts(rt: HostRuntime) -> Result<(), Fail> {
+    let findings = Findings::new();
+    let alloc = rt.alloc();
+    for letters in LONG {
+        check_letters(&findings, as_escaped_string(alloc, letters), letters);
+    }
+    let zeros = as_escaped_string(alloc, &[0; 255]).map(|text| text.len());
+    findings.expect_same(zeros, Ok(1020), "four bytes for each zero");
+    check_long(
+        &findings,
+        alloc,
+        Ok::<_, AllocError>(StaticString::<255>::new()),
+    );
+    check_long(&findings, alloc, UninitString::new_uninit(255).init(alloc));
+    check_long(&findings, alloc, PolymorphicString::new(alloc, 255));
+    findings.verdict()
+}
+
 const ERRORS: &[(StringModificationError, &str)] = &[
     (
         StringModificationError::InvalidCharacter,

@@ -52,6 +52,42 @@ const WORKED: &[Example] = &[
         b"vec heap 1001\nvec heap 1000\ncapacity\nvec heap 1000\nvec fixed 2",
         b"?\nready\n1000\n?\n?\n",
     ),
+    (
+        b"queue heap 1001\nqueue heap 1000\ncapacity",
+        b"?\nready\n1000\n",
+    ),
+    (
+        b"queue arena 1001\nqueue arena 1000\ncapacity",
+        b"?\nready\n1000\n",
+    ),
+    (
+        b"vec arena 1001\nvec arena 1000\ncapacity",
+        b"?\nready\n1000\n",
+    ),
+    (
+        b"slot heap 1001\nslot heap 1000\ncapacity",
+        b"?\nready\n1000\n",
+    ),
+    (
+        b"slot arena 1001\nslot arena 1000\ncapacity",
+        b"?\nready\n1000\n",
+    ),
+    (
+        b"flat heap 1001\nflat heap 1000\ninsert 7 8\nkey 0",
+        b"?\nready\nok\nsome 7\n",
+    ),
+    (
+        b"flat arena 1001\nflat arena 1000\ninsert 7 8\nkey 0",
+        b"?\nready\nok\nsome 7\n",
+    ),
+    (
+        b"text heap 1001\ntext heap 1000\ncapacity",
+        b"?\nready\n1000\n",
+    ),
+    (
+        b"text arena 1001\ntext arena 1000\ncapacity",
+        b"?\nready\n1000\n",
+    ),
     (b"slot fixed 8", b"ready\n"),
     (b"\nvec arena 0", b"?\nready\n"),
     (

@@ -6,8 +6,6 @@ mod command_tests;
 #[cfg(test)]
 mod container_script_tests;
 #[cfg(test)]
-mod devices;
-#[cfg(test)]
 mod findings_tests;
 #[cfg(test)]
 mod oracle;

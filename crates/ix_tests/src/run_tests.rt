@@ -57,6 +57,9 @@ fn check_queue<S: Table<u64>>(
     let found = run_queue(alloc, queue, QUEUE_COMMANDS);
     expect_replies(findings, found, QUEUE_REPLIES, kind);
     findings.expect(queue.is_empty(), kind);
+    expect_replies(findings, run_queue(alloc, queue, &[]), &[], kind);
+    let many = run_queue(alloc, queue, &[QueueCommand::Len; 200]);
+    expect_replies(findings, many, &[Reply::Number(0); 200], kind);
 }
 
 #[test]

@@ -1,8 +1,10 @@
 //! Whole scripts: worked examples, bad input, and devices that fail.
 ghost use Rattle.std.specs.Prelude.{◌≤◌};
 
-use crate::devices::{Asker, Exchange, Listener, PoorReader, PoorWriter, first_lines, line_ends};
 use ix_expect::Findings;
+use ix_expect::devices::{
+    Asker, Exchange, Faults, Listener, PoorReader, PoorWriter, first_lines, line_ends,
+};
 use ix_run::{ScriptFault, exit_status, fault_line, script};
 use std::alloc::{AllocError, Global};
 use std::cmp::min;
@@ -304,7 +306,7 @@ fn check_read_fault(
 ) {
     let case = (piece, calls);
     let mut reader = PoorReader::new(input, piece);
-    reader.calls = calls;
+    reader.faults = Faults::after(calls);
     reader.interruptions = calls % 2;
     let mut writer = PoorWriter::new(alloc, 5);
     let outcome = script(alloc, &mut reader, &mut writer);
@@ -364,7 +366,7 @@ fn check_count(findings: &Findings, alloc: Global, piece: usize, count: usize)
     let reader = PoorReader::new(INPUT, piece);
     check_write_fault(findings, alloc, reader, full, written);
     let mut broken = PoorWriter::new(alloc, 1);
-    broken.calls = count;
+    broken.faults = Faults::after(count);
     broken.interruptions = 1 - count % 2;
     let reader = PoorReader::new(INPUT, piece);
     check_write_fault(findings, alloc, reader, broken, written);
@@ -401,7 +403,7 @@ fn writers_that_never_work(rt: HostRuntime) -> Result<(), Fail> {
     // If all lines are read at once, all replies are written after that read.
     for calls in 0..14 {
         let mut broken = PoorWriter::new(rt.alloc(), 3);
-        broken.calls = calls;
+        broken.faults = Faults::after(calls);
         let reader = PoorReader::new(ENDED_INPUT, 100);
         check_write_fault(&findings, rt.alloc(), reader, broken, &OUTPUT[..3 * calls]);
     }
@@ -413,7 +415,7 @@ fn check_enough_room(findings: &Findings, alloc: Global, piece: usize) {
     let mut reader = PoorReader::new(INPUT, piece);
     let mut writer = PoorWriter::new(alloc, 1);
     writer.room = OUTPUT.len();
-    writer.calls = OUTPUT.len();
+    writer.faults = Faults::after(OUTPUT.len());
     let outcome = script(alloc, &mut reader, &mut writer);
     findings.expect_same((piece, outcome), (piece, Ok(())), "enough room");
     let text = writer.bytes.as_slice();

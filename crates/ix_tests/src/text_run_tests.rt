@@ -10,6 +10,18 @@ use std::test::Fail;
 /// A command, and the reply to it.
 type Step<'a> = (TextCommand<'a>, Reply<usize, u8>);
 
+/// What a string without room replies.
+const OF_ZERO: &[Step] = &[
+    (
+        TextCommand::Push(97),
+        Reply::Error(ReplyError::InsertWouldExceedCapacity),
+    ),
+    (TextCommand::Append(&[]), Reply::Done),
+    (TextCommand::Pop, Reply::None),
+    (TextCommand::Full, Reply::Bool(true)),
+    (TextCommand::Empty, Reply::Bool(true)),
+];
+
 /// What a string with room for three bytes, at first empty, replies.
 const OF_THREE: &[Step] = &[
     (TextCommand::Append(&[97, 98]), Reply::Done),
@@ -120,9 +132,12 @@ fn check_made<S: String + Drop, E: Drop>(
         findings.miss(place);
         return;
     };
+    check_run(findings, alloc, &mut string, (&[], ""), place);
+    if string.capacity() == 0 {
+        return check_run(findings, alloc, &mut string, (OF_ZERO, ""), place);
+    }
     if string.capacity() == 3 {
-        check_run(findings, alloc, &mut string, (OF_THREE, "abc"), place);
-        return;
+        return check_run(findings, alloc, &mut string, (OF_THREE, "abc"), place);
     }
     check_run(findings, alloc, &mut string, (OF_FIVE, "\tb"), place);
     check_run(findings, alloc, &mut string, (EACH, "a"), place);
@@ -146,12 +161,14 @@ fn check_kinds<A: Allocator + Copy>(
 fn strings_of_each_kind_run_commands(rt: HostRuntime) -> Result<(), Fail> {
     let findings = Findings::new();
     let alloc = rt.alloc();
+    let zero = Ok::<_, ReplyError>(StaticString::<0>::new());
+    check_made(&findings, alloc, zero, "fixed");
     let three = Ok::<_, ReplyError>(StaticString::<3>::new());
     check_made(&findings, alloc, three, "fixed");
     let five = Ok::<_, ReplyError>(StaticString::<5>::new());
     check_made(&findings, alloc, five, "fixed");
     let arena = Bump::new(alloc);
-    for capacity in [3, 5] {
+    for capacity in [0, 3, 5] {
         check_kinds(&findings, alloc, alloc, capacity, "the machine's memory");
         check_kinds(&findings, alloc, &arena, capacity, "an arena");
     }

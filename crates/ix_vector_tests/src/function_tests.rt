@@ -14,6 +14,7 @@ use ix_cells::{
 };
 use ix_expect::Findings;
 use std::alloc::{AllocError, Global};
+use std::cell::Cell;
 use std::test::Fail;
 
 /// Calls of a vector of capacity 3.
@@ -81,6 +82,45 @@ fn calls_of_each_kind(rt: HostRuntime) -> Result<(), Fail> {
         check_kinds(&findings, rt.alloc(), fixed, 3, rows);
         check_in(&findings, &arena, 3, rows);
     }
+    findings.verdict()
+}
+
+/// The vector grows to each length by a closure that is called once for each item, in order.
+fn check_growth<V: Vector<usize> + Drop, E: Drop>(
+    findings: &Findings,
+    made: Result<V, E>,
+    kind: &str,
+) {
+    let Ok(mut vector) = made else {
+        return findings.miss(kind);
+    };
+    for n in &[0, 1, 8, 16, 31, 200] {
+        let (old_len, calls) = (vector.len(), Cell::new(0usize));
+        let resized = vector.resize_with(*n, || {
+            let call = calls.replace(calls.get().wrapping_add(1));
+            old_len.wrapping_add(call)
+        });
+        findings.expect_same((resized, vector.len()), (Ok(()), *n), kind);
+        findings.expect_same(
+            old_len.wrapping_add(calls.get()),
+            *n,
+            "calls of the closure",
+        );
+    }
+    for (i, item) in vector.as_slice().iter().enumerate() {
+        findings.expect_same_at(*item, i, i, kind);
+    }
+}
+
+#[test]
+fn growth_by_a_closure(rt: HostRuntime) -> Result<(), Fail> {
+    let findings = Findings::new();
+    let fixed = Ok::<_, AllocError>(StaticVec::<usize, 200>::new());
+    check_growth(&findings, fixed, "static");
+    let relocatable = UninitVec::<usize>::new_uninit(200).init(rt.alloc());
+    check_growth(&findings, relocatable, "relocatable");
+    let polymorphic = PolymorphicVec::new(rt.alloc(), 200);
+    check_growth(&findings, polymorphic, "polymorphic");
     findings.verdict()
 }
 
@@ -217,5 +257,9 @@ fn inline_tables() -> Result<(), Fail> {
     findings.expect_same((*table.get(0), *table.get(1)), (8, 7), "inline");
     findings.expect_same((table.take(0), table.take(1)), (8, 7), "inline");
     table.end();
+    let mut single = InlineTable::<u64, 1>::new();
+    single.put(0, 9);
+    findings.expect_same((single.len(), single.take(0)), (1, 9), "a single place");
+    single.end();
     findings.verdict()
 }

@@ -1,14 +1,52 @@
-//! Items that allocate, and a helper to fill vectors.
+//! Items that allocate and count their clones, and helpers to fill heaps and vectors.
 use ix_cells::Vector;
 use linked_list_allocator::LocalHeap;
-use std::alloc::AllocError;
+use std::alloc::{AllocError, Global};
+use std::cell::Cell;
 use std::marker::Model;
+
+/// The bytes of the least block of a heap.
+pub const BLOCK: usize = 16;
+
+/// A heap, and the number of calls of `clone` of the items in it.
+#[derive(Clone, Copy)]
+pub struct Source<'a> {
+    pub heap: &'a LocalHeap,
+    pub clones: &'a Cell<u64>,
+}
+
+impl<'a> Source<'a> {
+    pub fn item(&self, name: u64) -> Result<Heavy<'a>, AllocError> {
+        let memory = Vec::with_capacity(self.heap, BLOCK)?;
+        Ok(Heavy {
+            name,
+            memory: Some(memory),
+            clones: Some(self.clones),
+        })
+    }
+
+    /// Returns `n` items named 1.
+    pub fn items(&self, alloc: Global, n: usize) -> Result<Vec<Heavy<'a>>, AllocError> {
+        let mut items = Vec::with_capacity(alloc, n)?;
+        for _ in 0..n {
+            items.push(self.item(1)?)?;
+        }
+        Ok(items)
+    }
+}
+
+/// Takes all free bytes of the heap but those of `blocks` blocks.
+pub fn ballast(heap: &LocalHeap, blocks: usize) -> Result<Vec<u8, &LocalHeap>, AllocError> {
+    let left = blocks.wrapping_mul(BLOCK);
+    Vec::with_capacity(heap, heap.free().saturating_sub(left))
+}
 
 /// An item that owns one block of a heap, as each of its clones does. Contracts see its name.
 #[derive(Default, Drop)]
 pub struct Heavy<'a> {
     name: u64,
     memory: Option<Vec<u8, &'a LocalHeap>>,
+    clones: Option<&'a Cell<u64>>,
 }
 
 impl<'a> Model for Heavy<'a> {
@@ -22,16 +60,6 @@ impl<'a> Model for Heavy<'a> {
     ghost view = { λ item. item.name };
 }
 
-impl<'a> Heavy<'a> {
-    pub fn new(name: u64, heap: &'a LocalHeap) -> Result<Heavy<'a>, AllocError> {
-        let memory = Vec::with_capacity(heap, 16)?;
-        Ok(Heavy {
-            name,
-            memory: Some(memory),
-        })
-    }
-}
-
 impl Clone for Heavy<'_> {
     ghost use Rattle.std.specs.Prelude.{◌≡◌};
 
@@ -40,13 +68,17 @@ impl Clone for Heavy<'_> {
     ghost is_infallible = { λ _. ⊥ };
 
     fn clone(&self) -> Result<Self, AllocError> {
+        if let Some(clones) = self.clones {
+            clones.set(clones.get().wrapping_add(1));
+        }
         let memory = match &self.memory {
-            Some(memory) => Some(Vec::with_capacity(*memory.allocator(), 16)?),
+            Some(memory) => Some(Vec::with_capacity(*memory.allocator(), BLOCK)?),
             None => None,
         };
         Ok(Heavy {
             name: self.name,
             memory,
+            clones: self.clones,
         })
     }
 }

@@ -1,137 +1,175 @@
-//! Vectors and tables that can't be allocated: nothing stays allocated.
-use crate::items::with_one_and_two;
+//! Memory that is refused to each call that makes a vector or a table: nothing stays allocated.
+use crate::items::ballast;
 use ix_cells::{
-    HeapTable, InitError, PolymorphicVec, RelocatableContainer, Table, UninitVec, Vector,
+    HeapTable, PolymorphicVec, RawSlots, RelocatableContainer, Table, UninitVec, Vector,
 };
 use ix_expect::Findings;
 use linked_list_allocator::LocalHeap;
-use std::alloc::{AllocError, Global};
+use std::alloc::{AllocError, Allocator, Global};
 use std::cell::Cell;
 use std::test::Fail;
 
-/// `used` bytes of the heap were in use before; it had memory for a vector of two numbers if `found`.
-fn check_made<V: Vector<u64> + Drop, E: Drop>(
-    findings: &Findings,
-    heap: &LocalHeap,
-    used: usize,
-    made: Result<V, E>,
-    found: bool,
-) {
+/// A call that makes places for numbers, or, as `UnitTable`, for items of size zero.
+#[derive(Clone, Copy)]
+enum Making {
+    New,
+    Init,
+    FromFn,
+    Table,
+    Slots,
+    UnitTable,
+}
+
+/// Calls, with their names.
+const MAKINGS: &[(Making, &str)] = &[
+    (Making::New, "new"),
+    (Making::Init, "init"),
+    (Making::FromFn, "from_fn"),
+    (Making::Table, "a table"),
+    (Making::Slots, "raw places"),
+    (Making::UnitTable, "a table of size zero"),
+];
+
+/// Returns the capacity of a vector, if it was made.
+fn capacity_of<V: Vector<u64> + Drop, E: Drop>(made: Result<V, E>) -> Option<usize> {
     match made {
-        Ok(vector) => findings.expect(found && vector.capacity() == 2, "memory is refused"),
-        Err(_) => findings.expect(!found, "memory is found"),
+        Ok(vector) => Some(vector.capacity()),
+        Err(_) => None,
     }
-    findings.expect_same(heap.used(), used, "a vector");
 }
 
-/// The heap has a free block of 16 bytes for two numbers if `found`.
-fn check_by_closure(findings: &Findings, heap: &LocalHeap, found: bool) {
-    let used = heap.used();
-    let calls = Cell::new(0u64);
-    let counted = |n: usize| {
-        calls.set(calls.get().wrapping_add(1));
-        n
-    };
-    match PolymorphicVec::<usize, &LocalHeap>::from_fn(heap, 2, counted) {
-        Ok(vector) => {
-            findings.expect(found, "memory is refused");
-            findings.expect_same(vector.as_slice(), &[0, 1], "by a closure");
-        }
-        Err(AllocError) => findings.expect(!found, "memory is found"),
-    }
-    let wanted = if found { 2 } else { 0 };
-    findings.expect_same(calls.get(), wanted, "calls of the closure");
-    findings.expect_same(heap.used(), used, "a vector");
-}
-
-/// The error holds the uninitialised vector, for which `ample` has memory.
-fn check_again(findings: &Findings, refused: Option<InitError<UninitVec<u64>>>, ample: Global) {
-    if let Some(error) = refused {
-        match error.into_uninit().init(ample) {
-            Ok(vector) => findings.expect_same(vector.capacity(), 2, "in two steps"),
-            Err(_) => findings.miss("there is memory"),
+/// Returns the capacity of a vector that is made in two steps. If the second step is refused, the vector is made in
+/// `ample`.
+fn init<A: Allocator>(findings: &Findings, alloc: A, ample: Global, n: usize) -> Option<usize> {
+    match UninitVec::<u64>::new_uninit(n).init(alloc) {
+        Ok(vector) => Some(vector.capacity()),
+        Err(error) => {
+            let found = capacity_of(error.into_uninit().init(ample));
+            findings.expect_same(found, Some(n), "the capacity is returned");
+            None
         }
     }
 }
 
-/// The heap has two free blocks of 16 bytes, for a place and for its mark, if `found`.
-fn check_table(findings: &Findings, heap: &LocalHeap, found: bool) {
-    let used = heap.used();
-    match HeapTable::<u64, &LocalHeap>::new(heap, 1) {
+/// As `init`, of a vector that is made by a closure. It is called once for each item, in order, and not at all if the
+/// vector is not made.
+fn from_fn<A: Allocator>(findings: &Findings, alloc: A, n: usize) -> Option<usize> {
+    let (calls, is_in_order) = (Cell::new(0usize), Cell::new(true));
+    let found = capacity_of(PolymorphicVec::<u64, A>::from_fn(alloc, n, |index| {
+        let call = calls.replace(calls.get().wrapping_add(1));
+        is_in_order.set(is_in_order.get() && call == index);
+        index as u64
+    }));
+    let wanted = (found.unwrap_or(0), true);
+    findings.expect_same(
+        (calls.get(), is_in_order.get()),
+        wanted,
+        "calls of a closure",
+    );
+    found
+}
+
+/// Returns the number of places of a table, if it was made.
+fn table_len<T: Drop, A: Allocator>(alloc: A, n: usize) -> Option<usize> {
+    match HeapTable::<T, A>::new(alloc, n) {
         Ok(table) => {
-            findings.expect(found && table.len() == 1, "a table");
+            let len = table.len();
             table.end();
+            Some(len)
         }
-        Err(AllocError) => findings.expect(!found, "memory is found"),
+        Err(AllocError) => None,
     }
-    findings.expect_same(heap.used(), used, "a table");
 }
 
-/// Besides one block that is in use, the heap has `blocks` of 16 bytes. `ample` has memory.
-fn check_blocks(findings: &Findings, heap: &LocalHeap, ample: Global, blocks: usize) {
-    let found = blocks > 0;
-    let held = Box::new(heap, 0u64);
-    findings.expect(held.is_ok(), "a block");
-    let used = heap.used();
-    let made = PolymorphicVec::<u64, &LocalHeap>::new(heap, 2);
-    check_made(findings, heap, used, made, found);
-    let made = UninitVec::<u64>::new_uninit(2).init(heap);
-    check_made(findings, heap, used, made, found);
-    let refused = UninitVec::<u64>::new_uninit(2).init(heap).err();
-    findings.expect_same(refused.is_none(), found, "in two steps");
-    check_again(findings, refused, ample);
-    check_by_closure(findings, heap, found);
-    check_table(findings, heap, blocks > 1);
+/// Makes the call, and returns the number of places of what was made.
+fn made<A: Allocator>(
+    findings: &Findings,
+    making: Making,
+    alloc: A,
+    ample: Global,
+    n: usize,
+) -> Option<usize> {
+    match making {
+        Making::New => capacity_of(PolymorphicVec::<u64, A>::new(alloc, n)),
+        Making::Init => init(findings, alloc, ample, n),
+        Making::FromFn => from_fn(findings, alloc, n),
+        Making::Table => table_len::<u64, A>(alloc, n),
+        Making::Slots => match RawSlots::<u64, A>::new(alloc, n) {
+            Ok(slots) => {
+                let len = slots.len();
+                slots.end();
+                Some(len)
+            }
+            Err(AllocError) => None,
+        },
+        Making::UnitTable => table_len::<(), A>(alloc, n),
+    }
+}
+
+/// Numbers of places, the blocks of a heap that as many numbers take, and those that as many marks of one byte take. A
+/// block has 16 bytes.
+const SIZES: &[(usize, usize, usize)] = &[
+    (0, 0, 0),
+    (1, 1, 1),
+    (3, 2, 1),
+    (8, 4, 1),
+    (16, 8, 1),
+    (17, 9, 2),
+    (33, 17, 3),
+    (200, 100, 13),
+];
+
+/// Makes the call for `n` places with no memory, and then with one block more, until it succeeds at `needed` blocks.
+fn check_making(
+    findings: &Findings,
+    (making, name): &(Making, &str),
+    (heap, ample): (&LocalHeap, Global),
+    n: usize,
+    needed: usize,
+) {
+    for blocks in 0..needed.saturating_add(1) {
+        let Ok(ballast) = ballast(heap, blocks) else {
+            return findings.miss("there is memory before a call");
+        };
+        let used = heap.used();
+        let found = made(findings, *making, heap, ample, n);
+        let wanted = if blocks < needed { None } else { Some(n) };
+        findings.expect_same_at(found, wanted, n, name);
+        findings.expect_same_at(heap.used(), used, n, name);
+        drop(ballast);
+    }
+}
+
+fn check_heap(findings: &Findings, heap: &LocalHeap, ample: Global) {
+    for making in MAKINGS {
+        for (n, numbers, marks) in SIZES {
+            let needed = match making.0 {
+                Making::New | Making::Init | Making::FromFn => *numbers,
+                Making::Table | Making::Slots => numbers.saturating_add(*marks),
+                Making::UnitTable => *marks,
+            };
+            check_making(findings, making, (heap, ample), *n, needed);
+        }
+    }
+    findings.expect_same(heap.used(), 0, "at the end");
 }
 
 #[test]
-fn vectors_and_tables_refused(rt: HostRuntime) -> Result<(), Fail> {
+fn each_allocation_refused(rt: HostRuntime) -> Result<(), Fail> {
     let findings = Findings::new();
-    for blocks in 0..3usize {
-        match LocalHeap::new(rt.alloc(), 16 * (blocks + 1)) {
-            Ok(heap) => check_blocks(&findings, &heap, rt.alloc(), blocks),
-            Err(_) => findings.miss("a heap"),
-        }
+    match LocalHeap::new(rt.alloc(), 4096) {
+        Ok(heap) => check_heap(&findings, &heap, rt.alloc()),
+        Err(_) => findings.miss("a heap"),
     }
     findings.verdict()
 }
 
-/// The heap has `blocks` blocks and holds the vector alone.
-fn check_clone(
-    findings: &Findings,
-    heap: &LocalHeap,
-    vector: &PolymorphicVec<u64, &LocalHeap>,
-    blocks: usize,
-) {
-    let used = heap.used();
-    match vector.try_clone() {
-        Ok(copy) => {
-            findings.expect(blocks > 1, "a clone is refused");
-            findings.expect_same(copy.as_slice(), &[1, 2], "a clone");
-            findings.expect(heap.used() > used, "memory is in use");
-        }
-        Err(AllocError) => findings.expect(blocks == 1, "a clone is made"),
-    }
-    findings.expect_same(heap.used(), used, "after the clone");
-    findings.expect_same(vector.as_slice(), &[1, 2], "after the clone");
-}
-
-/// The heap has `blocks` blocks and is empty.
-fn check_clones(findings: &Findings, heap: &LocalHeap, blocks: usize) {
-    match PolymorphicVec::new(heap, 2) {
-        Ok(vector) => check_clone(findings, heap, &with_one_and_two(vector), blocks),
-        Err(AllocError) => findings.miss("there is a block"),
-    }
-}
-
 #[test]
-fn copies_refused(rt: HostRuntime) -> Result<(), Fail> {
+fn large_ones(rt: HostRuntime) -> Result<(), Fail> {
     let findings = Findings::new();
-    for blocks in 1..4usize {
-        match LocalHeap::new(rt.alloc(), 16 * blocks) {
-            Ok(heap) => check_clones(&findings, &heap, blocks),
-            Err(_) => findings.miss("a heap"),
-        }
+    for (making, name) in MAKINGS {
+        let found = made(&findings, *making, rt.alloc(), rt.alloc(), 70_000);
+        findings.expect_same(found, Some(70_000), name);
     }
     findings.verdict()
 }

@@ -25,6 +25,7 @@ fn vectors_print_their_items(rt: HostRuntime) -> Result<(), Fail> {
     let findings = Findings::new();
     let alloc = rt.alloc();
     check_debug(&findings, alloc, &StaticVec::<u8, 2>::new(), "[]");
+    check_debug(&findings, alloc, &StaticVec::<u8, 0>::new(), "[]");
     match StaticVec::<u8, 4>::try_from([1, 2].as_slice()) {
         Ok(fixed) => check_debug(&findings, alloc, &fixed, "[1, 2]"),
         Err(_) => findings.miss("two fit"),

@@ -1,4 +1,4 @@
-//! Rows of places in raw memory: a worked example, each function once, places of no bytes, and makings that are refused.
+//! Rows of places in raw memory: a worked example, each function once, and rows that no memory has room for.
 use bumpalo::Bump;
 use ix_cells::RawSlots;
 use ix_expect::{Findings, Noted, Notes};
@@ -55,51 +55,6 @@ fn large_items(rt: HostRuntime) -> Result<(), Fail> {
     findings.expect_same((last[0], last[31]), (8, 8), "items of 256 bytes");
     findings.expect_same((first[0], first[31]), (7, 7), "items of 256 bytes");
     slots.end();
-    findings.verdict()
-}
-
-/// The heap has `blocks` free blocks of 16 bytes. Two numbers take one, and their marks another.
-fn check_refusals(findings: &Findings, heap: &LocalHeap, blocks: usize) {
-    let used = heap.used();
-    match RawSlots::<u64, &LocalHeap>::new(heap, 2) {
-        Ok(slots) => {
-            findings.expect(blocks >= 2 && slots.len() == 2, "places and marks");
-            slots.end();
-        }
-        Err(AllocError) => findings.expect(blocks < 2, "places and marks"),
-    }
-    match RawSlots::<(), &LocalHeap>::new(heap, 2) {
-        Ok(mut units) => {
-            findings.expect(blocks >= 1, "marks alone");
-            units.put(1, ());
-            findings.expect_same(*units.get(1), (), "marks alone");
-            units.take(1);
-            units.end();
-        }
-        Err(AllocError) => findings.expect(blocks < 1, "marks alone"),
-    }
-    match RawSlots::<u64, &LocalHeap>::new(heap, 0) {
-        Ok(slots) => {
-            findings.expect_same(slots.len(), 0, "no place");
-            slots.end();
-        }
-        Err(AllocError) => findings.miss("no place"),
-    }
-    findings.expect_same(heap.used(), used, "bytes in use after it");
-}
-
-#[test]
-fn makings_refused(rt: HostRuntime) -> Result<(), Fail> {
-    let findings = Findings::new();
-    for blocks in 0..3usize {
-        let Ok(heap) = LocalHeap::new(rt.alloc(), 16 * (blocks + 1)) else {
-            findings.miss("a heap");
-            return findings.verdict();
-        };
-        let held = Box::new(&heap, 0u64);
-        findings.expect(held.is_ok(), "a block");
-        check_refusals(&findings, &heap, blocks);
-    }
     findings.verdict()
 }
 

@@ -1,9 +1,10 @@
 //! Vectors of capacity 0, items of size zero, and capacities that can't be allocated.
 use crate::calls::Call::{
-    Clear, Extend, ExtendUnchecked, Fill, Insert, Pop, Push, Remove, Resize, ResizeWith, Truncate,
+    Clear, Extend, ExtendUnchecked, Fill, Insert, Pop, Push, PushUnchecked, Remove, Resize,
+    ResizeWith, Truncate,
 };
 use crate::calls::{Row, check_kinds, check_made};
-use ix_cells::VectorModificationError::InsertWouldExceedCapacity;
+use ix_cells::VectorModificationError::{InsertWouldExceedCapacity, OutOfBounds};
 use ix_cells::{
     HeapTable, PolymorphicVec, RelocatableContainer, StaticVec, Table, UninitVec, Vector,
 };
@@ -19,6 +20,7 @@ const OF_CAPACITY_0: &[Row<u64>] = &[
     (Insert(9, 1), Err(InsertWouldExceedCapacity), &[]),
     (Pop, Ok(None), &[]),
     (Remove(0), Ok(None), &[]),
+    (Remove(usize::MAX), Ok(None), &[]),
     (Truncate(0), Ok(None), &[]),
     (Truncate(5), Ok(None), &[]),
     (Clear, Ok(None), &[]),
@@ -32,9 +34,38 @@ const OF_CAPACITY_0: &[Row<u64>] = &[
     (Fill(1), Ok(None), &[]),
 ];
 
+/// Calls of a vector of capacity 1.
+const OF_CAPACITY_1: &[Row<u64>] = &[
+    (Pop, Ok(None), &[]),
+    (Insert(1, 5), Err(OutOfBounds), &[]),
+    (Insert(0, 5), Ok(None), &[5]),
+    (Push(6), Err(InsertWouldExceedCapacity), &[5]),
+    (Insert(0, 6), Err(InsertWouldExceedCapacity), &[5]),
+    (Insert(1, 6), Err(InsertWouldExceedCapacity), &[5]),
+    (Extend(&[]), Ok(None), &[5]),
+    (Extend(&[6]), Err(InsertWouldExceedCapacity), &[5]),
+    (Resize(2, 6), Err(InsertWouldExceedCapacity), &[5]),
+    (Resize(1, 6), Ok(None), &[5]),
+    (Remove(1), Ok(None), &[5]),
+    (Fill(7), Ok(None), &[7]),
+    (Truncate(1), Ok(None), &[7]),
+    (Remove(0), Ok(Some(7)), &[]),
+    (PushUnchecked(8), Ok(None), &[8]),
+    (Pop, Ok(Some(8)), &[]),
+    (ExtendUnchecked(&[9]), Ok(None), &[9]),
+    (Truncate(0), Ok(None), &[]),
+    (ResizeWith(2, &[], 6), Err(InsertWouldExceedCapacity), &[]),
+    (ResizeWith(1, &[4], 6), Ok(None), &[4]),
+    (Resize(0, 6), Ok(None), &[]),
+    (Resize(1, 3), Ok(None), &[3]),
+    (Clear, Ok(None), &[]),
+];
+
 #[test]
-fn capacity_0(rt: HostRuntime) -> Result<(), Fail> {
+fn capacities_0_and_1(rt: HostRuntime) -> Result<(), Fail> {
     let findings = Findings::new();
+    let fixed = StaticVec::<u64, 1>::new();
+    check_kinds(&findings, rt.alloc(), fixed, 1, OF_CAPACITY_1);
     let fixed = StaticVec::<u64, 0>::new();
     check_kinds(&findings, rt.alloc(), fixed, 0, OF_CAPACITY_0);
     let none: [u64; 0] = [];
@@ -54,6 +85,7 @@ fn capacity_0_of_an_allocator(rt: HostRuntime) -> Result<(), Fail> {
         Ok(made) => {
             findings.expect_same(calls.get(), 0, "calls of the closure");
             let copy = made.try_clone();
+            findings.expect(copy.as_ref().is_ok_and(|copy| *copy == made), "equal");
             check_made(&findings, copy, 0, OF_CAPACITY_0, "a polymorphic clone");
         }
         Err(AllocError) => findings.miss("by a closure"),
@@ -117,6 +149,8 @@ fn capacities_that_cannot_be_allocated(rt: HostRuntime) -> Result<(), Fail> {
         findings.expect(vector.is_err(), "`new` refuses");
         let ready = UninitVec::<u64>::new_uninit(*len).init(alloc);
         findings.expect(ready.is_err(), "`init` refuses");
+        let filled = PolymorphicVec::<u64, Global>::from_fn(alloc, *len, |_| 0);
+        findings.expect(filled.is_err(), "`from_fn` refuses");
         let refused = is_table_refused(alloc, *len);
         findings.expect(refused, "a table is refused");
     }

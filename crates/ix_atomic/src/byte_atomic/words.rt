@@ -14,7 +14,11 @@ pub fn pack_word(bytes: &[u8]) -> u64
     ensures bytes { bytes_of_word (length bytes.now) result ≡ bytes.now }
 {
     let mut all = [0u8; 8];
-    all[..bytes.len()].copy_from_slice(bytes);
+    if bytes.len() == 8 {
+        all.copy_from_slice(bytes);
+    } else {
+        all[..bytes.len()].copy_from_slice(bytes);
+    }
     u64::from_le_bytes(all)
 }
 
@@ -30,5 +34,9 @@ pub fn unpack_word(word: u64, out: &mut [u8])
     ensures out { out.new ≡ bytes_of_word (length out.old) word }
 {
     let all = word.to_le_bytes();
-    out.copy_from_slice(&all[..out.len()]);
+    if out.len() == 8 {
+        out.copy_from_slice(&all);
+    } else {
+        out.copy_from_slice(&all[..out.len()]);
+    }
 }

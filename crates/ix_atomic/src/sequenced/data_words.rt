@@ -12,11 +12,9 @@ pub(crate) fn word_at(bytes: &[u8], index: usize) -> u64
     ensures value { result ≡ word_of (take 8 (drop (8 * index) bytes.now)) }
     ensures byte_range { (index : ℕ) → slice_index bytes.now index < 256 }
 {
-    let rest = &bytes[8 * index..];
-    match rest.first_chunk::<8>() {
-        Some(chunk) => u64::from_le_bytes(*chunk),
-        None => pack_word(rest),
-    }
+    let start = 8 * index;
+    let end = start + (bytes.len() - start).min(8);
+    pack_word(&bytes[start..end])
 }
 
 /// Writes the bytes of `word` from `8 * index` on, eight of them or as many as there is room for. O(1).
@@ -27,11 +25,8 @@ pub(crate) fn set_word_at(bytes: &mut [u8], index: usize, word: u64)
         ++ (bytes_of_word (min 8 (length bytes.old - 8 * index)) word ++ drop (8 * index + 8) bytes.old) }
 {
     let start = 8 * index;
-    if bytes.len() - start < 8 {
-        unpack_word(word, &mut bytes[start..]);
-    } else {
-        bytes[start..start + 8].copy_from_slice(&word.to_le_bytes());
-    }
+    let end = start + (bytes.len() - start).min(8);
+    unpack_word(word, &mut bytes[start..end]);
 }
 
 /// Returns the words of a new cell: version 0, and the words of the bytes. O(`bytes.len()`).

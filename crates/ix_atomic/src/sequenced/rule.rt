@@ -21,6 +21,8 @@ pub(crate) struct SeatView<T> {
     /// The versions that were loaded, in order.
     seen: LinkedList<u64>,
     stage: Stage,
+    /// The words that were loaded or stored, in order.
+    touched: LinkedList<usize>,
 }
 
 /// The rule of a cell of `T`, which each step keeps.

@@ -5,7 +5,8 @@ use std::marker::Model;
 
 /// Lets its holder read from one cell. It has no lifetime and can be dropped.
 ///
-/// Contracts see the cell, the beginning of the history that the holder knows, and the versions that it has loaded.
+/// Contracts see the cell, the beginning of the history that the holder knows, and the versions and the words that it has
+/// loaded.
 #[derive(Drop)]
 pub struct ReaderSeat<T> {
     pub(crate) seat: Seat<(), SeatView<T>>,
@@ -26,7 +27,8 @@ impl<T> Model for ReaderSeat<T> {
 /// Lets its holder write to one cell. A cell has one, which is spent by
 /// [`SequencedByteAtomic::close`](crate::SequencedByteAtomic::close) alone: it can't be dropped.
 ///
-/// Contracts see the cell and its history, the finished values in order.
+/// Contracts see the cell, its history, which is the finished values in order, and the words that the holder has loaded or
+/// stored.
 pub struct WriterSeat<T> {
     pub(crate) seat: Seat<(), SeatView<T>>,
     pub(crate) version: u64,

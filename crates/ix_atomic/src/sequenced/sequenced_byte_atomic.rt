@@ -1,7 +1,8 @@
 //! The cell, its calls, and the walks over its words.
 ghost use Rattle.std.specs.Prelude.{◌≡◌, ℕ, ◌+◌, ◌/◌, ◌<◌, ◌⊎◌, ◌↔◌, true, [], ◌∷◌, ◌++◌, length, Some, IsOk, IsErr, IfOk, IfErr};
 ghost use Rattle.ix_atomic.specs.Versions.{last_version};
-ghost use Rattle.ix_atomic.specs.History.{Loads, LoadsTwice, version_of, value_at, last_value, IsEven, IsOdd};
+ghost use Rattle.ix_atomic.specs.Words.{word_count};
+ghost use Rattle.ix_atomic.specs.History.{Loads, LoadsTwice, version_of, value_at, last_value, IsEven, IsOdd, data_words, all_words};
 ghost use Rattle.ix_atomic.specs.SequencedRule.{Encodes};
 ghost use Rattle.ix_atomic.specs.SequencedSteps.{seated_stage};
 ghost use Rattle.ix_atomic.specs.declared.sequenced.rule.Stage.TheVariants.{Reading, Writing};
@@ -91,6 +92,7 @@ impl<T: AtomicCopy, const SIZE: usize> SequencedByteAtomic<T, SIZE> {
         ensures history { IfOk result (λ _. seat.new.history ≡ seat.old.history ++ value ∷ []) }
         ensures used_up { IsErr result ↔ (version_of seat.old.history ≡ last_version) }
         ensures refused { IfErr result (λ _. seat.new ≡ seat.old) }
+        ensures touches { IfOk result (λ _. seat.new.touched ≡ seat.old.touched ++ all_words SIZE) }
     {
         let (odd, even) = next_versions(seat.version)?;
         let shared = &self.table.shared;
@@ -116,6 +118,7 @@ impl<T: AtomicCopy, const SIZE: usize> SequencedByteAtomic<T, SIZE> {
             × IsEven version × (value_at seat.new.known version ≡ Some value)) }
         ensures interfered { IfErr result (λ error. LoadsTwice seat.old seat.new error.first error.last
             × (IsOdd error.first ⊎ (error.first < error.last))) }
+        ensures touches { seat.new.touched ≡ seat.old.touched ++ all_words SIZE }
     {
         let shared = &self.table.shared;
         let mut bytes = [0u8; SIZE];
@@ -147,6 +150,7 @@ impl<T: AtomicCopy, const SIZE: usize> SequencedByteAtomic<T, SIZE> {
     pub fn version(&self, seat: &mut ReaderSeat<T>) -> u64
         requires { seat.old.cell ≡ self.now }
         ensures seat { Loads seat.old seat.new result }
+        ensures touches { seat.new.touched ≡ seat.old.touched ++ 0 ∷ [] }
     {
         self.table.shared.load::<LoadVersion>(&mut seat.seat, 0)
     }
@@ -155,7 +159,8 @@ impl<T: AtomicCopy, const SIZE: usize> SequencedByteAtomic<T, SIZE> {
     pub fn read_own(&self, seat: &mut WriterSeat<T>) -> T
         requires { seat.old.cell ≡ self.now }
         ensures value { last_value seat.old.history ≡ Some result }
-        ensures seat { seat.new ≡ seat.old }
+        ensures seat { (seat.new.cell ≡ seat.old.cell) × (seat.new.history ≡ seat.old.history) }
+        ensures touches { seat.new.touched ≡ seat.old.touched ++ all_words SIZE }
     {
         let shared = &self.table.shared;
         let mut bytes = [0u8; SIZE];
@@ -210,7 +215,7 @@ impl<T: AtomicCopy, const SIZE: usize> SequencedByteAtomic<T, SIZE> {
         requires bytes { (value : T) × Encodes T.is_value T.encoding value bytes.now }
         requires writer { (seat.old.me.0.is_writer ≡ true) × (seat.old.me.0.stage ≡ Writing []) }
         ensures place { (seat.new.table_id ≡ seat.old.table_id) × (seat.new.id ≡ seat.old.id) }
-        ensures seat { seat.new.me ≡ seated_stage (Writing bytes.now) seat.old.me }
+        ensures seat { seat.new.me ≡ seated_stage (data_words (word_count SIZE)) (Writing bytes.now) seat.old.me }
     {
         let shared = &self.table.shared;
         for i in 0..SIZE.div_ceil(8) {
@@ -223,7 +228,7 @@ impl<T: AtomicCopy, const SIZE: usize> SequencedByteAtomic<T, SIZE> {
         requires cell { seat.old.table_id ≡ self.now }
         requires reading { seat.old.me.0.stage ≡ Reading first [] }
         ensures place { (seat.new.table_id ≡ seat.old.table_id) × (seat.new.id ≡ seat.old.id) }
-        ensures seat { seat.new.me ≡ seated_stage (Reading first bytes.new) seat.old.me }
+        ensures seat { seat.new.me ≡ seated_stage (data_words (word_count SIZE)) (Reading first bytes.new) seat.old.me }
         ensures length { length bytes.new ≡ SIZE }
     {
         let shared = &self.table.shared;

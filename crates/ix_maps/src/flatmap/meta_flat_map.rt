@@ -9,7 +9,7 @@ ghost use Rattle.ix_maps.specs.FlatSteps.{flat_insert_result, flat_insert, pair_
 ghost use Rattle.ix_maps.specs.SlotSteps.{slot_set, SlotRemove};
 ghost use Rattle.ix_maps.specs.contracts.slotmap.meta_slot_map.MetaSlotMap as slot_map;
 
-use crate::flatmap::{CallbackProgression, FlatMapError, Pair};
+use crate::flatmap::{CallbackProgression, FlatMapError, Keys, Pair};
 use crate::slotmap::{Link, MetaSlotMap, SlotMapKey};
 use ix_cells::Table;
 use std::alloc::AllocError;
@@ -200,26 +200,42 @@ impl<K: Eq + Drop, V: Drop, S: Table<Pair<K, V>>, L: Table<Link>> MetaFlatMap<K,
         requires { F.IsAlwaysCallable callback }
         ensures { (last : F) × ListsUntilStop F.FnMut callback (flat_keys self.now) last }
     {
-        for (_, pair) in self.pairs.iter() {
-            match callback(&pair.key) {
-                CallbackProgression::Continue => {}
-                CallbackProgression::Stop => return,
-            }
-        }
+        self.list_with(&mut callback);
+    }
+
+    /// Returns an iterator over the keys in slot order. O(1), and O(capacity) for all of its items together.
+    ///
+    /// ```text
+    /// for key in map.keys() {
+    ///     report(*key);
+    /// }
+    /// ```
+    #[inline]
+    pub fn keys(&self) -> Keys<'_, K, V, S, L>
+        ensures { result ≡ flat_keys self.now }
+    {
+        Keys::new(self.pairs.iter())
     }
 
     /// Returns the key that [`MetaFlatMap::list_keys`] lists after `n` others, or `None` if there are at most `n` keys.
     pub fn nth_key(&self, n: usize) -> Option<&K>
         ensures { option_copied result ≡ slice_get (flat_keys self.now) n }
     {
-        let mut before = n;
-        for (_, pair) in self.pairs.iter() {
-            if before == 0 {
-                return Some(&pair.key);
+        self.keys().nth(n)
+    }
+
+    /// Does what [`MetaFlatMap::list_keys`] does. The callback is left as its last call leaves it.
+    #[inline]
+    fn list_with<F: FnMut(&K) -> CallbackProgression>(&self, callback: &mut F)
+        requires { F.IsAlwaysCallable callback.old }
+        ensures { ListsUntilStop F.FnMut callback.old (flat_keys self.now) callback.new }
+    {
+        for key in self.keys() {
+            match callback(key) {
+                CallbackProgression::Continue => {}
+                CallbackProgression::Stop => return,
             }
-            before -= 1;
         }
-        None
     }
 
     /// Returns the place of the key that equals `key`, and the pair there.

@@ -54,6 +54,18 @@ impl<'a, T, S: Table<T>, L: Table<Link>> Iter<'a, T, S, L> {
             left: map.len(),
         }
     }
+
+    /// Returns an iterator over the items that are still to come. O(1).
+    #[inline]
+    pub(crate) fn rest(&self) -> Iter<'a, T, S, L>
+        ensures { result ≡ self.now }
+    {
+        Iter {
+            map: self.map,
+            key: self.key,
+            left: self.left,
+        }
+    }
 }
 
 impl<'a, T, S: Table<T>, L: Table<Link>> Iterator for Iter<'a, T, S, L> {
@@ -79,13 +91,8 @@ impl<'a, T, S: Table<T>, L: Table<Link>> Iterator for Iter<'a, T, S, L> {
 /// Prints a list of the items that are still to come, each the number of its key and its value. O(capacity).
 impl<'a, T: Debug, S: Table<T>, L: Table<Link>> Debug for Iter<'a, T, S, L> {
     fn fmt<W: Write>(&self, f: &mut Formatter<W>) -> fmt::Result {
-        let rest = Iter {
-            map: self.map,
-            key: self.key,
-            left: self.left,
-        };
         let mut list = f.debug_list();
-        for (key, value) in rest {
+        for (key, value) in self.rest() {
             list.entry(&(key.value(), value));
         }
         list.finish()

@@ -1,9 +1,11 @@
 //! Lines of a script for a flat map.
-ghost use Rattle.std.specs.Prelude.{◌≡◌};
+ghost use Rattle.std.specs.Prelude.{◌≡◌, decimal};
+ghost use Rattle.ix_maps.specs.FlatState.{flat_keys};
+ghost use Rattle.ix_run.specs.ReplyTexts.{items_text};
+ghost use Rattle.ix_run.specs.Writing.{WriteResult};
 
 use crate::run::containers::{MakesInArena, MakesInline, MakesOnHeap, Named};
-use crate::run::listing::Listing;
-use crate::run::replies::append_items;
+use crate::run::replies::ListedNumber;
 use crate::run::reply_buffer::ReplyBuffer;
 use crate::run::served::Served;
 use crate::run::{Reply, Runs, ScriptFault, read_flat_command};
@@ -32,22 +34,28 @@ fn with_usize_key(reply: Reply<u64, u64>) -> Reply<usize, u64>
     }
 }
 
-impl<S: Table<Pair<u64, u64>>, L: Table<Link>> Listing for MetaFlatMap<u64, u64, S, L> {
-    ghost use Rattle.ix_maps.specs.FlatState.{flat_keys};
-
-    ghost items = { λ map. flat_keys map };
-
-    #[inline]
-    fn item_count(&self) -> usize {
-        self.len()
+/// Appends the keys, separated by single spaces, or a dash if there are none.
+fn append_keys<S: Table<Pair<u64, u64>>, L: Table<Link>, W: Write>(
+    pending: &mut ReplyBuffer,
+    writer: &mut W,
+    map: &MetaFlatMap<u64, u64, S, L>,
+) -> Result<(), ScriptFault>
+    ensures { WriteResult (W.contents writer.old) pending.old (items_text decimal (flat_keys map.now))
+        (W.contents writer.new) pending.new result }
+{
+    if map.is_empty() {
+        return pending.append(writer, b"-");
     }
-
-    fn item(&self, index: usize) -> u64 {
-        match self.nth_key(index) {
-            Some(key) => *key,
-            None => unreachable!(),
-        }
+    let mut is_first = true;
+    for key in map.keys() {
+        let listed = ListedNumber {
+            is_first,
+            number: *key,
+        };
+        pending.append_piece(writer, listed)?;
+        is_first = false;
     }
+    Ok(())
 }
 
 impl<S: Table<Pair<u64, u64>>, L: Table<Link>> Served for MetaFlatMap<u64, u64, S, L> {
@@ -75,7 +83,7 @@ impl<S: Table<Pair<u64, u64>>, L: Table<Link>> Served for MetaFlatMap<u64, u64, 
     }
 
     fn show<W: Write>(&self, pending: &mut ReplyBuffer, writer: &mut W) -> Result<(), ScriptFault> {
-        append_items(pending, writer, self)
+        append_keys(pending, writer, self)
     }
 }
 

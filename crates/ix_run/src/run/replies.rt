@@ -89,9 +89,9 @@ impl Piece for Reply<usize, u64> {
 
 /// A number of a list, after a space unless it is the first.
 #[derive(Drop)]
-struct ListedNumber {
-    is_first: bool,
-    number: u64,
+pub struct ListedNumber {
+    pub is_first: bool,
+    pub number: u64,
 }
 
 impl Piece for ListedNumber {

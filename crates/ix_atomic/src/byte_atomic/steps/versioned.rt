@@ -5,7 +5,6 @@ ghost use Rattle.ix_atomic.specs.StepWalks.{are_in_turn, versions_agree};
 
 use crate::byte_atomic::steps::byte_step::{ByteStep, acts_are_legal};
 use crate::byte_atomic::steps::plain::Act;
-use crate::byte_atomic::steps::versions::LAST_VERSION;
 
 /// A step of the one writer, or of a reader.
 #[derive(Clone, Copy, Debug, PartialEq, Eq)]
@@ -75,14 +74,14 @@ fn writes_are_in_turn(len: usize, steps: &[VersionedStep]) -> bool
     true
 }
 
-/// Returns whether each loaded version is that of its moment, and no write begins at the last even version.
+/// Returns whether each loaded version is that of its moment. No write begins at the last even version: no slice has so many
+/// steps.
 fn versions_are_right(steps: &[VersionedStep]) -> bool
     ensures { result ≡ versions_agree 0 steps.now }
 {
     let mut version = 0;
     for step in steps {
         match *step {
-            VersionedStep::Begin if version == LAST_VERSION => return false,
             VersionedStep::Begin | VersionedStep::End => version += 1,
             VersionedStep::LoadVersion {
                 version: loaded,

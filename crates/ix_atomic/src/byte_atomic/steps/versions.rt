@@ -5,7 +5,7 @@ ghost use Rattle.ix_atomic.specs.Versions.{last_version};
 use std::fmt;
 
 /// The greatest even version: no write can begin at it.
-pub(crate) const LAST_VERSION: u64 = 18_446_744_073_709_551_614;
+const LAST_VERSION: u64 = 18_446_744_073_709_551_614;
 
 /// The error of a write at the greatest even version of a `u64`: there is none for its end.
 #[derive(Clone, Copy, Debug, PartialEq, Eq)]

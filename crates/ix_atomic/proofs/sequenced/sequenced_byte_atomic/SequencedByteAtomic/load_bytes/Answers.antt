@@ -1,5 +1,6 @@
 use Rattle.std.proofs.Common.{rules, arith, ◌≡◌, ◌+◌, ◌*◌, ◌<◌, length, take, sym, ap, ◌∙◌}
 use Rattle.std.proofs.lemmas.List.{length-take-le}
+use Rattle.ix_atomic.specs.History.{data_words}
 use Rattle.ix_atomic.specs.SequencedRule.{Encodes}
 use Rattle.ix_atomic.specs.SequencedSteps.{seated_stage}
 use Rattle.ix_atomic.specs.declared.sequenced.rule.Stage.TheVariants.{Reading}
@@ -31,6 +32,6 @@ loop-i-preserved g c =
       step.0 ∙ kept.0,
       step.1 ∙ kept.1,
       load_more g.T.AtomicCopy.SIZE c.args.first k word bytes c.loop-i.seat.me c.args.seat.now.me c.load.new.seat.me (long ∙ same) (omega arith) kept.2 step.2
-          ∙ ap (λ list. seated_stage (Reading c.args.first (take (8 * (k + 1)) list)) c.args.seat.now.me) (sym written),
+          ∙ ap (λ list. seated_stage (data_words (k + 1)) (Reading c.args.first (take (8 * (k + 1)) list)) c.args.seat.now.me) (sym written),
       ap length written ∙ length-with_word k word bytes (omega arith) ∙ long,
     )

@@ -1,5 +1,5 @@
-use Rattle.std.proofs.Common.{rules, arith, false, true≢false, ◌≡◌, ◌<◌, ◌⊎◌, sym, ap, ◌∙◌, subst, inl, inr}
-use Rattle.ix_atomic.specs.History.{Reader, LoadsTwice, IsOdd, IsEven}
+use Rattle.std.proofs.Common.{rules, arith, false, true≢false, ◌≡◌, ◌++◌, ◌<◌, ◌⊎◌, sym, ap, ◌∙◌, subst, inl, inr}
+use Rattle.ix_atomic.specs.History.{Reader, LoadsTwice, IsOdd, IsEven, all_words}
 use Rattle.ix_atomic.specs.SequencedRule.{Encodes}
 use Rattle.ix_atomic.specs.SequencedSteps.{reader_of}
 use Rattle.ix_atomic.proofs.Encodes.{Encodes-length}
@@ -18,10 +18,10 @@ load-last-requires g c =
     (search rules, search rules, load_version _ _ _ _ (λ is. absurd (true≢false (sym is ∙ reader))))
 
 read : (g : Over) (c : goal.Joined-first-last g)
-    → Read (Encodes g.T.AtomicCopy.is_value g.T.AtomicCopy.encoding) c.seat.inside.seat.me.0 c.load-last.new.seat.me.0 c.load-first.result c.load-last.result c.load_bytes.new.bytes
+    → Read (Encodes g.T.AtomicCopy.is_value g.T.AtomicCopy.encoding) g.row.SIZE c.seat.inside.seat.me.0 c.load-last.new.seat.me.0 c.load-first.result c.load-last.result c.load_bytes.new.bytes
 read g c =
-    let is_value = g.T.AtomicCopy.is_value in let encoding = g.T.AtomicCopy.encoding in let size = g.T.AtomicCopy.SIZE in
-    whole_read (Encodes is_value encoding) size (Encodes-length is_value encoding size g.met.T.AtomicCopy.encoding_len) _ _ _ _ _ _ _ (search rules)
+    let is_value = g.T.AtomicCopy.is_value in let encoding = g.T.AtomicCopy.encoding in let size = g.row.SIZE in let same : size ≡ g.T.AtomicCopy.SIZE = c.self.invariant.2 in
+    whole_read (Encodes is_value encoding) size (λ value bytes encodes. Encodes-length is_value encoding g.T.AtomicCopy.SIZE g.met.T.AtomicCopy.encoding_len value bytes encodes ∙ sym same) _ _ _ _ _ _ _ (search rules)
     c.load-first.ensures.2.0 (ap (λ me. me.0) c.load_bytes.ensures.seat) c.load-last.ensures.2.0
 
 seat : (g : Over) (c : goal.Joined-first-last g) → LoadsTwice c.args.seat.now (reader_of c.load-last.new.seat.table_id c.load-last.new.seat.me.0) c.load-first.result c.load-last.result
@@ -52,3 +52,6 @@ returns-clause-interfered g c = elim c.if-first-last.branch [
       ] in
       rw w.result-is (seat g c, odd_or_less)
 ]
+
+pub returns-clause-touches : goal.returns-clause-touches
+returns-clause-touches g c = (read g c).touched ∙ ap (λ reader. reader.touched ++ all_words g.row.SIZE) c.seat.view_is

@@ -1,4 +1,5 @@
 use Rattle.std.proofs.Common.{rules, arith, ◌≡◌, [], ◌∷◌, ◌++◌, length, ap, ◌∙◌}
+use Rattle.ix_atomic.specs.History.{all_words}
 use Rattle.ix_atomic.specs.SequencedRule.{Encodes, parity}
 use Rattle.ix_atomic.proofs.Beginnings.{length-push}
 use Rattle.ix_atomic.proofs.Encodes.{Encodes-length, Encodes-one_value}
@@ -30,7 +31,7 @@ pub invariant_of-seat : goal.invariant_of-seat
 invariant_of-seat g c =
     let value = c.args.value in let seat = c.seat.invariant in let stored = c.store_bytes.ensures.seat in
     let ended = c.store-2.ensures.2 value c.encode.new.out (c.encode.ensures.in_range, c.encode.ensures.out) (ap (λ me. me.0.stage) stored) in
-    let wrote = whole_write value c.encode.new.out c.seat.inside.seat.me c.store.new.seat.me c.store_bytes.new.seat.me c.store-2.new.seat.me c.store.ensures.2 stored ended in
+    let wrote = whole_write g.row.SIZE value c.encode.new.out c.seat.inside.seat.me c.store.new.seat.me c.store_bytes.new.seat.me c.store-2.new.seat.me c.store.ensures.2 stored ended in
     let even = ap (λ next. next.1) c.in_ok-odd.ensures.value in let version = seat.3 in
     let known : length c.store-2.new.seat.me.0.known ≡ length (c.seat.inside.seat.me.0.known ++ value ∷ []) = ap (λ me. length me.0.known) wrote in
     let push = length-push c.seat.inside.seat.me.0.known value in
@@ -40,5 +41,12 @@ pub returns-clause-history : goal.returns-clause-history
 returns-clause-history g c =
     let value = c.args.value in let stored = c.store_bytes.ensures.seat in
     let ended = c.store-2.ensures.2 value c.encode.new.out (c.encode.ensures.in_range, c.encode.ensures.out) (ap (λ me. me.0.stage) stored) in
-    let wrote = whole_write value c.encode.new.out c.seat.inside.seat.me c.store.new.seat.me c.store_bytes.new.seat.me c.store-2.new.seat.me c.store.ensures.2 stored ended in
+    let wrote = whole_write g.row.SIZE value c.encode.new.out c.seat.inside.seat.me c.store.new.seat.me c.store_bytes.new.seat.me c.store-2.new.seat.me c.store.ensures.2 stored ended in
     ap (λ me. me.0.known) wrote ∙ ap (λ writer. writer.history ++ value ∷ []) c.seat.view_is
+
+pub returns-clause-touches : goal.returns-clause-touches
+returns-clause-touches g c =
+    let value = c.args.value in let stored = c.store_bytes.ensures.seat in
+    let ended = c.store-2.ensures.2 value c.encode.new.out (c.encode.ensures.in_range, c.encode.ensures.out) (ap (λ me. me.0.stage) stored) in
+    let wrote = whole_write g.row.SIZE value c.encode.new.out c.seat.inside.seat.me c.store.new.seat.me c.store_bytes.new.seat.me c.store-2.new.seat.me c.store.ensures.2 stored ended in
+    ap (λ me. me.0.touched) wrote ∙ ap (λ writer. writer.touched ++ all_words g.row.SIZE) c.seat.view_is

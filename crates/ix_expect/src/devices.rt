@@ -4,12 +4,56 @@ use std::cell::Cell;
 use std::cmp::min;
 use std::io::{Error, ErrorKind, Read, Write};
 
-/// Reads at most `piece` bytes a call, and fails after `calls` calls.
+/// Which calls of a device fail: after `calls` calls so many `faults`, each of that `kind`. The calls after them work again.
+#[derive(Drop)]
+pub struct Faults {
+    pub calls: usize,
+    pub faults: usize,
+    pub kind: ErrorKind,
+}
+
+impl Faults {
+    /// Returns what a device has that never fails.
+    pub fn none() -> Faults {
+        Faults::after(usize::MAX)
+    }
+
+    /// Returns what a device has that works for `calls` calls, and then never again.
+    pub fn after(calls: usize) -> Faults {
+        Faults {
+            calls,
+            faults: usize::MAX,
+            kind: ErrorKind::Other,
+        }
+    }
+
+    /// Returns what a device has of which just the call after `calls` calls fails.
+    pub fn once_after(calls: usize, kind: ErrorKind) -> Faults {
+        Faults {
+            calls,
+            faults: 1,
+            kind,
+        }
+    }
+
+    /// Counts a call, which fails if it has to.
+    fn count_call(&mut self) -> std::io::Result<()> {
+        if self.calls > 0 {
+            self.calls -= 1;
+        } else if self.faults > 0 {
+            self.faults -= 1;
+            return Err(Error::from(self.kind));
+        }
+        Ok(())
+    }
+}
+
+/// Reads at most `piece` bytes a call.
 #[derive(Drop)]
 pub struct PoorReader<'a> {
     pub rest: &'a [u8],
     pub piece: usize,
-    pub calls: usize,
+    pub faults: Faults,
     /// How many calls in a row are interrupted before each other call. They do not count as calls.
     pub interruptions: usize,
     /// How many were interrupted since the last call that was not.
@@ -22,7 +66,7 @@ impl<'a> PoorReader<'a> {
         PoorReader {
             rest: bytes,
             piece,
-            calls: usize::MAX,
+            faults: Faults::none(),
             interruptions: 0,
             interrupted: 0,
         }
@@ -36,10 +80,7 @@ impl Read for PoorReader<'_> {
             return Err(Error::from(ErrorKind::Interrupted));
         }
         self.interrupted = 0;
-        if self.calls == 0 {
-            return Err(Error::from(ErrorKind::Other));
-        }
-        self.calls -= 1;
+        self.faults.count_call()?;
         let count = min(min(self.piece, buf.len()), self.rest.len());
         let (first, others) = self.rest.split_at(count);
         buf[..count].copy_from_slice(first);
@@ -48,13 +89,13 @@ impl Read for PoorReader<'_> {
     }
 }
 
-/// Writes at most `piece` bytes a call and `room` bytes in all, and fails after `calls` calls.
+/// Writes at most `piece` bytes a call and `room` bytes in all.
 #[derive(Drop)]
 pub struct PoorWriter {
     pub bytes: Vec<u8>,
     pub piece: usize,
     pub room: usize,
-    pub calls: usize,
+    pub faults: Faults,
     /// As for [`PoorReader`].
     pub interruptions: usize,
     pub interrupted: usize,
@@ -68,7 +109,7 @@ impl PoorWriter {
             bytes: Vec::new(alloc),
             piece,
             room: usize::MAX,
-            calls: usize::MAX,
+            faults: Faults::none(),
             interruptions: 0,
             interrupted: 0,
             flush_fails: false,
@@ -83,10 +124,7 @@ impl Write for PoorWriter {
             return Err(Error::from(ErrorKind::Interrupted));
         }
         self.interrupted = 0;
-        if self.calls == 0 {
-            return Err(Error::from(ErrorKind::Other));
-        }
-        self.calls -= 1;
+        self.faults.count_call()?;
         let count = min(min(self.piece, buf.len()), self.room);
         self.bytes.extend_from_slice(&buf[..count])?;
         self.room -= count;

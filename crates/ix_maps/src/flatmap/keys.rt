@@ -1,0 +1,71 @@
+//! The iterator over the keys of flat maps.
+ghost use Rattle.std.specs.Prelude.{◌≡◌, map};
+ghost use Rattle.std.specs.Iterator.{YieldsFirstBy, item_count};
+
+use crate::flatmap::Pair;
+use crate::slotmap::{Iter, Link};
+use ix_cells::Table;
+use std::fmt::{self, Debug, Formatter, Write};
+use std::marker::Model;
+
+/// An iterator over the keys of a flat map in slot order, as [`MetaFlatMap::keys`](crate::flatmap::MetaFlatMap::keys)
+/// returns it. Contracts see the keys that are still to come.
+///
+/// ```text
+/// let mut map = FixedSizeFlatMap::<u16, char, 3>::new();
+/// map.insert(443, 'b');
+/// map.insert(80, 'a');
+/// for key in map.keys() {               // 443, 80
+///     report(*key);
+/// }
+/// ```
+#[derive(Drop)]
+pub struct Keys<'a, K, V, S: Table<Pair<K, V>>, L: Table<Link>> {
+    pairs: Iter<'a, Pair<K, V>, S, L>,
+}
+
+impl<'a, K, V, S: Table<Pair<K, V>>, L: Table<Link>> Model for Keys<'a, K, V, S, L> {
+    ghost use Rattle.std.specs.Prelude.{List, map};
+
+    ghost Value = { List K };
+
+    ghost view = { λ keys. map (λ entry. entry.1.key) keys.pairs };
+}
+
+impl<'a, K, V, S: Table<Pair<K, V>>, L: Table<Link>> Keys<'a, K, V, S, L> {
+    /// Returns an iterator over the keys of pairs. O(1).
+    #[inline]
+    pub(crate) fn new(pairs: Iter<'a, Pair<K, V>, S, L>) -> Self
+        ensures { result ≡ map (λ entry. entry.1.key) pairs.entry }
+    {
+        Keys { pairs }
+    }
+}
+
+impl<'a, K, V, S: Table<Pair<K, V>>, L: Table<Link>> Iterator for Keys<'a, K, V, S, L> {
+    type Item = &'a K;
+
+    ghost next_gives = { YieldsFirstBy (λ key. key.now) (λ rest. rest) };
+
+    ghost remaining = { item_count (λ rest. rest) };
+
+    /// Returns the next key, or `None` after the last one. O(the number of free places before it).
+    #[inline]
+    fn next(&mut self) -> Option<&'a K> {
+        match self.pairs.next() {
+            Some((_, pair)) => Some(&pair.key),
+            None => None,
+        }
+    }
+}
+
+/// Prints a list of the keys that are still to come. O(capacity).
+impl<'a, K: Debug, V, S: Table<Pair<K, V>>, L: Table<Link>> Debug for Keys<'a, K, V, S, L> {
+    fn fmt<W: Write>(&self, f: &mut Formatter<W>) -> fmt::Result {
+        let mut list = f.debug_list();
+        for (_, pair) in self.pairs.rest() {
+            list.entry(&pair.key);
+        }
+        list.finish()
+    }
+}
