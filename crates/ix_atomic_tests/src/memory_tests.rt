@@ -6,7 +6,11 @@ use ix_cells::InitError;
 use ix_expect::Findings;
 use linked_list_allocator::LocalHeap;
 use std::alloc::Global;
+use std::sync::atomic::AtomicU8;
 use std::test::Fail;
+
+/// A heap allocates blocks of as many bytes, and one for no byte at all.
+const BLOCK: usize = 16;
 
 type Uninit<const SIZE: usize> = UninitByteAtomic<[u8; SIZE], SIZE>;
 
@@ -53,14 +57,13 @@ fn check_heap<const SIZE: usize>(
     findings.expect_same(heap.used(), used, place);
 }
 
-/// Heaps whose free memory rises by 16 bytes, from none to more than a cell of this size takes: it takes `blocks` times 16, as
-/// an allocation of no bytes takes 16 too.
-fn check_size<const SIZE: usize>(findings: &Findings, ample: Global, blocks: usize, place: &str)
-    requires size { SIZE ≤ 256 }
-    requires blocks { blocks ≤ 256 }
+/// Heaps whose free memory rises by a block, from none to more than a cell of this size takes.
+fn check_size<const SIZE: usize>(findings: &Findings, ample: Global, place: &str)
+    requires { SIZE ≤ 256 }
 {
+    let blocks = (SIZE * size_of::<AtomicU8>()).div_ceil(BLOCK).max(1);
     for free in 0..blocks + 2 {
-        match LocalHeap::new(ample, 16 * (free + 1)) {
+        match LocalHeap::new(ample, BLOCK * (free + 1)) {
             Ok(heap) => check_heap::<SIZE>(findings, &heap, ample, free >= blocks, place),
             Err(_) => findings.miss("a heap"),
         }
@@ -70,12 +73,12 @@ fn check_size<const SIZE: usize>(findings: &Findings, ample: Global, blocks: usi
 #[test]
 fn cells_refused(rt: HostRuntime) -> Result<(), Fail> {
     let findings = Findings::new();
-    check_size::<0>(&findings, rt.alloc(), 1, "no bytes");
-    check_size::<1>(&findings, rt.alloc(), 1, "1 byte");
-    check_size::<8>(&findings, rt.alloc(), 1, "8 bytes");
-    check_size::<16>(&findings, rt.alloc(), 1, "16 bytes");
-    check_size::<17>(&findings, rt.alloc(), 2, "17 bytes");
-    check_size::<33>(&findings, rt.alloc(), 3, "33 bytes");
-    check_size::<200>(&findings, rt.alloc(), 13, "200 bytes");
+    check_size::<0>(&findings, rt.alloc(), "no bytes");
+    check_size::<1>(&findings, rt.alloc(), "1 byte");
+    check_size::<8>(&findings, rt.alloc(), "8 bytes");
+    check_size::<16>(&findings, rt.alloc(), "16 bytes");
+    check_size::<17>(&findings, rt.alloc(), "17 bytes");
+    check_size::<33>(&findings, rt.alloc(), "33 bytes");
+    check_size::<200>(&findings, rt.alloc(), "200 bytes");
     findings.verdict()
 }
