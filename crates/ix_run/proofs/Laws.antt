@@ -79,17 +79,17 @@ Lacks-digits (c ∷ digits) h =
     let parts = and_parts (is_ascii_digit c) (all_ascii_digits digits) h in
     (not_true (nat_eq c line_feed) (λ e. let digit = rw (eqb-true c line_feed e) at parts.0 in cc), Lacks-digits digits parts.1)
 
-Lacks-decimal : (n : ℕ) → n < 2 ^ 64 → Lacks (decimal n)
+pub Lacks-decimal : (n : ℕ) → n < 2 ^ 64 → Lacks (decimal n)
 Lacks-decimal n h = Lacks-digits (decimal n) (IsNumeral-decimal (decimal n) n h refl).digits
 
 limited_line-short : (line : List ℕ) → length line ≤ MAX_LINE_LEN → limited_line line ≡ Some line
 limited_line-short line short = let t : nat_le (length line) MAX_LINE_LEN ≡ true = grind (arith, common_steps) in rw t refl
 
-IsOneLine-Lacks : (bytes : List ℕ) → Lacks bytes → IsOneLine bytes
+pub IsOneLine-Lacks : (bytes : List ℕ) → Lacks bytes → IsOneLine bytes
 IsOneLine-Lacks [] h = All-nil (λ b. b ≢ line_feed)
 IsOneLine-Lacks (b ∷ bytes) (n, m) = All-cons (λ c. c ≢ line_feed) b bytes (λ e. let same = rw e at n in cc) (IsOneLine-Lacks bytes m)
 
-Lacks-append : (a b : List ℕ) → Lacks a → Lacks b → Lacks (a ++ b)
+pub Lacks-append : (a b : List ℕ) → Lacks a → Lacks b → Lacks (a ++ b)
 Lacks-append [] b h k = k
 Lacks-append (x ∷ a) b (n, m) k = (n, Lacks-append a b m k)
 

@@ -10,6 +10,7 @@ pub mod Opening
 pub mod Pieces
 pub mod Plain
 pub mod Progress
+pub mod ReplyLines
 pub mod Spelling
 pub mod Tables
 mod WorkedScripts

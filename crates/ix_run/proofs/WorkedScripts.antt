@@ -38,3 +38,17 @@ replies_to-numbers = refl
 replies_to-escaped : replies_to (codes "text arena 5\ninsert 1 97\nappend\nappend 97 9 98\nshow\ndrop 97\nlen") ≡ codes "ready\nerror IndexPastEnd\nok\nok\n\"a\\tb\"\nok\n2\n"
 unfolding replies_to digits
 replies_to-escaped = refl
+
+-- a header asks for at most 1,000 places
+replies_to-capacities : replies_to (codes "queue heap 1001\nqueue arena 1001\nqueue heap 1000\nfull") ≡ codes "?\n?\nready\nfalse\n"
+unfolding replies_to digits
+replies_to-capacities = refl
+
+replies_to-arena : replies_to (codes "vec arena 1000\npop") ≡ codes "ready\nnone\n"
+unfolding replies_to digits
+replies_to-arena = refl
+
+-- a line of 200 bytes is read, and one of 201 is not
+replies_to-longest_line : replies_to (codes "vec fixed 1\nextend 1 1 1 1 1 1 1 1 1 1 1 1 1 1 1 1 1 1 1 1 1 1 1 1 1 1 1 1 1 1 1 1 1 1 1 1 1 1 1 1 1 1 1 1 1 1 1 1 1 1 1 1 1 1 1 1 1 1 1 1 1 1 1 1 1 1 1 1 1 1 1 1 1 1 1 1 1 1 1 1 1 1 1 1 1 1 1 1 1 1 1 1 1 1 1 1 1\nextend 1 1 1 1 1 1 1 1 1 1 1 1 1 1 1 1 1 1 1 1 1 1 1 1 1 1 1 1 1 1 1 1 1 1 1 1 1 1 1 1 1 1 1 1 1 1 1 1 1 1 1 1 1 1 1 1 1 1 1 1 1 1 1 1 1 1 1 1 1 1 1 1 1 1 1 1 1 1 1 1 1 1 1 1 1 1 1 1 1 1 1 1 1 1 1 1 10") ≡ codes "ready\nerror InsertWouldExceedCapacity\n?\n"
+unfolding replies_to digits
+replies_to-longest_line = refl

@@ -1,7 +1,8 @@
 -- What the laws of scripts say.
-use Rattle.std.specs.Prelude.{ℕ, ◌≡◌, ◌≤◌, List, [], ◌∷◌, length, Some, map, codes, ⊤}
+use Rattle.std.specs.Prelude.{ℕ, ◌≡◌, ◌<◌, ◌≤◌, ◌^◌, List, [], ◌∷◌, length, Some, map, codes, ⊤}
 use Rattle.ix_commands.specs.Run.{run_replies}
 use Rattle.ix_commands.specs.declared.reply.Reply.{Reply}
+use Rattle.ix_commands.specs.declared.reply.Reply.TheVariants as reply
 use Rattle.ix_run.specs.Headers.{IsStorage, header_text}
 use Rattle.ix_run.specs.Lines.{IsOneLine, text_of_lines}
 use Rattle.ix_run.specs.ReplyTexts.{reply_text}
@@ -14,6 +15,17 @@ use Rattle.ix_run.specs.declared.run.limits.TheConstants.{MAX_LINE_LEN}
 -- the text of the header of a container
 abbrev pub header_line : Container → Storage → List ℕ
 header_line c s = header_text (record { container = c; storage = s })
+
+abbrev pub IsU64 : ℕ → Type 0
+IsU64 n = n < 2 ^ 64
+
+-- the numbers of a reply are those that the calls return
+abbrev pub HasU64s : Reply ℕ ℕ → Type 0
+HasU64s (reply.Number n) = IsU64 n
+HasU64s (reply.Key k) = IsU64 k
+HasU64s (reply.Value x) = IsU64 x
+HasU64s (reply.Entry k x) = IsU64 k × IsU64 x
+HasU64s other = ⊤
 
 module _ {C : Type 0} where
   -- the line is no longer than a line that is read, and spells the command

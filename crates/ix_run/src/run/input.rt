@@ -1,11 +1,11 @@
 //! The lines of an input that is read in pieces.
-ghost use Rattle.std.specs.Prelude.{◌≡◌, ◌<◌, ◌≤◌, ◌+◌, ◌++◌, ◌∷◌, ◌↔◌, [], Some, IfSome, IfNone, IsTrue, length, take, drop, option_copied};
+ghost use Rattle.std.specs.Prelude.{◌≡◌, ◌<◌, ◌≤◌, ◌+◌, ◌*◌, ◌++◌, ◌∷◌, ◌↔◌, [], Some, IfSome, IfNone, IsTrue, length, take, drop, option_copied};
 ghost use Rattle.ix_run.specs.Input.{ReadsOnce, TakesLine, FillResult, NextLine, current_line};
 ghost use Rattle.ix_run.specs.Lines.{IsOneLine, line_feed};
-ghost use Rattle.ix_run.specs.declared.run.limits.TheConstants.{MAX_LINE_LEN};
+ghost use Rattle.ix_run.specs.declared.run.limits.TheConstants.{BUFFER_LEN, MAX_LINE_LEN, MAX_TRIES};
 
 use crate::run::ScriptFault;
-use crate::run::limits::{BUFFER_LEN, MAX_LINE_LEN};
+use crate::run::limits::{BUFFER_LEN, MAX_LINE_LEN, MAX_TRIES};
 use crate::run::partial_line::PartialLine;
 use crate::run::reply_buffer::ReplyBuffer;
 use memchr::memchr;
@@ -71,7 +71,8 @@ impl Model for Input {
 impl Input {
     /// Returns an input of which nothing was read.
     pub fn new() -> Input
-        ensures { (result.rest ≡ []) }
+        ensures rest { result.rest ≡ [] }
+        ensures fuel { result.fuel ≡ MAX_TRIES * (BUFFER_LEN + 1) }
     {
         Input {
             piece: [0; BUFFER_LEN],
@@ -80,7 +81,7 @@ impl Input {
             joined: PartialLine::new(),
             rest_start: 0,
             rest_end: 0,
-            reads_left: u64::MAX,
+            reads_left: MAX_TRIES,
         }
     }
 

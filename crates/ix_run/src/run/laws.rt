@@ -1,16 +1,19 @@
 //! What the definitions of scripts mean, in their users' words. These functions do nothing: their contracts are the laws.
-ghost use Rattle.std.specs.Prelude.{ℕ, ◌≡◌, ◌≢◌, ◌++◌, ◌∷◌, ◌⊎◌, List, [], All, nat_eq};
-ghost use Rattle.ix_cells.specs.Bounded.{bounded_new};
+ghost use Rattle.std.specs.Prelude.{ℕ, ◌≡◌, ◌≢◌, ◌++◌, ◌∷◌, ◌⊎◌, List, [], All, decimal, nat_eq};
+ghost use Rattle.ix_cells.specs.Bounded.{Bounded, bounded_new};
 ghost use Rattle.ix_maps.specs.SlotState.{slot_new};
 ghost use Rattle.ix_commands.specs.QueueRun.{queue_reply, queue_after};
 ghost use Rattle.ix_commands.specs.VecRun.{vec_reply, vec_after};
 ghost use Rattle.ix_commands.specs.SlotRun.{slot_reply, slot_after};
 ghost use Rattle.ix_commands.specs.FlatRun.{flat_reply, flat_after};
 ghost use Rattle.ix_commands.specs.TextRun.{text_reply, text_after};
+ghost use Rattle.ix_commands.specs.declared.reply.Reply.{Reply};
 ghost use Rattle.ix_run.specs.Forms.{queue_forms, vec_forms, slot_forms, flat_forms, text_forms};
 ghost use Rattle.ix_run.specs.Headers.{capacity_of};
-ghost use Rattle.ix_run.specs.Laws.{IsRun};
+ghost use Rattle.ix_run.specs.Laws.{HasU64s, IsRun, IsU64};
 ghost use Rattle.ix_run.specs.Lines.{IsOneLine, with_line_feed, text_of_lines, lines_of};
+ghost use Rattle.ix_run.specs.ReplyTexts.{reply_text, items_text, entry_text};
+ghost use Rattle.ix_run.specs.Script.{text_shown};
 ghost use Rattle.ix_run.specs.declared.run.header.Container.TheVariants as container;
 ghost use Rattle.ix_run.specs.declared.run.header.Storage.{Storage};
 
@@ -25,6 +28,15 @@ pub fn line_law()
     // The line feeds are put back; the last line may have had none.
     ensures input { (input : List ℕ) → (input ≡ text_of_lines (lines_of input))
         ⊎ (with_line_feed input ≡ text_of_lines (lines_of input)) }
+{}
+
+/// Each reply is one line: its text has no line feed, and neither has what `show` prints, whatever bytes a string holds.
+pub fn reply_law()
+    ensures reply { (reply : Reply ℕ ℕ) → HasU64s reply → IsOneLine (reply_text reply) }
+    ensures items { (items : List ℕ) → All IsU64 items → IsOneLine (items_text decimal items) }
+    ensures entries { (entries : List (ℕ × ℕ)) → All (λ entry. IsU64 entry.0 × IsU64 entry.1) entries
+        → IsOneLine (items_text entry_text entries) }
+    ensures text { (text : Bounded ℕ) → IsOneLine (text_shown text) }
 {}
 
 /// A script is the run of its commands: the replies to a header and to lines that spell commands are `ready` and the texts

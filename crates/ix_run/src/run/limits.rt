@@ -17,3 +17,6 @@ pub const MAX_CAPACITY: usize = 1000;
 
 /// The number of numbers for which there is room in a line.
 pub const MAX_NUMBERS: usize = 100;
+
+/// The number of reads of an input, and of tries of a write that is interrupted.
+pub const MAX_TRIES: u64 = u64::MAX;

@@ -6,7 +6,7 @@ ghost use Rattle.ix_run.specs.declared.run.fault.ScriptFault.TheVariants as Scri
 ghost use Rattle.ix_run.specs.declared.run.limits.TheConstants.{BUFFER_LEN, MAX_DIGITS, MAX_REPLY_LEN};
 
 use crate::run::ScriptFault;
-use crate::run::limits::{BUFFER_LEN, MAX_DIGITS, MAX_REPLY_LEN};
+use crate::run::limits::{BUFFER_LEN, MAX_DIGITS, MAX_REPLY_LEN, MAX_TRIES};
 use std::io::{ErrorKind, Write};
 use std::marker::Model;
 
@@ -18,7 +18,7 @@ fn write_some<W: Write>(writer: &mut W, bytes: &[u8]) -> Result<usize, ScriptFau
         × Appends (W.contents writer.old) (W.contents writer.new) (take n bytes.now))
         (λ e. (e ≡ ScriptFault.Write) × Keeps (W.contents writer.old) (W.contents writer.new)) }
 {
-    for _ in 0..u64::MAX {
+    for _ in 0..MAX_TRIES {
         match writer.write(bytes) {
             Ok(0) => return Err(ScriptFault::Write),
             Ok(n) => return Ok(n),

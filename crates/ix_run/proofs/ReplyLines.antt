@@ -1,0 +1,71 @@
+-- Each reply is one line.
+use Rattle.std.proofs.Common.{ℕ, ◌≡◌, List, [], ◌∷◌, ◌++◌, All, nat_eq, true, false, refl, decimal, codes, arith, rules}
+use Rattle.std.proofs.lemmas.Grind.{common_steps}
+use Rattle.std.proofs.lemmas.List.Elements.{All-head, All-tail}
+use Rattle.ix_cells.specs.Bounded.{Bounded}
+use Rattle.ix_commands.specs.declared.reply.Reply.{Reply}
+use Rattle.ix_commands.specs.declared.reply.Reply.TheVariants as reply
+use Rattle.ix_commands.specs.declared.reply.ReplyError.{ReplyError}
+use Rattle.ix_commands.specs.declared.reply.ReplyError.TheVariants.{OutOfBounds, InsertWouldExceedCapacity, InvalidCharacter, KeyAlreadyExists, IsFull, IndexPastEnd}
+use Rattle.ix_string.specs.Escape.{hex_digit, escaped_byte, escaped_text}
+use Rattle.ix_run.specs.Laws.{HasU64s, IsU64}
+use Rattle.ix_run.specs.Lines.{line_feed, IsOneLine}
+use Rattle.ix_run.specs.ReplyTexts.{error_name, reply_text, entry_text, more_items_text, items_text}
+use Rattle.ix_run.specs.Script.{text_shown}
+use Rattle.ix_run.proofs.Laws.{IsOneLine-Lacks, Lacks-append, Lacks-decimal}
+use Rattle.ix_run.proofs.Pieces.{Lacks}
+
+Lacks-error_name : (error : ReplyError) → Lacks (error_name error)
+Lacks-error_name OutOfBounds = search rules
+Lacks-error_name InsertWouldExceedCapacity = search rules
+Lacks-error_name InvalidCharacter = search rules
+Lacks-error_name KeyAlreadyExists = search rules
+Lacks-error_name IsFull = search rules
+Lacks-error_name IndexPastEnd = search rules
+
+Lacks-some : (text : List ℕ) → Lacks text → Lacks (codes "some " ++ text)
+Lacks-some text h = Lacks-append (codes "some ") text (search rules) h
+
+Lacks-reply_text : (reply : Reply ℕ ℕ) → HasU64s reply → Lacks (reply_text reply)
+Lacks-reply_text reply.Done h = search rules
+Lacks-reply_text (reply.Bool true) h = search rules
+Lacks-reply_text (reply.Bool false) h = search rules
+Lacks-reply_text (reply.Number n) h = Lacks-decimal n h
+Lacks-reply_text reply.None h = search rules
+Lacks-reply_text (reply.Key k) h = Lacks-some (decimal k) (Lacks-decimal k h)
+Lacks-reply_text (reply.Value x) h = Lacks-some (decimal x) (Lacks-decimal x h)
+Lacks-reply_text (reply.Entry k x) (h, g) =
+    Lacks-some (decimal k ++ (codes " " ++ decimal x)) (Lacks-append (decimal k) (codes " " ++ decimal x) (Lacks-decimal k h) (refl, Lacks-decimal x g))
+Lacks-reply_text (reply.Error error) h = Lacks-append (codes "error ") (error_name error) (search rules) (Lacks-error_name error)
+
+pub IsOneLine-reply_text : (reply : Reply ℕ ℕ) → HasU64s reply → IsOneLine (reply_text reply)
+IsOneLine-reply_text reply h = IsOneLine-Lacks (reply_text reply) (Lacks-reply_text reply h)
+
+module _ {X : Type 0} (text : X → List ℕ) (Is : X → Type 0) (lacks : (x : X) → Is x → Lacks (text x)) where
+  Lacks-more_items_text : (items : List X) → All Is items → Lacks (more_items_text text items)
+  Lacks-more_items_text [] h = tt
+  Lacks-more_items_text (x ∷ items) h =
+      (refl, Lacks-append (text x) (more_items_text text items) (lacks x (All-head Is x items h)) (Lacks-more_items_text items (All-tail Is x items h)))
+
+  pub IsOneLine-items_text : (items : List X) → All Is items → IsOneLine (items_text text items)
+  IsOneLine-items_text [] h = IsOneLine-Lacks (codes "-") (search rules)
+  IsOneLine-items_text (x ∷ items) h =
+      IsOneLine-Lacks (text x ++ more_items_text text items)
+      (Lacks-append (text x) (more_items_text text items) (lacks x (All-head Is x items h)) (Lacks-more_items_text items (All-tail Is x items h)))
+
+pub Lacks-entry_text : (entry : ℕ × ℕ) → IsU64 entry.0 × IsU64 entry.1 → Lacks (entry_text entry)
+Lacks-entry_text entry (h, g) = Lacks-append (decimal entry.0) (codes "=" ++ decimal entry.1) (Lacks-decimal entry.0 h) (refl, Lacks-decimal entry.1 g)
+
+hex_digit-lacks : (n : ℕ) → nat_eq (hex_digit n) line_feed ≡ false
+hex_digit-lacks n = grind (arith, common_steps)
+
+Lacks-escaped_byte : (b : ℕ) → Lacks (escaped_byte b)
+Lacks-escaped_byte b = grind (arith, common_steps, hex_digit-lacks)
+
+Lacks-escaped_text : (bytes : List ℕ) → Lacks (escaped_text bytes)
+Lacks-escaped_text [] = tt
+Lacks-escaped_text (b ∷ bytes) = Lacks-append (escaped_byte b) (escaped_text bytes) (Lacks-escaped_byte b) (Lacks-escaped_text bytes)
+
+pub IsOneLine-text_shown : (text : Bounded ℕ) → IsOneLine (text_shown text)
+IsOneLine-text_shown text =
+    IsOneLine-Lacks (text_shown text) (refl, Lacks-append (escaped_text text.items) (codes "\"") (Lacks-escaped_text text.items) (search rules))
