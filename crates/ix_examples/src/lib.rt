@@ -11,7 +11,5 @@ pub mod rolling_window;
 pub mod scripts;
 pub mod session_table;
 pub mod strings;
-#[cfg(test)]
-mod tests;
 pub mod unit_name;
 pub mod vectors;

@@ -1,18 +1,20 @@
 //! Each example once, with values worked by hand.
 ghost use Rattle.std.specs.Prelude.{◌≡◌};
 
-use crate::configuration::{Limit, limit_or, set_limit};
-use crate::directory::{Directory, change_port, port_of as published_port, publish, withdraw};
-use crate::json_message::{Samples, from_json, send, to_json};
-use crate::message::{Message, MessageError};
-use crate::registry::{Registry, Service, port_of, register, unregister};
-use crate::rolling_window::last_samples;
-use crate::scripts::append_replies;
-use crate::session_table::{Session, SessionTable, close, note_heard, open};
-use crate::unit_name::{UnitName, is_same_unit};
-use crate::{queues, strings, vectors};
 use ix_atomic::ReaderSeat;
 use ix_cells::{StaticVec, Vector};
+use ix_examples::configuration::{Limit, limit_or, set_limit};
+use ix_examples::directory::{
+    Directory, change_port, port_of as published_port, publish, withdraw,
+};
+use ix_examples::json_message::{Samples, from_json, send, to_json};
+use ix_examples::message::{Message, MessageError};
+use ix_examples::registry::{Registry, Service, port_of, register, unregister};
+use ix_examples::rolling_window::last_samples;
+use ix_examples::scripts::append_replies;
+use ix_examples::session_table::{Session, SessionTable, close, note_heard, open};
+use ix_examples::unit_name::{UnitName, is_same_unit};
+use ix_examples::{queues, strings, vectors};
 use ix_maps::{FlatMapError, SlotMapKey};
 use ix_names::{JsonFault, RelocatableOption, SemanticStringError};
 use ix_string::{StaticString, String};
