@@ -39,7 +39,7 @@ pub use ix_commands::{
     FlatCommand, QueueCommand, Reply, ReplyError, Runs, SlotCommand, TextCommand, VecCommand,
     run_all, run_flat, run_queue, run_slot, run_text, run_vec,
 };
-pub use laws::{line_law, script_law};
+pub use laws::{line_law, reply_law, script_law};
 pub use limits::{MAX_CAPACITY, MAX_LINE_LEN, MAX_NUMBERS};
 pub use readers::{
     read_flat_command, read_queue_command, read_slot_command, read_text_command, read_vec_command,
