@@ -1,5 +1,5 @@
-//! What making a sequenced cell returns if an allocation fails, which the script `.ci/refusals` brings about for each in
-//! turn.
+//! What making a sequenced cell returns if an allocation fails: `rt try --test --fail-alloc N` brings it about in this test,
+//! and the script `.ci/refusals` in a program that makes the same call.
 use ix_atomic::SequencedByteAtomic;
 use ix_expect::Findings;
 use std::alloc::AllocError;

@@ -1,4 +1,5 @@
-//! What `to_value` returns if an allocation fails, which the script `.ci/refusals` brings about for each in turn.
+//! What `to_value` returns if an allocation fails: `rt try --test --fail-alloc N` brings it about in these tests, and the
+//! script `.ci/refusals` in a program that makes the same call.
 use ix_cells::StaticVec;
 use ix_expect::Findings;
 use ix_names::{GroupName, JsonFault, JsonForm, RelocatableOption};
