@@ -1,5 +1,6 @@
-//! What the crates of tests share: [`Findings`], which note what a test did not expect, items that note their drops, and
-//! [`fed_by`], which tells what a value feeds to a hasher, and [`devices`] that fail.
+//! What the crates of tests share: [`Findings`], which note what a test did not expect, items that note their drops,
+//! [`fed_by`], which tells what a value feeds to a hasher, [`check_sizes`], which has heaps of a few blocks, and [`devices`]
+//! that fail.
 //!
 //! ```text
 //! let notes = Notes::new(0);
@@ -9,11 +10,13 @@
 //! ```
 #![tactic(auto)]
 
+mod blocks;
 pub mod devices;
 mod findings;
 mod noted;
 mod recorder;
 
+pub use blocks::check_sizes;
 pub use findings::Findings;
 pub use noted::{Noted, Notes, names_of};
 pub use recorder::fed_by;

@@ -1,6 +1,6 @@
 //! Maps for which there is not enough memory, at each of the four allocations: nothing stays allocated.
 use ix_cells::{InitError, RelocatableContainer, Table};
-use ix_expect::Findings;
+use ix_expect::{Findings, check_sizes};
 use ix_maps::FlatMapError::IsFull;
 use ix_maps::{FlatMap, Link, MetaFlatMap, Pair, UninitFlatMap};
 use linked_list_allocator::LocalHeap;
@@ -11,13 +11,13 @@ use std::test::Fail;
 fn check_room<S: Table<Pair<u64, u64>>, L: Table<Link>>(
     findings: &Findings,
     map: &mut MetaFlatMap<u64, u64, S, L>,
-    capacity: u64,
+    capacity: usize,
 ) {
     findings.expect(map.is_empty(), "an empty map");
-    for key in 0..capacity {
+    for key in 0..capacity as u64 {
         findings.expect_same(map.insert(key, key), Ok(()), "room for a key");
     }
-    findings.expect_same(map.insert(capacity, 0), Err(IsFull), "no more room");
+    findings.expect_same(map.insert(capacity as u64, 0), Err(IsFull), "no more room");
 }
 
 /// Checks a making of a map of `capacity`, which succeeds if `found`. Before it `used` bytes of the heap were in use.
@@ -26,7 +26,7 @@ fn check_made<S: Table<Pair<u64, u64>>, L: Table<Link>, E: Drop>(
     heap: &LocalHeap,
     used: usize,
     made: Result<MetaFlatMap<u64, u64, S, L>, E>,
-    (capacity, found): (u64, bool),
+    (capacity, found): (usize, bool),
 ) {
     match made {
         Ok(mut map) => {
@@ -43,7 +43,7 @@ fn check_again(
     findings: &Findings,
     refused: Option<InitError<UninitFlatMap<u64, u64>>>,
     ample: Global,
-    capacity: u64,
+    capacity: usize,
 ) {
     if let Some(error) = refused {
         match error.into_uninit().init(ample) {
@@ -53,48 +53,27 @@ fn check_again(
     }
 }
 
-/// Allocates a block of the heap, and checks makings of maps, which succeed if `found`. `ample` has enough memory.
+/// Checks makings of maps of `capacity`, which succeed if `found`. `ample` has enough memory.
 fn check_heap(
     findings: &Findings,
     heap: &LocalHeap,
     ample: Global,
-    (capacity, found): (u64, bool),
+    (capacity, found): (usize, bool),
 ) {
-    let held = Box::new(heap, 0u64);
-    findings.expect(held.is_ok(), "a block");
     let used = heap.used();
     let wanted = (capacity, found);
-    let made = FlatMap::new(heap, capacity as usize);
+    check_made(findings, heap, used, FlatMap::new(heap, capacity), wanted);
+    let made = UninitFlatMap::new_uninit(capacity).init(heap);
     check_made(findings, heap, used, made, wanted);
-    let made = UninitFlatMap::new_uninit(capacity as usize).init(heap);
-    check_made(findings, heap, used, made, wanted);
-    let refused = UninitFlatMap::new_uninit(capacity as usize)
-        .init(heap)
-        .err();
+    let refused = UninitFlatMap::new_uninit(capacity).init(heap).err();
     findings.expect_same(refused.is_none(), found, "in two steps");
     findings.expect_same(heap.used(), used, "bytes in use after a refusal");
     check_again(findings, refused, ample, capacity);
 }
 
-/// Checks makings of maps of `capacity` in a heap with `free` free blocks.
-fn check_free(findings: &Findings, alloc: Global, capacity: u64, (free, found): (u16, bool)) {
-    match LocalHeap::new(alloc, 16 * (free as usize + 1)) {
-        Ok(heap) => check_heap(findings, &heap, alloc, (capacity, found)),
-        Err(_) => findings.miss("a heap"),
-    }
-}
-
-/// Checks that makings of maps of `capacity` take just `blocks` blocks.
-fn check_size(findings: &Findings, alloc: Global, (capacity, blocks): (u64, u16)) {
-    for free in 0..blocks {
-        check_free(findings, alloc, capacity, (free, false));
-    }
-    check_free(findings, alloc, capacity, (blocks, true));
-}
-
 /// The capacity of a map, and the number of blocks of 16 bytes that it takes: 16 bytes for each pair and 24 for each link,
 /// and one for the mark of either. An allocation takes whole blocks, so a fifth one would take one more.
-const SIZES: &[(u64, u16)] = &[
+const SIZES: &[(usize, u16)] = &[
     (0, 0),
     (1, 1 + 1 + 2 + 1),
     (3, 3 + 1 + 5 + 1),
@@ -107,9 +86,15 @@ const SIZES: &[(u64, u16)] = &[
 #[test]
 fn makings_refused(rt: HostRuntime) -> Result<(), Fail> {
     let findings = Findings::new();
-    for size in SIZES {
-        check_size(&findings, rt.alloc(), *size);
-    }
+    let alloc = rt.alloc();
+    check_sizes(
+        &findings,
+        alloc,
+        SIZES,
+        |heap: &LocalHeap, capacity, found| {
+            check_heap(&findings, heap, alloc, (capacity, found));
+        },
+    );
     findings.verdict()
 }
 

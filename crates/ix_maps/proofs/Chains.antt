@@ -4,15 +4,10 @@ use Rattle.std.specs.Prelude.{option_map, unwrap_or}
 use Rattle.std.proofs.lemmas.Bool.{cases_eq}
 use Rattle.std.proofs.lemmas.List.{get_or-set_same, get_or-set_other}
 use Rattle.ix_cells.specs.Places.{place_at}
-use Rattle.ix_maps.specs.declared.slotmap.link.Link.{Link}
+use Rattle.ix_cells.proofs.Places.{place_at_within}
+use Rattle.ix_maps.specs.declared.slottable.link.Link.{Link}
 use Rattle.ix_maps.specs.FreeList.{free_link, first_or, last_or, links_keys_from, IsChain, links_set_next, links_set_previous}
 use Rattle.ix_maps.proofs.FreeKeys.{key_count, key_count-cons, hit_same, hit_other, first_occurs, apart_from_last_or}
-
--- a place that holds something is in the row
-pub within_row : {X : Type 0} (row : List (Option X)) (i : ℕ) (x : X) → place_at row i ≡ Some x → i < length row
-within_row [] i x at = absurd (let no : None ≡ Some x = at in cc)
-within_row (v ∷ row) zero x at = omega arith
-within_row (v ∷ row) (suc i) x at = let below = within_row row i x at in omega arith
 
 -- the links around one key of a chain
 pub record ChainParts (links : List (Option Link)) (before : ℕ) (front : List ℕ) (key : ℕ) (back : List ℕ) (after : ℕ) : Type 0 where
@@ -46,7 +41,7 @@ IsChain-set_other links key link before (first ∷ keys) after apart chain = (
 pub IsChain-links_set_next : (links : List (Option Link)) (before : ℕ) (keys : List ℕ) (after to : ℕ) → ((key : ℕ) → key_count key keys ≤ 1) → IsChain links before keys after → IsChain (links_set_next links (last_or before keys) to) before keys to
 IsChain-links_set_next links before [] after to at_most_once chain = tt
 IsChain-links_set_next links before (key ∷ []) after to at_most_once chain = (
-  get_or-set_same links key _ None (within_row links key _ chain.0) ∙ ap (option_map (λ (link : Link). record link { next = to })) chain.0,
+  get_or-set_same links key _ None (place_at_within links key _ chain.0) ∙ ap (option_map (λ (link : Link). record link { next = to })) chain.0,
   tt,
 )
 IsChain-links_set_next links before (key ∷ next ∷ keys) after to at_most_once chain =
@@ -68,7 +63,7 @@ IsChain-links_set_previous links before (key ∷ keys) after from at_most_once c
     let one = hit_same key key refl in
     let only = at_most_once key in
     let all = key_count-cons key key keys in (
-      get_or-set_same links key _ None (within_row links key _ chain.0) ∙ ap (option_map (λ (link : Link). record link { previous = from })) chain.0,
+      get_or-set_same links key _ None (place_at_within links key _ chain.0) ∙ ap (option_map (λ (link : Link). record link { previous = from })) chain.0,
       IsChain-set_other links key _ key keys after (λ other some is. (let same = ap (λ k. key_count k keys) is in omega arith)) chain.1,
     )
 

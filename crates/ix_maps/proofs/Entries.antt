@@ -1,4 +1,4 @@
--- The entries of a slot map: each held key once, in rising order.
+-- The entries of a slot table: each held key once, in rising order.
 use Rattle.std.proofs.Common.{◌≡◌, ℕ, zero, suc, ◌+◌, ◌<◌, ◌≤◌, List, [], ◌∷◌, length, get_or, true, false, Option, Some, None, refl, sym, ap, ◌∙◌, subst, arith}
 use Rattle.std.specs.Prelude.{nat_eq, if◌then◌else◌, is_some, count_by}
 use Rattle.std.specs.List.Sorted.{IsStrictlyIncreasing}
@@ -9,7 +9,7 @@ use Rattle.ix_cells.specs.Places.{place_at}
 use Rattle.ix_maps.specs.SlotState.{SlotState, value_at, entries_from, entries}
 
 -- some keys rise, and none is less than `start`
-record Rises (start : ℕ) (keys : List ℕ) : Type 0 where
+pub record Rises (start : ℕ) (keys : List ℕ) : Type 0 where
   pub rise : IsStrictlyIncreasing keys
   pub from : (i : ℕ) → i < length keys → start ≤ get_or keys i 0
 
@@ -23,17 +23,21 @@ Rises-cons_from : (start : ℕ) (keys : List ℕ) → Rises (start + 1) keys →
 Rises-cons_from start keys later zero below = omega arith
 Rises-cons_from start keys later (suc i) below = let low = later.from i (omega arith) in omega arith
 
+pub Rises-none : (start : ℕ) → Rises start []
+Rises-none start = record { rise = λ i below. absurd (omega arith); from = λ i below. absurd (omega arith) }
+
+pub Rises-weaken : (start : ℕ) (keys : List ℕ) → Rises (start + 1) keys → Rises start keys
+Rises-weaken start keys later = record { rise = later.rise; from = λ i below. (let low = later.from i below in omega arith) }
+
+pub Rises-cons : (start : ℕ) (keys : List ℕ) → Rises (start + 1) keys → Rises start (start ∷ keys)
+Rises-cons start keys later =
+    record { rise = λ i below. Rises-cons_rise start keys later i below; from = λ i below. Rises-cons_from start keys later i below }
+
 module _ {T : Type 0} where
   Rises-entries_from : (start : ℕ) (places : List (Option T)) → Rises start (keys_of (entries_from start places))
-  Rises-entries_from start [] = record { rise = λ i below. absurd (omega arith); from = λ i below. absurd (omega arith) }
-  Rises-entries_from start (None ∷ places) =
-      let later = Rises-entries_from (start + 1) places in
-      record { rise = later.rise; from = λ i below. let low = later.from i below in omega arith }
-  Rises-entries_from start (Some value ∷ places) =
-      let later = Rises-entries_from (start + 1) places in record {
-        rise = λ i below. Rises-cons_rise start (keys_of (entries_from (start + 1) places)) later i below;
-        from = λ i below. Rises-cons_from start (keys_of (entries_from (start + 1) places)) later i below;
-      }
+  Rises-entries_from start [] = Rises-none start
+  Rises-entries_from start (None ∷ places) = Rises-weaken start _ (Rises-entries_from (start + 1) places)
+  Rises-entries_from start (Some value ∷ places) = Rises-cons start _ (Rises-entries_from (start + 1) places)
 
   pub IsStrictlyIncreasing-entries : (s : SlotState T) → IsStrictlyIncreasing (keys_of (entries s))
   IsStrictlyIncreasing-entries s = (Rises-entries_from 0 s.values).rise

@@ -1,7 +1,6 @@
 -- The pair of a flat map whose key equals a given one.
-use Rattle.std.proofs.Common.{◌≡◌, ℕ, zero, suc, ◌+◌, ◌<◌, ◌↔◌, List, [], ◌∷◌, length, replicate, Option, Some, None, IsSome, IsNone, Bool, true, false, cond, refl, sym, ap, ◌∙◌, subst, inl, inr, arith}
-use Rattle.std.proofs.Math.ListN.{get_or-eq_default}
-use Rattle.std.proofs.lemmas.Bool.{cases_Bool, cases_lt, both_ways}
+use Rattle.std.proofs.Common.{◌≡◌, ℕ, zero, suc, ◌+◌, ◌↔◌, List, [], ◌∷◌, replicate, Option, Some, None, IsSome, IsNone, Bool, true, false, cond, refl, sym, ap, ◌∙◌, subst, inl, inr, arith}
+use Rattle.std.proofs.lemmas.Bool.{cases_Bool, both_ways}
 use Rattle.std.specs.Cmp.{IsEquivalence}
 use Rattle.std.specs.List.{find}
 use Rattle.std.specs.Prelude.{option_map}
@@ -18,13 +17,6 @@ find-differs test x xs differs = ap (λ b. cond b (Some x) (find test xs)) diffe
 
 pub equal_keys : {K : Type 0} {eq : K → K → Bool} → IsEquivalence eq → (a b key : K) → eq a key ≡ true → eq b key ≡ true → eq a b ≡ true
 equal_keys laws a b key first second = laws.congr a key b first ∙ (laws.symm key b ∙ second)
-
--- a place that holds an item is there
-pub place_at_within : {T : Type 0} (places : List (Option T)) (i : ℕ) (x : T) → place_at places i ≡ Some x → i < length places
-place_at_within places i x at = elim (cases_lt i (length places)) [
-  | inl below ↦ below
-  | inr past ↦ let none : place_at places i ≡ None = get_or-eq_default places None (omega arith) in absurd (let clash : Some x ≡ None = sym at ∙ none in cc)
-]
 
 module _ {K V : Type 0} (eq : K → K → Bool) where
   -- the pair at this place has a key that equals this one

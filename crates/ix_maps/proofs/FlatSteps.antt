@@ -9,7 +9,8 @@ use Rattle.ix_maps.specs.SlotSteps.{slot_set, slot_fill, SlotInsert, SlotRemove}
 use Rattle.ix_maps.specs.FlatState.{HasDistinctKeys, flat_entry, flat_value}
 use Rattle.ix_maps.specs.FlatSteps.{pair_set, flat_set}
 use Rattle.ix_maps.specs.declared.flatmap.pair.Pair.{Pair}
-use Rattle.ix_maps.proofs.FlatEntries.{IsEntry, IsEntry-flat_entry, flat_entry_none, flat_entry-place, flat_entry-IsEntry, flat_value-IsEntry, flat_entry_same, equal_keys, place_at_within}
+use Rattle.ix_cells.proofs.Places.{place_at_within}
+use Rattle.ix_maps.proofs.FlatEntries.{IsEntry, IsEntry-flat_entry, flat_entry_none, flat_entry-place, flat_entry-IsEntry, flat_value-IsEntry, flat_entry_same, equal_keys}
 
 module _ {K V : Type 0} (eq : K → K → Bool) (laws : IsEquivalence eq) where
   -- a pair with a new key is inserted

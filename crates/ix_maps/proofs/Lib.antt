@@ -2,13 +2,17 @@ pub mod Pairs
 pub mod Rings
 mod WorkedQueues
 mod WorkedFlatMaps
+mod WorkedSlotTables
 mod WorkedSlotMaps
 pub mod FreeKeys
 pub mod Chains
-pub mod SlotMaps
+pub mod SlotTables
 pub mod SlotSteps
 pub mod Entries
 pub mod FlatEntries
 pub mod FlatSteps
 pub mod FlatCalls
 pub mod VacantTables
+pub mod GenerationTables
+pub mod Generations
+pub mod MapEntries

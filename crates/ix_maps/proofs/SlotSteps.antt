@@ -1,4 +1,4 @@
--- After each step of a slot map its tables represent the new slot state.
+-- After each step of a slot table its tables represent the new slot state.
 use Rattle.std.proofs.Common.{◌≡◌, ℕ, zero, suc, ◌+◌, ◌-◌, ◌<◌, ◌≤◌, ◌≢◌, inl, inr, List, [], ◌∷◌, ◌++◌, length, set, true, false, Option, Some, None, refl, sym, ap, ◌∙◌, subst, arith}
 use Rattle.std.specs.Prelude.{replicate, nat_eq, if◌then◌else◌, is_some, count_by, slice_get}
 use Rattle.std.specs.Option.{option_map_or}
@@ -10,13 +10,14 @@ use Rattle.std.proofs.lemmas.List.Sums.{sum_by-set}
 use Rattle.std.proofs.lemmas.List.Folds.{sum_by-replicate}
 use Rattle.std.proofs.lemmas.List.FromFn.{length-range_with_len}
 use Rattle.ix_cells.specs.Places.{place_at}
-use Rattle.ix_maps.specs.declared.slotmap.link.Link.{Link}
+use Rattle.ix_maps.specs.declared.slottable.link.Link.{Link}
 use Rattle.ix_maps.specs.SlotState.{SlotState, value_at, IsHeld, IsFree, slot_new}
 use Rattle.ix_maps.specs.SlotSteps.{slot_fill, slot_vacate, slot_insert, SlotInsert}
 use Rattle.ix_maps.specs.FreeList.{no_key, held_link, free_link, first_or, last_or, IsChain, IsKeyOrNone, IsLinkWithin, links_set_next, links_set_previous, links_remove, links_remove_first, links_insert_first, first_after_remove, IsRisingList, Represents}
 use Rattle.ix_maps.proofs.FreeKeys.{key_count, key_count-cons, hit, hit_same, hit_other, key_count-append, keys_without-absent, apart_from_last_or, apart_from_first_or, key_count-range_past, key_count-range_within}
-use Rattle.ix_maps.proofs.Chains.{within_row, IsChain-append, IsChain-set_other, IsChain-links_set_next, IsChain-links_set_previous}
-use Rattle.ix_maps.proofs.SlotMaps.{value_of_held, Shows, Shows-from, represents_of, place_of, key_count_le_one, key_count-no_key, key_count-held, nil_from_first, IsLinkTable-shown, IsLinkWithin-shown, occurs-free}
+use Rattle.ix_cells.proofs.Places.{held_item, held_within}
+use Rattle.ix_maps.proofs.Chains.{IsChain-append, IsChain-set_other, IsChain-links_set_next, IsChain-links_set_previous}
+use Rattle.ix_maps.proofs.SlotTables.{Shows, Shows-from, represents_of, place_of, key_count_le_one, key_count-no_key, key_count-held, nil_from_first, IsLinkTable-shown, IsLinkWithin-shown, occurs-free}
 
 -- the first key after one is removed
 first_after_remove-append : (front back : List ℕ) (key first : ℕ) → key_count no_key front ≡ 0 → first ≡ first_or (front ++ key ∷ back) no_key → first_after_remove first (free_link (last_or no_key front) (first_or back no_key)) ≡ first_or (front ++ back) no_key
@@ -118,8 +119,8 @@ module _ {T : Type 0} where
     -- a held key gets another value
     Represents-slot_set : (key : ℕ) (value : T) → IsHeld s key → Represents (slot_fill s key value) links first len
     Represents-slot_set key value held =
-        let was = value_of_held (value_at s key) held in
-        let below = within_row s.values key was.0 was.1 in
+        let was = held_item (value_at s key) held in
+        let below = held_within s.values key held in
         let none = key_count-held s links first len r key held in
         let values_len = length-set s.values key (Some value) in
         let low = r.below in
@@ -145,8 +146,8 @@ module _ {T : Type 0} where
     -- a held key loses its value
     Represents-slot_vacate : (key : ℕ) → IsHeld s key → Represents (slot_vacate s key) (links_insert_first links key first) key (len - 1)
     Represents-slot_vacate key held =
-        let was = value_of_held (value_at s key) held in
-        let below = within_row s.values key was.0 was.1 in
+        let was = held_item (value_at s key) held in
+        let below = held_within s.values key held in
         let none = key_count-held s links first len r key held in
         let lengths = r.lengths in let low = r.below in
         let put = set links key (Some (free_link no_key first)) in

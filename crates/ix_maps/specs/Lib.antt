@@ -4,5 +4,8 @@ pub mod Ring
 pub mod FreeList
 pub mod SlotState
 pub mod SlotSteps
+pub mod Generations
+pub mod GenerationTable
+pub mod SlotMapSteps
 pub mod FlatState
 pub mod FlatSteps

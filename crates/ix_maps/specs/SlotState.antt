@@ -1,4 +1,4 @@
--- A slot map as contracts see it: for each key its value or nothing, and the free keys in their order.
+-- A slot table as contracts see it: for each key its value or nothing, and the free keys in their order.
 use Rattle.std.specs.Prelude.{◌≡◌, ℕ, ◌+◌, ◌<◌, List, [], ◌∷◌, length, replicate, nat_eq, Option, Some, None, is_some, count_by, refl}
 use Rattle.std.specs.List.{range_with_len}
 use Rattle.std.specs.Coded.{Coded, code_by, coded×, coded_ℕ, coded_list, coded_option}

@@ -1,4 +1,4 @@
--- The steps of a slot map: the slot state after each call, and what the calls that change a map promise.
+-- The steps of a slot table: the slot state after each call, and what the calls that change a map promise.
 use Rattle.std.specs.Prelude.{◌≡◌, ◌≢◌, ◌↔◌, ℕ, List, [], ◌∷◌, length, nat_eq, nat_lt, if◌then◌else◌, Bool, Option, Some, None, IsTrue, IsNone, IfSome, is_some, slice_get, slice_set}
 use Rattle.std.specs.Bool.{OnFalse}
 use Rattle.std.specs.Option.{option_map_or}

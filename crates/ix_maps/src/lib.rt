@@ -1,4 +1,4 @@
-//! Containers over tables: queues, slot maps and flat maps.
+//! Containers over tables: queues, slot tables and flat maps.
 //!
 //! Each container is generic over the [`Table`](ix_cells::Table) that holds its items, and the kinds of storage are
 //! aliases of one type. Contracts see a container as its bounded model, whatever the table is.
@@ -7,7 +7,9 @@
 //! let mut queue = FixedSizeQueue::<u64, 2>::new();
 //! queue.push(1);                        // true
 //! let mut map = FixedSizeSlotMap::<char, 3>::new();
-//! map.insert('a');                      // Some: the key 0
+//! map.insert('a');                      // Some: index 0, generation 0
+//! let mut table = FixedSizeSlotTable::<char, 3>::new();
+//! table.insert('a');                    // Some: the key 0
 //! let mut names = FixedSizeFlatMap::<u16, char, 3>::new();
 //! names.insert(80, 'a');                // Ok(())
 //! ```
@@ -16,6 +18,7 @@
 pub mod flatmap;
 pub mod queue;
 pub mod slotmap;
+pub mod slottable;
 
 pub use flatmap::{
     CallbackProgression, FixedSizeFlatMap, FlatMap, FlatMapError, FlatMapFamily, Keys, MetaFlatMap,
@@ -23,6 +26,9 @@ pub use flatmap::{
 };
 pub use queue::{FixedSizeQueue, MetaQueue, Queue, QueueFamily, RelocatableQueue, UninitQueue};
 pub use slotmap::{
-    FixedSizeSlotMap, Iter, Link, MetaSlotMap, RelocatableSlotMap, SlotMap, SlotMapFamily,
-    SlotMapKey, UninitSlotMap,
+    FixedSizeSlotMap, MetaSlotMap, RelocatableSlotMap, SlotMap, SlotMapKey, UninitSlotMap,
+};
+pub use slottable::{
+    FixedSizeSlotTable, Link, MetaSlotTable, RelocatableSlotTable, SlotTable, SlotTableFamily,
+    SlotTableKey, UninitSlotTable,
 };

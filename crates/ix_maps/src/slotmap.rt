@@ -1,19 +1,21 @@
-//! Slot maps: bounded maps that choose the key of each value, by which it is found in constant time.
+//! Slot maps: bounded maps that choose the key of each value, by which it is found in constant time until it is removed.
+//! A key has a generation, so that a key which was removed or replaced never finds the value of another one.
 //!
 //! [`FixedSizeSlotMap`] is stored inline, [`SlotMap`] and [`RelocatableSlotMap`] allocate only when they are made.
 //!
 //! ```text
 //! let mut map = FixedSizeSlotMap::<char, 3>::new();
-//! if let Some(key) = map.insert('a') {  // the key 0
+//! if let Some(key) = map.insert('a') {  // index 0, generation 0
 //!     map.get(key);                     // Some(&'a')
 //!     map.remove(key);                  // Some('a')
+//!     map.insert('b');                  // Some: index 0, generation 1
+//!     map.get(key);                     // None
 //! }
 //! ```
 
 mod fixed_size_slot_map;
-mod free_list;
+mod generation_table;
 mod iter;
-mod link;
 mod meta_slot_map;
 mod relocatable_slot_map;
 mod slot_map;
@@ -21,10 +23,10 @@ mod slot_map_key;
 mod uninit_slot_map;
 
 pub use fixed_size_slot_map::FixedSizeSlotMap;
+pub(crate) use generation_table::GenerationTable;
 pub use iter::Iter;
-pub use link::Link;
 pub use meta_slot_map::MetaSlotMap;
 pub use relocatable_slot_map::RelocatableSlotMap;
 pub use slot_map::SlotMap;
 pub use slot_map_key::SlotMapKey;
-pub use uninit_slot_map::{SlotMapFamily, UninitSlotMap};
+pub use uninit_slot_map::UninitSlotMap;

@@ -1,7 +1,7 @@
 //! Queues for which there is not enough memory, at each of their allocations: nothing stays allocated.
 use bumpalo::Bump;
 use ix_cells::{InitError, RelocatableContainer, Table};
-use ix_expect::Findings;
+use ix_expect::{Findings, check_sizes};
 use ix_maps::{MetaQueue, Queue, RelocatableQueue, UninitQueue};
 use linked_list_allocator::LocalHeap;
 use std::alloc::{Allocator, Global};
@@ -69,34 +69,6 @@ fn check_heap(findings: &Findings, heap: &LocalHeap, ample: Global, capacity: us
     check_again(findings, refused, ample, capacity);
 }
 
-/// Allocates a block of the heap, and does what `check_heap` does.
-fn check_blocks(
-    findings: &Findings,
-    heap: &LocalHeap,
-    ample: Global,
-    (capacity, found): (usize, bool),
-) {
-    let held = Box::new(heap, 0u64);
-    findings.expect(held.is_ok(), "a block");
-    check_heap(findings, heap, ample, capacity, found);
-}
-
-/// Checks makings of queues of `capacity` numbers in a heap with `free` free blocks.
-fn check_free(findings: &Findings, alloc: Global, capacity: usize, (free, found): (u16, bool)) {
-    match LocalHeap::new(alloc, 16 * (free as usize + 1)) {
-        Ok(heap) => check_blocks(findings, &heap, alloc, (capacity, found)),
-        Err(_) => findings.miss("a heap"),
-    }
-}
-
-/// Checks that makings of queues of `capacity` numbers take just `blocks` blocks.
-fn check_size(findings: &Findings, alloc: Global, (capacity, blocks): (usize, u16)) {
-    for free in 0..blocks {
-        check_free(findings, alloc, capacity, (free, false));
-    }
-    check_free(findings, alloc, capacity, (blocks, true));
-}
-
 /// The capacity of a queue, and the number of blocks of 16 bytes that it takes: 8 bytes for each number, one for its mark.
 const SIZES: &[(usize, u16)] = &[
     (0, 0),
@@ -111,9 +83,15 @@ const SIZES: &[(usize, u16)] = &[
 #[test]
 fn makings_refused(rt: HostRuntime) -> Result<(), Fail> {
     let findings = Findings::new();
-    for size in SIZES {
-        check_size(&findings, rt.alloc(), *size);
-    }
+    let alloc = rt.alloc();
+    check_sizes(
+        &findings,
+        alloc,
+        SIZES,
+        |heap: &LocalHeap, capacity, found| {
+            check_heap(&findings, heap, alloc, capacity, found);
+        },
+    );
     findings.verdict()
 }
 

@@ -1,8 +1,10 @@
-//! When values are dropped: each one once, and by the drop of a map that of the least key first.
-use crate::drop_tests::Call::{Insert, InsertAt, Remove, Write};
+//! When values are dropped: each one once, and by the drop of a map that of the least index first.
+use crate::calls::{Numbers, key_of};
+use crate::drop_tests::Call::{Insert, InsertAt, Remove};
+use crate::rows::LAST;
 use ix_cells::{RelocatableContainer, Table};
 use ix_expect::{Findings, Noted, Notes};
-use ix_maps::{FixedSizeSlotMap, Link, MetaSlotMap, SlotMap, SlotMapKey, UninitSlotMap};
+use ix_maps::{FixedSizeSlotMap, Link, MetaSlotMap, SlotMap, UninitSlotMap};
 use std::alloc::{AllocError, Global};
 use std::test::Fail;
 
@@ -10,28 +12,18 @@ use std::test::Fail;
 enum Call {
     Insert(u64),
     InsertAt(usize, u64),
-    /// Replaces a value through `get_mut`.
-    Write(usize, u64),
-    Remove(usize),
+    Remove(Numbers),
 }
 
 /// A call, the names of the values that it drops, and the name of the value that it returns.
 type Row = (Call, u64, Option<u64>);
 
-/// Replaces the value at `key`.
-fn write<'a, S: Table<Noted<'a>>, L: Table<Link>>(
-    map: &mut MetaSlotMap<Noted<'a>, S, L>,
-    key: usize,
-    value: Noted<'a>,
-) {
-    if let Some(place) = map.get_mut(SlotMapKey::new(key)) {
-        *place = value;
-    }
-}
+/// The generation at which places start, calls, and the names that are dropped with the map.
+type Example = (u32, &'static [Row], u64);
 
 /// Makes a call and returns the value that it returns.
-fn returned_by<'a, S: Table<Noted<'a>>, L: Table<Link>>(
-    map: &mut MetaSlotMap<Noted<'a>, S, L>,
+fn returned_by<'a, S: Table<Option<Noted<'a>>>, L: Table<Link>, G: Table<u32>>(
+    map: &mut MetaSlotMap<Noted<'a>, S, L, G>,
     call: &Call,
     notes: &'a Notes,
 ) -> Option<Noted<'a>> {
@@ -39,11 +31,10 @@ fn returned_by<'a, S: Table<Noted<'a>>, L: Table<Link>>(
         Insert(name) => {
             let _ = map.insert(Noted::new(*name, notes));
         }
-        InsertAt(key, name) => {
-            let _ = map.insert_at(SlotMapKey::new(*key), Noted::new(*name, notes));
+        InsertAt(index, name) => {
+            let _ = map.insert_at(*index, Noted::new(*name, notes));
         }
-        Write(key, name) => write(map, *key, Noted::new(*name, notes)),
-        Remove(key) => return map.remove(SlotMapKey::new(*key)),
+        Remove(key) => return map.remove(key_of(key)),
     }
     None
 }
@@ -55,9 +46,9 @@ fn name_of(value: Option<Noted>) -> Option<u64> {
 }
 
 /// Makes the calls in turn on `map`, which is empty at first.
-fn check_rows<'a, S: Table<Noted<'a>>, L: Table<Link>>(
+fn check_rows<'a, S: Table<Option<Noted<'a>>>, L: Table<Link>, G: Table<u32>>(
     findings: &Findings,
-    map: &mut MetaSlotMap<Noted<'a>, S, L>,
+    map: &mut MetaSlotMap<Noted<'a>, S, L, G>,
     notes: &'a Notes,
     rows: &[Row],
 ) {
@@ -71,23 +62,23 @@ fn check_rows<'a, S: Table<Noted<'a>>, L: Table<Link>>(
 }
 
 /// Makes the calls on a map whose making did not fail. `end` has the names that are dropped with the map.
-fn check_made<'a, S: Table<Noted<'a>>, L: Table<Link>, E: Drop>(
+fn check_made<'a, S: Table<Option<Noted<'a>>>, L: Table<Link>, G: Table<u32>, E: Drop>(
     findings: &Findings,
-    made: Result<MetaSlotMap<Noted<'a>, S, L>, E>,
+    made: Result<MetaSlotMap<Noted<'a>, S, L, G>, E>,
     notes: &'a Notes,
-    (rows, end): &(&[Row], u64),
+    (rows, end): (&[Row], u64),
 ) {
     match made {
         Ok(mut map) => {
             check_rows(findings, &mut map, notes, rows);
             drop(map);
-            findings.expect_same(notes.take_drops(), *end, "dropped with the map");
+            findings.expect_same(notes.take_drops(), end, "dropped with the map");
         }
         Err(_) => findings.miss("there is memory"),
     }
 }
 
-/// Values that a map with three keys takes, replaces and refuses.
+/// Values that a map with three places takes, replaces and refuses.
 const PUTS: &[Row] = &[
     (InsertAt(2, 1), 0, None),
     (InsertAt(0, 2), 0, None),
@@ -100,28 +91,58 @@ const PUTS: &[Row] = &[
     (InsertAt(0, 9), 2, None),
 ];
 
-/// A map that is not full.
-const HALF_FULL: &[Row] = &[(InsertAt(2, 1), 0, None), (Insert(2), 0, None)];
+/// The caller drops what is returned, once, and the map what was put in its place.
+const REMOVALS: &[Row] = &[
+    (Insert(1), 0, None),
+    (Insert(2), 0, None),
+    (Remove((0, 0)), 0, Some(1)),
+    (Remove((0, 0)), 0, None),
+    (Insert(3), 0, None),
+    (Remove((0, 0)), 0, None),
+];
 
-/// The caller drops what is returned, and the map has no other value.
-const REMOVALS: &[Row] = &[(Insert(1), 0, None), (Remove(0), 0, Some(1))];
+/// The place between two others is retired, and takes no other value.
+const RETIRED_BETWEEN: &[Row] = &[
+    (Insert(1), 0, None),
+    (Insert(2), 0, None),
+    (Insert(3), 0, None),
+    (InsertAt(0, 4), 4, None),
+    (Remove((1, LAST)), 0, Some(2)),
+    (Remove((1, LAST)), 0, None),
+    (InsertAt(1, 5), 5, None),
+    (Insert(6), 6, None),
+];
 
-/// The old value is dropped by the write, and the new one with the map.
-const WRITES: &[Row] = &[(Insert(1), 0, None), (Write(0, 2), 1, None)];
+/// Each place is retired.
+const ALL_RETIRED: &[Row] = &[
+    (Insert(1), 0, None),
+    (Remove((0, LAST)), 0, Some(1)),
+    (Insert(2), 0, None),
+    (Remove((1, LAST)), 0, Some(2)),
+    (Insert(3), 0, None),
+    (Remove((2, LAST)), 0, Some(3)),
+    (Insert(4), 4, None),
+];
 
-/// Calls of a map with three keys, and the names that are dropped with it.
-const EXAMPLES: &[(&[Row], u64)] = &[(PUTS, 973), (HALF_FULL, 21), (REMOVALS, 0), (WRITES, 2)];
+/// Calls of a map with three places.
+const EXAMPLES: &[Example] = &[
+    (0, PUTS, 973),
+    (0, REMOVALS, 32),
+    (LAST, RETIRED_BETWEEN, 13),
+    (LAST, ALL_RETIRED, 0),
+];
 
 #[test]
 fn each_kind(rt: HostRuntime) -> Result<(), Fail> {
     let findings = Findings::new();
     let notes = Notes::new(0);
-    for example in EXAMPLES {
-        let fixed = Ok::<_, AllocError>(FixedSizeSlotMap::<Noted, 3>::new());
+    for (start, rows, end) in EXAMPLES {
+        let example = (*rows, *end);
+        let fixed = Ok::<_, AllocError>(FixedSizeSlotMap::<Noted, 3>::starting_at(*start));
         check_made(&findings, fixed, &notes, example);
-        let allocated = SlotMap::<Noted, Global>::new(rt.alloc(), 3);
+        let allocated = SlotMap::<Noted, Global>::starting_at(rt.alloc(), 3, *start);
         check_made(&findings, allocated, &notes, example);
-        let relocatable = UninitSlotMap::<Noted>::new_uninit(3).init(rt.alloc());
+        let relocatable = UninitSlotMap::<Noted>::starting_at(3, *start).init(rt.alloc());
         check_made(&findings, relocatable, &notes, example);
     }
     findings.verdict()

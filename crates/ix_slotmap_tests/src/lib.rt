@@ -1,6 +1,5 @@
-//! Tests of slot maps beside their contracts: worked examples on each kind of map and in each memory, each function
-//! once, how often tables are called, when values are dropped, too little memory, and random calls beside a plain slow
-//! map. And functions over any slot map, as a user would write them.
+//! Tests of slot maps beside their contracts: worked examples on each kind of map and in each memory, keys and texts, counted
+//! calls, when values are dropped, too little memory, and random calls beside a plain slow map.
 #![tactic(auto)]
 
 #[cfg(test)]
@@ -10,9 +9,7 @@ mod counting_tests;
 #[cfg(test)]
 mod drop_tests;
 #[cfg(test)]
-mod function_tests;
-#[cfg(test)]
-mod inserting;
+mod key_tests;
 #[cfg(test)]
 mod memory_tests;
 #[cfg(test)]

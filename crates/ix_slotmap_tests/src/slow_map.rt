@@ -1,138 +1,109 @@
-//! A plain slow map, with which tests compare slot maps. Its contracts are the definitions of the steps.
-ghost use Rattle.std.specs.Prelude.{◌≡◌, IfOk, OnOk, OnErr, IsTrue, ◌↔◌, nat_eq, slice_get, slice_set};
-ghost use Rattle.std.specs.List.{position, range_with_len};
-ghost use Rattle.ix_maps.specs.SlotState.{value_at, IsKey, slot_new, held_count};
-ghost use Rattle.ix_maps.specs.SlotSteps.{keys_without, slot_insert, slot_insert_at, slot_remove};
-
+//! A plain slow map, with which tests compare slot maps.
 use std::alloc::{AllocError, Global};
-use std::marker::Model;
 
-/// The value or nothing at each key, and the free keys in their order.
+/// What each place has in it, and the free places in their order.
 #[derive(Drop)]
 pub struct SlowMap {
     values: Vec<Option<u64>>,
+    generations: Vec<u32>,
+    retired: Vec<bool>,
     free: Vec<usize>,
 }
 
-impl Model for SlowMap {
-    ghost use Rattle.std.specs.Prelude.{ℕ};
-    ghost use Rattle.std.specs.Coded.{coded_ℕ};
-    ghost use Rattle.ix_maps.specs.SlotState.{SlotState, slot_state_code};
-
-    ghost Value = { SlotState ℕ };
-
-    ghost coded = { slot_state_code coded_ℕ };
-
-    ghost view = { λ map. record {
-      values = map.values.items;
-      free = map.free.items;
-    } };
-}
-
-/// Returns the first place of `key` among some keys.
-fn place_of(keys: &[usize], key: usize) -> Option<usize>
-    ensures { result ≡ position (λ other. nat_eq key other) keys.now }
-{
-    keys.iter().position(|other| key == *other)
-}
-
-/// Removes the first occurrence of `key` from some keys.
-fn remove_key(keys: &mut Vec<usize>, key: usize)
-    ensures { keys.new.items ≡ keys_without key keys.old.items }
-{
-    if let Some(place) = place_of(keys, key) {
-        keys.remove(place);
-    }
-}
-
-/// Returns the keys 0, 1 and so on, `capacity` of them.
-fn rising_keys(alloc: Global, capacity: usize) -> Result<Vec<usize>, AllocError>
-    ensures { IfOk result (λ keys. keys.items ≡ range_with_len 0 capacity) }
-{
-    let mut keys = Vec::with_capacity(alloc, capacity)?;
-    for key in 0..capacity {
-        keys.push_reserved(key);
-    }
-    Ok(keys)
-}
-
 /// Writes place `i`. Does nothing if there is no such place.
-fn write(places: &mut [Option<u64>], i: usize, place: Option<u64>)
-    ensures { places.new ≡ slice_set places.old i place }
-{
+fn write<T: Drop>(places: &mut [T], i: usize, item: T) {
     if i < places.len() {
-        places[i] = place;
+        places[i] = item;
     }
 }
 
 impl SlowMap {
-    /// Returns an empty map with `capacity` keys.
-    pub fn new(alloc: Global, capacity: usize) -> Result<SlowMap, AllocError>
-        ensures { IfOk result (λ map. map ≡ slot_new capacity) }
-    {
+    /// Returns an empty map with `capacity` places that start at `generation`.
+    pub fn new(alloc: Global, capacity: usize, generation: u32) -> Result<SlowMap, AllocError> {
         let values = vec![in alloc; None; capacity]?;
-        let free = rising_keys(alloc, capacity)?;
-        Ok(SlowMap { values, free })
+        let generations = vec![in alloc; generation; capacity]?;
+        let retired = vec![in alloc; false; capacity]?;
+        let mut free = Vec::new(alloc);
+        for index in 0..capacity {
+            free.push(index)?;
+        }
+        Ok(SlowMap {
+            values,
+            generations,
+            retired,
+            free,
+        })
     }
 
-    /// Returns the number of values.
-    pub fn len(&self) -> usize
-        ensures { result ≡ held_count self.now }
-    {
-        self.values.iter().filter(|place| place.is_some()).count()
+    /// Returns the generation of a place, or 0 if there is no such place.
+    pub fn generation(&self, index: usize) -> u32 {
+        self.generations.get(index).copied().unwrap_or(0)
     }
 
-    /// Returns the first free key.
-    pub fn first_free(&self) -> Option<usize>
-        ensures { result ≡ slice_get self.now.free 0 }
-    {
-        self.free.first().copied()
+    /// Returns the value in a place.
+    pub fn value(&self, index: usize) -> Option<u64> {
+        self.values.get(index).copied().flatten()
     }
 
-    /// Returns the value at `key`, or `None` if there is none.
-    pub fn get(&self, key: usize) -> Option<u64>
-        ensures { result ≡ value_at self.now key }
-    {
-        self.values.get(key).copied().flatten()
+    /// Returns the number of values, and that of the retired places.
+    pub fn counts(&self) -> (usize, usize) {
+        let held = self.values.iter().filter(|value| value.is_some()).count();
+        let retired = self
+            .retired
+            .iter()
+            .filter(|is_retired| **is_retired)
+            .count();
+        (held, retired)
     }
 
-    /// Inserts `value` at the first free key and returns that key, or `None` if no key is free.
-    pub fn insert(&mut self, value: u64) -> Option<usize>
-        ensures key { result ≡ slice_get self.old.free 0 }
-        ensures map { self.new ≡ slot_insert self.old value }
-    {
-        if self.free.is_empty() {
+    /// Returns the key of the first free place.
+    pub fn next_free_key(&self) -> Option<(usize, u32)> {
+        let index = *self.free.first()?;
+        Some((index, self.generation(index)))
+    }
+
+    /// Returns the value of a key.
+    pub fn get(&self, (index, generation): (usize, u32)) -> Option<u64> {
+        if self.generation(index) == generation {
+            self.value(index)
+        } else {
+            None
+        }
+    }
+
+    /// Inserts `value` in the first free place and returns the key.
+    pub fn insert(&mut self, value: u64) -> Option<(usize, u32)> {
+        let key = self.next_free_key()?;
+        self.insert_at(key.0, value)
+    }
+
+    /// Inserts `value` in a place and returns the key.
+    pub fn insert_at(&mut self, index: usize, value: u64) -> Option<(usize, u32)> {
+        if self.retired.get(index).copied().unwrap_or(true) {
             return None;
         }
-        let key = self.free.remove(0);
-        write(&mut self.values, key, Some(value));
-        Some(key)
-    }
-
-    /// Inserts `value` at `key` and returns `true`, or false if `key` is out of range.
-    pub fn insert_at(&mut self, key: usize, value: u64) -> bool
-        ensures value { IsTrue result ↔ IsKey self.old key }
-        ensures map { self.new ≡ slot_insert_at self.old key value }
-    {
-        if key >= self.values.len() {
-            return false;
+        if self.value(index).is_some() {
+            let next = self.generation(index).checked_add(1)?;
+            write(&mut self.generations, index, next);
         }
-        write(&mut self.values, key, Some(value));
-        remove_key(&mut self.free, key);
-        true
+        write(&mut self.values, index, Some(value));
+        self.free.retain(|free| *free != index);
+        Some((index, self.generation(index)))
     }
 
-    /// Removes the value at `key` and returns it, or `None` if there is none. Returns `AllocError` if there is not
-    /// enough memory.
-    pub fn remove(&mut self, key: usize) -> Result<Option<u64>, AllocError>
-        ensures value { IfOk result (λ value. value ≡ value_at self.old key) }
-        ensures map { OnOk result (self.new ≡ slot_remove self.old key) }
-        ensures refused { OnErr result (self.new ≡ self.old) }
-    {
+    /// Removes a key and returns its value. Returns `AllocError` if there is not enough memory.
+    pub fn remove(&mut self, key: (usize, u32)) -> Result<Option<u64>, AllocError> {
         let value = self.get(key);
         if value.is_some() {
-            self.free.insert(0, key)?;
-            write(&mut self.values, key, None);
+            let (index, generation) = key;
+            match generation.checked_add(1) {
+                Some(next) => {
+                    self.free.insert(0, index)?;
+                    write(&mut self.generations, index, next);
+                }
+                None => write(&mut self.retired, index, true),
+            }
+            write(&mut self.values, index, None);
         }
         Ok(value)
     }

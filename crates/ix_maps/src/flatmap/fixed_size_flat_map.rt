@@ -3,7 +3,7 @@ ghost use Rattle.std.specs.Prelude.{◌≡◌, ◌≤◌};
 ghost use Rattle.ix_maps.specs.SlotState.{slot_new};
 
 use crate::flatmap::{MetaFlatMap, Pair};
-use crate::slotmap::{FixedSizeSlotMap, Link};
+use crate::slottable::{FixedSizeSlotTable, Link};
 use ix_cells::{InlineTable, MAX_FIXED_CAPACITY};
 
 /// A flat map with room for `CAPACITY` keys that is stored inline and does not allocate.
@@ -32,7 +32,7 @@ impl<K: Eq + Drop, V: Drop, const CAPACITY: usize> FixedSizeFlatMap<K, V, CAPACI
         requires { CAPACITY ≤ MAX_FIXED_CAPACITY }
         ensures { result ≡ slot_new CAPACITY }
     {
-        let pairs = FixedSizeSlotMap::new();
+        let pairs = FixedSizeSlotTable::new();
         MetaFlatMap { pairs }
     }
 }

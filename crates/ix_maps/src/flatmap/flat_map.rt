@@ -3,7 +3,7 @@ ghost use Rattle.std.specs.Prelude.{◌≡◌, IfOk, IsOk};
 ghost use Rattle.ix_maps.specs.SlotState.{slot_new};
 
 use crate::flatmap::{MetaFlatMap, Pair};
-use crate::slotmap::{Link, SlotMap};
+use crate::slottable::{Link, SlotTable};
 use ix_cells::HeapTable;
 use std::alloc::{AllocError, Allocator, Global};
 
@@ -33,7 +33,7 @@ impl<K: Eq + Drop, V: Drop, A: Allocator + Copy> FlatMap<K, V, A> {
         ensures value { IfOk result (λ map. map ≡ slot_new capacity) }
         ensures memory { capacity ≡ 0 → IsOk result }
     {
-        let pairs = SlotMap::new(alloc, capacity)?;
+        let pairs = SlotTable::new(alloc, capacity)?;
         Ok(MetaFlatMap { pairs })
     }
 }

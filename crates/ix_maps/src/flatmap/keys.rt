@@ -3,7 +3,7 @@ ghost use Rattle.std.specs.Prelude.{◌≡◌, map};
 ghost use Rattle.std.specs.Iterator.{YieldsFirstBy, item_count};
 
 use crate::flatmap::Pair;
-use crate::slotmap::{Iter, Link};
+use crate::slottable::{Iter, Link};
 use ix_cells::Table;
 use std::fmt::{self, Debug, Formatter, Write};
 use std::marker::Model;

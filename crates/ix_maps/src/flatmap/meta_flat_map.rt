@@ -7,17 +7,16 @@ ghost use Rattle.ix_maps.specs.SlotState.{IsWellFormed, IsHeld, value_at, held_c
 ghost use Rattle.ix_maps.specs.FlatState.{HasDistinctKeys, flat_entry, flat_value, flat_keys};
 ghost use Rattle.ix_maps.specs.FlatSteps.{flat_insert_result, flat_insert, pair_set, flat_set, flat_remove, ListsUntilStop};
 ghost use Rattle.ix_maps.specs.SlotSteps.{slot_set, SlotRemove};
-ghost use Rattle.ix_maps.specs.contracts.slotmap.meta_slot_map.MetaSlotMap as slot_map;
 
 use crate::flatmap::{CallbackProgression, FlatMapError, Keys, Pair};
-use crate::slotmap::{Link, MetaSlotMap, SlotMapKey};
+use crate::slottable::{Link, MetaSlotTable, SlotTableKey, held_mut};
 use ix_cells::Table;
 use std::alloc::AllocError;
 use std::fmt::{self, Debug, Formatter, Write};
 use std::marker::Model;
 
 /// A map from keys to values, over a table of pairs `S` and a table of links `L`. Keys are compared by their `Eq`.
-/// Contracts see a slot map of pairs, in which no two keys are equal.
+/// Contracts see a slot table of pairs, in which no two keys are equal.
 ///
 /// A pair stays at its place until it is removed, and a new one takes the first free place, that of the pair which was
 /// removed last. Slot order is that of the places. A call that looks for a key compares it with the keys of the map in
@@ -39,7 +38,7 @@ use std::marker::Model;
 /// This is `MetaFlatMap` of iceoryx2-bb-container.
 #[derive(Drop)]
 pub struct MetaFlatMap<K: Eq, V, S: Table<Pair<K, V>>, L: Table<Link>> {
-    pub(crate) pairs: MetaSlotMap<Pair<K, V>, S, L>,
+    pub(crate) pairs: MetaSlotTable<Pair<K, V>, S, L>,
 }
 
 impl<K: Eq, V, S: Table<Pair<K, V>>, L: Table<Link>> Model for MetaFlatMap<K, V, S, L> {
@@ -240,12 +239,12 @@ impl<K: Eq + Drop, V: Drop, S: Table<Pair<K, V>>, L: Table<Link>> MetaFlatMap<K,
 
     /// Returns the place of the key that equals `key`, and the pair there.
     #[inline]
-    fn find(&self, key: &K) -> Option<(SlotMapKey, &Pair<K, V>)>
+    fn find(&self, key: &K) -> Option<(SlotTableKey, &Pair<K, V>)>
         ensures value { option_map (λ entry. (entry.0, entry.1.now)) result ≡ flat_entry K.eq self.now key.now }
         ensures distinct { HasDistinctKeys K.eq self.now }
     {
         for place in 0..self.pairs.capacity() {
-            let place = SlotMapKey::new(place);
+            let place = SlotTableKey::new(place);
             if let Some(pair) = self.pairs.get(place)
                 && pair.key == *key
             {
@@ -257,7 +256,7 @@ impl<K: Eq + Drop, V: Drop, S: Table<Pair<K, V>>, L: Table<Link>> MetaFlatMap<K,
 
     /// Returns the place of the key that equals `key`.
     #[inline]
-    fn place(&self, key: &K) -> Option<SlotMapKey>
+    fn place(&self, key: &K) -> Option<SlotTableKey>
         ensures value { result ≡ option_map (λ entry. entry.0) (flat_entry K.eq self.now key.now) }
         ensures distinct { HasDistinctKeys K.eq self.now }
     {
@@ -269,36 +268,22 @@ impl<K: Eq + Drop, V: Drop, S: Table<Pair<K, V>>, L: Table<Link>> MetaFlatMap<K,
 
     /// Returns a mutable reference to the value at a place that has a pair.
     #[inline]
-    fn value_mut(&mut self, place: SlotMapKey) -> &mut V
+    fn value_mut(&mut self, place: SlotTableKey) -> &mut V
         requires { IsHeld self.old place }
         ensures* writes_back { sem 𝓛 (Lends (the_row K.row V.row S.row L.row K.PartialEq S.Table L.Table)
             V.row self.entry result (pair_set self.old place)) }
         ensures value { option_map (λ pair. pair.value) (value_at self.old place) ≡ Some result.now }
     {
-        &mut pair_mut(&mut self.pairs, place).value
-    }
-}
-
-/// Returns a mutable reference to the value at a held key.
-#[inline]
-fn pair_mut<T, S: Table<T>, L: Table<Link>>(
-    map: &mut MetaSlotMap<T, S, L>,
-    key: SlotMapKey,
-) -> &mut T
-    requires { IsHeld map.old key }
-    ensures* writes_back { sem 𝓛 (Lends (slot_map.the_row T.row S.row L.row S.Table L.Table)
-        T.row map.entry result (slot_set map.old key)) }
-    ensures value { value_at map.old key ≡ Some result.now }
-{
-    match map.get_mut(key) {
-        Some(value) => value,
-        None => unreachable!(),
+        &mut held_mut(&mut self.pairs, place).value
     }
 }
 
 /// Removes the value at a held key and returns it.
 #[inline]
-fn remove_pair<T, S: Table<T>, L: Table<Link>>(map: &mut MetaSlotMap<T, S, L>, key: SlotMapKey) -> T
+fn remove_pair<T, S: Table<T>, L: Table<Link>>(
+    map: &mut MetaSlotTable<T, S, L>,
+    key: SlotTableKey,
+) -> T
     requires { IsHeld map.old key }
     ensures { SlotRemove map.old key map.new (Some result) }
 {

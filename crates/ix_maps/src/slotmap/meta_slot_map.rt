@@ -1,435 +1,404 @@
-//! The slot map over any two tables.
-ghost use Rattle.std.specs.Prelude.{◌≡◌, ◌≢◌, ℕ, nat_eq, ◌+◌, ◌<◌, ◌≤◌, ◌↔◌, [], length, drop, replicate, slice_get, Some, None, IsTrue, IsNone, IfSome, option_copied, true, false};
-ghost use Rattle.std.specs.List.Sorted.{IsStrictlyIncreasing};
-ghost use Rattle.std.specs.Map.{keys_of, lookup};
+//! The slot map over any three tables.
+ghost use Rattle.std.specs.Prelude.{◌≡◌, ◌+◌, ◌<◌, ◌≤◌, ◌↔◌, [], length, Some, None, IsTrue, IsSome, IsNone, IfSome, is_some, option_copied, option_map, slice_get, if◌then◌else◌};
 ghost use Rattle.std.specs.Borrow.{sem, Lends, LendsIf};
 ghost use Rattle.std.specs.Option.{option_copied_mut};
-ghost use Rattle.ix_cells.specs.Places.{IsVacant};
-ghost use Rattle.ix_maps.specs.SlotState.{value_at, IsHeld, IsKey, IsFree, IsWellFormed, slot_new, held_count, entries, entries_from};
-ghost use Rattle.ix_maps.specs.SlotSteps.{slot_set, slot_fill, slot_vacate, slot_insert, SlotInsert, SlotInsertAt, SlotRemove};
-ghost use Rattle.ix_maps.specs.FreeList.{no_key};
+ghost use Rattle.std.specs.contracts.option.Option as option;
+ghost use Rattle.ix_maps.specs.SlotState.{IsFree, entries};
+ghost use Rattle.ix_maps.specs.Generations.{SlotKey, greatest_generation, generation_at, key_at, place_value, map_value, IsDead, retired_count, map_len, map_entries, IsMapFormed, DeadAreNotHeld, KeysRise, ListsExactly};
+ghost use Rattle.ix_maps.specs.SlotMapSteps.{map_set, map_set_at, map_replace, map_retire, MapInsert, MapInsertAt, MapRemove};
 
-use crate::slotmap::free_list::{
-    drop_all, first_after_remove, insert_first, link_all, remove, remove_first,
-};
-use crate::slotmap::link::NO_KEY;
-use crate::slotmap::{Iter, Link, SlotMapKey};
-use ix_cells::{Counted, Table, Touches};
+use crate::slotmap::{GenerationTable, Iter, SlotMapKey};
+use crate::slottable::{self, Link, MetaSlotTable, SlotTableKey, held_mut};
+use ix_cells::{Table, Touches};
 use std::fmt::{self, Debug, Formatter, Write};
-use std::marker::{Model, PhantomData};
+use std::marker::Model;
 
-/// A map from keys that it chooses itself to values, over a table of values `S` and a table of links `L`. Contracts see
-/// the value or nothing at each key, and the free keys in their order.
+/// A map from keys that it chooses itself to values, over a table of values `S`, a table of links `L` and a table of
+/// generations `G`. Contracts see what each place holds, the free places in their order, and the generations.
 ///
-/// The keys are the numbers from 0 to one below the capacity. A key that has a value is held, any other is free. The
-/// free keys are a list, in rising order at first: [`MetaSlotMap::insert`] removes the first key of the list, and
-/// [`MetaSlotMap::remove`] makes a key the first. A key out of range, up to `usize::MAX`, is an ordinary case, for
-/// which calls return false or `None`.
+/// A map has as many places as its capacity, with indexes from 0. A place is free, holds a value, or is retired, and it has
+/// a generation. A key is the index of a place and a generation; it is held while a value is in its place and the place has
+/// its generation. When a key is removed, or its value replaced by [`MetaSlotMap::insert_at`], its place gets the next
+/// generation, so that the key is dead: it is never held again, whatever is called later. A place whose key has the
+/// generation `u32::MAX` is retired when that key is removed: it is not used again.
+///
+/// The free places are a list, in rising order at first: [`MetaSlotMap::insert`] takes the first place of the list, and
+/// [`MetaSlotMap::remove`] makes a place the first. A key or an index out of range, up to the greatest numbers, is an
+/// ordinary case, for which calls return false or `None`.
 ///
 /// Each call takes O(1) time if nothing else is said, and no call allocates. A map that is dropped drops its values,
-/// that of the least key first, in O(capacity) time.
+/// that of the least index first, in O(capacity) time.
 ///
 /// ```text
 /// let mut map = FixedSizeSlotMap::<char, 2>::new();
-/// if let Some(key) = map.insert('a') {  // the key 0
+/// if let Some(key) = map.insert('a') {  // index 0, generation 0
 ///     map.get(key);                     // Some(&'a')
 ///     map.remove(key);                  // Some('a')
+///     map.insert('b');                  // index 0, generation 1
 ///     map.contains(key);                // false
 /// }
 /// ```
 ///
-/// This is `MetaSlotMap` of iceoryx2-bb-container.
-pub struct MetaSlotMap<T, S: Table<T>, L: Table<Link>> {
-    values: Counted<S>,
-    links: Counted<L>,
-    first: usize,
-    len: usize,
-    of: PhantomData<T>,
+/// This is `MetaSlotMap` of iceoryx2-bb-container, whose keys have no generation: that map is [`MetaSlotTable`] here.
+#[derive(Drop)]
+pub struct MetaSlotMap<T, S: Table<Option<T>>, L: Table<Link>, G: Table<u32>> {
+    pub(crate) slots: MetaSlotTable<Option<T>, S, L>,
+    pub(crate) generations: GenerationTable<G>,
+    pub(crate) retired: usize,
 }
 
-impl<T, S: Table<T>, L: Table<Link>> Model for MetaSlotMap<T, S, L> {
-    ghost use Rattle.ix_maps.specs.SlotState.{SlotState, slot_state_code};
-    ghost use Rattle.ix_maps.specs.FreeList.{slots_of, Represents};
+impl<T, S: Table<Option<T>>, L: Table<Link>, G: Table<u32>> Model for MetaSlotMap<T, S, L, G> {
+    ghost use Rattle.ix_maps.specs.Generations.{SlotMapState, slot_map_state_code};
+    ghost use Rattle.ix_maps.specs.GenerationTable.{HasGenerations};
 
-    ghost Value = { SlotState T };
+    ghost Value = { SlotMapState T };
 
-    ghost coded = { slot_state_code T.code };
+    ghost coded = { slot_map_state_code T.code };
 
-    ghost view = { λ map. slots_of (S.places map.values) (L.places map.links) map.first };
+    ghost view = { λ map. record { slots = map.slots; generations = map.generations } };
 
-    ghost invariant = { λ map.
-        Represents (slots_of (S.places map.values) (L.places map.links) map.first)
-        (L.places map.links) map.first map.len };
+    ghost invariant = { λ map. HasGenerations (record { slots = map.slots; generations = map.generations }) map.retired };
 }
 
-impl<T, S: Table<T>, L: Table<Link>> MetaSlotMap<T, S, L> {
+impl<T, S: Table<Option<T>>, L: Table<Link>, G: Table<u32>> MetaSlotMap<T, S, L, G> {
     ghost use Rattle.ix_maps.specs.contracts.slotmap.meta_slot_map.MetaSlotMap.{the_row};
 
-    /// Creates an empty map over two tables of the same length, which is the capacity. O(capacity).
-    ///
-    /// Every place of both tables is empty. A table of any kind will do, one of your own too.
-    ///
-    /// ```text
-    /// let values = InlineTable::<char, 2>::new();
-    /// let links = InlineTable::<Link, 2>::new();
-    /// let mut map = MetaSlotMap::from_tables(values, links);
-    /// map.capacity();                       // 2
-    /// ```
-    pub fn from_tables(values: S, links: L) -> Self
-        requires values { IsVacant (S.places values) }
-        requires links { L.places links ≡ replicate (length (S.places values)) None }
-        ensures { result ≡ slot_new (length (S.places values)) }
-    {
-        let values = Counted::new(values);
-        let mut links = Counted::new(links);
-        let first = link_all(&mut links, values.len());
-        MetaSlotMap {
-            values,
-            links,
-            first,
-            len: 0,
-            of: PhantomData,
-        }
-    }
-
-    /// Returns the number of keys, held and free: the maximum number of values.
+    /// Returns the number of places, free, held and retired.
     #[inline]
     pub fn capacity(&self) -> usize
-        ensures { result ≡ length self.now.values }
+        ensures value { result ≡ length self.now.slots.values }
+        ensures dead { DeadAreNotHeld self.now }
     {
-        self.values.len()
+        self.slots.capacity()
     }
 
-    /// Returns the number of values.
+    /// Returns the number of retired places.
+    #[inline]
+    pub fn retired(&self) -> usize
+        ensures value { result ≡ retired_count self.now }
+        ensures dead { DeadAreNotHeld self.now }
+    {
+        self.retired
+    }
+
+    /// Returns the number of values, which is that of the held keys.
     #[inline]
     pub fn len(&self) -> usize
-        ensures value { result ≡ held_count self.now }
-        ensures rest { held_count self.now + length self.now.free ≡ length self.now.values }
-        // This holds of every map, whatever calls were made.
-        ensures formed { IsWellFormed self.now }
+        ensures value { result ≡ map_len self.now }
+        ensures rest { map_len self.now + retired_count self.now + length self.now.slots.free ≡ length self.now.slots.values }
+        // These hold of every map, whatever calls were made.
+        ensures formed { IsMapFormed self.now }
+        ensures dead { DeadAreNotHeld self.now }
     {
-        self.len
+        self.slots.len() - self.retired
     }
 
-    /// Returns `true` if no key has a value.
+    /// Returns `true` if no key is held.
     #[inline]
     pub fn is_empty(&self) -> bool
-        ensures { IsTrue result ↔ (held_count self.now ≡ 0) }
+        ensures value { IsTrue result ↔ (map_len self.now ≡ 0) }
+        ensures dead { DeadAreNotHeld self.now }
     {
-        self.len == 0
+        self.len() == 0
     }
 
-    /// Returns `true` if every key has a value. A map of capacity 0 is both empty and full.
+    /// Returns `true` if no place is free. A map of capacity 0, and one whose places are all retired, is both empty and full.
     #[inline]
     pub fn is_full(&self) -> bool
-        ensures value { IsTrue result ↔ (held_count self.now ≡ length self.now.values) }
-        ensures free { IsTrue result ↔ (self.now.free ≡ []) }
+        ensures value { IsTrue result ↔ (self.now.slots.free ≡ []) }
+        ensures dead { DeadAreNotHeld self.now }
     {
-        self.len == self.values.len()
+        self.slots.is_full()
     }
 
-    /// Returns the key that the next [`MetaSlotMap::insert`] will return, or `None` if the map is full.
+    /// Returns the key that the next [`MetaSlotMap::insert`] will return, or `None` if no place is free.
     #[inline]
     pub fn next_free_key(&self) -> Option<SlotMapKey>
-        ensures value { result ≡ slice_get self.now.free 0 }
-        ensures free { IfSome result (IsFree self.now) }
-        ensures full { IsNone result ↔ (held_count self.now ≡ length self.now.values) }
+        ensures value { result ≡ option_map (key_at self.now) (slice_get self.now.slots.free 0) }
+        ensures free { IfSome result (λ key. IsFree self.now.slots key.index) }
+        ensures full { IsNone result ↔ (self.now.slots.free ≡ []) }
+        ensures dead { DeadAreNotHeld self.now }
     {
-        if self.first == NO_KEY {
-            None
-        } else {
-            Some(SlotMapKey::new(self.first))
-        }
+        let place = self.slots.next_free_key()?;
+        Some(self.key_of(place, &mut Touches::new()))
     }
 
-    /// Returns `true` if `key` has a value, and false if it is free or out of range.
+    /// Returns `true` if `key` is held.
     #[inline]
     pub fn contains(&self, key: SlotMapKey) -> bool
-        ensures { IsTrue result ↔ IsHeld self.now key }
+        ensures value { IsTrue result ↔ IsSome (map_value self.now key) }
+        ensures dead { DeadAreNotHeld self.now }
     {
-        let key = key.value();
-        key < self.capacity() && !self.is_free(key, &mut Touches::new())
+        self.get(key).is_some()
     }
 
-    /// Returns the value at `key`, or `None` if `key` is free or out of range.
+    /// Returns the value of `key`, or `None` if `key` is not held.
     #[inline]
     pub fn get(&self, key: SlotMapKey) -> Option<&T>
-        ensures { option_copied result ≡ value_at self.now key }
+        ensures value { option_copied result ≡ map_value self.now key }
+        ensures dead { DeadAreNotHeld self.now }
     {
-        let key = key.value();
-        if key < self.capacity() {
-            self.value(key)
-        } else {
-            None
+        if !self.has_generation(key, &mut Touches::new()) {
+            return None;
+        }
+        match self.slots.get(SlotTableKey::new(key.index())) {
+            Some(content) => content.as_ref(),
+            None => None,
         }
     }
 
-    /// Returns a mutable reference to the value at `key`, or `None` if `key` is free or out of range.
+    /// Returns a mutable reference to the value of `key`, or `None` if `key` is not held.
     #[inline]
     pub fn get_mut(&mut self, key: SlotMapKey) -> Option<&mut T>
-        ensures* writes_back { sem 𝓛 (LendsIf (the_row T.row S.row L.row S.Table L.Table)
-            T.row self.entry result (slot_set self.old key) self.old) }
-        ensures value { option_copied_mut result ≡ value_at self.old key }
+        ensures* writes_back { sem 𝓛 (LendsIf (the_row T.row S.row L.row G.row S.Table L.Table G.Table)
+            T.row self.entry result (map_set self.old key) self.old) }
+        ensures value { option_copied_mut result ≡ map_value self.old key }
+        // Whatever is written, a dead key stays dead.
+        ensures dead { (written : T) (other : SlotKey) → IsSome (map_value self.old key)
+            → IsDead self.old other → IsDead (map_set self.old key written) other }
+        ensures not_held { DeadAreNotHeld self.old }
     {
         if self.contains(key) {
-            Some(self.value_mut(key.value()))
+            Some(self.value_mut(key.index()))
         } else {
             None
         }
     }
 
-    /// Returns an iterator over the held keys in rising order, each with its value. O(1), and O(capacity) for all of
-    /// its items together.
+    /// Returns an iterator over the held keys in rising order of their indexes, each with its value. O(1), and O(capacity)
+    /// for all of its items together.
     #[inline]
-    pub fn iter(&self) -> Iter<'_, T, S, L>
-        ensures entries { result ≡ entries self.now }
-        ensures rising { IsStrictlyIncreasing (keys_of result) }
-        ensures exactly { (key : ℕ) → lookup (nat_eq key) result ≡ value_at self.now key }
+    pub fn iter(&self) -> Iter<'_, T, S, L, G>
+        ensures entries { result ≡ map_entries self.now }
+        ensures rising { KeysRise result }
+        ensures exactly { ListsExactly result self.now }
+        ensures dead { DeadAreNotHeld self.now }
     {
         Iter::new(self)
     }
 
-    /// Inserts `value` at the first free key and returns that key; or drops `value` and returns `None` if the map is
-    /// full.
+    /// Inserts `value` in the first free place and returns the key of that place; or drops `value` and returns `None` if no
+    /// place is free.
     ///
     /// ```text
     /// let mut map = FixedSizeSlotMap::<char, 1>::new();
-    /// map.insert('a');                      // the key 0
+    /// map.insert('a');                      // Some: index 0, generation 0
     /// map.insert('b');                      // None
     /// ```
     #[inline]
     pub fn insert(&mut self, value: T) -> Option<SlotMapKey>
     where
         T: Drop,
-        ensures { SlotInsert self.old value self.new result }
+        ensures { MapInsert self.old value self.new result }
     {
         self.insert_counted(value, &mut Touches::new())
     }
 
-    /// Inserts `value` at `key` and returns `true`; a value that is there already is dropped. Drops `value` and returns
-    /// false if `key` is out of range.
+    /// Inserts `value` in the place `index` and returns its key.
+    ///
+    /// A value that is there already is dropped, its key is dead, and the new key has the next generation. Drops `value` and
+    /// returns `None` if `index` is out of range, if the place is retired, and if a value is there with the generation
+    /// `u32::MAX`.
     #[inline]
-    pub fn insert_at(&mut self, key: SlotMapKey, value: T) -> bool
+    pub fn insert_at(&mut self, index: usize, value: T) -> Option<SlotMapKey>
     where
         T: Drop,
-        ensures { SlotInsertAt self.old key value self.new result }
+        ensures { MapInsertAt self.old index value self.new result }
     {
-        self.insert_at_counted(key, value, &mut Touches::new())
+        self.insert_at_counted(index, value, &mut Touches::new())
     }
 
-    /// Removes the value at `key` and returns it, or `None` if `key` is free or out of range. A key whose value is
-    /// removed is the first free key.
+    /// Removes `key` and returns its value, or `None` if `key` is not held.
+    ///
+    /// A key that was removed is dead. Its place gets the next generation and is the first free one; a place with the
+    /// generation `u32::MAX` is retired.
     #[inline]
     pub fn remove(&mut self, key: SlotMapKey) -> Option<T>
-        ensures { SlotRemove self.old key self.new result }
+        ensures { MapRemove self.old key self.new result }
     {
         self.remove_counted(key, &mut Touches::new())
     }
 
-    /// Does what [`MetaSlotMap::insert`] does, and raises `touches` by at most 16, whatever the capacity.
+    /// Does what [`MetaSlotMap::insert`] does, and raises `touches` by at most 20, whatever the capacity.
     #[inline]
     pub fn insert_counted(&mut self, value: T, touches: &mut Touches) -> Option<SlotMapKey>
     where
         T: Drop,
-        ensures step { SlotInsert self.old value self.new result }
-        ensures touches { touches.new ≤ touches.old + 16 }
+        ensures step { MapInsert self.old value self.new result }
+        ensures touches { touches.new ≤ touches.old + 20 }
         ensures counts_on { touches.old ≤ touches.new }
     {
-        if self.first == NO_KEY {
-            return None;
-        }
-        let key = self.first;
-        self.fill_first(value, touches);
-        Some(SlotMapKey::new(key))
+        let place = self.slots.insert_counted(Some(value), touches)?;
+        Some(self.key_of(place, touches))
     }
 
-    /// Does what [`MetaSlotMap::insert_at`] does, and raises `touches` by at most 16, whatever the capacity.
+    /// Does what [`MetaSlotMap::insert_at`] does, and raises `touches` by at most 20, whatever the capacity.
     #[inline]
-    pub fn insert_at_counted(&mut self, key: SlotMapKey, value: T, touches: &mut Touches) -> bool
+    pub fn insert_at_counted(
+        &mut self,
+        index: usize,
+        value: T,
+        touches: &mut Touches,
+    ) -> Option<SlotMapKey>
     where
         T: Drop,
-        ensures step { SlotInsertAt self.old key value self.new result }
-        ensures touches { touches.new ≤ touches.old + 16 }
+        ensures step { MapInsertAt self.old index value self.new result }
+        ensures touches { touches.new ≤ touches.old + 20 }
         ensures counts_on { touches.old ≤ touches.new }
     {
-        let key = key.value();
-        if key >= self.capacity() {
-            return false;
+        if index >= self.capacity() {
+            return None;
         }
-        if self.is_free(key, touches) {
-            self.fill(key, value, touches);
-        } else {
-            self.replace(key, value, touches);
+        let place = SlotTableKey::new(index);
+        let generation = self.generations.get(index, touches);
+        if !self.slots.contains_counted(place, touches) {
+            self.slots.insert_at_counted(place, Some(value), touches);
+            return Some(SlotMapKey::new(index, generation));
         }
-        true
+        // A retired place has this generation too.
+        if generation == u32::MAX {
+            return None;
+        }
+        self.replace(index, generation + 1, value, touches);
+        Some(SlotMapKey::new(index, generation + 1))
     }
 
-    /// Does what [`MetaSlotMap::remove`] does, and raises `touches` by at most 16, whatever the capacity.
+    /// Does what [`MetaSlotMap::remove`] does, and raises `touches` by at most 20, whatever the capacity.
     #[inline]
     pub fn remove_counted(&mut self, key: SlotMapKey, touches: &mut Touches) -> Option<T>
-        ensures step { SlotRemove self.old key self.new result }
-        ensures touches { touches.new ≤ touches.old + 16 }
+        ensures step { MapRemove self.old key self.new result }
+        ensures touches { touches.new ≤ touches.old + 20 }
         ensures counts_on { touches.old ≤ touches.new }
     {
-        let key = key.value();
-        if key >= self.capacity() {
+        if !self.has_generation(key, touches) {
             return None;
         }
-        if self.is_free(key, touches) {
-            return None;
+        if key.generation() == u32::MAX {
+            return self.retire(key.index(), touches);
         }
-        Some(self.vacate(key, touches))
+        let place = SlotTableKey::new(key.index());
+        let content = self.slots.remove_counted(place, touches)?;
+        let next = key.generation() + 1;
+        self.generations.set(key.index(), next, touches);
+        content
     }
 
-    /// Returns `true` if a key in range is free.
+    /// Returns the key of a place in range.
     #[inline]
-    fn is_free(&self, key: usize, touches: &mut Touches) -> bool
-        requires { IsKey self.now key }
-        ensures free { result ≡ true → IsFree self.now key }
-        ensures held { result ≡ false → IsHeld self.now key }
+    fn key_of(&self, place: SlotTableKey, touches: &mut Touches) -> SlotMapKey
+        requires { place < length self.now.slots.values }
+        ensures value { result ≡ key_at self.now place }
         ensures touches { touches.new ≡ touches.old + 1 }
     {
-        self.links.get(key, touches).is_free
+        let index = place.value();
+        SlotMapKey::new(index, self.generations.get(index, touches))
     }
 
-    /// Returns the value at a key in range, if it has one.
+    /// Returns the key of a place in range.
     #[inline]
-    fn value(&self, key: usize) -> Option<&T>
-        requires { IsKey self.now key }
-        ensures { option_copied result ≡ value_at self.now key }
+    pub(crate) fn key_at(&self, place: SlotTableKey) -> SlotMapKey
+        requires { place < length self.now.slots.values }
+        ensures { result ≡ key_at self.now place }
     {
-        let mut touches = Touches::new();
-        // A full map has no free key, so that its links need not be looked at.
-        if self.first != NO_KEY && self.is_free(key, &mut touches) {
-            None
-        } else {
-            Some(self.values.get(key, &mut touches))
-        }
+        self.key_of(place, &mut Touches::new())
     }
 
-    /// Returns the value at a held key.
+    /// Returns an iterator over the places that are not free.
     #[inline]
-    pub(crate) fn held_value(&self, key: usize) -> &T
-        requires { IsHeld self.now key }
-        ensures { value_at self.now key ≡ Some result.now }
+    pub(crate) fn slots(&self) -> slottable::Iter<'_, Option<T>, S, L>
+        ensures { result ≡ entries self.now.slots }
     {
-        self.values.get(key, &mut Touches::new())
+        self.slots.iter()
     }
 
-    /// Returns a mutable reference to the value at a held key.
+    /// Returns `true` if the index of `key` is in range and its place has the generation of `key`.
     #[inline]
-    fn value_mut(&mut self, key: usize) -> &mut T
-        requires { IsHeld self.old key }
-        ensures* writes_back { sem 𝓛 (Lends (the_row T.row S.row L.row S.Table L.Table)
-            T.row self.entry result (slot_set self.old key)) }
-        ensures value { value_at self.old key ≡ Some result.now }
-    {
-        self.values.get_mut(key, &mut Touches::new())
-    }
-
-    /// Returns the least held key that is `start` or greater; there is one.
-    #[inline]
-    pub(crate) fn held_from(&self, start: usize) -> usize
-        requires { 0 < length (entries_from start (drop start self.now.values)) }
-        ensures held { IsHeld self.now result }
-        ensures below { result < no_key }
-        ensures entries { entries_from result (drop result self.now.values)
-            ≡ entries_from start (drop start self.now.values) }
-    {
-        // Each key is below this number, so that the next one fits.
-        let _capacity = self.capacity();
-        let mut touches = Touches::new();
-        let mut key = start;
-        while self.is_free(key, &mut touches) {
-            key += 1;
-        }
-        key
-    }
-
-    /// Inserts a value at a free key, which leaves the list of free keys.
-    #[inline]
-    fn fill(&mut self, key: usize, value: T, touches: &mut Touches)
-        requires { IsFree self.old key }
-        ensures map { self.new ≡ slot_fill self.old key value }
-        ensures touches { touches.new ≤ touches.old + 8 }
+    fn has_generation(&self, key: SlotMapKey, touches: &mut Touches) -> bool
+        ensures within { IsTrue result → key.index < length self.now.slots.values }
+        ensures value { IsTrue result ↔ ((key.index < length self.now.slots.values) × (generation_at self.now key.index ≡ key.generation)) }
+        ensures touches { touches.new ≤ touches.old + 1 }
         ensures counts_on { touches.old ≤ touches.new }
     {
-        let link = *self.links.get(key, touches);
-        remove(&mut self.links, key, link, touches);
-        self.first = first_after_remove(self.first, link);
-        self.values.put(key, value, touches);
-        self.len += 1;
+        let index = key.index();
+        index < self.capacity() && self.generations.get(index, touches) == key.generation()
     }
 
-    /// Inserts a value at the first free key. No key is before it in the list, so there is less to do than in
-    /// [`MetaSlotMap::fill`].
+    /// Replaces the value in a place, whose generation is raised to `generation`.
     #[inline]
-    fn fill_first(&mut self, value: T, touches: &mut Touches)
-        requires { self.old.free ≢ [] }
-        ensures map { self.new ≡ slot_insert self.old value }
-        ensures touches { touches.new ≤ touches.old + 8 }
-        ensures counts_on { touches.old ≤ touches.new }
-    {
-        let key = self.first;
-        let next = self.links.get(key, touches).next;
-        remove_first(&mut self.links, key, next, touches);
-        self.first = next;
-        self.values.put(key, value, touches);
-        self.len += 1;
-    }
-
-    /// Replaces the value at a held key.
-    #[inline]
-    fn replace(&mut self, key: usize, value: T, touches: &mut Touches)
+    fn replace(&mut self, index: usize, generation: u32, value: T, touches: &mut Touches)
     where
         T: Drop,
-        requires { IsHeld self.old key }
-        ensures map { self.new ≡ slot_fill self.old key value }
-        ensures touches { touches.new ≡ touches.old + 2 }
-    {
-        *self.values.get_mut(key, touches) = value;
-    }
-
-    /// Removes the value at a held key, which becomes the first free key.
-    #[inline]
-    fn vacate(&mut self, key: usize, touches: &mut Touches) -> T
-        requires { IsHeld self.old key }
-        ensures value { value_at self.old key ≡ Some result }
-        ensures map { self.new ≡ slot_vacate self.old key }
-        ensures touches { touches.new ≤ touches.old + 5 }
+        requires held { IsSome (place_value self.old index) }
+        requires generation { generation ≡ generation_at self.old index + 1 }
+        ensures map { self.new ≡ map_replace self.old index value }
+        ensures touches { touches.new ≤ touches.old + 6 }
         ensures counts_on { touches.old ≤ touches.new }
     {
-        // First the link, which was looked at just now.
-        insert_first(&mut self.links, key, self.first, touches);
-        let value = self.values.take(key, touches);
-        self.first = key;
-        self.len -= 1;
-        value
+        self.generations.set(index, generation, touches);
+        if let Some(content) = self
+            .slots
+            .get_mut_counted(SlotTableKey::new(index), touches)
+        {
+            *content = Some(value);
+        }
+    }
+
+    /// Removes the value from a place with the greatest generation, which is retired then, and returns it; or returns `None`
+    /// if there is no value.
+    #[inline]
+    fn retire(&mut self, index: usize, touches: &mut Touches) -> Option<T>
+        requires within { index < length self.old.slots.values }
+        requires generation { generation_at self.old index ≡ greatest_generation }
+        ensures value { result ≡ place_value self.old index }
+        ensures map { self.new ≡ if is_some (place_value self.old index) then map_retire self.old index else self.old }
+        ensures touches { touches.new ≤ touches.old + 4 }
+        ensures counts_on { touches.old ≤ touches.new }
+    {
+        // Each place is retired once, so that their number fits.
+        let _capacity = self.capacity();
+        let place = SlotTableKey::new(index);
+        let content = self.slots.get_mut_counted(place, touches)?;
+        match content.take() {
+            Some(value) => {
+                self.retired += 1;
+                Some(value)
+            }
+            None => None,
+        }
+    }
+
+    /// Returns a mutable reference to the value in a place.
+    #[inline]
+    fn value_mut(&mut self, index: usize) -> &mut T
+        requires { IsSome (place_value self.old index) }
+        ensures* writes_back { sem 𝓛 (Lends (the_row T.row S.row L.row G.row S.Table L.Table G.Table)
+            T.row self.entry result (map_set_at self.old index)) }
+        ensures value { place_value self.old index ≡ Some result.now }
+    {
+        content_mut(held_mut(&mut self.slots, SlotTableKey::new(index)))
     }
 }
 
-/// Drops the values, that of the least key first.
-impl<T: Drop, S: Table<T>, L: Table<Link>> Drop for MetaSlotMap<T, S, L> {
-    fn drop(self) {
-        let MetaSlotMap {
-            mut values,
-            mut links,
-            first: _,
-            len: _,
-            of: _,
-        } = self;
-        drop_all(&mut values, &mut links);
-        values.end();
-        links.end();
+/// Returns a mutable reference to the value of a place that holds one.
+#[inline]
+fn content_mut<T>(content: &mut Option<T>) -> &mut T
+    requires { IsSome content.old }
+    ensures* writes_back { sem 𝓛 (Lends (option.the_row T.row) T.row content.entry result Some) }
+    ensures value { content.old ≡ Some result.now }
+{
+    match content {
+        Some(value) => value,
+        None => unreachable!(),
     }
 }
 
-/// Prints a map from the numbers of the held keys to their values, in rising order. O(capacity).
-impl<T: Debug, S: Table<T>, L: Table<Link>> Debug for MetaSlotMap<T, S, L> {
+/// Prints a map from the held keys, each its index and its generation, to their values, in rising order. O(capacity).
+impl<T: Debug, S: Table<Option<T>>, L: Table<Link>, G: Table<u32>> Debug
+    for MetaSlotMap<T, S, L, G> {
     fn fmt<W: Write>(&self, f: &mut Formatter<W>) -> fmt::Result {
         let mut map = f.debug_map();
         for (key, value) in self.iter() {
-            map.entry(&key.value(), value);
+            map.entry(&(key.index(), key.generation()), value);
         }
         map.finish()
     }

@@ -3,45 +3,58 @@ ghost use Rattle.std.specs.Prelude.{◌≡◌};
 
 use std::marker::Model;
 
-/// A key of a slot map. Contracts see its number.
+/// A key of a slot map: the index of a place and a generation. Contracts see both numbers.
 ///
-/// A key can have any number. In range of a map are the keys whose number is less than its capacity.
+/// A key can have any two numbers. A map has a value for those of its keys that are held. Keys are ordered by their index,
+/// and then by their generation.
 ///
 /// ```text
-/// let key = SlotMapKey::new(3);
-/// key.value();                              // 3
+/// let key = SlotMapKey::new(3, 0);
+/// key.index();                              // 3
+/// key.generation();                         // 0
 /// ```
 ///
-/// This is `SlotMapKey` of iceoryx2-bb-container.
+/// This is `SlotMapKey` of iceoryx2-bb-container, with a generation beside its number.
 #[derive(Clone, Copy, Debug, PartialEq, Eq, PartialOrd, Ord, Hash)]
 pub struct SlotMapKey {
-    number: usize,
+    index: usize,
+    generation: u32,
 }
 
 impl Model for SlotMapKey {
-    ghost use Rattle.std.specs.Prelude.{ℕ};
+    ghost use Rattle.ix_maps.specs.Generations.{SlotKey, slot_key_code};
 
-    ghost Value = { ℕ };
+    ghost Value = { SlotKey };
 
-    ghost view = { λ key. key.number };
+    ghost coded = { slot_key_code };
 
-    ghost inverse = { λ number. record { number = number } };
+    ghost view = { λ key. record { index = key.index; generation = key.generation } };
+
+    ghost inverse = { λ key. record { index = key.index; generation = key.generation } };
 }
 
 impl SlotMapKey {
-    /// Returns the key with the number `value`. O(1).
+    /// Returns the key of the place `index` with this generation. O(1).
     #[inline]
-    pub fn new(value: usize) -> Self
-        ensures { result ≡ value }
+    pub fn new(index: usize, generation: u32) -> Self
+        ensures { result ≡ record { index = index; generation = generation } }
     {
-        SlotMapKey { number: value }
+        SlotMapKey { index, generation }
     }
 
-    /// Returns the number of the key. O(1).
+    /// Returns the index of the place, from 0. O(1).
     #[inline]
-    pub fn value(&self) -> usize
-        ensures { result ≡ self.now }
+    pub fn index(&self) -> usize
+        ensures { result ≡ self.now.index }
     {
-        self.number
+        self.index
+    }
+
+    /// Returns the generation. O(1).
+    #[inline]
+    pub fn generation(&self) -> u32
+        ensures { result ≡ self.now.generation }
+    {
+        self.generation
     }
 }

@@ -1,12 +1,10 @@
-use Rattle.std.proofs.Common.{nat_eq, sym, ap, ◌∙◌, subst}
-use Rattle.std.specs.List.Sorted.{IsStrictlyIncreasing}
-use Rattle.std.specs.Map.{keys_of, lookup}
-use Rattle.ix_maps.proofs.Entries.{IsStrictlyIncreasing-entries, lookup-entries}
+use Rattle.std.proofs.Common.{sym, subst}
+use Rattle.ix_maps.specs.Generations.{KeysRise, ListsExactly}
+use Rattle.ix_maps.proofs.MapEntries.{KeysRise-map_entries, ListsExactly-map_entries}
 use Rattle.ix_maps.proofs.slotmap.meta_slot_map.MetaSlotMap.iter.Goals as goal
 
 pub returns-clause-rising : goal.returns-clause-rising
-returns-clause-rising g c =
-    subst (λ items. IsStrictlyIncreasing (keys_of items)) (sym c.new.ensures) (IsStrictlyIncreasing-entries c.args.self.now)
+returns-clause-rising g c = subst KeysRise (sym c.new.ensures) (KeysRise-map_entries c.args.self.now)
 
 pub returns-clause-exactly : goal.returns-clause-exactly
-returns-clause-exactly g c key = ap (lookup (nat_eq key)) c.new.ensures ∙ lookup-entries c.args.self.now key
+returns-clause-exactly g c = subst (λ items. ListsExactly items c.args.self.now) (sym c.new.ensures) (ListsExactly-map_entries c.args.self.now)

@@ -1,0 +1,24 @@
+-- How a slot map keeps its generations: a number in each place of a table. No clause of a public call cites this.
+use Rattle.std.specs.Prelude.{◌≡◌, ℕ, ◌<◌, List, [], ◌∷◌, length, map, unwrap_or, Option}
+use Rattle.ix_cells.specs.Places.{IsHeldAt}
+use Rattle.ix_maps.specs.Generations.{SlotMapState, greatest_generation, generation_at, IsRetired, retired_count}
+
+-- the numbers in the places of a table
+abbrev pub numbers_in : List (Option ℕ) → List ℕ
+numbers_in places = map (λ place. unwrap_or place 0) places
+
+-- every place holds a number
+abbrev pub HasEachPlace : List (Option ℕ) → Type 0
+HasEachPlace places = (place : ℕ) → place < length places → IsHeldAt places place
+
+module _ {T : Type 0} where
+  -- each place has a generation, a retired one the greatest, and so many are retired
+  pub record HasGenerations (s : SlotMapState T) (retired : ℕ) : Type 0 where
+    pub lengths : length s.generations ≡ length s.slots.values
+    pub last : (place : ℕ) → IsRetired s place → generation_at s place ≡ greatest_generation
+    pub counted : retired ≡ retired_count s
+
+  -- the places of the entries are below this number
+  abbrev pub AreEntriesBelow : ℕ → List (ℕ × Option T) → Type 0
+  AreEntriesBelow capacity [] = Unit {0}
+  AreEntriesBelow capacity (entry ∷ entries) = (entry.0 < capacity) × AreEntriesBelow capacity entries

@@ -1,0 +1,32 @@
+//! Slot tables: bounded maps that choose the key of each value, by which it is found in constant time.
+//!
+//! [`FixedSizeSlotTable`] is stored inline, [`SlotTable`] and [`RelocatableSlotTable`] allocate only when they are made.
+//!
+//! ```text
+//! let mut map = FixedSizeSlotTable::<char, 3>::new();
+//! if let Some(key) = map.insert('a') {  // the key 0
+//!     map.get(key);                     // Some(&'a')
+//!     map.remove(key);                  // Some('a')
+//! }
+//! ```
+
+mod fixed_size_slot_table;
+mod free_list;
+mod held;
+mod iter;
+mod link;
+mod meta_slot_table;
+mod relocatable_slot_table;
+mod slot_table;
+mod slot_table_key;
+mod uninit_slot_table;
+
+pub use fixed_size_slot_table::FixedSizeSlotTable;
+pub(crate) use held::held_mut;
+pub use iter::Iter;
+pub use link::Link;
+pub use meta_slot_table::MetaSlotTable;
+pub use relocatable_slot_table::RelocatableSlotTable;
+pub use slot_table::SlotTable;
+pub use slot_table_key::SlotTableKey;
+pub use uninit_slot_table::{SlotTableFamily, UninitSlotTable};

@@ -1,0 +1,168 @@
+//! The list of free keys, which is doubly linked: steps on its table of links.
+ghost use Rattle.std.specs.Prelude.{◌≡◌, ◌+◌, ◌<◌, ◌≤◌, length, Some, None, replicate, slice_set};
+ghost use Rattle.std.specs.List.{range_with_len};
+ghost use Rattle.ix_cells.specs.Places.{IsHeldAt, IsVacant};
+ghost use Rattle.ix_maps.specs.FreeList.{no_key, first_or, IsLinkTable, IsKeyOrNone, IsLinkWithin, IsRisingList, MatchesLinks, links_set_next, links_set_previous, links_remove, links_remove_first, links_insert_first, first_after_remove};
+
+use crate::slottable::Link;
+use crate::slottable::link::NO_KEY;
+use ix_cells::{Counted, Table, Touches};
+
+/// Replaces the link of `key`.
+#[inline]
+fn set_link<L: Table<Link>>(links: &mut Counted<L>, key: usize, link: Link, touches: &mut Touches)
+    requires { IsHeldAt (L.places links.old) key }
+    ensures links { L.places links.new ≡ slice_set (L.places links.old) key (Some link) }
+    ensures touches { touches.new ≡ touches.old + 2 }
+{
+    // Field by field, so that the bytes between the fields are not written.
+    let place = links.get_mut(key, touches);
+    place.is_free = link.is_free;
+    place.previous = link.previous;
+    place.next = link.next;
+}
+
+/// Makes `to` the key after `key`. Does nothing if `key` is [`NO_KEY`].
+#[inline]
+fn set_next<L: Table<Link>>(links: &mut Counted<L>, key: usize, to: usize, touches: &mut Touches)
+    requires links { IsLinkTable (L.places links.old) }
+    requires key { IsKeyOrNone key (L.places links.old) }
+    ensures links { L.places links.new ≡ links_set_next (L.places links.old) key to }
+    ensures touches { touches.new ≤ touches.old + 2 }
+    ensures counts_on { touches.old ≤ touches.new }
+{
+    if key != NO_KEY {
+        links.get_mut(key, touches).next = to;
+    }
+}
+
+/// Makes `to` the key before `key`. Does nothing if `key` is [`NO_KEY`].
+#[inline]
+fn set_previous<L: Table<Link>>(
+    links: &mut Counted<L>,
+    key: usize,
+    to: usize,
+    touches: &mut Touches,
+)
+    requires links { IsLinkTable (L.places links.old) }
+    requires key { IsKeyOrNone key (L.places links.old) }
+    ensures links { L.places links.new ≡ links_set_previous (L.places links.old) key to }
+    ensures touches { touches.new ≤ touches.old + 2 }
+    ensures counts_on { touches.old ≤ touches.new }
+{
+    if key != NO_KEY {
+        links.get_mut(key, touches).previous = to;
+    }
+}
+
+/// Removes a free key, which has this link, from the list.
+#[inline]
+pub(crate) fn remove<L: Table<Link>>(
+    links: &mut Counted<L>,
+    key: usize,
+    link: Link,
+    touches: &mut Touches,
+)
+    requires links { IsLinkTable (L.places links.old) }
+    requires key { key < length (L.places links.old) }
+    requires link { IsLinkWithin (Some link) (L.places links.old) }
+    ensures links { L.places links.new ≡ links_remove (L.places links.old) key link }
+    ensures touches { touches.new ≤ touches.old + 6 }
+    ensures counts_on { touches.old ≤ touches.new }
+{
+    set_link(links, key, Link::HELD, touches);
+    set_next(links, link.previous, link.next, touches);
+    set_previous(links, link.next, link.previous, touches);
+}
+
+/// Removes the first key, which is followed by `next`, from the list.
+#[inline]
+pub(crate) fn remove_first<L: Table<Link>>(
+    links: &mut Counted<L>,
+    key: usize,
+    next: usize,
+    touches: &mut Touches,
+)
+    requires links { IsLinkTable (L.places links.old) }
+    requires key { key < length (L.places links.old) }
+    requires next { IsKeyOrNone next (L.places links.old) }
+    ensures links { L.places links.new ≡ links_remove_first (L.places links.old) key next }
+    ensures touches { touches.new ≤ touches.old + 4 }
+    ensures counts_on { touches.old ≤ touches.new }
+{
+    set_link(links, key, Link::HELD, touches);
+    set_previous(links, next, NO_KEY, touches);
+}
+
+/// Inserts a key before `first`, the first of the list.
+#[inline]
+pub(crate) fn insert_first<L: Table<Link>>(
+    links: &mut Counted<L>,
+    key: usize,
+    first: usize,
+    touches: &mut Touches,
+)
+    requires links { IsLinkTable (L.places links.old) }
+    requires key { key < length (L.places links.old) }
+    requires first { IsKeyOrNone first (L.places links.old) }
+    ensures links { L.places links.new ≡ links_insert_first (L.places links.old) key first }
+    ensures touches { touches.new ≤ touches.old + 4 }
+    ensures counts_on { touches.old ≤ touches.new }
+{
+    let link = Link {
+        is_free: true,
+        previous: NO_KEY,
+        next: first,
+    };
+    set_link(links, key, link, touches);
+    set_previous(links, first, key, touches);
+}
+
+/// Returns the first of the list after a key that had this link is removed.
+#[inline]
+pub(crate) fn first_after_remove(first: usize, link: Link) -> usize
+    ensures { result ≡ first_after_remove first link }
+{
+    if link.previous == NO_KEY {
+        link.next
+    } else {
+        first
+    }
+}
+
+/// Links all `len` keys in rising order, and returns the first of them. O(`len`).
+pub(crate) fn link_all<L: Table<Link>>(links: &mut Counted<L>, len: usize) -> usize
+    requires { L.places links.old ≡ replicate len None }
+    ensures links { IsRisingList len (L.places links.new) }
+    ensures first { result ≡ first_or (range_with_len 0 len) no_key }
+{
+    let mut touches = Touches::new();
+    for key in 0..len {
+        let link = Link {
+            is_free: true,
+            previous: if key == 0 { NO_KEY } else { key - 1 },
+            next: if key + 1 == len { NO_KEY } else { key + 1 },
+        };
+        links.put(key, link, &mut touches);
+    }
+    if len == 0 { NO_KEY } else { 0 }
+}
+
+/// Takes every value and every link out of their tables, and drops the values, that of the least key first.
+/// O(capacity).
+pub(crate) fn drop_all<T: Drop, S: Table<T>, L: Table<Link>>(
+    values: &mut Counted<S>,
+    links: &mut Counted<L>,
+)
+    requires { MatchesLinks (S.places values.old) (L.places links.old) }
+    ensures values { IsVacant (S.places values.new) }
+    ensures links { IsVacant (L.places links.new) }
+{
+    let mut touches = Touches::new();
+    for key in 0..links.len() {
+        let link = links.take(key, &mut touches);
+        if !link.is_free {
+            drop(values.take(key, &mut touches));
+        }
+    }
+}

@@ -1,0 +1,100 @@
+//! The iterator of slot tables.
+ghost use Rattle.std.specs.Prelude.{◌≡◌};
+ghost use Rattle.std.specs.Iterator.{YieldsFirstBy, item_count};
+ghost use Rattle.ix_maps.specs.SlotState.{entries};
+
+use crate::slottable::{Link, MetaSlotTable, SlotTableKey};
+use ix_cells::Table;
+use std::fmt::{self, Debug, Formatter, Write};
+use std::marker::Model;
+
+/// An iterator over the held keys of a slot table in rising order, each with its value, as [`MetaSlotTable::iter`] returns
+/// it. Contracts see the items that are still to come.
+///
+/// ```text
+/// let mut map = FixedSizeSlotTable::<char, 3>::new();
+/// map.insert_at(SlotTableKey::new(2), 'c');
+/// map.insert('a');
+/// for (key, value) in map.iter() {      // (0, 'a'), (2, 'c')
+///     report(key.value(), value);
+/// }
+/// ```
+///
+/// This is `Iter` of iceoryx2-bb-container.
+#[derive(Drop)]
+pub struct Iter<'a, T, S: Table<T>, L: Table<Link>> {
+    map: &'a MetaSlotTable<T, S, L>,
+    /// The least key that is still to be visited.
+    key: usize,
+    /// The number of items that are still to come.
+    left: usize,
+}
+
+impl<'a, T, S: Table<T>, L: Table<Link>> Model for Iter<'a, T, S, L> {
+    ghost use Rattle.std.specs.Prelude.{◌≡◌, ℕ, List, length, drop};
+    ghost use Rattle.ix_maps.specs.SlotState.{entries_from};
+
+    ghost Value = { List (ℕ × T) };
+
+    ghost view = { λ iter. entries_from iter.key (drop iter.key iter.map.now.values) };
+
+    ghost invariant = { λ iter.
+        iter.left ≡ length (entries_from iter.key (drop iter.key iter.map.now.values)) };
+}
+
+impl<'a, T, S: Table<T>, L: Table<Link>> Iter<'a, T, S, L> {
+    /// Returns an iterator over all held keys. O(1).
+    #[inline]
+    pub(crate) fn new(map: &'a MetaSlotTable<T, S, L>) -> Self
+        ensures { result ≡ entries map.now }
+    {
+        Iter {
+            map,
+            key: 0,
+            left: map.len(),
+        }
+    }
+
+    /// Returns an iterator over the items that are still to come. O(1).
+    #[inline]
+    pub(crate) fn rest(&self) -> Iter<'a, T, S, L>
+        ensures { result ≡ self.now }
+    {
+        Iter {
+            map: self.map,
+            key: self.key,
+            left: self.left,
+        }
+    }
+}
+
+impl<'a, T, S: Table<T>, L: Table<Link>> Iterator for Iter<'a, T, S, L> {
+    type Item = (SlotTableKey, &'a T);
+
+    ghost next_gives = { YieldsFirstBy (λ item. (item.0, item.1.now)) (λ rest. rest) };
+
+    ghost remaining = { item_count (λ rest. rest) };
+
+    /// Returns the next held key with its value, or `None` after the last one. O(the number of free keys before it).
+    #[inline]
+    fn next(&mut self) -> Option<(SlotTableKey, &'a T)> {
+        if self.left == 0 {
+            return None;
+        }
+        let key = self.map.held_from(self.key);
+        self.key = key + 1;
+        self.left -= 1;
+        Some((SlotTableKey::new(key), self.map.held_value(key)))
+    }
+}
+
+/// Prints a list of the items that are still to come, each the number of its key and its value. O(capacity).
+impl<'a, T: Debug, S: Table<T>, L: Table<Link>> Debug for Iter<'a, T, S, L> {
+    fn fmt<W: Write>(&self, f: &mut Formatter<W>) -> fmt::Result {
+        let mut list = f.debug_list();
+        for (key, value) in self.rest() {
+            list.entry(&(key.value(), value));
+        }
+        list.finish()
+    }
+}

@@ -1,0 +1,457 @@
+//! The slot table over any two tables.
+ghost use Rattle.std.specs.Prelude.{◌≡◌, ◌≢◌, ℕ, nat_eq, ◌+◌, ◌<◌, ◌≤◌, ◌↔◌, [], length, drop, replicate, slice_get, Some, None, IsTrue, IsNone, IfSome, option_copied, true, false};
+ghost use Rattle.std.specs.List.Sorted.{IsStrictlyIncreasing};
+ghost use Rattle.std.specs.Map.{keys_of, lookup};
+ghost use Rattle.std.specs.Borrow.{sem, Lends, LendsIf};
+ghost use Rattle.std.specs.Option.{option_copied_mut};
+ghost use Rattle.ix_cells.specs.Places.{IsVacant};
+ghost use Rattle.ix_maps.specs.SlotState.{value_at, IsHeld, IsKey, IsFree, IsWellFormed, slot_new, held_count, entries, entries_from};
+ghost use Rattle.ix_maps.specs.SlotSteps.{slot_set, slot_fill, slot_vacate, slot_insert, SlotInsert, SlotInsertAt, SlotRemove};
+ghost use Rattle.ix_maps.specs.FreeList.{no_key};
+
+use crate::slottable::free_list::{
+    drop_all, first_after_remove, insert_first, link_all, remove, remove_first,
+};
+use crate::slottable::link::NO_KEY;
+use crate::slottable::{Iter, Link, SlotTableKey};
+use ix_cells::{Counted, Table, Touches};
+use std::fmt::{self, Debug, Formatter, Write};
+use std::marker::{Model, PhantomData};
+
+/// A map from keys that it chooses itself to values, over a table of values `S` and a table of links `L`. Contracts see
+/// the value or nothing at each key, and the free keys in their order.
+///
+/// The keys are the numbers from 0 to one below the capacity. A key that has a value is held, any other is free. The
+/// free keys are a list, in rising order at first: [`MetaSlotTable::insert`] removes the first key of the list, and
+/// [`MetaSlotTable::remove`] makes a key the first. A key out of range, up to `usize::MAX`, is an ordinary case, for
+/// which calls return false or `None`.
+///
+/// Each call takes O(1) time if nothing else is said, and no call allocates. A map that is dropped drops its values,
+/// that of the least key first, in O(capacity) time.
+///
+/// ```text
+/// let mut map = FixedSizeSlotTable::<char, 2>::new();
+/// if let Some(key) = map.insert('a') {  // the key 0
+///     map.get(key);                     // Some(&'a')
+///     map.remove(key);                  // Some('a')
+///     map.contains(key);                // false
+/// }
+/// ```
+///
+/// This is `MetaSlotTable` of iceoryx2-bb-container.
+pub struct MetaSlotTable<T, S: Table<T>, L: Table<Link>> {
+    values: Counted<S>,
+    links: Counted<L>,
+    first: usize,
+    len: usize,
+    of: PhantomData<T>,
+}
+
+impl<T, S: Table<T>, L: Table<Link>> Model for MetaSlotTable<T, S, L> {
+    ghost use Rattle.ix_maps.specs.SlotState.{SlotState, slot_state_code};
+    ghost use Rattle.ix_maps.specs.FreeList.{slots_of, Represents};
+
+    ghost Value = { SlotState T };
+
+    ghost coded = { slot_state_code T.code };
+
+    ghost view = { λ map. slots_of (S.places map.values) (L.places map.links) map.first };
+
+    ghost invariant = { λ map.
+        Represents (slots_of (S.places map.values) (L.places map.links) map.first)
+        (L.places map.links) map.first map.len };
+}
+
+impl<T, S: Table<T>, L: Table<Link>> MetaSlotTable<T, S, L> {
+    ghost use Rattle.ix_maps.specs.contracts.slottable.meta_slot_table.MetaSlotTable.{the_row};
+
+    /// Creates an empty map over two tables of the same length, which is the capacity. O(capacity).
+    ///
+    /// Every place of both tables is empty. A table of any kind will do, one of your own too.
+    ///
+    /// ```text
+    /// let values = InlineTable::<char, 2>::new();
+    /// let links = InlineTable::<Link, 2>::new();
+    /// let mut map = MetaSlotTable::from_tables(values, links);
+    /// map.capacity();                       // 2
+    /// ```
+    pub fn from_tables(values: S, links: L) -> Self
+        requires values { IsVacant (S.places values) }
+        requires links { L.places links ≡ replicate (length (S.places values)) None }
+        ensures { result ≡ slot_new (length (S.places values)) }
+    {
+        let values = Counted::new(values);
+        let mut links = Counted::new(links);
+        let first = link_all(&mut links, values.len());
+        MetaSlotTable {
+            values,
+            links,
+            first,
+            len: 0,
+            of: PhantomData,
+        }
+    }
+
+    /// Returns the number of keys, held and free: the maximum number of values.
+    #[inline]
+    pub fn capacity(&self) -> usize
+        ensures { result ≡ length self.now.values }
+    {
+        self.values.len()
+    }
+
+    /// Returns the number of values.
+    #[inline]
+    pub fn len(&self) -> usize
+        ensures value { result ≡ held_count self.now }
+        ensures rest { held_count self.now + length self.now.free ≡ length self.now.values }
+        // This holds of every map, whatever calls were made.
+        ensures formed { IsWellFormed self.now }
+    {
+        self.len
+    }
+
+    /// Returns `true` if no key has a value.
+    #[inline]
+    pub fn is_empty(&self) -> bool
+        ensures { IsTrue result ↔ (held_count self.now ≡ 0) }
+    {
+        self.len == 0
+    }
+
+    /// Returns `true` if every key has a value. A map of capacity 0 is both empty and full.
+    #[inline]
+    pub fn is_full(&self) -> bool
+        ensures value { IsTrue result ↔ (held_count self.now ≡ length self.now.values) }
+        ensures free { IsTrue result ↔ (self.now.free ≡ []) }
+    {
+        self.len == self.values.len()
+    }
+
+    /// Returns the key that the next [`MetaSlotTable::insert`] will return, or `None` if the map is full.
+    #[inline]
+    pub fn next_free_key(&self) -> Option<SlotTableKey>
+        ensures value { result ≡ slice_get self.now.free 0 }
+        ensures free { IfSome result (IsFree self.now) }
+        ensures full { IsNone result ↔ (held_count self.now ≡ length self.now.values) }
+    {
+        if self.first == NO_KEY {
+            None
+        } else {
+            Some(SlotTableKey::new(self.first))
+        }
+    }
+
+    /// Returns `true` if `key` has a value, and false if it is free or out of range.
+    #[inline]
+    pub fn contains(&self, key: SlotTableKey) -> bool
+        ensures { IsTrue result ↔ IsHeld self.now key }
+    {
+        self.contains_counted(key, &mut Touches::new())
+    }
+
+    /// Returns the value at `key`, or `None` if `key` is free or out of range.
+    #[inline]
+    pub fn get(&self, key: SlotTableKey) -> Option<&T>
+        ensures { option_copied result ≡ value_at self.now key }
+    {
+        self.get_counted(key, &mut Touches::new())
+    }
+
+    /// Returns a mutable reference to the value at `key`, or `None` if `key` is free or out of range.
+    #[inline]
+    pub fn get_mut(&mut self, key: SlotTableKey) -> Option<&mut T>
+        ensures* writes_back { sem 𝓛 (LendsIf (the_row T.row S.row L.row S.Table L.Table)
+            T.row self.entry result (slot_set self.old key) self.old) }
+        ensures value { option_copied_mut result ≡ value_at self.old key }
+    {
+        self.get_mut_counted(key, &mut Touches::new())
+    }
+
+    /// Returns an iterator over the held keys in rising order, each with its value. O(1), and O(capacity) for all of
+    /// its items together.
+    #[inline]
+    pub fn iter(&self) -> Iter<'_, T, S, L>
+        ensures entries { result ≡ entries self.now }
+        ensures rising { IsStrictlyIncreasing (keys_of result) }
+        ensures exactly { (key : ℕ) → lookup (nat_eq key) result ≡ value_at self.now key }
+    {
+        Iter::new(self)
+    }
+
+    /// Inserts `value` at the first free key and returns that key; or drops `value` and returns `None` if the map is
+    /// full.
+    ///
+    /// ```text
+    /// let mut map = FixedSizeSlotTable::<char, 1>::new();
+    /// map.insert('a');                      // the key 0
+    /// map.insert('b');                      // None
+    /// ```
+    #[inline]
+    pub fn insert(&mut self, value: T) -> Option<SlotTableKey>
+    where
+        T: Drop,
+        ensures { SlotInsert self.old value self.new result }
+    {
+        self.insert_counted(value, &mut Touches::new())
+    }
+
+    /// Inserts `value` at `key` and returns `true`; a value that is there already is dropped. Drops `value` and returns
+    /// false if `key` is out of range.
+    #[inline]
+    pub fn insert_at(&mut self, key: SlotTableKey, value: T) -> bool
+    where
+        T: Drop,
+        ensures { SlotInsertAt self.old key value self.new result }
+    {
+        self.insert_at_counted(key, value, &mut Touches::new())
+    }
+
+    /// Removes the value at `key` and returns it, or `None` if `key` is free or out of range. A key whose value is
+    /// removed is the first free key.
+    #[inline]
+    pub fn remove(&mut self, key: SlotTableKey) -> Option<T>
+        ensures { SlotRemove self.old key self.new result }
+    {
+        self.remove_counted(key, &mut Touches::new())
+    }
+
+    /// Does what [`MetaSlotTable::contains`] does, and raises `touches` by at most 2.
+    #[inline]
+    pub fn contains_counted(&self, key: SlotTableKey, touches: &mut Touches) -> bool
+        ensures value { IsTrue result ↔ IsHeld self.now key }
+        ensures touches { touches.new ≤ touches.old + 2 }
+        ensures counts_on { touches.old ≤ touches.new }
+    {
+        let key = key.value();
+        key < self.capacity() && !self.is_free(key, touches)
+    }
+
+    /// Does what [`MetaSlotTable::get`] does, and raises `touches` by at most 3.
+    #[inline]
+    pub fn get_counted(&self, key: SlotTableKey, touches: &mut Touches) -> Option<&T>
+        ensures value { option_copied result ≡ value_at self.now key }
+        ensures touches { touches.new ≤ touches.old + 3 }
+        ensures counts_on { touches.old ≤ touches.new }
+    {
+        let key = key.value();
+        if key >= self.capacity() {
+            return None;
+        }
+        // A full map has no free key, so that its links need not be looked at.
+        if self.first != NO_KEY && self.is_free(key, touches) {
+            return None;
+        }
+        Some(self.values.get(key, touches))
+    }
+
+    /// Does what [`MetaSlotTable::get_mut`] does, and raises `touches` by at most 4.
+    #[inline]
+    pub fn get_mut_counted(&mut self, key: SlotTableKey, touches: &mut Touches) -> Option<&mut T>
+        ensures* writes_back { sem 𝓛 (LendsIf (the_row T.row S.row L.row S.Table L.Table)
+            T.row self.entry result (slot_set self.old key) self.old) }
+        ensures value { option_copied_mut result ≡ value_at self.old key }
+        ensures touches { touches.new ≤ touches.old + 4 }
+        ensures counts_on { touches.old ≤ touches.new }
+    {
+        if self.contains_counted(key, touches) {
+            Some(self.value_mut(key.value(), touches))
+        } else {
+            None
+        }
+    }
+
+    /// Does what [`MetaSlotTable::insert`] does, and raises `touches` by at most 16, whatever the capacity.
+    #[inline]
+    pub fn insert_counted(&mut self, value: T, touches: &mut Touches) -> Option<SlotTableKey>
+    where
+        T: Drop,
+        ensures step { SlotInsert self.old value self.new result }
+        ensures touches { touches.new ≤ touches.old + 16 }
+        ensures counts_on { touches.old ≤ touches.new }
+    {
+        if self.first == NO_KEY {
+            return None;
+        }
+        let key = self.first;
+        self.fill_first(value, touches);
+        Some(SlotTableKey::new(key))
+    }
+
+    /// Does what [`MetaSlotTable::insert_at`] does, and raises `touches` by at most 16, whatever the capacity.
+    #[inline]
+    pub fn insert_at_counted(&mut self, key: SlotTableKey, value: T, touches: &mut Touches) -> bool
+    where
+        T: Drop,
+        ensures step { SlotInsertAt self.old key value self.new result }
+        ensures touches { touches.new ≤ touches.old + 16 }
+        ensures counts_on { touches.old ≤ touches.new }
+    {
+        let key = key.value();
+        if key >= self.capacity() {
+            return false;
+        }
+        if self.is_free(key, touches) {
+            self.fill(key, value, touches);
+        } else {
+            self.replace(key, value, touches);
+        }
+        true
+    }
+
+    /// Does what [`MetaSlotTable::remove`] does, and raises `touches` by at most 16, whatever the capacity.
+    #[inline]
+    pub fn remove_counted(&mut self, key: SlotTableKey, touches: &mut Touches) -> Option<T>
+        ensures step { SlotRemove self.old key self.new result }
+        ensures touches { touches.new ≤ touches.old + 16 }
+        ensures counts_on { touches.old ≤ touches.new }
+    {
+        let key = key.value();
+        if key >= self.capacity() {
+            return None;
+        }
+        if self.is_free(key, touches) {
+            return None;
+        }
+        Some(self.vacate(key, touches))
+    }
+
+    /// Returns `true` if a key in range is free.
+    #[inline]
+    fn is_free(&self, key: usize, touches: &mut Touches) -> bool
+        requires { IsKey self.now key }
+        ensures free { result ≡ true → IsFree self.now key }
+        ensures held { result ≡ false → IsHeld self.now key }
+        ensures touches { touches.new ≡ touches.old + 1 }
+    {
+        self.links.get(key, touches).is_free
+    }
+
+    /// Returns the value at a held key.
+    #[inline]
+    pub(crate) fn held_value(&self, key: usize) -> &T
+        requires { IsHeld self.now key }
+        ensures { value_at self.now key ≡ Some result.now }
+    {
+        self.values.get(key, &mut Touches::new())
+    }
+
+    /// Returns a mutable reference to the value at a held key.
+    #[inline]
+    fn value_mut(&mut self, key: usize, touches: &mut Touches) -> &mut T
+        requires { IsHeld self.old key }
+        ensures* writes_back { sem 𝓛 (Lends (the_row T.row S.row L.row S.Table L.Table)
+            T.row self.entry result (slot_set self.old key)) }
+        ensures value { value_at self.old key ≡ Some result.now }
+        ensures touches { touches.new ≡ touches.old + 2 }
+    {
+        self.values.get_mut(key, touches)
+    }
+
+    /// Returns the least held key that is `start` or greater; there is one.
+    #[inline]
+    pub(crate) fn held_from(&self, start: usize) -> usize
+        requires { 0 < length (entries_from start (drop start self.now.values)) }
+        ensures held { IsHeld self.now result }
+        ensures below { result < no_key }
+        ensures entries { entries_from result (drop result self.now.values)
+            ≡ entries_from start (drop start self.now.values) }
+    {
+        // Each key is below this number, so that the next one fits.
+        let _capacity = self.capacity();
+        let mut touches = Touches::new();
+        let mut key = start;
+        while self.is_free(key, &mut touches) {
+            key += 1;
+        }
+        key
+    }
+
+    /// Inserts a value at a free key, which leaves the list of free keys.
+    #[inline]
+    fn fill(&mut self, key: usize, value: T, touches: &mut Touches)
+        requires { IsFree self.old key }
+        ensures map { self.new ≡ slot_fill self.old key value }
+        ensures touches { touches.new ≤ touches.old + 8 }
+        ensures counts_on { touches.old ≤ touches.new }
+    {
+        let link = *self.links.get(key, touches);
+        remove(&mut self.links, key, link, touches);
+        self.first = first_after_remove(self.first, link);
+        self.values.put(key, value, touches);
+        self.len += 1;
+    }
+
+    /// Inserts a value at the first free key. No key is before it in the list, so there is less to do than in
+    /// [`MetaSlotTable::fill`].
+    #[inline]
+    fn fill_first(&mut self, value: T, touches: &mut Touches)
+        requires { self.old.free ≢ [] }
+        ensures map { self.new ≡ slot_insert self.old value }
+        ensures touches { touches.new ≤ touches.old + 8 }
+        ensures counts_on { touches.old ≤ touches.new }
+    {
+        let key = self.first;
+        let next = self.links.get(key, touches).next;
+        remove_first(&mut self.links, key, next, touches);
+        self.first = next;
+        self.values.put(key, value, touches);
+        self.len += 1;
+    }
+
+    /// Replaces the value at a held key.
+    #[inline]
+    fn replace(&mut self, key: usize, value: T, touches: &mut Touches)
+    where
+        T: Drop,
+        requires { IsHeld self.old key }
+        ensures map { self.new ≡ slot_fill self.old key value }
+        ensures touches { touches.new ≡ touches.old + 2 }
+    {
+        *self.values.get_mut(key, touches) = value;
+    }
+
+    /// Removes the value at a held key, which becomes the first free key.
+    #[inline]
+    fn vacate(&mut self, key: usize, touches: &mut Touches) -> T
+        requires { IsHeld self.old key }
+        ensures value { value_at self.old key ≡ Some result }
+        ensures map { self.new ≡ slot_vacate self.old key }
+        ensures touches { touches.new ≤ touches.old + 5 }
+        ensures counts_on { touches.old ≤ touches.new }
+    {
+        // First the link, which was looked at just now.
+        insert_first(&mut self.links, key, self.first, touches);
+        let value = self.values.take(key, touches);
+        self.first = key;
+        self.len -= 1;
+        value
+    }
+}
+
+/// Drops the values, that of the least key first.
+impl<T: Drop, S: Table<T>, L: Table<Link>> Drop for MetaSlotTable<T, S, L> {
+    fn drop(self) {
+        let MetaSlotTable {
+            mut values,
+            mut links,
+            first: _,
+            len: _,
+            of: _,
+        } = self;
+        drop_all(&mut values, &mut links);
+        values.end();
+        links.end();
+    }
+}
+
+/// Prints a map from the numbers of the held keys to their values, in rising order. O(capacity).
+impl<T: Debug, S: Table<T>, L: Table<Link>> Debug for MetaSlotTable<T, S, L> {
+    fn fmt<W: Write>(&self, f: &mut Formatter<W>) -> fmt::Result {
+        let mut map = f.debug_map();
+        for (key, value) in self.iter() {
+            map.entry(&key.value(), value);
+        }
+        map.finish()
+    }
+}
