@@ -11,3 +11,4 @@ pub mod RawSharing
 pub mod RawSteps
 pub mod Refilling
 pub mod Rows
+mod WorkedVectors

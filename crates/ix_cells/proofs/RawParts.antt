@@ -17,7 +17,7 @@ module _ {T A : Type 0} where
   grant_kept : (grant : Option (RowGrant T A)) (row : RowOwner T) (alloc : A) (places : List (Option T))
       → length places ≡ length row.places → IsGrantOf grant row alloc → IsGrantOf grant (with_places row places) alloc
   grant_kept (Some grant) row alloc places long h = record { start = h.start; len = h.len ∙ sym long; alloc = h.alloc }
-  grant_kept None row alloc places long h = tt
+  grant_kept None row alloc places long h = h
 
   -- the grant of a new row, from an allocator that is a
   pub grant_made : (ptr : RowPtr T) (row : RowOwner T) (grant : RowGrant T A) (n : ℕ) (alloc a : A)

@@ -1,11 +1,11 @@
 -- What the walks over raw rows share. Assumes `Logic`.
---     held_at, offset_below           a held place has an item, and lies in the row; the offset of a place fits a `usize`
+--     offset_fits                     the offset of a place fits a `usize`
 --     place_out, place_in, place_seen  one place is taken out of a row, put back, seen through a `&`
 --     item_out, item_in               an item is the machine value in its place, and what that value owns
 --     room_in, room_out, bare_places  a row of empty places is room for an array; it is had for nothing where items have no bytes
---     row_made, three_made            a row is made of its parts, and a tuple of three
+--     mark_made, start_made, three_made  the parts of a row are made, and a tuple of three
 use Rattle.std.proofs.Common.{◌≡◌, ℕ, zero, suc, ◌+◌, ◌*◌, ◌^◌, ◌<◌, List, [], ◌∷◌, length, replicate, get_or, set, Option}
-use Rattle.std.proofs.Common.{Some, None, IsSome, refl, sym, arith}
+use Rattle.std.proofs.Common.{None, refl, sym, arith}
 use native.Mathlib.Nat.{zero-mul, suc-mul}
 use seplogic.Ra.Ura.{Ura}
 use base.Fraction.{full_share}
@@ -40,17 +40,6 @@ use Rattle.std_alloc.proofs.RcSteps.{word}
 use Rattle.ix_cells.specs.RawMemory.{place_owns, places_own, place_shares, places_share}
 use Rattle.ix_cells.specs.contracts.cells.raw_row.RowOwner as owner
 use Rattle.ix_cells.specs.contracts.cells.raw_row.RowPtr as start
-
-module _ {X : Type 0} where
-  -- a held place holds an item
-  pub item_at : (place : Option X) → IsSome place → (x : X) × (place ≡ Some x)
-  item_at (Some x) held = (x, refl)
-  item_at None held = cc
-
-  pub held_within : (places : List (Option X)) (i : ℕ) → IsSome (get_or places i None) → i < length places
-  held_within [] i held = cc
-  held_within (place ∷ places) zero held = omega arith
-  held_within (place ∷ places) (suc i) held = omega (arith, held_within places i held)
 
 -- the offset of one of n places of s bytes, and the bytes of one, fit a `usize`
 pub offset_fits : (i n s : ℕ) → i < n → n * s < 2 ^ 63 → (i * s < 2 ^ 64) × (s < 2 ^ 64)

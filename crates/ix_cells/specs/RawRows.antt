@@ -8,7 +8,7 @@ use Rattle.ix_cells.specs.declared.cells.raw_row.RowGrant.{RowGrant}
 module _ {T : Type 0} where
   -- the row with other places
   abbrev pub with_places : RowOwner T → List (Option T) → RowOwner T
-  with_places row places = record { mark = row.mark; start = row.start; places = places }
+  with_places row places = record { mark = row.mark; start = row.start; places = places; bytes = row.bytes }
 
   -- a row of len empty places from p on
   pub record IsVacantRow (row : RowOwner T) (p : Ptr) (len : ℕ) : Type 0 where
@@ -22,10 +22,10 @@ module _ {T A : Type 0} where
     pub len : grant.len ≡ n
     pub alloc : grant.alloc ≡ a
 
-  -- a grant, if there is one, is for the block of the row
+  -- a grant is for the block of the row; where there is none, no bytes were allocated
   abbrev pub IsGrantOf : Option (RowGrant T A) → RowOwner T → A → Type 0
   IsGrantOf (Some grant) row alloc = IsGrantFor grant row.start (length row.places) alloc
-  IsGrantOf None row alloc = Unit {0}
+  IsGrantOf None row alloc = row.bytes ≡ 0
 
   -- the parts of one row: a place is marked exactly if it holds an item
   pub record AreParts (ptr : RowPtr T) (row : RowOwner T) (grant : Option (RowGrant T A)) (held : List Bool) (alloc : A) : Type 0 where

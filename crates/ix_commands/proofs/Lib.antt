@@ -1,4 +1,6 @@
 pub mod Copies
+pub mod DeadKeys
 pub mod Tests
 pub mod TextMatches
 pub mod TextRetain
+mod WorkedRuns

@@ -3,5 +3,6 @@ pub mod QueueRun
 pub mod Replies
 pub mod Run
 pub mod SlotRun
+pub mod TableRun
 pub mod TextRun
 pub mod VecRun

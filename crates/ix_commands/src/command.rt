@@ -1,6 +1,7 @@
 //! The commands of each container.
 ghost use Rattle.std.specs.Prelude.{◌≡◌, ⊤};
 
+use ix_maps::SlotMapKey;
 use std::alloc::AllocError;
 
 /// A command of a queue of `T`.
@@ -73,9 +74,9 @@ pub enum VecCommand<'a, T> {
     Full,
 }
 
-/// A command of a slot map of `T`.
+/// A command of a slot table of `T`.
 #[derive(Copy, PartialEq, Eq, Debug)]
-pub enum SlotCommand<T> {
+pub enum TableCommand<T> {
     /// `insert X`: inserts the value at the next free key.
     Insert(T),
     /// `next`: the next free key.
@@ -99,6 +100,47 @@ pub enum SlotCommand<T> {
     /// `empty`: whether there is no value.
     Empty,
     /// `full`: whether every key has a value.
+    Full,
+}
+
+impl<T: Copy> Clone for TableCommand<T> {
+    ghost is_clone = { λ command copy. copy ≡ command };
+
+    ghost is_infallible = { λ _. ⊤ };
+
+    fn clone(&self) -> Result<Self, AllocError> {
+        Ok(*self)
+    }
+}
+
+/// A command of a slot map of `T`.
+#[derive(Copy, PartialEq, Eq, Debug)]
+pub enum SlotCommand<T> {
+    /// `insert X`: inserts the value in the first free place.
+    Insert(T),
+    /// `next`: the key that the next `insert` returns.
+    Next,
+    /// `insert_at I X`: inserts the value in place I, or replaces the value there.
+    InsertAt(usize, T),
+    /// `remove I:G`: removes the key of index I and generation G, and its value.
+    Remove(SlotMapKey),
+    /// `get I:G`: reads the value of the key.
+    Get(SlotMapKey),
+    /// `set I:G X`: overwrites the value of the key.
+    Set(SlotMapKey, T),
+    /// `contains I:G`: whether the key has a value.
+    Contains(SlotMapKey),
+    /// `from I`: the held key of the least index that is not below I, and its value.
+    From(usize),
+    /// `retired`: the number of retired places.
+    Retired,
+    /// `len`: the number of values.
+    Len,
+    /// `capacity`: the number of places.
+    Capacity,
+    /// `empty`: whether there is no value.
+    Empty,
+    /// `full`: whether no place is free.
     Full,
 }
 

@@ -1,21 +1,22 @@
 -- Lines that are headers.
-use Rattle.std.proofs.Common.{ℕ, ◌≡◌, ◌≤◌, ◌<◌, ◌^◌, ◌==◌, List, [], ◌∷◌, ◌++◌, Option, Some, None, IfSome, Bool, true, false, cond, nat_le, decimal, bytes_eq, codes, refl, sym, ap, arith}
+use Rattle.std.proofs.Common.{ℕ, ◌≡◌, ◌≤◌, ◌<◌, ◌^◌, ◌==◌, List, [], ◌∷◌, ◌++◌, Option, Some, None, IfSome, Bool, true, false, cond, nat_le, decimal, bytes_eq, codes, append_assoc, refl, sym, ap, subst, ◌∙◌, arith}
 use Rattle.std.specs.Option.{option_and_then, option_map}
 use Rattle.std.specs.List.{find, slice_split, join_with_byte}
 use Rattle.std.specs.Map.{lookup}
 use Rattle.std.proofs.lemmas.Bool.{eqb-true}
 use Rattle.std.proofs.lemmas.Grind.{common_steps}
 use Rattle.std.proofs.lemmas.List.{append-nil}
-use Rattle.std.proofs.lemmas.List.Splits.{slice_split_none, join_with_byte-slice_split}
+use Rattle.std.proofs.lemmas.List.Splits.{slice_split_at, slice_split_none, join_with_byte-slice_split}
 use Rattle.std.proofs.lemmas.Option.{IfSome_then}
 use Rattle.std.proofs.lemmas.Slice.Eq.{bytes_eq-Decides}
-use Rattle.ix_run.specs.Words.{is_space, words_text, numbers_in, make_named, one}
-use Rattle.ix_run.specs.Headers.{IsStorage, fixed_capacity, container_name, containers, named_container, storage_text, storage_forms, fixed, fixed_capacities, up_to_max, header_of_words, header_of, header_text}
+use Rattle.ix_maps.specs.Generations.{greatest_generation}
+use Rattle.ix_run.specs.Words.{is_space, fits_generation, words_text, numbers_in, make_named, one}
+use Rattle.ix_run.specs.Headers.{IsStorage, IsStart, capacity_of, with_start, starting_at, started, fixed_capacity, container_name, containers, named_container, storage_text, storage_forms, fixed, fixed_capacities, up_to_max, header_of_words, header_of, header_text}
 use Rattle.ix_run.specs.declared.run.header.FixedCapacity.{FixedCapacity}
 use Rattle.ix_run.specs.declared.run.header.FixedCapacity.TheVariants.{Zero, One, Three, Eight}
 use Rattle.ix_run.specs.declared.run.limits.TheConstants.{MAX_CAPACITY}
 use Rattle.ix_run.specs.declared.run.header.Container.{Container}
-use Rattle.ix_run.specs.declared.run.header.Container.TheVariants.{Queue, Vec, Slot, Flat, Text}
+use Rattle.ix_run.specs.declared.run.header.Container.TheVariants.{Queue, Vec, Table, Slot, Flat, Text}
 use Rattle.ix_run.specs.declared.run.header.Storage.{Storage}
 use Rattle.ix_run.specs.declared.run.header.Storage.TheVariants.{Fixed, Heap, Arena}
 use Rattle.ix_run.specs.declared.run.header.Header.{Header}
@@ -33,12 +34,6 @@ up_to_max_made make None = refl
 up_to_max_made make (Some []) = refl
 up_to_max_made make (Some (n ∷ [])) = cond-up_to_max make n (nat_le n MAX_CAPACITY)
 up_to_max_made make (Some (n ∷ m ∷ ns)) = refl
-
-pub up_to_max_one : (numbers : Option (List ℕ)) → option_and_then (up_to_max (λ n. n)) numbers ≡ option_and_then (λ n. cond (nat_le n MAX_CAPACITY) (Some n) None) (option_and_then (one (λ n. n)) numbers)
-up_to_max_one None = refl
-up_to_max_one (Some []) = refl
-up_to_max_one (Some (n ∷ [])) = refl
-up_to_max_one (Some (n ∷ m ∷ ns)) = refl
 
 pub fixed_made : (numbers : Option (List ℕ)) → option_and_then fixed numbers
     ≡ option_and_then (λ n. option_map Fixed (find (λ capacity. fixed_capacity capacity == n) fixed_capacities)) (option_and_then (one (λ n. n)) numbers)
@@ -95,55 +90,174 @@ storage-words : (name : List ℕ) (words : List (List ℕ)) (numbers : Option (L
 storage-words name words None h = rw (make_named-None (lookup (bytes_eq name) storage_forms)) tt
 storage-words name words (Some ns) h = rw h.0 (cond-make name ns _ _ _ refl refl refl)
 
-header-found : (name rest : List ℕ) (container : Option Container) (storage : Option Storage) → IfSome container (λ c. name ≡ container_name c) → IfSome storage (λ s. IsStorage s × (rest ≡ storage_text s))
-    → IfSome (option_and_then (λ c. option_map (λ s. record { container = c; storage = s }) storage) container) (λ header. IsStorage header.storage × (name ++ (32 ∷ rest) ≡ header_text header))
-header-found name rest None storage h t = tt
-header-found name rest (Some c) None h t = tt
-header-found name rest (Some c) (Some s) h t = (t.0, rw (h, t.1) refl)
+-- a container whose name says all of it
+abbrev IsPlain : Container → Type 0
+IsPlain container = IsStart container × ((text : List ℕ) → with_start container text ≡ text)
 
-named_container-name : (name : List ℕ) → IfSome (named_container name) (λ c. name ≡ container_name c)
+module _ {X : Type 0} (p : X → Bool) (Is : X → Type 0) where
+  abbrev AreAll : List X → Type 0
+  AreAll [] = Unit {0}
+  AreAll (x ∷ xs) = Is x × AreAll xs
+
+  cond-found : (x : X) (found : Bool) (others : Option X) → p x ≡ found → Is x → IfSome others (λ y. (p y ≡ true) × Is y) → IfSome (cond found (Some x) others) (λ y. (p y ≡ true) × Is y)
+  cond-found x true others e is h = (e, is)
+  cond-found x false others e is h = h
+
+  find-all : (xs : List X) → AreAll xs → IfSome (find p xs) (λ x. (p x ≡ true) × Is x)
+  find-all [] are = tt
+  find-all (x ∷ xs) are = cond-found x (p x) (find p xs) refl are.0 (find-all xs are.1)
+
+named_container-name : (name : List ℕ) → IfSome (named_container name) (λ c. (name ≡ container_name c) × IsPlain c)
 named_container-name name =
-    IfSome_then (named_container name) (find-passes (λ c. bytes_eq name (container_name c)) containers) (λ c e. (bytes_eq-Decides name (container_name c)).0 e)
+    IfSome_then (named_container name)
+    (find-all (λ c. bytes_eq name (container_name c)) IsPlain containers
+    ((tt, λ text. refl), ((tt, λ text. refl), ((tt, λ text. refl), ((tt, λ text. refl), ((tt, λ text. refl), ((tt, λ text. refl), tt)))))))
+    (λ c e. ((bytes_eq-Decides name (container_name c)).0 e.0, e.1))
 
-header_of_words-text : (parts : List (List ℕ)) → IfSome (header_of_words parts) (λ header. IsStorage header.storage × (join_with_byte 32 parts ≡ header_text header))
+-- a container that has this name and whose text ends by these words, the first one after a space
+abbrev IsStarted : List ℕ → List ℕ → List (List ℕ) → Container → Type 0
+IsStarted name word words c = IsStart c × ((name ≡ container_name c) × ((text : List ℕ) → with_start c text ≡ text ++ (32 ∷ join_with_byte 32 (word ∷ words))))
+
+cond-starting : (word : List ℕ) (words : List (List ℕ)) (n : ℕ) (fits : Bool) → fits_generation n ≡ fits → word ≡ codes "at" → join_with_byte 32 (word ∷ words) ≡ words_text word (n ∷ [])
+    → IfSome (cond fits (Some (Slot (Some n))) None) (IsStarted (codes "slot") word words)
+cond-starting word words n true e is text = ((grind (arith, common_steps)), (refl, λ front. ap (λ l. front ++ (32 ∷ l)) (sym (text ∙ ap (λ w. words_text w (n ∷ [])) is))))
+cond-starting word words n false e is text = tt
+
+starting-text : (word : List ℕ) (words : List (List ℕ)) (is_at : Bool) (numbers : Option (List ℕ)) → bytes_eq word (codes "at") ≡ is_at → IfSome numbers (IsText word words)
+    → IfSome (cond is_at (option_and_then starting_at numbers) None) (IsStarted (codes "slot") word words)
+starting-text word words false numbers e t = tt
+starting-text word words true None e t = tt
+starting-text word words true (Some []) e t = tt
+starting-text word words true (Some (n ∷ [])) e t = cond-starting word words n (fits_generation n) refl ((bytes_eq-Decides word (codes "at")).0 e) t.0
+starting-text word words true (Some (n ∷ m ∷ ns)) e t = tt
+
+started-text : (container : Container) (word : List ℕ) (words : List (List ℕ)) → IfSome (started container (word ∷ words)) (IsStarted (container_name container) word words)
+started-text (Slot start) word words = starting-text word words (bytes_eq word (codes "at")) (numbers_in words) refl (numbers_in-IsText word words)
+started-text Queue word words = tt
+started-text Vec word words = tt
+started-text Table word words = tt
+started-text Flat word words = tt
+started-text Text word words = tt
+
+-- the header is what the parts of a line say
+abbrev IsHeaderText : List (List ℕ) → Header → Type 0
+IsHeaderText parts header = IsStorage header.storage × (IsStart header.container × (join_with_byte 32 parts ≡ header_text header))
+
+header-started : (name storage number word : List ℕ) (words : List (List ℕ)) (s : Storage) (container : Option Container) → IfSome container (IsStarted name word words)
+    → IsStorage s → storage ++ (32 ∷ number) ≡ storage_text s
+    → IfSome (option_map (λ c. record { container = c; storage = s }) container) (IsHeaderText (name ∷ storage ∷ number ∷ word ∷ words))
+header-started name storage number word words s None is h t = tt
+header-started name storage number word words s (Some c) is h t =
+    let tail = 32 ∷ join_with_byte 32 (word ∷ words) in
+    let front = sym (append_assoc storage (32 ∷ number) tail) ∙ ap (λ l. l ++ tail) t in
+    let left = ap (λ l. name ++ (32 ∷ l)) front ∙ ap (λ l. l ++ (32 ∷ (storage_text s ++ tail))) is.1.0 in
+    let right = is.1.1 (container_name c ++ (32 ∷ storage_text s)) ∙ append_assoc (container_name c) (32 ∷ storage_text s) tail in
+    (h, (is.0, left ∙ sym right))
+
+header-words : (name storage number : List ℕ) (words : List (List ℕ)) (c : Container) (s : Storage) → name ≡ container_name c → IsPlain c → IsStorage s → storage ++ (32 ∷ number) ≡ storage_text s
+    → IfSome (option_map (λ c'. record { container = c'; storage = s }) (started c words)) (IsHeaderText (name ∷ storage ∷ number ∷ words))
+header-words name storage number [] c s named plain h t =
+    (h, (plain.0, ap (λ l. name ++ (32 ∷ l)) t ∙ ap (λ l. l ++ (32 ∷ storage_text s)) named ∙ sym (plain.1 (container_name c ++ (32 ∷ storage_text s)))))
+header-words name storage number (word ∷ words) c s named plain h t =
+    header-started name storage number word words s (started c (word ∷ words)) (rw named (started-text c word words)) h t
+
+header-found : (name storage number : List ℕ) (words : List (List ℕ)) (container : Option Container) (made : Option Storage) → IfSome container (λ c. (name ≡ container_name c) × IsPlain c)
+    → IfSome made (λ s. IsStorage s × (storage ++ (32 ∷ number) ≡ storage_text s))
+    → IfSome (option_and_then (λ c. option_and_then (λ s. option_map (λ c'. record { container = c'; storage = s }) (started c words)) made) container) (IsHeaderText (name ∷ storage ∷ number ∷ words))
+header-found name storage number words None made h t = tt
+header-found name storage number words (Some c) None h t = tt
+header-found name storage number words (Some c) (Some s) h t = header-words name storage number words c s h.0 h.1 t.0 t.1
+
+header_of_words-text : (parts : List (List ℕ)) → IfSome (header_of_words parts) (IsHeaderText parts)
 header_of_words-text [] = tt
 header_of_words-text (name ∷ []) = tt
-header_of_words-text (name ∷ storage ∷ words) =
-    header-found name (join_with_byte 32 (storage ∷ words)) (named_container name) (make_named storage_forms storage (numbers_in words))
-    (named_container-name name) (storage-words storage words (numbers_in words) (numbers_in-IsText storage words))
+header_of_words-text (name ∷ storage ∷ []) = tt
+header_of_words-text (name ∷ storage ∷ number ∷ words) =
+    header-found name storage number words (named_container name) (make_named storage_forms storage (numbers_in (number ∷ [])))
+    (named_container-name name) (storage-words storage (number ∷ []) (numbers_in (number ∷ [])) (numbers_in-IsText storage (number ∷ [])))
+
+header_of-IsHeaderText : (line : List ℕ) → IfSome (header_of line) (λ header. IsStorage header.storage × (IsStart header.container × (line ≡ header_text header)))
+header_of-IsHeaderText line =
+    subst (λ text. IfSome (header_of line) (λ header. IsStorage header.storage × (IsStart header.container × (text ≡ header_text header)))) (join_with_byte-slice_split 32 line) (header_of_words-text (slice_split is_space line))
 
 -- a line is the text of the header that it is read as
-pub header_of_text : (line : List ℕ) → IfSome (header_of line) (λ header. IsStorage header.storage × (line ≡ header_text header))
-header_of_text line = rw (join_with_byte-slice_split 32 line) at (header_of_words-text (slice_split is_space line))
+pub header_of_text : (line : List ℕ) → IfSome (header_of line) (λ header. IsStorage header.storage × IsStart header.container × (line ≡ header_text header))
+header_of_text line = IfSome_then (header_of line) (header_of-IsHeaderText line) (λ header is. (is.0, is.1.0, is.1.1))
 
-container-words : (container : Container) (rest : List ℕ) → slice_split is_space (container_name container ++ (32 ∷ rest)) ≡ container_name container ∷ slice_split is_space rest
-container-words Queue rest = refl
-container-words Vec rest = refl
-container-words Slot rest = refl
-container-words Flat rest = refl
-container-words Text rest = refl
+-- a number is one word
+last-number : (n : ℕ) → n < 2 ^ 64 → slice_split is_space (decimal n ++ []) ≡ decimal n ∷ []
+last-number n h = rw (append-nil (decimal n)) (slice_split_none is_space (decimal n) (decimal-All n h))
 
-named_container_name : (container : Container) → named_container (container_name container) ≡ Some container
-named_container_name Queue = refl
-named_container_name Vec = refl
-named_container_name Slot = refl
-named_container_name Flat = refl
-named_container_name Text = refl
+next-number : (n : ℕ) (rest : List ℕ) → n < 2 ^ 64 → slice_split is_space ((decimal n ++ []) ++ (32 ∷ rest)) ≡ decimal n ∷ slice_split is_space rest
+next-number n rest h = rw (append-nil (decimal n)) (slice_split_at is_space (decimal n) 32 rest (decimal-All n h) refl)
 
--- the text of a capacity is one word, which is that number
-one-word : (n : ℕ) → n ≤ MAX_CAPACITY → numbers_in (slice_split is_space (decimal n ++ [])) ≡ Some (n ∷ [])
-one-word n h =
-    let below : n < 2 ^ 64 = omega (arith, h) in
-    rw (append-nil (decimal n), slice_split_none is_space (decimal n) (decimal-All n below), number_of_decimal (decimal n) n below refl) refl
+fixed-small : (capacity : FixedCapacity) → fixed_capacity capacity < 2 ^ 64
+fixed-small Zero = omega arith
+fixed-small One = omega arith
+fixed-small Three = omega arith
+fixed-small Eight = omega arith
 
-storage-read : (container : Container) (storage : Storage) → IsStorage storage → header_of_words (container_name container ∷ slice_split is_space (storage_text storage)) ≡ Some (record { container = container; storage = storage })
-storage-read container (Fixed Zero) h = rw (named_container_name container, one-word 0 (omega arith)) refl
-storage-read container (Fixed One) h = rw (named_container_name container, one-word 1 (omega arith)) refl
-storage-read container (Fixed Three) h = rw (named_container_name container, one-word 3 (omega arith)) refl
-storage-read container (Fixed Eight) h = rw (named_container_name container, one-word 8 (omega arith)) refl
-storage-read container (Heap n) h = let small : nat_le n MAX_CAPACITY ≡ true = grind (arith, common_steps) in rw (named_container_name container, one-word n h, small) refl
-storage-read container (Arena n) h = let small : nat_le n MAX_CAPACITY ≡ true = grind (arith, common_steps) in rw (named_container_name container, one-word n h, small) refl
+-- the name and the number of a storage
+abbrev storage_name : Storage → List ℕ
+storage_name (Fixed capacity) = codes "fixed"
+storage_name (Heap n) = codes "heap"
+storage_name (Arena n) = codes "arena"
+
+storage-split : (storage : Storage) → IsStorage storage → slice_split is_space (storage_text storage) ≡ storage_name storage ∷ decimal (capacity_of storage) ∷ []
+storage-split (Fixed capacity) h = ap (λ words. codes "fixed" ∷ words) (last-number (fixed_capacity capacity) (fixed-small capacity))
+storage-split (Heap n) h = ap (λ words. codes "heap" ∷ words) (last-number n (omega (arith, h)))
+storage-split (Arena n) h = ap (λ words. codes "arena" ∷ words) (last-number n (omega (arith, h)))
+
+storage-split_then : (storage : Storage) (rest : List ℕ) → IsStorage storage → slice_split is_space (storage_text storage ++ (32 ∷ rest)) ≡ storage_name storage ∷ decimal (capacity_of storage) ∷ slice_split is_space rest
+storage-split_then (Fixed capacity) rest h = ap (λ words. codes "fixed" ∷ words) (next-number (fixed_capacity capacity) rest (fixed-small capacity))
+storage-split_then (Heap n) rest h = ap (λ words. codes "heap" ∷ words) (next-number n rest (omega (arith, h)))
+storage-split_then (Arena n) rest h = ap (λ words. codes "arena" ∷ words) (next-number n rest (omega (arith, h)))
+
+one-number : (n : ℕ) → n < 2 ^ 64 → numbers_in (decimal n ∷ []) ≡ Some (n ∷ [])
+one-number n h = rw (number_of_decimal (decimal n) n h refl) refl
+
+storage-made : (storage : Storage) → IsStorage storage → make_named storage_forms (storage_name storage) (numbers_in (decimal (capacity_of storage) ∷ [])) ≡ Some storage
+storage-made (Fixed Zero) h = rw (one-number 0 (omega arith)) refl
+storage-made (Fixed One) h = rw (one-number 1 (omega arith)) refl
+storage-made (Fixed Three) h = rw (one-number 3 (omega arith)) refl
+storage-made (Fixed Eight) h = rw (one-number 8 (omega arith)) refl
+storage-made (Heap n) h = let small : nat_le n MAX_CAPACITY ≡ true = grind (arith, common_steps) in rw (one-number n (omega (arith, h)), small) refl
+storage-made (Arena n) h = let small : nat_le n MAX_CAPACITY ≡ true = grind (arith, common_steps) in rw (one-number n (omega (arith, h)), small) refl
+
+-- the header of a name, a storage, and the words after it
+words-made : (container container' : Container) (name : List ℕ) (storage : Storage) (words : List (List ℕ)) → IsStorage storage → named_container name ≡ Some container → started container words ≡ Some container'
+    → header_of_words (name ∷ storage_name storage ∷ decimal (capacity_of storage) ∷ words) ≡ Some (record { container = container'; storage = storage })
+words-made container container' name storage words h named is =
+    ap (option_and_then (λ c. option_and_then (λ s. option_map (λ c'. record { container = c'; storage = s }) (started c words)) (make_named storage_forms (storage_name storage) (numbers_in (decimal (capacity_of storage) ∷ []))))) named
+    ∙ (ap (option_and_then (λ s. option_map (λ c'. record { container = c'; storage = s }) (started container words))) (storage-made storage h)
+    ∙ ap (option_map (λ c'. record { container = c'; storage = storage })) is)
+
+plain-read : (container : Container) (storage : Storage) → IsStorage storage → named_container (container_name container) ≡ Some container
+    → slice_split is_space (container_name container ++ (32 ∷ storage_text storage)) ≡ container_name container ∷ slice_split is_space (storage_text storage)
+    → header_of (container_name container ++ (32 ∷ storage_text storage)) ≡ Some (record { container = container; storage = storage })
+plain-read container storage h named words =
+    ap header_of_words (words ∙ ap (λ ws. container_name container ∷ ws) (storage-split storage h)) ∙ words-made container container (container_name container) storage [] h named refl
+
+at-made : (n : ℕ) → n ≤ greatest_generation → started (Slot None) (codes "at" ∷ decimal n ∷ []) ≡ Some (Slot (Some n))
+at-made n h = let fits : fits_generation n ≡ true = grind (arith, common_steps) in rw (one-number n (omega (arith, h)), fits) refl
+
+started-read : (n : ℕ) (storage : Storage) → IsStorage storage → n ≤ greatest_generation
+    → header_of ((codes "slot" ++ (32 ∷ storage_text storage)) ++ (32 ∷ words_text (codes "at") (n ∷ []))) ≡ Some (record { container = Slot (Some n); storage = storage })
+started-read n storage h small =
+    let at : slice_split is_space (words_text (codes "at") (n ∷ [])) ≡ codes "at" ∷ decimal n ∷ [] = ap (λ words. codes "at" ∷ words) (last-number n (omega (arith, small))) in
+    let words = storage-split_then storage (words_text (codes "at") (n ∷ [])) h ∙ ap (λ ws. storage_name storage ∷ decimal (capacity_of storage) ∷ ws) at in
+    ap header_of_words (ap (λ ws. codes "slot" ∷ ws) words) ∙ words-made (Slot None) (Slot (Some n)) (codes "slot") storage (codes "at" ∷ decimal n ∷ []) h refl (at-made n small)
+
+header-read : (container : Container) (storage : Storage) → IsStorage storage → IsStart container
+    → header_of (header_text (record { container = container; storage = storage })) ≡ Some (record { container = container; storage = storage })
+header-read Queue storage h start = plain-read Queue storage h refl refl
+header-read Vec storage h start = plain-read Vec storage h refl refl
+header-read Table storage h start = plain-read Table storage h refl refl
+header-read (Slot None) storage h start = plain-read (Slot None) storage h refl refl
+header-read (Slot (Some n)) storage h start = started-read n storage h start
+header-read Flat storage h start = plain-read Flat storage h refl refl
+header-read Text storage h start = plain-read Text storage h refl refl
 
 -- the text of a header is read as that header
-pub header_of_header_text : (line : List ℕ) (header : Header) → IsStorage header.storage → line ≡ header_text header → header_of line ≡ Some header
-header_of_header_text line header h e = rw (e, container-words header.container (storage_text header.storage)) (storage-read header.container header.storage h)
+pub header_of_header_text : (line : List ℕ) (header : Header) → IsStorage header.storage → IsStart header.container → line ≡ header_text header → header_of line ≡ Some header
+header_of_header_text line header h start e = rw e (header-read header.container header.storage h start)

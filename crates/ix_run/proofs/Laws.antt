@@ -9,15 +9,13 @@ use Rattle.std.proofs.lemmas.List.Elements.{All-cons, All-head, All-nil, All-tai
 use Rattle.std.proofs.lemmas.Slice.Eq.{bytes_eq-Decides}
 use Rattle.std.specs.List.{onto_first}
 use Rattle.ix_commands.specs.Run.{run_replies}
-use Rattle.ix_commands.specs.declared.reply.Reply.{Reply}
-use Rattle.ix_run.specs.Headers.{IsStorage, capacity_of, fixed_capacity, container_name, storage_text}
-use Rattle.ix_run.specs.Laws.{header_line, AreSpelled, IsRun}
+use Rattle.ix_run.specs.Headers.{IsStorage, IsStart, capacity_of, fixed_capacity, container_name, storage_text, with_start}
+use Rattle.ix_run.specs.Laws.{header_line, AreRead, IsRunBy}
 use Rattle.ix_run.specs.Lines.{line_feed, IsOneLine, with_line_feed, text_of_lines, lines_of, limited_line}
-use Rattle.ix_run.specs.ReplyTexts.{reply_text}
-use Rattle.ix_run.specs.Script.{replies_to, script_replies, container_replies, replies_to_lines, spelled_reply, spelled_after}
-use Rattle.ix_run.specs.Words.{Form, command_of}
+use Rattle.ix_run.specs.Script.{replies_to, script_replies, container_replies, replies_to_lines, read_reply, read_after}
+use Rattle.ix_run.specs.Words.{words_text}
 use Rattle.ix_run.specs.declared.run.header.Container.{Container}
-use Rattle.ix_run.specs.declared.run.header.Container.TheVariants.{Queue, Vec, Slot, Flat, Text}
+use Rattle.ix_run.specs.declared.run.header.Container.TheVariants.{Queue, Vec, Table, Slot, Flat, Text}
 use Rattle.ix_run.specs.declared.run.header.Storage.{Storage}
 use Rattle.ix_run.specs.declared.run.header.Storage.TheVariants.{Fixed, Heap, Arena}
 use Rattle.ix_run.specs.declared.run.header.FixedCapacity.{FixedCapacity}
@@ -97,7 +95,8 @@ Lacks-append (x ∷ a) b (n, m) k = (n, Lacks-append a b m k)
 Lacks-container_name : (container : Container) → Lacks (container_name container)
 Lacks-container_name Queue = search rules
 Lacks-container_name Vec = search rules
-Lacks-container_name Slot = search rules
+Lacks-container_name Table = search rules
+Lacks-container_name (Slot start) = search rules
 Lacks-container_name Flat = search rules
 Lacks-container_name Text = search rules
 
@@ -128,55 +127,72 @@ length-storage_text (Arena n) h = length-last_number (codes "arena") n (omega (a
 length-container_name : (container : Container) → length (container_name container) ≤ 5
 length-container_name Queue = omega arith
 length-container_name Vec = omega arith
-length-container_name Slot = omega arith
+length-container_name Table = omega arith
+length-container_name (Slot start) = omega arith
 length-container_name Flat = omega arith
 length-container_name Text = omega arith
 
-IsOneLine-header_line : (container : Container) (storage : Storage) → IsStorage storage → IsOneLine (header_line container storage)
-IsOneLine-header_line container storage h =
-    IsOneLine-Lacks (header_line container storage) (Lacks-append (container_name container) (codes " " ++ storage_text storage) (Lacks-container_name container) (refl, Lacks-storage_text storage h))
+Lacks-with_start : (container : Container) (text : List ℕ) → IsStart container → Lacks text → Lacks (with_start container text)
+Lacks-with_start (Slot (Some g)) text h k =
+    Lacks-append text (codes " " ++ words_text (codes "at") (g ∷ [])) k (refl, Lacks-last_number (codes "at") g (omega (arith, h)) (search rules))
+Lacks-with_start (Slot None) text h k = k
+Lacks-with_start other text h k = k
 
-limited_line-header_line : (container : Container) (storage : Storage) → IsStorage storage → limited_line (header_line container storage) ≡ Some (header_line container storage)
-limited_line-header_line container storage h =
+length-with_start : (container : Container) (text : List ℕ) → IsStart container → length text ≤ 40 → length (with_start container text) ≤ 80
+length-with_start (Slot (Some g)) text h short =
+    let more = length-last_number (codes "at") g (omega (arith, h)) (omega arith) in
+    grind (arith, common_steps, short, more)
+length-with_start (Slot None) text h short = omega (arith, short)
+length-with_start other text h short = omega (arith, short)
+
+IsOneLine-header_line : (container : Container) (storage : Storage) → IsStorage storage → IsStart container → IsOneLine (header_line container storage)
+IsOneLine-header_line container storage h start =
+    IsOneLine-Lacks (header_line container storage) (Lacks-with_start container (container_name container ++ (codes " " ++ storage_text storage)) start
+    (Lacks-append (container_name container) (codes " " ++ storage_text storage) (Lacks-container_name container) (refl, Lacks-storage_text storage h)))
+
+limited_line-header_line : (container : Container) (storage : Storage) → IsStorage storage → IsStart container → limited_line (header_line container storage) ≡ Some (header_line container storage)
+limited_line-header_line container storage h start =
     let name = length-container_name container in
     let text = length-storage_text storage h in
-    limited_line-short (header_line container storage) (grind (arith, common_steps, name, text))
+    let plain : length (container_name container ++ (codes " " ++ storage_text storage)) ≤ 40 = grind (arith, common_steps, name, text) in
+    let all = length-with_start container (container_name container ++ (codes " " ++ storage_text storage)) start plain in
+    limited_line-short (header_line container storage) (omega (arith, all))
 
 -- the replies to a header and to the lines after it
-replies_to-header_line : (container : Container) (storage : Storage) (lines : List (List ℕ)) → IsStorage storage → All IsOneLine lines
+replies_to-header_line : (container : Container) (storage : Storage) (lines : List (List ℕ)) → IsStorage storage → IsStart container → All IsOneLine lines
     → replies_to (text_of_lines (header_line container storage ∷ lines)) ≡ with_line_feed (codes "ready") ++ container_replies container (capacity_of storage) (map limited_line lines)
 unfolding replies_to
-replies_to-header_line container storage lines h all =
-    let whole = All-cons IsOneLine (header_line container storage) lines (IsOneLine-header_line container storage h) all in
-    let header = header_of_header_text (header_line container storage) (record { container = container; storage = storage }) h refl in
+replies_to-header_line container storage lines h start all =
+    let whole = All-cons IsOneLine (header_line container storage) lines (IsOneLine-header_line container storage h start) all in
+    let header = header_of_header_text (header_line container storage) (record { container = container; storage = storage }) h start refl in
     ap (λ ls. script_replies (map limited_line ls)) (lines_of-text_of_lines (header_line container storage ∷ lines) whole)
-    ∙ rw (limited_line-header_line container storage h, header) refl
+    ∙ rw (limited_line-header_line container storage h start, header) refl
 
-module _ {M C : Type 0} (forms : List (Form C)) (reply : M → C → Reply ℕ ℕ) (after : M → C → M) (shown : M → List ℕ) where
-  All-AreSpelled : (lines : List (List ℕ)) (commands : List C) → AreSpelled forms lines commands → All IsOneLine lines
-  All-AreSpelled [] [] h = All-nil IsOneLine
-  All-AreSpelled [] (command ∷ commands) h = absurd h
-  All-AreSpelled (line ∷ lines) [] h = absurd h
-  All-AreSpelled (line ∷ lines) (command ∷ commands) (h, rest) = All-cons IsOneLine line lines h.0 (All-AreSpelled lines commands rest)
+module _ {M C R : Type 0} (read : List ℕ → Option C) (text : R → List ℕ) (reply : M → C → R) (after : M → C → M) (shown : M → List ℕ) where
+  All-AreRead : (lines : List (List ℕ)) (commands : List C) → AreRead read text lines commands → All IsOneLine lines
+  All-AreRead [] [] h = All-nil IsOneLine
+  All-AreRead [] (command ∷ commands) h = absurd h
+  All-AreRead (line ∷ lines) [] h = absurd h
+  All-AreRead (line ∷ lines) (command ∷ commands) (h, rest) = All-cons IsOneLine line lines h.0 (All-AreRead lines commands rest)
 
   -- a line that spells a command does not show the container
-  not_show : command_of forms (codes "show") ≡ None → (line : List ℕ) (command : C) (t : Bool) → bytes_eq line (codes "show") ≡ t → command_of forms line ≡ Some command → t ≡ false
-  not_show none line command true e is = let wrong = sym none ∙ ap (command_of forms) (sym ((bytes_eq-Decides line (codes "show")).0 e)) ∙ is in absurd (cc)
+  not_show : read (codes "show") ≡ None → (line : List ℕ) (command : C) (t : Bool) → bytes_eq line (codes "show") ≡ t → read line ≡ Some command → t ≡ false
+  not_show none line command true e is = let wrong = sym none ∙ ap read (sym ((bytes_eq-Decides line (codes "show")).0 e)) ∙ is in absurd (cc)
   not_show none line command false e is = refl
 
-  replies_to_lines-AreSpelled : command_of forms (codes "show") ≡ None → (model : M) (lines : List (List ℕ)) (commands : List C) → AreSpelled forms lines commands
-      → replies_to_lines (spelled_reply forms reply) (spelled_after forms after) shown model (map limited_line lines) ≡ text_of_lines (map reply_text (run_replies reply after model commands))
-  replies_to_lines-AreSpelled none model [] [] h = refl
-  replies_to_lines-AreSpelled none model [] (command ∷ commands) h = absurd h
-  replies_to_lines-AreSpelled none model (line ∷ lines) [] h = absurd h
-  replies_to_lines-AreSpelled none model (line ∷ lines) (command ∷ commands) ((one, short, is), rest) =
+  replies_to_lines-AreRead : read (codes "show") ≡ None → (model : M) (lines : List (List ℕ)) (commands : List C) → AreRead read text lines commands
+      → replies_to_lines (read_reply read text reply) (read_after read after) shown model (map limited_line lines) ≡ text_of_lines (map text (run_replies reply after model commands))
+  replies_to_lines-AreRead none model [] [] h = refl
+  replies_to_lines-AreRead none model [] (command ∷ commands) h = absurd h
+  replies_to_lines-AreRead none model (line ∷ lines) [] h = absurd h
+  replies_to_lines-AreRead none model (line ∷ lines) (command ∷ commands) ((one, short, is), rest) =
       rw (limited_line-short line short, not_show none line command (bytes_eq line (codes "show")) refl is, is)
-      (ap (λ l. with_line_feed (reply_text (reply model command)) ++ l) (replies_to_lines-AreSpelled none (after model command) lines commands rest))
+      (ap (λ l. with_line_feed (text (reply model command)) ++ l) (replies_to_lines-AreRead none (after model command) lines commands rest))
 
   -- the law of one container
-  pub IsRun-container : (container : Container) (storage : Storage) (model : M) → command_of forms (codes "show") ≡ None
-      → ((lines : List (Option (List ℕ))) → container_replies container (capacity_of storage) lines ≡ replies_to_lines (spelled_reply forms reply) (spelled_after forms after) shown model lines)
-      → IsRun forms reply after container storage model
-  IsRun-container container storage model none same h lines commands are =
-      replies_to-header_line container storage lines h (All-AreSpelled lines commands are)
-      ∙ ap (λ l. with_line_feed (codes "ready") ++ l) (same (map limited_line lines) ∙ replies_to_lines-AreSpelled none model lines commands are)
+  pub IsRunBy-container : (container : Container) (storage : Storage) (model : M) → read (codes "show") ≡ None
+      → ((lines : List (Option (List ℕ))) → container_replies container (capacity_of storage) lines ≡ replies_to_lines (read_reply read text reply) (read_after read after) shown model lines)
+      → IsRunBy read text reply after container storage model
+  IsRunBy-container container storage model none same h start lines commands are =
+      replies_to-header_line container storage lines h start (All-AreRead lines commands are)
+      ∙ ap (λ l. with_line_feed (codes "ready") ++ l) (same (map limited_line lines) ∙ replies_to_lines-AreRead none model lines commands are)

@@ -1,6 +1,7 @@
 pub mod Faults
 pub mod Headers
 pub mod Input
+pub mod Keys
 pub mod KnownBytes
 pub mod Laws
 pub mod Lines

@@ -1,10 +1,16 @@
 -- Items that are shown one after the other.
-use Rattle.std.proofs.Common.{ℕ, ◌≡◌, ◌+◌, suc, List, [], ◌∷◌, Option, Some, None, true, false, length, cond, codes, refl, ap, ◌∙◌, arith, append_assoc}
-use Rattle.std.specs.Prelude.{is_some}
+use Rattle.std.proofs.Common.{ℕ, ◌≡◌, ◌+◌, suc, List, [], ◌∷◌, ◌++◌, Option, Some, None, Bool, true, false, length, cond, codes, refl, sym, ap, ◌∙◌, arith, append_assoc, append-nil}
+use Rattle.std.specs.Prelude.{is_some, if◌then◌else◌}
 use Rattle.std.specs.List.{count_by}
 use Rattle.std.proofs.lemmas.List.Recursion.{is_count_by}
+use Rattle.std.proofs.lemmas.List.Sums.{sum_by-cons}
+use Rattle.std.specs.Option.{option_flatten}
 use Rattle.ix_maps.specs.SlotState.{entries_from}
-use Rattle.ix_run.specs.ReplyTexts.{items_text, more_items_text, items_left_text}
+use Rattle.ix_maps.specs.Generations.{SlotMapState, held_entries, map_entries, map_len}
+use Rattle.ix_run.specs.ReplyTexts.{items_text, more_items_text, items_left_text, next_text}
+use Rattle.ix_run.specs.Writing.{Writes, WritesPart}
+use Rattle.ix_run.proofs.KnownBytes.{Appends-nil}
+use Rattle.ix_run.proofs.Writing.{Writes-append, WritesPart-Writes, WritesPart_append}
 
 module _ {T : Type 0} where
   length-entries_from : (key key' : ℕ) (places : List (Option T)) → length (entries_from key places) ≡ length (entries_from key' places)
@@ -22,8 +28,27 @@ module _ {T : Type 0} where
   pub length-entries : (places : List (Option T)) → length (entries_from 0 places) ≡ count_by is_some places
   length-entries = is_count_by (λ places. length (entries_from 0 places)) is_some refl length-entries_from-cons
 
+module _ {T : Type 0} where
+  length-held_content : (s : SlotMapState T) (place : ℕ) (content : Option (Option T)) (places : List (Option (Option T)))
+      → count_by (λ c. is_some (option_flatten c)) (content ∷ places) ≡ (if is_some (option_flatten content) then 1 else 0) + count_by (λ c. is_some (option_flatten c)) places
+      → length (held_entries s (entries_from (place + 1) places)) ≡ count_by (λ c. is_some (option_flatten c)) places
+      → length (held_entries s (entries_from place (content ∷ places))) ≡ count_by (λ c. is_some (option_flatten c)) (content ∷ places)
+  length-held_content s place None places all later = omega arith
+  length-held_content s place (Some None) places all later = omega arith
+  length-held_content s place (Some (Some x)) places all later = omega arith
+
+  length-held_entries : (s : SlotMapState T) (place : ℕ) (places : List (Option (Option T))) → length (held_entries s (entries_from place places)) ≡ count_by (λ content. is_some (option_flatten content)) places
+  length-held_entries s place [] = refl
+  length-held_entries s place (content ∷ places) =
+      let all = sum_by-cons (λ (c : Option (Option T)). if is_some (option_flatten c) then 1 else 0) content places in
+      length-held_content s place content places all (length-held_entries s (place + 1) places)
+
+  -- as many entries as held keys
+  pub length-map_entries : (s : SlotMapState T) → length (map_entries s) ≡ map_len s
+  length-map_entries s = length-held_entries s 0 s.slots.values
+
 module _ {X : Type 0} (text : X → List ℕ) where
-  pub items_left_text-first : (items : List X) → (length items ≡ 0 → ⊥) → items_text text items ≡ items_left_text text true items
+  items_left_text-first : (items : List X) → (length items ≡ 0 → ⊥) → items_text text items ≡ items_left_text text true items
   items_left_text-first [] some = absurd (some refl)
   items_left_text-first (x ∷ items) some = refl
 
@@ -31,6 +56,36 @@ module _ {X : Type 0} (text : X → List ℕ) where
   items_text-none [] none = refl
   items_text-none (x ∷ items) none = absurd (cc)
 
-  pub items_left_text-more : (items : List X) → items_left_text text false items ≡ more_items_text text items
+  items_left_text-more : (items : List X) → items_left_text text false items ≡ more_items_text text items
   items_left_text-more [] = refl
   items_left_text-more (x ∷ items) = append_assoc (codes " ") (text x) (more_items_text text items)
+
+  -- the text of the items is written or pending, but for that of the items that are left
+  abbrev pub WritesUpTo : List X → Option (List ℕ) → List ℕ → Bool → List X → Option (List ℕ) → List ℕ → Type 0
+  WritesUpTo items contents pending is_first left contents' pending' =
+      (so_far : List ℕ) × (items_text text items ≡ so_far ++ items_left_text text is_first left) × Writes contents pending so_far contents' pending'
+
+  -- all items are left at first
+  pub WritesUpTo-first : (items left : List X) (c : Option (List ℕ)) (o : List ℕ) → items ≡ left → (length items ≡ 0 → ⊥) → WritesUpTo items c o true left c o
+  WritesUpTo-first items left c o same some = ([], items_left_text-first items some ∙ ap (items_left_text text true) same, ([], Appends-nil c, append-nil o))
+
+  items_text-next : (items left rest : List X) (x : X) (is_first : Bool) (so_far : List ℕ) → left ≡ x ∷ rest → items_text text items ≡ so_far ++ items_left_text text is_first left
+      → items_text text items ≡ (so_far ++ next_text is_first (text x)) ++ more_items_text text rest
+  items_text-next items left rest x is_first so_far step whole =
+      whole ∙ ap (λ l. so_far ++ items_left_text text is_first l) step ∙ sym (append_assoc so_far (next_text is_first (text x)) (more_items_text text rest))
+
+  -- one more item is written or pending
+  pub WritesUpTo-next : (items left rest : List X) (x : X) (is_first : Bool) (c d e : Option (List ℕ)) (o p q : List ℕ) → left ≡ x ∷ rest
+      → WritesUpTo items c o is_first left d p → Writes d p (next_text is_first (text x)) e q → WritesUpTo items c o false rest e q
+  WritesUpTo-next items left rest x is_first c d e o p q step (so_far, whole, before) now =
+      let word = next_text is_first (text x) in
+      let shown = items_text-next items left rest x is_first so_far step whole in
+      (so_far ++ word, shown ∙ ap (λ l. (so_far ++ word) ++ l) (sym (items_left_text-more rest)), Writes-append c d e o p q so_far word before now)
+
+  -- the writer fails at the next item
+  pub WritesUpTo-part : (items left rest : List X) (x : X) (is_first : Bool) (c d e : Option (List ℕ)) (o p : List ℕ) → left ≡ x ∷ rest
+      → WritesUpTo items c o is_first left d p → WritesPart d p (next_text is_first (text x)) e → WritesPart c o (items_text text items) e
+  WritesUpTo-part items left rest x is_first c d e o p step (so_far, whole, before) now =
+      let word = next_text is_first (text x) in
+      rw (items_text-next items left rest x is_first so_far step whole)
+      (WritesPart_append c e o (so_far ++ word) (more_items_text text rest) (WritesPart-Writes c d e o p so_far word before now))

@@ -8,9 +8,11 @@ use Rattle.ix_commands.specs.declared.reply.Reply.TheVariants as reply
 use Rattle.ix_commands.specs.declared.reply.ReplyError.{ReplyError}
 use Rattle.ix_commands.specs.declared.reply.ReplyError.TheVariants.{OutOfBounds, InsertWouldExceedCapacity, InvalidCharacter, KeyAlreadyExists, IsFull, IndexPastEnd}
 use Rattle.ix_string.specs.Escape.{hex_digit, escaped_byte, escaped_text}
-use Rattle.ix_run.specs.Laws.{HasU64s, IsU64}
+use Rattle.ix_run.specs.Laws.{HasU64s, HasU64sAnd, IsKey, IsU64}
+use Rattle.ix_maps.specs.Generations.{SlotKey}
+use Rattle.ix_run.specs.Words.{key_text}
 use Rattle.ix_run.specs.Lines.{line_feed, IsOneLine}
-use Rattle.ix_run.specs.ReplyTexts.{error_name, reply_text, entry_text, more_items_text, items_text}
+use Rattle.ix_run.specs.ReplyTexts.{error_name, reply_text_by, reply_text, slot_reply_text, entry_text, key_entry_text, more_items_text, items_text}
 use Rattle.ix_run.specs.Script.{text_shown}
 use Rattle.ix_run.proofs.Laws.{IsOneLine-Lacks, Lacks-append, Lacks-decimal}
 use Rattle.ix_run.proofs.Pieces.{Lacks}
@@ -26,20 +28,34 @@ Lacks-error_name IndexPastEnd = search rules
 Lacks-some : (text : List ℕ) → Lacks text → Lacks (codes "some " ++ text)
 Lacks-some text h = Lacks-append (codes "some ") text (search rules) h
 
-Lacks-reply_text : (reply : Reply ℕ ℕ) → HasU64s reply → Lacks (reply_text reply)
-Lacks-reply_text reply.Done h = search rules
-Lacks-reply_text (reply.Bool true) h = search rules
-Lacks-reply_text (reply.Bool false) h = search rules
-Lacks-reply_text (reply.Number n) h = Lacks-decimal n h
-Lacks-reply_text reply.None h = search rules
-Lacks-reply_text (reply.Key k) h = Lacks-some (decimal k) (Lacks-decimal k h)
-Lacks-reply_text (reply.Value x) h = Lacks-some (decimal x) (Lacks-decimal x h)
-Lacks-reply_text (reply.Entry k x) (h, g) =
-    Lacks-some (decimal k ++ (codes " " ++ decimal x)) (Lacks-append (decimal k) (codes " " ++ decimal x) (Lacks-decimal k h) (refl, Lacks-decimal x g))
-Lacks-reply_text (reply.Error error) h = Lacks-append (codes "error ") (error_name error) (search rules) (Lacks-error_name error)
+module _ {K : Type 0} (text : K → List ℕ) (Is : K → Type 0) (lacks : (key : K) → Is key → Lacks (text key)) where
+  Lacks-reply_text_by : (reply : Reply K ℕ) → HasU64sAnd Is reply → Lacks (reply_text_by text reply)
+  Lacks-reply_text_by reply.Done h = search rules
+  Lacks-reply_text_by (reply.Bool true) h = search rules
+  Lacks-reply_text_by (reply.Bool false) h = search rules
+  Lacks-reply_text_by (reply.Number n) h = Lacks-decimal n h
+  Lacks-reply_text_by reply.None h = search rules
+  Lacks-reply_text_by (reply.Key k) h = Lacks-some (text k) (lacks k h)
+  Lacks-reply_text_by (reply.Value x) h = Lacks-some (decimal x) (Lacks-decimal x h)
+  Lacks-reply_text_by (reply.Entry k x) (h, g) =
+      Lacks-some (text k ++ (codes " " ++ decimal x)) (Lacks-append (text k) (codes " " ++ decimal x) (lacks k h) (refl, Lacks-decimal x g))
+  Lacks-reply_text_by (reply.Error error) h = Lacks-append (codes "error ") (error_name error) (search rules) (Lacks-error_name error)
+
+  IsOneLine-reply_text_by : (reply : Reply K ℕ) → HasU64sAnd Is reply → IsOneLine (reply_text_by text reply)
+  IsOneLine-reply_text_by reply h = IsOneLine-Lacks (reply_text_by text reply) (Lacks-reply_text_by reply h)
 
 pub IsOneLine-reply_text : (reply : Reply ℕ ℕ) → HasU64s reply → IsOneLine (reply_text reply)
-IsOneLine-reply_text reply h = IsOneLine-Lacks (reply_text reply) (Lacks-reply_text reply h)
+IsOneLine-reply_text = IsOneLine-reply_text_by decimal IsU64 Lacks-decimal
+
+Lacks-key_text : (key : SlotKey) → IsKey key → Lacks (key_text key)
+Lacks-key_text key (h, g) =
+    Lacks-append (decimal key.index) (codes ":" ++ decimal key.generation) (Lacks-decimal key.index h) (refl, Lacks-decimal key.generation (omega (arith, g)))
+
+pub IsOneLine-slot_reply_text : (reply : Reply SlotKey ℕ) → HasU64sAnd IsKey reply → IsOneLine (slot_reply_text reply)
+IsOneLine-slot_reply_text = IsOneLine-reply_text_by key_text IsKey Lacks-key_text
+
+pub Lacks-key_entry_text : (entry : SlotKey × ℕ) → IsKey entry.0 × IsU64 entry.1 → Lacks (key_entry_text entry)
+Lacks-key_entry_text entry (h, g) = Lacks-append (key_text entry.0) (codes "=" ++ decimal entry.1) (Lacks-key_text entry.0 h) (refl, Lacks-decimal entry.1 g)
 
 module _ {X : Type 0} (text : X → List ℕ) (Is : X → Type 0) (lacks : (x : X) → Is x → Lacks (text x)) where
   Lacks-more_items_text : (items : List X) → All Is items → Lacks (more_items_text text items)

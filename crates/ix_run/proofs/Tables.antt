@@ -4,7 +4,8 @@ use Rattle.std.specs.List.{slice_split, list_all}
 use Rattle.std.specs.Option.{option_and_then, option_map}
 use Rattle.std.specs.Map.{lookup}
 use Rattle.std.proofs.lemmas.Map.Made.{lookup-map_values}
-use Rattle.ix_run.specs.Words.{Form, is_space, numbers_in, words_of, fits_byte, make_named, command_of}
+use Rattle.ix_maps.specs.Generations.{SlotKey}
+use Rattle.ix_run.specs.Words.{Form, KeyForm, is_space, numbers_in, words_of, fits_byte, make_named, command_of, key_and_numbers, name_key_numbers, make_with_key, key_command_of}
 use Rattle.ix_run.specs.Tables.{numbers_taken, items_taken, bytes_taken, forms_by}
 use Rattle.ix_run.specs.declared.run.tables.Takes.{Takes}
 use Rattle.ix_run.specs.declared.run.tables.Takes.TheVariants.{Nothing, Number, TwoNumbers, Numbers, Byte, NumberAndByte, Bytes, NumberAndBytes}
@@ -165,3 +166,32 @@ module _ {V C : Type 0} (make : V → List ℕ → Option C) where
   line_of_forms table line name words e none =
       command_of_split (forms_of table) line name words e (lookup-map_values make (bytes_eq []) table ∙ ap (option_map make) none)
       ∙ (ap (option_and_then (λ m. option_and_then m (numbers_in words))) (lookup-map_values make (bytes_eq name) table) ∙ value-of (numbers_in words) (lookup (bytes_eq name) table))
+
+module _ {V C : Type 0} (make : V → SlotKey → List ℕ → Option C) where
+  -- the forms whose commands are made of what stands beside the names, and of a key
+  abbrev pub key_forms_of : List (List ℕ × V) → List (KeyForm C)
+  key_forms_of table = map (λ row. (row.0, make row.1)) table
+
+  -- what is made of the value that was found
+  abbrev pub key_made : Option (SlotKey × List ℕ) → Option V → Option C
+  key_made taken value = option_and_then (λ v. option_and_then (λ t. make v t.0 t.1) taken) value
+
+  pub key_made-None : (value : Option V) → None ≡ key_made None value
+  key_made-None None = refl
+  key_made-None (Some v) = refl
+
+  value-key : (taken : SlotKey × List ℕ) (value : Option V) → option_and_then (λ m. option_and_then (λ t. m t.0 t.1) (Some taken)) (option_map make value) ≡ key_made (Some taken) value
+  value-key taken None = refl
+  value-key taken (Some v) = refl
+
+  key_words-made : (table : List (List ℕ × V)) (name : List ℕ) (words : List (List ℕ)) (taken : Option (SlotKey × List ℕ)) → lookup (bytes_eq []) table ≡ None → key_and_numbers words ≡ taken
+      → option_and_then (λ w. make_with_key (key_forms_of table) w.0 (Some w.1)) (name_key_numbers (name ∷ words)) ≡ key_made taken (lookup (bytes_eq name) table)
+  key_words-made table [] words taken none e = rw none refl
+  key_words-made table (b ∷ name) words None none e = rw e (key_made-None (lookup (bytes_eq (b ∷ name)) table))
+  key_words-made table (b ∷ name) words (Some taken) none e =
+      rw e (ap (option_and_then (λ m. option_and_then (λ t. m t.0 t.1) (Some taken))) (lookup-map_values make (bytes_eq (b ∷ name)) table) ∙ value-key taken (lookup (bytes_eq (b ∷ name)) table))
+
+  -- the command of a line that was split into its first word and the others
+  pub key_line : (table : List (List ℕ × V)) (line name : List ℕ) (words : List (List ℕ)) → slice_split is_space line ≡ name ∷ words → lookup (bytes_eq []) table ≡ None
+      → key_command_of (key_forms_of table) line ≡ key_made (key_and_numbers words) (lookup (bytes_eq name) table)
+  key_line table line name words e none = rw e (key_words-made table name words (key_and_numbers words) none refl)

@@ -1,5 +1,5 @@
 -- Words of a line.
-use Rattle.std.proofs.Common.{ℕ, ◌≡◌, ◌≤◌, ◌<◌, ◌+◌, ◌-◌, List, [], ◌∷◌, ◌++◌, Option, Some, None, IfSome, All, ◌^◌, decimal, bytes_eq, length, take, drop, set, Bool, true, false, ◌&&◌, append_assoc, cond, refl, sym, ap, ◌∙◌, arith}
+use Rattle.std.proofs.Common.{ℕ, ◌≡◌, ◌≤◌, ◌<◌, ◌+◌, ◌-◌, List, [], ◌∷◌, ◌++◌, Option, Some, None, IfSome, All, ◌^◌, decimal, bytes_eq, length, take, drop, set, nat_eq, Bool, true, false, ◌&&◌, append_assoc, cond, refl, sym, ap, ◌∙◌, arith}
 use Rattle.std.specs.List.{list_all, slice_split, position_or_len, before_first, after_first, join_with_byte}
 use Rattle.std.specs.Str.{all_ascii_digits}
 use Rattle.std.specs.Char.{is_ascii_digit}
@@ -12,29 +12,40 @@ use Rattle.std.proofs.lemmas.List.Elements.{All-cons, All-nil}
 use Rattle.std.proofs.lemmas.List.Sums.{prefix_len-le-length, fails_before_first}
 use Rattle.std.proofs.lemmas.List.Splits.{slice_split_first, slice_split_none, length-slice_split, join_with_byte-slice_split}
 use Rattle.ix_run.specs.Reading.{number_of}
-use Rattle.ix_run.specs.Words.{Form, is_space, numbers_in, name_and_numbers, fits_byte, byte_of, make_named, command_of, alone, one, two, one_byte, number_byte, many_bytes, number_many_bytes}
+use Rattle.ix_run.specs.Words.{Form, is_space, is_colon, numbers_in, name_and_numbers, fits_byte, byte_of, make_named, command_of, alone, one, two, one_byte, number_byte, many_bytes, number_many_bytes}
 use Rattle.ix_run.proofs.Numbers.{IsNumeral-decimal, number_of-IfSome}
+
+-- where a separator is
+abbrev pub is_byte : ℕ → ℕ → Bool
+is_byte separator byte = nat_eq byte separator
+
+-- bytes without the separator are one part
+pub split_last : (separator : ℕ) (bytes part rest : List ℕ) (n : ℕ) → n ≡ position_or_len (is_byte separator) bytes → part ≡ take n bytes → rest ≡ drop n bytes → length rest ≡ 0
+    → slice_split (is_byte separator) bytes ≡ part ∷ []
+split_last separator bytes part rest n e w r none =
+    let all : part ≡ bytes = grind (arith, common_steps) in
+    let end : length bytes ≤ position_or_len (is_byte separator) bytes = grind (arith, common_steps) in
+    rw all (slice_split_none (is_byte separator) bytes (λ k d l. fails_before_first (is_byte separator) bytes k d (omega (arith, end, l))))
+
+-- the bytes before the first separator, and those after it
+pub split_first : (separator : ℕ) (bytes part rest : List ℕ) (n : ℕ) → n ≡ position_or_len (is_byte separator) bytes → part ≡ take n bytes → rest ≡ drop n bytes → 0 < length rest
+    → slice_split (is_byte separator) bytes ≡ part ∷ slice_split (is_byte separator) (take (length rest - 1) (drop 1 rest))
+split_first separator bytes part rest n e w r some =
+    let short : position_or_len (is_byte separator) bytes < length bytes = grind (arith, common_steps) in
+    let front : part ≡ before_first (is_byte separator) bytes = rw (sym e) w in
+    let all : take (length rest - 1) (drop 1 rest) ≡ drop 1 rest = take_all _ _ (simp length-drop (omega arith)) in
+    let next : drop 1 rest ≡ drop (n + 1) bytes = rw r (drop-drop 1 n bytes) in
+    let back : take (length rest - 1) (drop 1 rest) ≡ after_first (is_byte separator) bytes = all ∙ next ∙ ap (λ k. drop (k + 1) bytes) e in
+    rw (front, back) (slice_split_first (is_byte separator) bytes 0 short)
 
 pub position_or_len_bound : (bytes : List ℕ) → position_or_len is_space bytes ≤ length bytes
 position_or_len_bound bytes = prefix_len-le-length _ bytes
 
--- bytes without a space are one word
 pub split_last_word : (bytes word rest : List ℕ) (n : ℕ) → n ≡ position_or_len is_space bytes → word ≡ take n bytes → rest ≡ drop n bytes → length rest ≡ 0 → slice_split is_space bytes ≡ word ∷ []
-split_last_word bytes word rest n e w r none =
-    let all : word ≡ bytes = grind (arith, common_steps) in
-    let end : length bytes ≤ position_or_len is_space bytes = grind (arith, common_steps) in
-    rw all (slice_split_none is_space bytes (λ k d l. fails_before_first is_space bytes k d (omega (arith, end, l))))
+split_last_word bytes word rest n e w r none = split_last 32 bytes word rest n e w r none
 
--- the bytes before the first space, and those after it
-pub split_first_word : (bytes word rest : List ℕ) (n : ℕ) → n ≡ position_or_len is_space bytes → word ≡ take n bytes → rest ≡ drop n bytes → 0 < length rest
-    → slice_split is_space bytes ≡ word ∷ slice_split is_space (take (length rest - 1) (drop 1 rest))
-split_first_word bytes word rest n e w r some =
-    let short : position_or_len is_space bytes < length bytes = grind (arith, common_steps) in
-    let front : word ≡ before_first is_space bytes = rw (sym e) w in
-    let all : take (length rest - 1) (drop 1 rest) ≡ drop 1 rest = take_all _ _ (simp length-drop (omega arith)) in
-    let next : drop 1 rest ≡ drop (n + 1) bytes = rw r (drop-drop 1 n bytes) in
-    let back : take (length rest - 1) (drop 1 rest) ≡ after_first is_space bytes = all ∙ next ∙ ap (λ k. drop (k + 1) bytes) e in
-    rw (front, back) (slice_split_first is_space bytes 0 short)
+pub split_first_word : (bytes word rest : List ℕ) (n : ℕ) → n ≡ position_or_len is_space bytes → word ≡ take n bytes → rest ≡ drop n bytes → 0 < length rest → slice_split is_space bytes ≡ word ∷ slice_split is_space (take (length rest - 1) (drop 1 rest))
+split_first_word bytes word rest n e w r some = split_first 32 bytes word rest n e w r some
 
 pub ruleset first_word = (position_or_len_bound, split_last_word, split_first_word)
 
@@ -44,6 +55,13 @@ digits-All [] h = All-nil (λ b. is_space b ≡ false)
 digits-All (c ∷ digits) h =
     let parts = and_parts (is_ascii_digit c) (all_ascii_digits digits) h in
     All-cons (λ b. is_space b ≡ false) c digits (grind (arith, common_steps)) (digits-All digits parts.1)
+
+-- no digit is a colon
+pub digits-no_colon : (digits : List ℕ) → all_ascii_digits digits ≡ true → All (λ b. is_colon b ≡ false) digits
+digits-no_colon [] h = All-nil (λ b. is_colon b ≡ false)
+digits-no_colon (c ∷ digits) h =
+    let parts = and_parts (is_ascii_digit c) (all_ascii_digits digits) h in
+    All-cons (λ b. is_colon b ≡ false) c digits (grind (arith, common_steps)) (digits-no_colon digits parts.1)
 
 -- the text of a number has no space
 pub decimal-All : (n : ℕ) → n < 2 ^ 64 → All (λ b. is_space b ≡ false) (decimal n)
@@ -59,21 +77,26 @@ one-two_words (Some n) None numbers = refl
 one-two_words (Some n) (Some m) None = refl
 one-two_words (Some n) (Some m) (Some ns) = refl
 
--- words are one number only if they are one word
-one-parts : (parts : List (List ℕ)) (bytes : List ℕ) → join_with_byte 32 parts ≡ bytes → number_of bytes ≡ None → option_and_then (one (λ n. n)) (numbers_in parts) ≡ None
-one-parts [] bytes e none = refl
-one-parts (word ∷ []) bytes e none = rw (e, none) refl
-one-parts (word ∷ next ∷ parts) bytes e none = one-two_words (number_of word) (number_of next) (numbers_in parts)
+-- parts are one number only if they are one part
+one-parts : (separator : ℕ) (parts : List (List ℕ)) (bytes : List ℕ) → join_with_byte separator parts ≡ bytes → number_of bytes ≡ None → option_and_then (one (λ n. n)) (numbers_in parts) ≡ None
+one-parts separator [] bytes e none = refl
+one-parts separator (part ∷ []) bytes e none = rw (e, none) refl
+one-parts separator (part ∷ next ∷ parts) bytes e none = one-two_words (number_of part) (number_of next) (numbers_in parts)
 
-number_of_last-None : (bytes : List ℕ) (r : Option ℕ) → number_of bytes ≡ r → IfSome r (λ n. (bytes ≡ decimal n) × (n < 2 ^ 64)) → r ≡ option_and_then (one (λ n. n)) (numbers_in (slice_split is_space bytes))
-number_of_last-None bytes None e h = sym (one-parts (slice_split is_space bytes) bytes (join_with_byte-slice_split 32 bytes) e)
-number_of_last-None bytes (Some n) e (d, h) =
-    let word : slice_split is_space bytes ≡ bytes ∷ [] = slice_split_none is_space bytes (digits-All bytes (IsNumeral-decimal bytes n h d).digits) in
+number_of_last-by : (separator : ℕ) (bytes : List ℕ) (r : Option ℕ) → ((digits : List ℕ) → all_ascii_digits digits ≡ true → All (λ b. is_byte separator b ≡ false) digits)
+    → number_of bytes ≡ r → IfSome r (λ n. (bytes ≡ decimal n) × (n < 2 ^ 64)) → r ≡ option_and_then (one (λ n. n)) (numbers_in (slice_split (is_byte separator) bytes))
+number_of_last-by separator bytes None apart e h = sym (one-parts separator (slice_split (is_byte separator) bytes) bytes (join_with_byte-slice_split separator bytes) e)
+number_of_last-by separator bytes (Some n) apart e (d, h) =
+    let word : slice_split (is_byte separator) bytes ≡ bytes ∷ [] = slice_split_none (is_byte separator) bytes (apart bytes (IsNumeral-decimal bytes n h d).digits) in
     rw (word, e) refl
 
 -- a number is one word
 pub number_of_last : (bytes : List ℕ) → number_of bytes ≡ option_and_then (one (λ n. n)) (numbers_in (slice_split is_space bytes))
-number_of_last bytes = number_of_last-None bytes (number_of bytes) refl (number_of-IfSome bytes)
+number_of_last bytes = number_of_last-by 32 bytes (number_of bytes) digits-All refl (number_of-IfSome bytes)
+
+-- a number has no colon
+pub number_of_last_part : (bytes : List ℕ) → number_of bytes ≡ option_and_then (one (λ n. n)) (numbers_in (slice_split is_colon bytes))
+number_of_last_part bytes = number_of_last-by 58 bytes (number_of bytes) digits-no_colon refl (number_of-IfSome bytes)
 
 -- a second number after the first
 pub two_after_number : (n : ℕ) (numbers : Option (List ℕ))

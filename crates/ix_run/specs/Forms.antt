@@ -1,10 +1,13 @@
 -- The commands of each container: what a line may spell.
-use Rattle.std.specs.Prelude.{ℕ, List, [], ◌∷◌, codes}
-use Rattle.ix_run.specs.Words.{Form, alone, one, two, many, one_byte, number_byte, many_bytes, number_many_bytes, slice_of}
+use Rattle.std.specs.Prelude.{ℕ, List, [], ◌∷◌, Option, codes}
+use Rattle.std.specs.Option.{option_or}
+use Rattle.ix_run.specs.Words.{Form, KeyForm, command_of, key_command_of, alone, one, two, many, one_byte, number_byte, many_bytes, number_many_bytes, slice_of}
 use Rattle.ix_commands.specs.declared.command.QueueCommand.{QueueCommand}
 use Rattle.ix_commands.specs.declared.command.QueueCommand.TheVariants as queue
 use Rattle.ix_commands.specs.declared.command.VecCommand.{VecCommand}
 use Rattle.ix_commands.specs.declared.command.VecCommand.TheVariants as vec
+use Rattle.ix_commands.specs.declared.command.TableCommand.{TableCommand}
+use Rattle.ix_commands.specs.declared.command.TableCommand.TheVariants as table
 use Rattle.ix_commands.specs.declared.command.SlotCommand.{SlotCommand}
 use Rattle.ix_commands.specs.declared.command.SlotCommand.TheVariants as slot
 use Rattle.ix_commands.specs.declared.command.FlatCommand.{FlatCommand}
@@ -45,21 +48,47 @@ vec_forms =
     ∷ (codes "full", alone vec.Full)
     ∷ []
 
+abbrev pub table_forms : List (Form (TableCommand ℕ))
+table_forms =
+    (codes "insert", one table.Insert)
+    ∷ (codes "next", alone table.Next)
+    ∷ (codes "insert_at", two table.InsertAt)
+    ∷ (codes "remove", one table.Remove)
+    ∷ (codes "get", one table.Get)
+    ∷ (codes "set", two table.Set)
+    ∷ (codes "contains", one table.Contains)
+    ∷ (codes "from", one table.From)
+    ∷ (codes "len", alone table.Len)
+    ∷ (codes "capacity", alone table.Capacity)
+    ∷ (codes "empty", alone table.Empty)
+    ∷ (codes "full", alone table.Full)
+    ∷ []
+
 abbrev pub slot_forms : List (Form (SlotCommand ℕ))
 slot_forms =
     (codes "insert", one slot.Insert)
     ∷ (codes "next", alone slot.Next)
     ∷ (codes "insert_at", two slot.InsertAt)
-    ∷ (codes "remove", one slot.Remove)
-    ∷ (codes "get", one slot.Get)
-    ∷ (codes "set", two slot.Set)
-    ∷ (codes "contains", one slot.Contains)
     ∷ (codes "from", one slot.From)
+    ∷ (codes "retired", alone slot.Retired)
     ∷ (codes "len", alone slot.Len)
     ∷ (codes "capacity", alone slot.Capacity)
     ∷ (codes "empty", alone slot.Empty)
     ∷ (codes "full", alone slot.Full)
     ∷ []
+
+-- the commands of a slot map that have a key
+abbrev pub slot_key_forms : List (KeyForm (SlotCommand ℕ))
+slot_key_forms =
+    (codes "remove", λ key. alone (slot.Remove key))
+    ∷ (codes "get", λ key. alone (slot.Get key))
+    ∷ (codes "set", λ key. one (slot.Set key))
+    ∷ (codes "contains", λ key. alone (slot.Contains key))
+    ∷ []
+
+-- the command of a slot map that a line spells
+abbrev pub slot_command_of : List ℕ → Option (SlotCommand ℕ)
+slot_command_of line = option_or (command_of slot_forms line) (key_command_of slot_key_forms line)
 
 abbrev pub flat_forms : List (Form (FlatCommand ℕ ℕ))
 flat_forms =

@@ -1,12 +1,13 @@
 -- Headers: a container, and its storage. Each header has exactly one text.
-use Rattle.std.specs.Prelude.{ℕ, ◌≤◌, ◌==◌, List, [], ◌∷◌, ◌++◌, nat_le, if◌then◌else◌, Option, None, Some, option_map, option_and_then, codes, bytes_eq, find, ⊤}
+use Rattle.std.specs.Prelude.{ℕ, ◌≤◌, ◌==◌, List, [], ◌∷◌, ◌++◌, nat_le, if◌then◌else◌, Option, None, Some, option_map, option_and_then, unwrap_or, codes, bytes_eq, find, ⊤}
 use Rattle.std.specs.List.{slice_split}
-use Rattle.ix_run.specs.Words.{is_space, words_text, numbers_in, Form, make_named}
+use Rattle.ix_maps.specs.Generations.{greatest_generation}
+use Rattle.ix_run.specs.Words.{is_space, fits_generation, words_text, numbers_in, Form, make_named}
 use Rattle.ix_run.specs.declared.run.header.FixedCapacity.{FixedCapacity}
 use Rattle.ix_run.specs.declared.run.header.FixedCapacity.TheVariants.{Zero, One, Three, Eight}
 use Rattle.ix_run.specs.declared.run.limits.TheConstants.{MAX_CAPACITY}
 use Rattle.ix_run.specs.declared.run.header.Container.{Container}
-use Rattle.ix_run.specs.declared.run.header.Container.TheVariants.{Queue, Vec, Slot, Flat, Text}
+use Rattle.ix_run.specs.declared.run.header.Container.TheVariants.{Queue, Vec, Table, Slot, Flat, Text}
 use Rattle.ix_run.specs.declared.run.header.Storage.{Storage}
 use Rattle.ix_run.specs.declared.run.header.Storage.TheVariants.{Fixed, Heap, Arena}
 use Rattle.ix_run.specs.declared.run.header.Header.{Header}
@@ -26,7 +27,8 @@ capacity_of (Arena n) = n
 abbrev pub container_name : Container → List ℕ
 container_name Queue = codes "queue"
 container_name Vec = codes "vec"
-container_name Slot = codes "slot"
+container_name Table = codes "table"
+container_name (Slot start) = codes "slot"
 container_name Flat = codes "flat"
 container_name Text = codes "text"
 
@@ -41,12 +43,26 @@ IsStorage (Fixed capacity) = ⊤
 IsStorage (Heap n) = n ≤ MAX_CAPACITY
 IsStorage (Arena n) = n ≤ MAX_CAPACITY
 
+-- the generation of a slot map's places at first, if a header says it, is a generation
+abbrev pub IsStart : Container → Type 0
+IsStart (Slot (Some generation)) = generation ≤ greatest_generation
+IsStart other = ⊤
+
+-- the generation of a slot map's places at first
+abbrev pub first_generation : Option ℕ → ℕ
+first_generation start = unwrap_or start 0
+
+-- a text, and behind it the generation, if one is said
+abbrev pub with_start : Container → List ℕ → List ℕ
+with_start (Slot (Some generation)) text = text ++ (codes " " ++ words_text (codes "at") (generation ∷ []))
+with_start other text = text
+
 -- the text of a header
 abbrev pub header_text : Header → List ℕ
-header_text header = container_name header.container ++ (codes " " ++ storage_text header.storage)
+header_text header = with_start header.container (container_name header.container ++ (codes " " ++ storage_text header.storage))
 
 abbrev pub containers : List Container
-containers = Queue ∷ Vec ∷ Slot ∷ Flat ∷ Text ∷ []
+containers = Queue ∷ Vec ∷ Table ∷ Slot None ∷ Flat ∷ Text ∷ []
 
 abbrev pub fixed_capacities : List FixedCapacity
 fixed_capacities = Zero ∷ One ∷ Three ∷ Eight ∷ []
@@ -68,10 +84,23 @@ up_to_max make other = None
 abbrev pub storage_forms : List (Form Storage)
 storage_forms = (codes "fixed", fixed) ∷ (codes "heap", up_to_max Heap) ∷ (codes "arena", up_to_max Arena) ∷ []
 
--- a container's name, and the name and the numbers of a storage
+-- one number, which is the generation of a slot map's places at first
+abbrev pub starting_at : List ℕ → Option Container
+starting_at (n ∷ []) = if fits_generation n then Some (Slot (Some n)) else None
+starting_at other = None
+
+-- the container, by the words after its storage
+abbrev pub started : Container → List (List ℕ) → Option Container
+started container [] = Some container
+started (Slot start) (word ∷ words) = if bytes_eq word (codes "at") then option_and_then starting_at (numbers_in words) else None
+started other (word ∷ words) = None
+
+-- a container's name, the name and the number of a storage, and where generations start
 abbrev pub header_of_words : List (List ℕ) → Option Header
-header_of_words (name ∷ storage ∷ words) =
-    option_and_then (λ c. option_map (λ s. record { container = c; storage = s }) (make_named storage_forms storage (numbers_in words))) (named_container name)
+header_of_words (name ∷ storage ∷ number ∷ words) =
+    option_and_then (λ c.
+    option_and_then (λ s. option_map (λ c'. record { container = c'; storage = s }) (started c words)) (make_named storage_forms storage (numbers_in (number ∷ []))))
+    (named_container name)
 header_of_words other = None
 
 -- the header that a line is

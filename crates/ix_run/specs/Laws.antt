@@ -1,9 +1,10 @@
 -- What the laws of scripts say.
-use Rattle.std.specs.Prelude.{ℕ, ◌≡◌, ◌<◌, ◌≤◌, ◌^◌, List, [], ◌∷◌, length, Some, map, codes, ⊤}
+use Rattle.std.specs.Prelude.{ℕ, ◌≡◌, ◌<◌, ◌≤◌, ◌^◌, List, [], ◌∷◌, length, Option, Some, map, codes, ⊤}
+use Rattle.ix_maps.specs.Generations.{SlotKey, greatest_generation}
 use Rattle.ix_commands.specs.Run.{run_replies}
 use Rattle.ix_commands.specs.declared.reply.Reply.{Reply}
 use Rattle.ix_commands.specs.declared.reply.Reply.TheVariants as reply
-use Rattle.ix_run.specs.Headers.{IsStorage, header_text}
+use Rattle.ix_run.specs.Headers.{IsStorage, IsStart, header_text}
 use Rattle.ix_run.specs.Lines.{IsOneLine, text_of_lines}
 use Rattle.ix_run.specs.ReplyTexts.{reply_text}
 use Rattle.ix_run.specs.Script.{replies_to}
@@ -19,27 +20,39 @@ header_line c s = header_text (record { container = c; storage = s })
 abbrev pub IsU64 : ℕ → Type 0
 IsU64 n = n < 2 ^ 64
 
--- the numbers of a reply are those that the calls return
-abbrev pub HasU64s : Reply ℕ ℕ → Type 0
-HasU64s (reply.Number n) = IsU64 n
-HasU64s (reply.Key k) = IsU64 k
-HasU64s (reply.Value x) = IsU64 x
-HasU64s (reply.Entry k x) = IsU64 k × IsU64 x
-HasU64s other = ⊤
+-- the numbers of a key are those of the keys that calls return
+abbrev pub IsKey : SlotKey → Type 0
+IsKey key = IsU64 key.index × (key.generation ≤ greatest_generation)
 
-module _ {C : Type 0} where
+-- the numbers of a reply are those that the calls return
+abbrev pub HasU64sAnd : {K : Type 0} → (K → Type 0) → Reply K ℕ → Type 0
+HasU64sAnd Is (reply.Number n) = IsU64 n
+HasU64sAnd Is (reply.Key k) = Is k
+HasU64sAnd Is (reply.Value x) = IsU64 x
+HasU64sAnd Is (reply.Entry k x) = Is k × IsU64 x
+HasU64sAnd Is other = ⊤
+
+abbrev pub HasU64s : Reply ℕ ℕ → Type 0
+HasU64s reply = HasU64sAnd IsU64 reply
+
+-- read: the command that a line spells, if any; text: the text of a reply
+module _ {C R : Type 0} (read : List ℕ → Option C) (text : R → List ℕ) where
   -- the line is no longer than a line that is read, and spells the command
-  abbrev pub IsSpelled : List (Form C) → List ℕ → C → Type 0
-  IsSpelled forms line command = IsOneLine line × (length line ≤ MAX_LINE_LEN) × (command_of forms line ≡ Some command)
+  abbrev pub IsRead : List ℕ → C → Type 0
+  IsRead line command = IsOneLine line × (length line ≤ MAX_LINE_LEN) × (read line ≡ Some command)
 
   -- each line spells the command beside it
-  abbrev pub AreSpelled : List (Form C) → List (List ℕ) → List C → Type 0
-  AreSpelled forms [] [] = ⊤
-  AreSpelled forms (line ∷ lines) (command ∷ commands) = IsSpelled forms line command × AreSpelled forms lines commands
-  AreSpelled forms lines commands = ⊥
+  abbrev pub AreRead : List (List ℕ) → List C → Type 0
+  AreRead [] [] = ⊤
+  AreRead (line ∷ lines) (command ∷ commands) = IsRead line command × AreRead lines commands
+  AreRead lines commands = ⊥
 
   -- the replies to a header, and to lines that spell commands, are `ready` and the replies of their run, each on a line
-  abbrev pub IsRun : {M : Type 0} → List (Form C) → (M → C → Reply ℕ ℕ) → (M → C → M) → Container → Storage → M → Type 0
-  IsRun forms reply after container storage model =
-      IsStorage storage → (lines : List (List ℕ)) (commands : List C) → AreSpelled forms lines commands
-      → replies_to (text_of_lines (header_line container storage ∷ lines)) ≡ text_of_lines (codes "ready" ∷ map reply_text (run_replies reply after model commands))
+  abbrev pub IsRunBy : {M : Type 0} → (M → C → R) → (M → C → M) → Container → Storage → M → Type 0
+  IsRunBy reply after container storage model =
+      IsStorage storage → IsStart container → (lines : List (List ℕ)) (commands : List C) → AreRead lines commands
+      → replies_to (text_of_lines (header_line container storage ∷ lines)) ≡ text_of_lines (codes "ready" ∷ map text (run_replies reply after model commands))
+
+-- the same by a table of forms
+abbrev pub IsRun : {C M : Type 0} → List (Form C) → (M → C → Reply ℕ ℕ) → (M → C → M) → Container → Storage → M → Type 0
+IsRun forms reply after container storage model = IsRunBy (command_of forms) reply_text reply after container storage model

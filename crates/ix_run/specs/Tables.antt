@@ -14,6 +14,13 @@ use Rattle.ix_run.specs.declared.run.readers.vectors.VecName.{VecName}
 use Rattle.ix_run.specs.declared.run.readers.vectors.VecName.TheVariants as vec_name
 use Rattle.ix_run.specs.declared.run.readers.strings.TextName.{TextName}
 use Rattle.ix_run.specs.declared.run.readers.strings.TextName.TheVariants as text_name
+use Rattle.ix_commands.specs.declared.command.TableCommand.{TableCommand}
+use Rattle.ix_commands.specs.declared.command.TableCommand.TheVariants as table
+use Rattle.ix_maps.specs.Generations.{SlotKey}
+use Rattle.ix_run.specs.declared.run.readers.slot_maps.PlainName.{PlainName}
+use Rattle.ix_run.specs.declared.run.readers.slot_maps.PlainName.TheVariants as plain_name
+use Rattle.ix_run.specs.declared.run.readers.slot_maps.KeyName.{KeyName}
+use Rattle.ix_run.specs.declared.run.readers.slot_maps.KeyName.TheVariants as key_name
 use Rattle.ix_commands.specs.declared.command.SlotCommand.{SlotCommand}
 use Rattle.ix_commands.specs.declared.command.SlotCommand.TheVariants as slot
 use Rattle.ix_commands.specs.declared.command.FlatCommand.{FlatCommand}
@@ -61,16 +68,35 @@ queue_with (queue.Set old) n = queue.Set n
 queue_with (queue.At old) n = queue.At n
 queue_with other n = other
 
--- a slot map's command, with these numbers
-abbrev pub slot_with : SlotCommand ℕ → ℕ → ℕ → SlotCommand ℕ
-slot_with (slot.Insert old) n m = slot.Insert n
-slot_with (slot.InsertAt key old) n m = slot.InsertAt n m
-slot_with (slot.Remove old) n m = slot.Remove n
-slot_with (slot.Get old) n m = slot.Get n
-slot_with (slot.Set key old) n m = slot.Set n m
-slot_with (slot.Contains old) n m = slot.Contains n
-slot_with (slot.From old) n m = slot.From n
-slot_with other n m = other
+-- a slot table's command, with these numbers
+abbrev pub table_with : TableCommand ℕ → ℕ → ℕ → TableCommand ℕ
+table_with (table.Insert old) n m = table.Insert n
+table_with (table.InsertAt key old) n m = table.InsertAt n m
+table_with (table.Remove old) n m = table.Remove n
+table_with (table.Get old) n m = table.Get n
+table_with (table.Set key old) n m = table.Set n m
+table_with (table.Contains old) n m = table.Contains n
+table_with (table.From old) n m = table.From n
+table_with other n m = other
+
+-- the command of a slot map with this name, of these numbers
+abbrev pub slot_named : PlainName → ℕ → ℕ → SlotCommand ℕ
+slot_named plain_name.Insert n m = slot.Insert n
+slot_named plain_name.Next n m = slot.Next
+slot_named plain_name.InsertAt n m = slot.InsertAt n m
+slot_named plain_name.From n m = slot.From n
+slot_named plain_name.Retired n m = slot.Retired
+slot_named plain_name.Len n m = slot.Len
+slot_named plain_name.Capacity n m = slot.Capacity
+slot_named plain_name.Empty n m = slot.Empty
+slot_named plain_name.Full n m = slot.Full
+
+-- the command of a slot map with this name, of this key and this number
+abbrev pub slot_key_named : KeyName → SlotKey → ℕ → SlotCommand ℕ
+slot_key_named key_name.Remove key n = slot.Remove key
+slot_key_named key_name.Get key n = slot.Get key
+slot_key_named key_name.Set key n = slot.Set key n
+slot_key_named key_name.Contains key n = slot.Contains key
 
 -- a flat map's command, with these numbers
 abbrev pub flat_with : FlatCommand ℕ ℕ → ℕ → ℕ → FlatCommand ℕ ℕ

@@ -28,6 +28,7 @@ mod served;
 mod session;
 mod slot_lines;
 mod spelling;
+mod table_lines;
 mod tables;
 mod text_lines;
 mod vec_lines;
@@ -36,13 +37,14 @@ mod words;
 pub use fault::{ScriptFault, exit_status, fault_line};
 pub use header::{Container, FixedCapacity, Header, Storage, read_header};
 pub use ix_commands::{
-    FlatCommand, QueueCommand, Reply, ReplyError, Runs, SlotCommand, TextCommand, VecCommand,
-    run_all, run_flat, run_queue, run_slot, run_text, run_vec,
+    FlatCommand, QueueCommand, Reply, ReplyError, Runs, SlotCommand, TableCommand, TextCommand,
+    VecCommand, dead_law, run_all, run_flat, run_queue, run_slot, run_table, run_text, run_vec,
 };
 pub use laws::{line_law, reply_law, script_law};
 pub use limits::{MAX_CAPACITY, MAX_LINE_LEN, MAX_NUMBERS};
 pub use readers::{
-    read_flat_command, read_queue_command, read_slot_command, read_text_command, read_vec_command,
+    read_flat_command, read_queue_command, read_slot_command, read_table_command,
+    read_text_command, read_vec_command,
 };
 pub use reading::read_number;
 pub use scripts::script;

@@ -4,3 +4,4 @@ pub mod Matches
 pub mod Nul
 pub mod Retaining
 pub mod Texts
+mod WorkedTexts

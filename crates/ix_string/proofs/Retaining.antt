@@ -1,5 +1,5 @@
 -- Lemmas on a closure that is called at the items from the last to the first.
-use Rattle.std.proofs.Common.{ℕ, ◌≡◌, ◌+◌, ◌<◌, ◌≤◌, ◌∙◌, length, take, drop, set, get_or, arith, List, [], ◌∷◌, ◌++◌, Bool, true, false, refl, subst, sym, ap}
+use Rattle.std.proofs.Common.{ℕ, ◌≡◌, ◌+◌, ◌-◌, ◌<◌, ◌≤◌, ◌∙◌, length, take, drop, set, get_or, arith, List, [], ◌∷◌, ◌++◌, Bool, true, false, refl, subst, sym, ap}
 use Rattle.std.specs.Prelude.{reverse, map, not, if◌then◌else◌}
 use Rattle.std.specs.List.{All, items_where_true}
 use Rattle.std.proofs.lemmas.List.{reverse-append, take-take, get_or-take, drop-set, drop_more}
@@ -48,6 +48,17 @@ module _ {X : Type 0} where
   -- an item is written before the last ones
   pub drop-put : (row : List X) (s t : ℕ) (x : X) → t ≡ s + 1 → t ≤ length row → drop s (set row s x) ≡ x ∷ drop t row
   drop-put row s t x next le = rw next (drop-set row s x (omega arith))
+
+  -- one more call, at the item before index n, which the row still has there
+  pub Retains-back : {F : Type 0} (step : F → X → Bool → F → Type 0) (f : F) (row old : List X) (n : ℕ) (d : X) (results : List Bool) (g : F) (b : Bool) (h : F)
+      → 0 < n → n ≤ length old → take n row ≡ take n old → ResultsAt step f (reverse (drop n old)) results g → step g (get_or row (n - 1) d) b h
+      → (more : List Bool) × ResultsAt step f (reverse (drop (n - 1) old)) more h
+      × ((if b then retained_items results (drop n old) else get_or row (n - 1) d ∷ retained_items results (drop n old)) ≡ retained_items more (drop (n - 1) old))
+  Retains-back step f row old n d results g b h some within front calls called =
+      let i = n - 1 in
+      let behind : drop i old ≡ get_or row i d ∷ drop n old =
+      drop-last old i n d (omega arith) within ∙ ap (λ (x : X). x ∷ drop n old) (sym (get_or-front row old i n d (omega arith) front)) in
+      rw behind (Retains-more step f (get_or row i d) (drop n old) (retained_items results (drop n old)) results g b h calls refl called)
 
   -- what holds of all items holds of those that are kept
   All-items_where_true : (P : X → Type 0) (results : List Bool) (xs : List X) → All P xs → All P (items_where_true (map not results) xs)

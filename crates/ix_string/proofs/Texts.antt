@@ -1,7 +1,8 @@
 -- Lemmas on texts.
 use Rattle.std.proofs.Common.{ℕ, ◌≡◌, ◌+◌, ◌-◌, ◌≤◌, List, ◌++◌, length, take, drop, ap, sym, ◌∙◌, arith, rules}
 use Rattle.std.proofs.lemmas.Grind.{common_steps}
-use Rattle.std.proofs.lemmas.List.{take_at, drop-replicate}
+use native.Mathlib.Numerals.{unary_clauses}
+use Rattle.std.proofs.lemmas.List.{take_at, drop-replicate, replicate-append-replicate}
 use Rattle.std.proofs.lemmas.List.Elements.{All-append, All-take, All-drop}
 use Rattle.std.proofs.Math.Seq.{drop-append-add}
 use Rattle.std.specs.Prelude.{replicate}
@@ -55,6 +56,16 @@ IsPadded-from_text capacity count text cells parts counted within is =
       text = rw front is;
       zeros = rw (front, counted) parts;
     }
+
+-- a shorter text, and zeros where the last n bytes of the longer one were
+pub IsPadded-shortened : (capacity count n : ℕ) (cells text row : List ℕ) → IsPadded capacity count cells → n ≤ count → length text ≡ count - n → IsText text
+    → row ≡ text ++ (replicate n 0 ++ drop count cells) → IsPadded capacity (count - n) row
+IsPadded-shortened capacity count n cells text row was le shorter is parts =
+    let within = was.within in
+    let zeros : drop count cells ≡ replicate (capacity - count) 0 = simp unary_clauses at (drop-IsPadded capacity count cells 0 was) in
+    let sum : n + (capacity - count) ≡ capacity - (count - n) = omega arith in
+    let more : replicate {A = ℕ} n 0 ++ replicate {A = ℕ} (capacity - count) 0 ≡ replicate (capacity - (count - n)) 0 = replicate-append-replicate n (capacity - count) 0 ∙ ap (λ (k : ℕ). replicate {A = ℕ} k 0) sum in
+    IsPadded-from_text capacity (count - n) text row (rw (parts, zeros, more)) shorter (omega arith) is
 
 -- the test for a text
 pub is_text-yes : (bytes : List ℕ) → IsText bytes → is_text bytes ≡ true

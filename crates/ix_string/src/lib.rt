@@ -17,7 +17,7 @@
 pub mod string;
 
 pub use string::{
-    HeapString, HeapStringKind, Polymorphic, PolymorphicString, Relocatable, RelocatableString,
-    StaticString, String, StringFamily, StringModificationError, UninitString, as_escaped_string,
-    strnlen,
+    EscapedByte, HeapString, HeapStringKind, Polymorphic, PolymorphicString, Relocatable,
+    RelocatableString, StaticString, String, StringFamily, StringModificationError, UninitString,
+    as_escaped_string, escape_byte, strnlen,
 };

@@ -22,7 +22,7 @@ mod string_trait;
 mod uninit_string;
 mod vector_text;
 
-pub use escape::as_escaped_string;
+pub use escape::{EscapedByte, as_escaped_string, escape_byte};
 pub use heap_string::HeapString;
 pub use heap_string_kind::{HeapStringKind, Polymorphic, Relocatable};
 pub use modification_error::StringModificationError;

@@ -3,7 +3,7 @@ use ix_cells::RelocatableContainer;
 use ix_expect::Findings;
 use ix_string::{
     PolymorphicString, StaticString, String, StringModificationError, UninitString,
-    as_escaped_string,
+    as_escaped_string, escape_byte,
 };
 use std::alloc::{AllocError, Global};
 use std::test::Fail;
@@ -24,6 +24,22 @@ const ESCAPED: &[(&[u8], &str)] = &[
     (&[], ""),
 ];
 
+/// A byte, and the text that it is printed as.
+const ESCAPED_BYTES: &[(u8, &str)] = &[
+    (97, "a"),
+    (9, "\\t"),
+    (13, "\\r"),
+    (10, "\\n"),
+    (1, "\\x01"),
+    (31, "\\x1f"),
+    (32, " "),
+    (34, "\""),
+    (92, "\\"),
+    (127, "\u{7f}"),
+    (128, "\\x80"),
+    (255, "\\xff"),
+];
+
 fn check_text(findings: &Findings, made: Result<std::string::String, AllocError>, wanted: &str) {
     match made {
         Ok(text) => findings.expect_same(text.as_str(), wanted, "a text"),
@@ -36,6 +52,17 @@ fn escaped_bytes(rt: HostRuntime) -> Result<(), Fail> {
     let findings = Findings::new();
     for (bytes, text) in ESCAPED {
         check_text(&findings, as_escaped_string(rt.alloc(), bytes), text);
+    }
+    findings.verdict()
+}
+
+#[test]
+fn each_byte_escaped(rt: HostRuntime) -> Result<(), Fail> {
+    let findings = Findings::new();
+    for (byte, text) in ESCAPED_BYTES {
+        let escaped = escape_byte(*byte);
+        findings.expect_same(escaped.as_str(), text, "the text of a byte");
+        check_text(&findings, format!(in rt.alloc(); "{}", escaped), text);
     }
     findings.verdict()
 }

@@ -1,9 +1,11 @@
 //! Lines of each container that are just a command, and others that just are none.
 use crate::reading_tests::check_reading;
 use ix_expect::Findings;
+use ix_maps::SlotMapKey;
 use ix_run::run::{
-    FlatCommand, MAX_LINE_LEN, MAX_NUMBERS, QueueCommand, SlotCommand, TextCommand, VecCommand,
-    read_flat_command, read_queue_command, read_slot_command, read_text_command, read_vec_command,
+    FlatCommand, MAX_LINE_LEN, MAX_NUMBERS, QueueCommand, SlotCommand, TableCommand, TextCommand,
+    VecCommand, read_flat_command, read_queue_command, read_slot_command, read_table_command,
+    read_text_command, read_vec_command,
 };
 use std::test::Fail;
 
@@ -64,25 +66,28 @@ fn queue_lines() -> Result<(), Fail> {
     )
 }
 
-const SLOT_LINES: &[(&str, SlotCommand<u64>)] = &[
-    ("insert 18446744073709551615", SlotCommand::Insert(u64::MAX)),
-    ("next", SlotCommand::Next),
+const TABLE_LINES: &[(&str, TableCommand<u64>)] = &[
+    (
+        "insert 18446744073709551615",
+        TableCommand::Insert(u64::MAX),
+    ),
+    ("next", TableCommand::Next),
     (
         "insert_at 18446744073709551615 2",
-        SlotCommand::InsertAt(usize::MAX, 2),
+        TableCommand::InsertAt(usize::MAX, 2),
     ),
-    ("remove 0", SlotCommand::Remove(0)),
-    ("get 1", SlotCommand::Get(1)),
-    ("set 2 3", SlotCommand::Set(2, 3)),
-    ("contains 4", SlotCommand::Contains(4)),
-    ("from 5", SlotCommand::From(5)),
-    ("len", SlotCommand::Len),
-    ("capacity", SlotCommand::Capacity),
-    ("empty", SlotCommand::Empty),
-    ("full", SlotCommand::Full),
+    ("remove 0", TableCommand::Remove(0)),
+    ("get 1", TableCommand::Get(1)),
+    ("set 2 3", TableCommand::Set(2, 3)),
+    ("contains 4", TableCommand::Contains(4)),
+    ("from 5", TableCommand::From(5)),
+    ("len", TableCommand::Len),
+    ("capacity", TableCommand::Capacity),
+    ("empty", TableCommand::Empty),
+    ("full", TableCommand::Full),
 ];
 
-const NO_SLOT_LINES: &[&str] = &[
+const NO_TABLE_LINES: &[&str] = &[
     "",
     "insert",
     "insert 1 2",
@@ -105,11 +110,92 @@ const NO_SLOT_LINES: &[&str] = &[
 ];
 
 #[test]
+fn table_lines() -> Result<(), Fail> {
+    check_reading(
+        |text: &[u8]| read_table_command(text),
+        TABLE_LINES,
+        NO_TABLE_LINES,
+    )
+}
+
+const NO_SLOT_MAP_LINES: &[&str] = &[
+    "",
+    "get 0",
+    "get 0:",
+    "get :0",
+    "get 0:00",
+    "get 0:4294967296",
+    "get 0: 0",
+    "insert_at 0:0 1",
+    "get",
+    "get ",
+    "get 0:0 1",
+    "get 00:0",
+    "get 0:0:0",
+    "get 0::0",
+    "get :",
+    "get 0:0 ",
+    "get  0:0",
+    "get +0:0",
+    "set 0:0",
+    "set 0:0 01",
+    "set 0 0 1",
+    "remove 0 0",
+    "insert 0:0",
+    "from 0:0",
+    "next 0:0",
+    "gets 0:0",
+    "Get 0:0",
+    " get 0:0",
+    "slot fixed 3",
+    "retired 0",
+    "insert",
+    "insert 1 2",
+    "insert_at 1",
+    "insert_at 1 2 3",
+    "remove",
+    "contains 1",
+    "pop",
+    "show",
+    "clear",
+];
+
+#[test]
 fn slot_lines() -> Result<(), Fail> {
+    let first = SlotMapKey::new(0, 0);
+    let last = SlotMapKey::new(usize::MAX, u32::MAX);
+    let lines = [
+        ("insert 18446744073709551615", SlotCommand::Insert(u64::MAX)),
+        ("next", SlotCommand::Next),
+        (
+            "insert_at 18446744073709551615 2",
+            SlotCommand::InsertAt(usize::MAX, 2),
+        ),
+        ("remove 0:0", SlotCommand::Remove(first)),
+        (
+            "get 18446744073709551615:4294967295",
+            SlotCommand::Get(last),
+        ),
+        ("set 0:0 3", SlotCommand::Set(first, 3)),
+        (
+            "set 18446744073709551615:4294967295 18446744073709551615",
+            SlotCommand::Set(last, u64::MAX),
+        ),
+        (
+            "contains 12:34",
+            SlotCommand::Contains(SlotMapKey::new(12, 34)),
+        ),
+        ("from 5", SlotCommand::From(5)),
+        ("retired", SlotCommand::Retired),
+        ("len", SlotCommand::Len),
+        ("capacity", SlotCommand::Capacity),
+        ("empty", SlotCommand::Empty),
+        ("full", SlotCommand::Full),
+    ];
     check_reading(
         |text: &[u8]| read_slot_command(text),
-        SLOT_LINES,
-        NO_SLOT_LINES,
+        &lines,
+        NO_SLOT_MAP_LINES,
     )
 }
 

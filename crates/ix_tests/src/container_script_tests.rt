@@ -9,11 +9,11 @@ type Example = (&'static [u8], &'static [u8]);
 
 const WORKED: &[Example] = &[
     (
-        b"slot heap 3\ninsert 10\ninsert 20\nremove 0\nnext\ninsert 30\ninsert_at 2 40\ninsert 50\nshow",
+        b"table heap 3\ninsert 10\ninsert 20\nremove 0\nnext\ninsert 30\ninsert_at 2 40\ninsert 50\nshow",
         b"ready\nsome 0\nsome 1\nsome 10\nsome 0\nsome 0\ntrue\nnone\n0=30 1=20 2=40\n",
     ),
     (
-        b"slot arena 3\ninsert 10\ninsert 20\nremove 0\nnext\ninsert 30\ninsert_at 2 40\ninsert 50\nshow",
+        b"table arena 3\ninsert 10\ninsert 20\nremove 0\nnext\ninsert 30\ninsert_at 2 40\ninsert 50\nshow",
         b"ready\nsome 0\nsome 1\nsome 10\nsome 0\nsome 0\ntrue\nnone\n0=30 1=20 2=40\n",
     ),
     (
@@ -65,11 +65,11 @@ const WORKED: &[Example] = &[
         b"?\nready\n1000\n",
     ),
     (
-        b"slot heap 1001\nslot heap 1000\ncapacity",
+        b"table heap 1001\ntable heap 1000\ncapacity",
         b"?\nready\n1000\n",
     ),
     (
-        b"slot arena 1001\nslot arena 1000\ncapacity",
+        b"table arena 1001\ntable arena 1000\ncapacity",
         b"?\nready\n1000\n",
     ),
     (
@@ -88,7 +88,39 @@ const WORKED: &[Example] = &[
         b"text arena 1001\ntext arena 1000\ncapacity",
         b"?\nready\n1000\n",
     ),
-    (b"slot fixed 8", b"ready\n"),
+    (
+        b"slot heap 2 at 4294967295\ninsert 7\nremove 0:4294967295\ninsert 8\ninsert 9\nretired\nfull\nshow",
+        b"ready\nsome 0:4294967295\nsome 7\nsome 1:4294967295\nnone\n1\ntrue\n1:4294967295=8\n",
+    ),
+    (
+        b"slot arena 2 at 4294967295\ninsert 7\nremove 0:4294967295\ninsert 8\ninsert 9\nretired\nfull\nshow",
+        b"ready\nsome 0:4294967295\nsome 7\nsome 1:4294967295\nnone\n1\ntrue\n1:4294967295=8\n",
+    ),
+    (
+        b"slot fixed 3\ninsert 10\nremove 0:0\ninsert 20\nget 0:0\nget 0:1\ninsert_at 0 30\nget 0:1\nremove 0:2\nnext\nshow",
+        b"ready\nsome 0:0\nsome 10\nsome 0:1\nnone\nsome 20\nsome 0:2\nnone\nsome 30\nsome 0:3\n-\n",
+    ),
+    (
+        b"slot heap 3\ninsert 10\nremove 0:0\ninsert 20\nget 0:0\nget 0:1\ninsert_at 0 30\nget 0:1\nremove 0:2\nnext\nshow",
+        b"ready\nsome 0:0\nsome 10\nsome 0:1\nnone\nsome 20\nsome 0:2\nnone\nsome 30\nsome 0:3\n-\n",
+    ),
+    (
+        b"slot arena 3\ninsert 10\nremove 0:0\ninsert 20\nget 0:0\nget 0:1\ninsert_at 0 30\nget 0:1\nremove 0:2\nnext\nshow",
+        b"ready\nsome 0:0\nsome 10\nsome 0:1\nnone\nsome 20\nsome 0:2\nnone\nsome 30\nsome 0:3\n-\n",
+    ),
+    (
+        b"slot fixed 3 at\nslot fixed 3 at 4294967296\nslot fixed 3  at 1\nqueue fixed 3 at 1\nslot fixed 3 at 0\nnext\nslot fixed 3 at 1",
+        b"?\n?\n?\n?\nready\nsome 0:0\n?\n",
+    ),
+    (
+        b"slot heap 1001\nslot heap 1000\ncapacity\nretired",
+        b"?\nready\n1000\n0\n",
+    ),
+    (
+        b"slot arena 1001 at 5\nslot arena 1000 at 5\ncapacity\nnext",
+        b"?\nready\n1000\nsome 0:5\n",
+    ),
+    (b"table fixed 8", b"ready\n"),
     (b"\nvec arena 0", b"?\nready\n"),
     (
         b"vec fixed 01\nvec fixed\nvec  fixed 1\nvec fixed 1 \nvec heap 1 1\nVec heap 1\nvec heap 1\n",
@@ -122,7 +154,7 @@ const ROWS: &[Row] = &[
         b"ok\nok\nerror OutOfBounds\nok\nerror InsertWouldExceedCapacity\nerror InsertWouldExceedCapacity\nerror InsertWouldExceedCapacity\ntrue\n3\n5 1 8\nsome 1\nnone\ntrue\nfalse\n5 4 8\nsome 5\nnone\nerror InsertWouldExceedCapacity\nok\nok\n4 8 6\nok\n4\nok\n4 9 9\nerror InsertWouldExceedCapacity\nok\nok\nsome 9\n4\n3\nfalse\nok\ntrue\nnone\nnone\n-\n?\n?\n",
     ),
     (
-        b"slot",
+        b"table",
         b"3",
         b"next\ninsert 10\ninsert 20\nget 1\nget 2\nget 3\ncontains 0\ncontains 2\nset 1 21\nset 2 1\ninsert_at 2 40\ninsert_at 3 1\nfull\nnext\ninsert 50\nshow\nremove 1\nremove 1\nremove 9\nnext\nfrom 1\nfrom 0\nfrom 3\nlen\ncapacity\nempty\ninsert 7\ninsert_at 0 11\nshow\nremove 0\nremove 1\nremove 2\nempty\nshow\ninsert 1\nclear\n",
         b"some 0\nsome 0\nsome 1\nsome 20\nnone\nnone\ntrue\nfalse\ntrue\nfalse\ntrue\nfalse\ntrue\nnone\nnone\n0=10 1=21 2=40\nsome 21\nnone\nnone\nsome 1\nsome 2 40\nsome 0 10\nnone\n2\n3\nfalse\nsome 1\ntrue\n0=11 1=7 2=40\nsome 11\nsome 7\nsome 40\ntrue\n-\nsome 2\n?\n",
@@ -152,7 +184,7 @@ const ROWS: &[Row] = &[
         b"error InsertWouldExceedCapacity\nok\n-\ntrue\ntrue\nok\nerror InsertWouldExceedCapacity\n",
     ),
     (
-        b"slot",
+        b"table",
         b"0",
         b"insert 1\nnext\ninsert_at 0 1\nget 0\nfull\nempty\nshow\nfrom 0\n",
         b"none\nnone\nfalse\nnone\ntrue\ntrue\n-\nnone\n",
@@ -182,10 +214,40 @@ const ROWS: &[Row] = &[
         b"ok\nsome 18446744073709551615\nsome 0\n18446744073709551615\n",
     ),
     (
-        b"slot",
+        b"table",
         b"1",
         b"insert_at 18446744073709551615 1\nget 18446744073709551615\nfrom 18446744073709551615\nremove 18446744073709551615\n",
         b"false\nnone\nnone\nnone\n",
+    ),
+    (
+        b"slot",
+        b"3",
+        b"next\ninsert 10\ninsert 20\nget 1:0\nget 1:1\nget 2:0\nget 3:0\ncontains 0:0\ncontains 0:1\ncontains 2:0\nset 1:0 21\nset 1:1 5\nset 2:0 1\ninsert_at 2 40\ninsert_at 2 41\ninsert_at 3 1\nget 2:0\nget 2:1\nfull\nnext\ninsert 50\nshow\nremove 1:1\nremove 1:0\nremove 1:0\nremove 9:0\nnext\nfrom 1\nfrom 0\nfrom 3\nlen\ncapacity\nretired\nempty\nfull\ninsert 7\ninsert_at 0 11\nshow\nremove 0:1\nremove 1:1\nremove 2:1\nempty\nshow\ninsert 1\nclear\n",
+        b"some 0:0\nsome 0:0\nsome 1:0\nsome 20\nnone\nnone\nnone\ntrue\nfalse\nfalse\ntrue\nfalse\nfalse\nsome 2:0\nsome 2:1\nnone\nnone\nsome 41\ntrue\nnone\nnone\n0:0=10 1:0=21 2:1=41\nnone\nsome 21\nnone\nnone\nsome 1:1\nsome 2:1 41\nsome 0:0 10\nnone\n2\n3\n0\nfalse\nfalse\nsome 1:1\nsome 0:1\n0:1=11 1:1=7 2:1=41\nsome 11\nsome 7\nsome 41\ntrue\n-\nsome 2:2\n?\n",
+    ),
+    (
+        b"slot",
+        b"1 at 4294967294",
+        b"insert 5\ninsert_at 0 6\ninsert_at 0 7\nget 0:4294967295\nremove 0:4294967294\nshow\nremove 0:4294967295\nretired\nlen\nempty\nfull\nnext\ninsert 8\ninsert_at 0 8\nget 0:4294967295\ncontains 0:4294967295\nset 0:4294967295 1\nfrom 0\nshow\ncapacity\n",
+        b"some 0:4294967294\nsome 0:4294967295\nnone\nsome 6\nnone\n0:4294967295=6\nsome 6\n1\n0\ntrue\ntrue\nnone\nnone\nnone\nnone\nfalse\nfalse\nnone\n-\n1\n",
+    ),
+    (
+        b"slot",
+        b"0 at 7",
+        b"insert 1\nnext\ninsert_at 0 1\nget 0:0\nfull\nempty\nretired\nshow\nfrom 0\n",
+        b"none\nnone\nnone\nnone\ntrue\ntrue\n0\n-\nnone\n",
+    ),
+    (
+        b"slot",
+        b"1",
+        b"insert_at 18446744073709551615 1\nget 18446744073709551615:4294967295\nget 18446744073709551616:0\nfrom 18446744073709551615\nremove 18446744073709551615:0\ninsert 18446744073709551615\nfrom 0\nshow\n",
+        b"none\nnone\n?\nnone\nnone\nsome 0:0\nsome 0:0 18446744073709551615\n0:0=18446744073709551615\n",
+    ),
+    (
+        b"slot",
+        b"3",
+        b"get 0\nget 0:\nget :0\nget 0:00\nget 0:4294967296\nget 0: 0\ninsert_at 0:0 1\nget\nget \nget 0:0 1\nget 00:0\nget 0:0:0\nget 0::0\nget :\nget 0:0 \nget  0:0\nget +0:0\nset 0:0\nset 0:0 01\nset 0 0 1\nremove 0 0\ninsert 0:0\nfrom 0:0\nnext 0:0\ngets 0:0\nGet 0:0\n get 0:0\nslot fixed 3\nretired 0\nlen\n",
+        b"?\n?\n?\n?\n?\n?\n?\n?\n?\n?\n?\n?\n?\n?\n?\n?\n?\n?\n?\n?\n?\n?\n?\n?\n?\n?\n?\n?\n?\n0\n",
     ),
 ];
 

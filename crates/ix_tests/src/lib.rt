@@ -18,6 +18,8 @@ mod run_tests;
 #[cfg(test)]
 mod script_tests;
 #[cfg(test)]
+mod slot_run_tests;
+#[cfg(test)]
 mod slow_queue;
 #[cfg(test)]
 mod text_run_tests;

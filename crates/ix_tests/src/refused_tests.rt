@@ -65,6 +65,26 @@ fn vectors(rt: HostRuntime) -> Result<(), Fail> {
 }
 
 #[test]
+fn slot_tables(rt: HostRuntime) -> Result<(), Fail> {
+    let findings = Findings::new();
+    check(
+        &findings,
+        rt.alloc(),
+        b"x\ntable heap 3\nlen\n",
+        LONG_OUTPUT,
+        0,
+    );
+    check(
+        &findings,
+        rt.alloc(),
+        b"x\ntable arena 3\nlen\n",
+        LONG_OUTPUT,
+        1,
+    );
+    findings.verdict()
+}
+
+#[test]
 fn slot_maps(rt: HostRuntime) -> Result<(), Fail> {
     let findings = Findings::new();
     check(
@@ -77,7 +97,7 @@ fn slot_maps(rt: HostRuntime) -> Result<(), Fail> {
     check(
         &findings,
         rt.alloc(),
-        b"x\nslot arena 3\nlen\n",
+        b"x\nslot arena 3 at 5\nlen\n",
         LONG_OUTPUT,
         1,
     );

@@ -1,14 +1,14 @@
-//! Lists of commands, run on queues, vectors, slot maps and flat maps of every kind.
+//! Lists of commands, run on queues, vectors, slot tables and flat maps of every kind.
 use bumpalo::Bump;
 use ix_cells::{PolymorphicVec, RelocatableContainer, StaticVec, Table, UninitVec, Vector};
 use ix_expect::Findings;
 use ix_maps::{
-    FixedSizeFlatMap, FixedSizeQueue, FixedSizeSlotMap, FlatMap, Link, MetaFlatMap, MetaQueue,
-    MetaSlotMap, Pair, Queue, SlotMap, UninitFlatMap, UninitQueue, UninitSlotMap,
+    FixedSizeFlatMap, FixedSizeQueue, FixedSizeSlotTable, FlatMap, Link, MetaFlatMap, MetaQueue,
+    MetaSlotTable, Pair, Queue, SlotTable, UninitFlatMap, UninitQueue, UninitSlotTable,
 };
 use ix_run::run::ReplyError::{InsertWouldExceedCapacity, IsFull, KeyAlreadyExists, OutOfBounds};
 use ix_run::run::{
-    FlatCommand, QueueCommand, Reply, SlotCommand, VecCommand, run_flat, run_queue, run_slot,
+    FlatCommand, QueueCommand, Reply, TableCommand, VecCommand, run_flat, run_queue, run_table,
     run_vec,
 };
 use std::alloc::{AllocError, Global};
@@ -16,7 +16,7 @@ use std::fmt::Debug;
 use std::test::Fail;
 
 /// Notes each reply that is not the expected one.
-fn expect_replies<K: Copy + PartialEq + Debug, X: Copy + PartialEq + Debug>(
+pub(crate) fn expect_replies<K: Copy + PartialEq + Debug, X: Copy + PartialEq + Debug>(
     findings: &Findings,
     found: Result<Vec<Reply<K, X>>, AllocError>,
     expected: &[Reply<K, X>],
@@ -152,34 +152,34 @@ fn vectors(rt: HostRuntime) -> Result<(), Fail> {
     findings.verdict()
 }
 
-/// Commands of a slot map of capacity 3.
-const SLOT_COMMANDS: &[SlotCommand<u64>] = &[
-    SlotCommand::Insert(10),
-    SlotCommand::Insert(20),
-    SlotCommand::Remove(0),
-    SlotCommand::Next,
-    SlotCommand::From(0),
-    SlotCommand::Insert(30),
-    SlotCommand::InsertAt(2, 40),
-    SlotCommand::Insert(50),
-    SlotCommand::InsertAt(3, 50),
-    SlotCommand::Full,
-    SlotCommand::From(2),
-    SlotCommand::From(3),
-    SlotCommand::Set(1, 21),
-    SlotCommand::Get(1),
-    SlotCommand::Remove(1),
-    SlotCommand::Remove(1),
-    SlotCommand::Set(1, 22),
-    SlotCommand::Get(1),
-    SlotCommand::Contains(1),
-    SlotCommand::Contains(2),
-    SlotCommand::Len,
-    SlotCommand::Capacity,
-    SlotCommand::Empty,
+/// Commands of a slot table of capacity 3.
+const TABLE_COMMANDS: &[TableCommand<u64>] = &[
+    TableCommand::Insert(10),
+    TableCommand::Insert(20),
+    TableCommand::Remove(0),
+    TableCommand::Next,
+    TableCommand::From(0),
+    TableCommand::Insert(30),
+    TableCommand::InsertAt(2, 40),
+    TableCommand::Insert(50),
+    TableCommand::InsertAt(3, 50),
+    TableCommand::Full,
+    TableCommand::From(2),
+    TableCommand::From(3),
+    TableCommand::Set(1, 21),
+    TableCommand::Get(1),
+    TableCommand::Remove(1),
+    TableCommand::Remove(1),
+    TableCommand::Set(1, 22),
+    TableCommand::Get(1),
+    TableCommand::Contains(1),
+    TableCommand::Contains(2),
+    TableCommand::Len,
+    TableCommand::Capacity,
+    TableCommand::Empty,
 ];
 
-const SLOT_REPLIES: &[Reply<usize, u64>] = &[
+const TABLE_REPLIES: &[Reply<usize, u64>] = &[
     Reply::Key(0),
     Reply::Key(1),
     Reply::Value(10),
@@ -208,25 +208,25 @@ const SLOT_REPLIES: &[Reply<usize, u64>] = &[
 fn check_slots<S: Table<u64>, L: Table<Link>>(
     findings: &Findings,
     alloc: Global,
-    slots: &mut MetaSlotMap<u64, S, L>,
+    slots: &mut MetaSlotTable<u64, S, L>,
     kind: &str,
 ) {
-    let found = run_slot(alloc, slots, SLOT_COMMANDS);
-    expect_replies(findings, found, SLOT_REPLIES, kind);
+    let found = run_table(alloc, slots, TABLE_COMMANDS);
+    expect_replies(findings, found, TABLE_REPLIES, kind);
 }
 
 #[test]
-fn slot_maps(rt: HostRuntime) -> Result<(), Fail> {
+fn slot_tables(rt: HostRuntime) -> Result<(), Fail> {
     let findings = Findings::new();
     let alloc = rt.alloc();
-    let mut fixed = FixedSizeSlotMap::<u64, 3>::new();
-    check_slots(&findings, alloc, &mut fixed, "fixed slot map");
-    let mut allocated = SlotMap::<u64>::new(alloc, 3).expect(&rt, "an allocated slot map");
-    check_slots(&findings, alloc, &mut allocated, "allocated slot map");
+    let mut fixed = FixedSizeSlotTable::<u64, 3>::new();
+    check_slots(&findings, alloc, &mut fixed, "fixed slot table");
+    let mut allocated = SlotTable::<u64>::new(alloc, 3).expect(&rt, "an allocated slot table");
+    check_slots(&findings, alloc, &mut allocated, "allocated slot table");
     let bump = Bump::new(alloc);
-    let uninit = UninitSlotMap::<u64>::new_uninit(3);
-    let mut slots = uninit.init(&bump).expect(&rt, "a slot map in an arena");
-    check_slots(&findings, alloc, &mut slots, "relocatable slot map");
+    let uninit = UninitSlotTable::<u64>::new_uninit(3);
+    let mut slots = uninit.init(&bump).expect(&rt, "a slot table in an arena");
+    check_slots(&findings, alloc, &mut slots, "relocatable slot table");
     findings.verdict()
 }
 

@@ -36,11 +36,13 @@ unsafe impl<T> Send for RowPtr<T> {}
 
 unsafe impl<T> Sync for RowPtr<T> {}
 
-/// The ownership of the places of a row and of their items, of size zero.
+/// The ownership of the places of a row and of their items, of size zero. Contracts see how many bytes were allocated for
+/// the row.
 pub struct RowOwner<T> {
     mark: PhantomData<*const T>,
     ghost start: { Ptr },
     ghost places: { List (Option T) },
+    ghost bytes: { ℕ },
 }
 
 impl<T> Model for RowOwner<T> {
@@ -82,6 +84,7 @@ impl<T, A: Allocator> RowGrant<T, A> {
     ) -> Result<(RowPtr<T>, RowOwner<T>, Self), AllocError>
         requires { FitsInBlock T.row len }
         ensures row { IfOk result (λ made. IsVacantRow made.1 made.0.start len) }
+        ensures bytes { IfOk result (λ made. made.1.bytes ≡ len * type_size T.row) }
         ensures grant { IfOk result (λ made. IsGrantFor made.2 made.0.start len alloc.now) }
     {
         match alloc.allocate(len * size_of::<T>(), align_of::<T>()) {
@@ -121,7 +124,8 @@ impl<T> RowOwner<T> {
     #[inline]
     pub(crate) fn without_bytes(len: usize) -> (RowPtr<T>, RowOwner<T>)
         requires { len * type_size T.row ≡ 0 }
-        ensures { IsVacantRow result.1 result.0.start len }
+        ensures row { IsVacantRow result.1 result.0.start len }
+        ensures bytes { result.1.bytes ≡ 0 }
     {
         let mut none: [T; 0] = [];
         let ptr = RowPtr {
@@ -172,10 +176,11 @@ impl<T> RowOwner<T> {
         unsafe { &mut *ptr.start.add(i) }
     }
 
-    /// Gives up a row of empty places that has no block.
+    /// Gives up a row of empty places for which no bytes were allocated.
     #[inline]
     pub(crate) fn forget(self)
-        requires { IsVacant self.places }
+        requires places { IsVacant self.places }
+        requires bytes { self.bytes ≡ 0 }
     {
         let RowOwner { mark: _ } = self;
     }

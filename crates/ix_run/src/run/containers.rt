@@ -12,6 +12,7 @@ use crate::run::queue_lines::Queues;
 use crate::run::served::Served;
 use crate::run::session::Session;
 use crate::run::slot_lines::SlotMaps;
+use crate::run::table_lines::SlotTables;
 use crate::run::text_lines::Strings;
 use crate::run::vec_lines::Vectors;
 use crate::run::{Container, FixedCapacity, Header, ScriptFault, Storage};
@@ -21,7 +22,7 @@ use std::io::{Read, Write};
 
 /// A container that headers name.
 pub trait Named {
-    ghost container: { Container };
+    ghost container: { Self → Container };
 }
 
 /// A container that is stored inline, with a capacity of `N`.
@@ -29,10 +30,10 @@ pub trait MakesInline<const N: usize>: Named {
     type Inline: Served + Drop;
 
     /// Returns an empty container.
-    fn inline() -> Self::Inline
+    fn inline(self) -> Self::Inline
         requires { N ≤ MAX_FIXED_CAPACITY }
         ensures { IsEmptyContainer Self.Inline.reply Self.Inline.after Self.Inline.shown
-            (Self.Inline.model result) Self.container N };
+            (Self.Inline.model result) (Self.container self) N };
 }
 
 /// A container in the machine's memory.
@@ -40,10 +41,10 @@ pub trait MakesOnHeap: Named {
     type OnHeap: Served + Drop;
 
     /// Returns an empty container, or `None` if there is no memory.
-    fn on_heap(alloc: Global, capacity: usize) -> Option<Self::OnHeap>
+    fn on_heap(self, alloc: Global, capacity: usize) -> Option<Self::OnHeap>
         ensures { IfSome result (λ made.
             IsEmptyContainer Self.OnHeap.reply Self.OnHeap.after Self.OnHeap.shown
-            (Self.OnHeap.model made) Self.container capacity) };
+            (Self.OnHeap.model made) (Self.container self) capacity) };
 }
 
 /// A container in an arena.
@@ -51,16 +52,17 @@ pub trait MakesInArena<'a>: Named {
     type InArena: Served + Drop;
 
     /// Returns an empty container, or `None` if there is no memory.
-    fn in_arena(arena: &'a Bump<Global>, capacity: usize) -> Option<Self::InArena>
+    fn in_arena(self, arena: &'a Bump<Global>, capacity: usize) -> Option<Self::InArena>
         ensures { IfSome result (λ made.
             IsEmptyContainer Self.InArena.reply Self.InArena.after Self.InArena.shown
-            (Self.InArena.model made) Self.container capacity) };
+            (Self.InArena.model made) (Self.container self) capacity) };
 }
 
 impl Session {
     /// Makes a container that is stored inline, and replies to the lines that come.
     fn serve_inline<const N: usize, C: MakesInline<N>, R: Read, W: Write>(
         &mut self,
+        maker: C,
         is_at_end: bool,
         reader: &mut R,
         writer: &mut W,
@@ -68,10 +70,10 @@ impl Session {
         requires capacity { N ≤ MAX_FIXED_CAPACITY }
         requires end { is_at_end ≡ true → self.old.input.rest ≡ [] }
         ensures { FinishResult is_at_end (R.remaining reader.old) (W.contents writer.old) self.old.replies
-            (λ more. replies_from_ready C.container N (lines_to_come self.old.input more))
+            (λ more. replies_from_ready (C.container maker) N (lines_to_come self.old.input more))
             (R.remaining reader.new) (W.contents writer.new) result }
     {
-        self.serve_made(Some(C::inline()), is_at_end, reader, writer)
+        self.serve_made(Some(maker.inline()), is_at_end, reader, writer)
     }
 
     /// Makes a container of a capacity that headers name for the fixed kinds, and replies to the lines that come.
@@ -81,6 +83,7 @@ impl Session {
         W: Write,
     >(
         &mut self,
+        maker: C,
         capacity: FixedCapacity,
         is_at_end: bool,
         reader: &mut R,
@@ -88,14 +91,20 @@ impl Session {
     ) -> Result<(), ScriptFault>
         requires { is_at_end ≡ true → self.old.input.rest ≡ [] }
         ensures { FinishResult is_at_end (R.remaining reader.old) (W.contents writer.old) self.old.replies
-            (λ more. replies_from_ready C.container (fixed_capacity capacity) (lines_to_come self.old.input more))
+            (λ more. replies_from_ready (C.container maker) (fixed_capacity capacity) (lines_to_come self.old.input more))
             (R.remaining reader.new) (W.contents writer.new) result }
     {
         match capacity {
-            FixedCapacity::Zero => self.serve_inline::<0, C, R, W>(is_at_end, reader, writer),
-            FixedCapacity::One => self.serve_inline::<1, C, R, W>(is_at_end, reader, writer),
-            FixedCapacity::Three => self.serve_inline::<3, C, R, W>(is_at_end, reader, writer),
-            FixedCapacity::Eight => self.serve_inline::<8, C, R, W>(is_at_end, reader, writer),
+            FixedCapacity::Zero => self.serve_inline::<0, C, R, W>(
+                maker, is_at_end, reader, writer,
+            ),
+            FixedCapacity::One => self.serve_inline::<1, C, R, W>(maker, is_at_end, reader, writer),
+            FixedCapacity::Three => self.serve_inline::<3, C, R, W>(
+                maker, is_at_end, reader, writer,
+            ),
+            FixedCapacity::Eight => self.serve_inline::<8, C, R, W>(
+                maker, is_at_end, reader, writer,
+            ),
         }
     }
 
@@ -114,6 +123,7 @@ impl Session {
         &mut self,
         arena: &'a Bump<Global>,
         alloc: Global,
+        maker: C,
         storage: Storage,
         is_at_end: bool,
         reader: &mut R,
@@ -121,19 +131,19 @@ impl Session {
     ) -> Result<(), ScriptFault>
         requires { is_at_end ≡ true → self.old.input.rest ≡ [] }
         ensures { FinishResult is_at_end (R.remaining reader.old) (W.contents writer.old) self.old.replies
-            (λ more. replies_from_ready C.container (capacity_of storage) (lines_to_come self.old.input more))
+            (λ more. replies_from_ready (C.container maker) (capacity_of storage) (lines_to_come self.old.input more))
             (R.remaining reader.new) (W.contents writer.new) result }
     {
         match storage {
             Storage::Fixed(capacity) => {
-                self.serve_fixed::<C, R, W>(capacity, is_at_end, reader, writer)
+                self.serve_fixed::<C, R, W>(maker, capacity, is_at_end, reader, writer)
             }
             Storage::Heap(capacity) => {
-                let made = C::on_heap(alloc, capacity);
+                let made = maker.on_heap(alloc, capacity);
                 self.serve_made(made, is_at_end, reader, writer)
             }
             Storage::Arena(capacity) => {
-                let made = C::in_arena(arena, capacity);
+                let made = maker.in_arena(arena, capacity);
                 self.serve_made(made, is_at_end, reader, writer)
             }
         }
@@ -156,20 +166,29 @@ impl Session {
     {
         let storage = header.storage;
         match header.container {
-            Container::Queue => {
-                self.serve_storage::<Queues, R, W>(arena, alloc, storage, is_at_end, reader, writer)
-            }
-            Container::Vec => self.serve_storage::<Vectors, R, W>(
-                arena, alloc, storage, is_at_end, reader, writer,
+            Container::Queue => self.serve_storage(
+                arena, alloc, Queues, storage, is_at_end, reader, writer,
             ),
-            Container::Slot => self.serve_storage::<SlotMaps, R, W>(
-                arena, alloc, storage, is_at_end, reader, writer,
+            Container::Vec => self.serve_storage(
+                arena, alloc, Vectors, storage, is_at_end, reader, writer,
             ),
-            Container::Flat => self.serve_storage::<FlatMaps, R, W>(
-                arena, alloc, storage, is_at_end, reader, writer,
+            Container::Table => self.serve_storage(
+                arena, alloc, SlotTables, storage, is_at_end, reader, writer,
             ),
-            Container::Text => self.serve_storage::<Strings, R, W>(
-                arena, alloc, storage, is_at_end, reader, writer,
+            Container::Slot(start) => self.serve_storage(
+                arena,
+                alloc,
+                SlotMaps { start },
+                storage,
+                is_at_end,
+                reader,
+                writer,
+            ),
+            Container::Flat => self.serve_storage(
+                arena, alloc, FlatMaps, storage, is_at_end, reader, writer,
+            ),
+            Container::Text => self.serve_storage(
+                arena, alloc, Strings, storage, is_at_end, reader, writer,
             ),
         }
     }

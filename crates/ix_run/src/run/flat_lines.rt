@@ -66,6 +66,8 @@ impl<S: Table<Pair<u64, u64>>, L: Table<Link>> Served for MetaFlatMap<u64, u64, 
     ghost use Rattle.ix_run.specs.Forms.{flat_forms};
     ghost use Rattle.ix_run.specs.Script.{spelled_reply, spelled_after, flat_shown};
 
+    type Key = usize;
+
     ghost Model = { SlotState (Pair ℕ ℕ) };
 
     ghost model = { λ map. map };
@@ -88,18 +90,19 @@ impl<S: Table<Pair<u64, u64>>, L: Table<Link>> Served for MetaFlatMap<u64, u64, 
 }
 
 /// The flat maps that headers name.
+#[derive(Drop)]
 pub struct FlatMaps;
 
 impl Named for FlatMaps {
     ghost use Rattle.ix_run.specs.declared.run.header.Container.TheVariants as container;
 
-    ghost container = { container.Flat };
+    ghost container = { λ maker. container.Flat };
 }
 
 impl<const N: usize> MakesInline<N> for FlatMaps {
     type Inline = FixedSizeFlatMap<u64, u64, N>;
 
-    fn inline() -> FixedSizeFlatMap<u64, u64, N> {
+    fn inline(self) -> FixedSizeFlatMap<u64, u64, N> {
         FixedSizeFlatMap::new()
     }
 }
@@ -107,7 +110,7 @@ impl<const N: usize> MakesInline<N> for FlatMaps {
 impl MakesOnHeap for FlatMaps {
     type OnHeap = FlatMap<u64, u64>;
 
-    fn on_heap(alloc: Global, capacity: usize) -> Option<FlatMap<u64, u64>> {
+    fn on_heap(self, alloc: Global, capacity: usize) -> Option<FlatMap<u64, u64>> {
         FlatMap::new(alloc, capacity).ok()
     }
 }
@@ -116,6 +119,7 @@ impl<'a> MakesInArena<'a> for FlatMaps {
     type InArena = RelocatableFlatMap<u64, u64, &'a Bump<Global>>;
 
     fn in_arena(
+        self,
         arena: &'a Bump<Global>,
         capacity: usize,
     ) -> Option<RelocatableFlatMap<u64, u64, &'a Bump<Global>>> {

@@ -1,12 +1,14 @@
 //! Headers: the first line of a script, which makes its container.
-ghost use Rattle.std.specs.Prelude.{ℕ, ◌≡◌, ◌==◌, Some, IfSome, option_and_then, option_copied};
+ghost use Rattle.std.specs.Prelude.{ℕ, ◌≡◌, ◌==◌, ◌∷◌, [], Option, Some, IfSome, option_copied};
 ghost use Rattle.std.specs.List.{find};
-ghost use Rattle.ix_run.specs.Words.{words_after, numbers_in, one, make_named};
-ghost use Rattle.ix_run.specs.Headers.{IsStorage, header_of, header_text};
-ghost use Rattle.ix_run.specs.Headers.{named_container, storage_forms, fixed_capacity, fixed_capacities, up_to_max};
+ghost use Rattle.ix_run.specs.Words.{words_after, numbers_in, make_named};
+ghost use Rattle.ix_run.specs.Headers.{IsStorage, IsStart, header_of, header_text};
+ghost use Rattle.ix_run.specs.Headers.{named_container, storage_forms, fixed_capacity, fixed_capacities, up_to_max, started};
+ghost use Rattle.ix_run.specs.declared.run.header.Container.TheVariants as container;
 ghost use Rattle.ix_run.specs.declared.run.header.Header.{Header};
 
 use crate::run::limits::MAX_CAPACITY;
+use crate::run::reading::number_in;
 use crate::run::words::{is_word, one_number, split_word};
 
 /// A container that a header may name.
@@ -16,8 +18,11 @@ pub enum Container {
     Queue,
     /// `vec`: a vector of numbers.
     Vec,
-    /// `slot`: a slot map of numbers.
-    Slot,
+    /// `table`: a slot table of numbers.
+    Table,
+    /// `slot`: a slot map of numbers. The number is the generation of its places at first, if the header ends by `at G`.
+    /// It is 0 if the header does not.
+    Slot(Option<u32>),
     /// `flat`: a flat map from numbers to numbers.
     Flat,
     /// `text`: a string.
@@ -55,8 +60,10 @@ pub struct Header {
 #[tactic(auto, using(crate::proofs::Headers::header_of_text, crate::proofs::Headers::header_of_header_text))]
 pub fn read_header(line: &[u8]) -> Option<Header>
     ensures value { result ≡ header_of line.now }
-    ensures text { IfSome result (λ header. IsStorage header.storage × (line.now ≡ header_text header)) }
-    ensures each { (header : Header) → IsStorage header.storage → line.now ≡ header_text header → result ≡ Some header }
+    ensures text { IfSome result (λ header. IsStorage header.storage × IsStart header.container
+        × (line.now ≡ header_text header)) }
+    ensures each { (header : Header) → IsStorage header.storage → IsStart header.container
+        → line.now ≡ header_text header → result ≡ Some header }
 {
     header_in(line)
 }
@@ -67,7 +74,9 @@ fn header_in(line: &[u8]) -> Option<Header>
     let (name, rest) = split_word(line);
     let container = container_named(name)?;
     let (name, rest) = split_word(rest?);
-    let storage = storage_named(name, rest)?;
+    let (number, rest) = split_word(rest?);
+    let storage = storage_named(name, number)?;
+    let container = started(container, rest)?;
     Some(Header { container, storage })
 }
 
@@ -80,8 +89,11 @@ fn container_named(name: &[u8]) -> Option<Container>
     if is_word(name, b"vec") {
         return Some(Container::Vec);
     }
+    if is_word(name, b"table") {
+        return Some(Container::Table);
+    }
     if is_word(name, b"slot") {
-        return Some(Container::Slot);
+        return Some(Container::Slot(None));
     }
     if is_word(name, b"flat") {
         return Some(Container::Flat);
@@ -93,19 +105,50 @@ fn container_named(name: &[u8]) -> Option<Container>
 }
 
 #[tactic(auto, using(crate::proofs::Headers::fixed_made, crate::proofs::Headers::up_to_max_made))]
-fn storage_named(name: &[u8], rest: Option<&[u8]>) -> Option<Storage>
-    ensures { result ≡ make_named storage_forms name.now (numbers_in (words_after (option_copied rest.entry))) }
+fn storage_named(name: &[u8], number: &[u8]) -> Option<Storage>
+    ensures { result ≡ make_named storage_forms name.now (numbers_in (number.now ∷ [])) }
 {
+    let number = number_in(number)?;
     if is_word(name, b"fixed") {
-        return Some(Storage::Fixed(fixed_capacity_of(one_number(rest)?)?));
+        return Some(Storage::Fixed(fixed_capacity_of(number)?));
     }
     if is_word(name, b"heap") {
-        return Some(Storage::Heap(capacity_up_to_max(rest)?));
+        return Some(Storage::Heap(capacity_up_to_max(number)?));
     }
     if is_word(name, b"arena") {
-        return Some(Storage::Arena(capacity_up_to_max(rest)?));
+        return Some(Storage::Arena(capacity_up_to_max(number)?));
     }
     None
+}
+
+/// Returns the container, with the generation of a slot map's places at first if the words that are left say it. Any other
+/// word that is left is refused.
+fn started(container: Container, rest: Option<&[u8]>) -> Option<Container>
+    ensures { result ≡ started container (words_after (option_copied rest.entry)) }
+{
+    let Some(rest) = rest else {
+        return Some(container);
+    };
+    let (word, rest) = split_word(rest);
+    match container {
+        Container::Slot(_) => starting_at(word, rest),
+        Container::Queue | Container::Vec | Container::Table | Container::Flat | Container::Text =>
+            { None }
+    }
+}
+
+/// Returns a slot map with the generation of its places at first, if the words say it.
+fn starting_at(word: &[u8], rest: Option<&[u8]>) -> Option<Container>
+    ensures { (start : Option ℕ) → result ≡ started (container.Slot start) (word.now ∷ words_after (option_copied rest.entry)) }
+{
+    if !is_word(word, b"at") {
+        return None;
+    }
+    let generation = one_number(rest)?;
+    if generation > u32::MAX as u64 {
+        return None;
+    }
+    Some(Container::Slot(Some(generation as u32)))
 }
 
 fn fixed_capacity_of(number: u64) -> Option<FixedCapacity>
@@ -120,11 +163,9 @@ fn fixed_capacity_of(number: u64) -> Option<FixedCapacity>
     }
 }
 
-#[tactic(auto, using(crate::proofs::Headers::up_to_max_one))]
-fn capacity_up_to_max(rest: Option<&[u8]>) -> Option<usize>
-    ensures { result ≡ option_and_then (up_to_max (λ n. n)) (numbers_in (words_after (option_copied rest.entry))) }
+fn capacity_up_to_max(number: u64) -> Option<usize>
+    ensures { result ≡ up_to_max (λ n. n) (number ∷ []) }
 {
-    let number = one_number(rest)?;
     if number > MAX_CAPACITY as u64 {
         return None;
     }

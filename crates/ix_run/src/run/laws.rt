@@ -1,18 +1,20 @@
 //! What the definitions of scripts mean, in their users' words. These functions do nothing: their contracts are the laws.
-ghost use Rattle.std.specs.Prelude.{ℕ, ◌≡◌, ◌≢◌, ◌++◌, ◌∷◌, ◌⊎◌, List, [], All, decimal, nat_eq};
+ghost use Rattle.std.specs.Prelude.{ℕ, ◌≡◌, ◌≢◌, ◌++◌, ◌∷◌, ◌⊎◌, List, [], Option, All, decimal, nat_eq};
 ghost use Rattle.ix_cells.specs.Bounded.{Bounded, bounded_new};
 ghost use Rattle.ix_maps.specs.SlotState.{slot_new};
+ghost use Rattle.ix_maps.specs.Generations.{SlotKey, map_new};
 ghost use Rattle.ix_commands.specs.QueueRun.{queue_reply, queue_after};
 ghost use Rattle.ix_commands.specs.VecRun.{vec_reply, vec_after};
+ghost use Rattle.ix_commands.specs.TableRun.{table_reply, table_after};
 ghost use Rattle.ix_commands.specs.SlotRun.{slot_reply, slot_after};
 ghost use Rattle.ix_commands.specs.FlatRun.{flat_reply, flat_after};
 ghost use Rattle.ix_commands.specs.TextRun.{text_reply, text_after};
 ghost use Rattle.ix_commands.specs.declared.reply.Reply.{Reply};
-ghost use Rattle.ix_run.specs.Forms.{queue_forms, vec_forms, slot_forms, flat_forms, text_forms};
-ghost use Rattle.ix_run.specs.Headers.{capacity_of};
-ghost use Rattle.ix_run.specs.Laws.{HasU64s, IsRun, IsU64};
+ghost use Rattle.ix_run.specs.Forms.{queue_forms, vec_forms, table_forms, slot_command_of, flat_forms, text_forms};
+ghost use Rattle.ix_run.specs.Headers.{capacity_of, first_generation};
+ghost use Rattle.ix_run.specs.Laws.{HasU64s, HasU64sAnd, IsKey, IsRun, IsRunBy, IsU64};
 ghost use Rattle.ix_run.specs.Lines.{IsOneLine, with_line_feed, text_of_lines, lines_of};
-ghost use Rattle.ix_run.specs.ReplyTexts.{reply_text, items_text, entry_text};
+ghost use Rattle.ix_run.specs.ReplyTexts.{reply_text, slot_reply_text, items_text, entry_text, key_entry_text};
 ghost use Rattle.ix_run.specs.Script.{text_shown};
 ghost use Rattle.ix_run.specs.declared.run.header.Container.TheVariants as container;
 ghost use Rattle.ix_run.specs.declared.run.header.Storage.{Storage};
@@ -37,6 +39,9 @@ pub fn reply_law()
     ensures entries { (entries : List (ℕ × ℕ)) → All (λ entry. IsU64 entry.0 × IsU64 entry.1) entries
         → IsOneLine (items_text entry_text entries) }
     ensures text { (text : Bounded ℕ) → IsOneLine (text_shown text) }
+    ensures slot_reply { (reply : Reply SlotKey ℕ) → HasU64sAnd IsKey reply → IsOneLine (slot_reply_text reply) }
+    ensures key_entries { (entries : List (SlotKey × ℕ)) → All (λ entry. IsKey entry.0 × IsU64 entry.1) entries
+        → IsOneLine (items_text key_entry_text entries) }
 {}
 
 /// A script is the run of its commands: the replies to a header and to lines that spell commands are `ready` and the texts
@@ -46,10 +51,13 @@ pub fn script_law()
         → IsRun queue_forms queue_reply queue_after container.Queue storage (bounded_new (capacity_of storage)) }
     ensures vec { (storage : Storage)
         → IsRun vec_forms vec_reply vec_after container.Vec storage (bounded_new (capacity_of storage)) }
-    ensures slot { (storage : Storage)
-        → IsRun slot_forms slot_reply slot_after container.Slot storage (slot_new (capacity_of storage)) }
+    ensures table { (storage : Storage)
+        → IsRun table_forms table_reply table_after container.Table storage (slot_new (capacity_of storage)) }
     ensures flat { (storage : Storage)
         → IsRun flat_forms (flat_reply nat_eq) (flat_after nat_eq) container.Flat storage (slot_new (capacity_of storage)) }
     ensures text { (storage : Storage)
         → IsRun text_forms text_reply text_after container.Text storage (bounded_new (capacity_of storage)) }
+    ensures slot { (storage : Storage) (start : Option ℕ)
+        → IsRunBy slot_command_of slot_reply_text slot_reply slot_after (container.Slot start) storage
+        (map_new (capacity_of storage) (first_generation start)) }
 {}

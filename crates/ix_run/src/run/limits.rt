@@ -9,8 +9,11 @@ pub const BUFFER_LEN: usize = 32_768;
 /// The maximum number of digits of a `u64`.
 pub const MAX_DIGITS: usize = 20;
 
+/// The text of a key is at most this long: two numbers, and a colon between.
+pub const MAX_KEY_LEN: usize = 41;
+
 /// A reply of a line is at most this long, but for that of `show`.
-pub const MAX_REPLY_LEN: usize = 64;
+pub const MAX_REPLY_LEN: usize = 72;
 
 /// The maximum capacity that a header may name for a container in the machine's memory or in an arena.
 pub const MAX_CAPACITY: usize = 1000;

@@ -32,6 +32,8 @@ impl<S: Table<u64>> Served for MetaQueue<u64, S> {
     ghost use Rattle.ix_run.specs.Forms.{queue_forms};
     ghost use Rattle.ix_run.specs.Script.{spelled_reply, spelled_after, list_shown};
 
+    type Key = usize;
+
     ghost Model = { Bounded ℕ };
 
     ghost model = { λ queue. queue };
@@ -54,18 +56,19 @@ impl<S: Table<u64>> Served for MetaQueue<u64, S> {
 }
 
 /// The queues that headers name.
+#[derive(Drop)]
 pub struct Queues;
 
 impl Named for Queues {
     ghost use Rattle.ix_run.specs.declared.run.header.Container.TheVariants as container;
 
-    ghost container = { container.Queue };
+    ghost container = { λ maker. container.Queue };
 }
 
 impl<const N: usize> MakesInline<N> for Queues {
     type Inline = FixedSizeQueue<u64, N>;
 
-    fn inline() -> FixedSizeQueue<u64, N> {
+    fn inline(self) -> FixedSizeQueue<u64, N> {
         FixedSizeQueue::new()
     }
 }
@@ -73,7 +76,7 @@ impl<const N: usize> MakesInline<N> for Queues {
 impl MakesOnHeap for Queues {
     type OnHeap = Queue<u64>;
 
-    fn on_heap(alloc: Global, capacity: usize) -> Option<Queue<u64>> {
+    fn on_heap(self, alloc: Global, capacity: usize) -> Option<Queue<u64>> {
         Queue::new(alloc, capacity).ok()
     }
 }
@@ -82,6 +85,7 @@ impl<'a> MakesInArena<'a> for Queues {
     type InArena = RelocatableQueue<u64, &'a Bump<Global>>;
 
     fn in_arena(
+        self,
         arena: &'a Bump<Global>,
         capacity: usize,
     ) -> Option<RelocatableQueue<u64, &'a Bump<Global>>> {

@@ -1,13 +1,14 @@
 //! The texts of replies.
-ghost use Rattle.std.specs.Prelude.{◌≡◌, ◌≤◌, ◌+◌, ◌++◌, length, codes, decimal};
+ghost use Rattle.std.specs.Prelude.{ℕ, ◌≡◌, ◌≤◌, ◌+◌, ◌++◌, List, length, codes, decimal};
 ghost use Rattle.ix_run.specs.Lines.{with_line_feed};
-ghost use Rattle.ix_run.specs.ReplyTexts.{error_name, reply_text, items_text, next_text};
+ghost use Rattle.ix_run.specs.ReplyTexts.{error_name, reply_text_by, items_text, next_text};
 ghost use Rattle.ix_run.specs.Writing.{WriteResult};
-ghost use Rattle.ix_run.specs.declared.run.limits.TheConstants.{BUFFER_LEN, MAX_REPLY_LEN};
+ghost use Rattle.ix_run.specs.declared.run.limits.TheConstants.{BUFFER_LEN, MAX_KEY_LEN, MAX_REPLY_LEN};
 
 use crate::run::listing::Listing;
 use crate::run::reply_buffer::{Piece, ReplyBuffer};
 use crate::run::{Reply, ReplyError, ScriptFault};
+use ix_maps::SlotMapKey;
 use std::io::Write;
 
 /// Returns the line that names an error.
@@ -34,6 +35,52 @@ fn put_number_line(replies: &mut ReplyBuffer, number: u64)
     replies.put(b"\n");
 }
 
+/// A key of replies.
+pub trait ReplyKey: Copy {
+    /// Its text, at most [`MAX_KEY_LEN`] bytes.
+    ghost text: { Self → List ℕ };
+
+    /// Appends the text, for which there is room.
+    fn put_into(self, replies: &mut ReplyBuffer)
+        requires { length replies.old + MAX_KEY_LEN ≤ BUFFER_LEN }
+        ensures value { replies.new ≡ replies.old ++ text self }
+        ensures len { length replies.new ≤ length replies.old + MAX_KEY_LEN };
+}
+
+/// A number.
+impl ReplyKey for usize {
+    ghost text = { λ number. decimal number };
+
+    #[inline(always)]
+    fn put_into(self, replies: &mut ReplyBuffer) {
+        replies.put_number(self as u64);
+    }
+}
+
+/// The index and the generation of a place, with a colon between.
+impl ReplyKey for SlotMapKey {
+    ghost use Rattle.ix_run.specs.Words.{key_text};
+
+    ghost text = { λ key. key_text key };
+
+    fn put_into(self, replies: &mut ReplyBuffer) {
+        replies.put_number(self.index() as u64);
+        replies.put(b":");
+        replies.put_number(self.generation() as u64);
+    }
+}
+
+/// Appends the line `some K`.
+#[inline]
+fn put_key<K: ReplyKey>(replies: &mut ReplyBuffer, key: K)
+    requires { length replies.old + MAX_REPLY_LEN ≤ BUFFER_LEN }
+    ensures { replies.new ≡ replies.old ++ with_line_feed (codes "some " ++ K.text key) }
+{
+    replies.put(b"some ");
+    key.put_into(replies);
+    replies.put(b"\n");
+}
+
 /// Appends the line `some X`.
 #[inline]
 fn put_value(replies: &mut ReplyBuffer, value: u64)
@@ -46,13 +93,13 @@ fn put_value(replies: &mut ReplyBuffer, value: u64)
 }
 
 /// Appends the line `some K X`.
-fn put_entry(replies: &mut ReplyBuffer, key: u64, value: u64)
+fn put_entry<K: ReplyKey>(replies: &mut ReplyBuffer, key: K, value: u64)
     requires { length replies.old + MAX_REPLY_LEN ≤ BUFFER_LEN }
     ensures { replies.new ≡ replies.old
-        ++ with_line_feed (codes "some " ++ (decimal key ++ (codes " " ++ decimal value))) }
+        ++ with_line_feed (codes "some " ++ (K.text key ++ (codes " " ++ decimal value))) }
 {
     replies.put(b"some ");
-    replies.put_number(key);
+    key.put_into(replies);
     replies.put(b" ");
     replies.put_number(value);
     replies.put(b"\n");
@@ -68,8 +115,8 @@ fn put_error(replies: &mut ReplyBuffer, error: ReplyError)
 }
 
 /// The line of a reply.
-impl Piece for Reply<usize, u64> {
-    ghost text = { λ reply. with_line_feed (reply_text reply) };
+impl<K: ReplyKey> Piece for Reply<K, u64> {
+    ghost text = { λ reply. with_line_feed (reply_text_by K.text reply) };
 
     #[inline(always)]
     fn put_into(self, replies: &mut ReplyBuffer) {
@@ -79,9 +126,9 @@ impl Piece for Reply<usize, u64> {
             Reply::Bool(false) => replies.put(b"false\n"),
             Reply::Number(number) => put_number_line(replies, number as u64),
             Reply::None => replies.put(b"none\n"),
-            Reply::Key(key) => put_value(replies, key as u64),
+            Reply::Key(key) => put_key(replies, key),
             Reply::Value(value) => put_value(replies, value),
-            Reply::Entry(key, value) => put_entry(replies, key as u64, value),
+            Reply::Entry(key, value) => put_entry(replies, key, value),
             Reply::Error(error) => put_error(replies, error),
         }
     }

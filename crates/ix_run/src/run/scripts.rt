@@ -32,8 +32,9 @@ fn run_script<R: Read, W: Write>(
 /// Runs a script: reads commands, one a line, and writes one line of reply to each.
 ///
 /// The first command is a header, which makes a container; the reply is `ready`. It is `C fixed S`, `C heap N` or
-/// `C arena N`, where C is `queue`, `vec`, `slot`, `flat` or `text`, S is 0, 1, 3 or 8, and N a number up to 1,000: a
-/// container of the fixed kind, an allocated one, or a relocatable one in an arena. After it the commands are those of the
+/// `C arena N`, where C is `queue`, `vec`, `table`, `slot`, `flat` or `text`, S is 0, 1, 3 or 8, and N a number up to 1,000:
+/// a container of the fixed kind, an allocated one, or a relocatable one in an arena. A header of `slot` may end by ` at G`,
+/// the generation of the places at first, up to 4,294,967,295. After it the commands are those of the
 /// container, as the README lists them, and `show`. The reply to any other line, and to one of more than 200 bytes, is
 /// `?`, and the line changes nothing. A line ends with a line feed, which the last one may lack.
 ///

@@ -1,11 +1,12 @@
 //! A container that lines of a script are for.
-ghost use Rattle.std.specs.Prelude.{ℕ, ◌≡◌, ◌≤◌, List, Option, IfSome, length, option_copied};
-ghost use Rattle.ix_commands.specs.declared.reply.Reply.{Reply};
+ghost use Rattle.std.specs.Prelude.{ℕ, ◌≡◌, ◌≤◌, List, Option, IfSome, length, option_copied, option_map};
 ghost use Rattle.ix_run.specs.Lines.{with_line_feed};
+ghost use Rattle.ix_run.specs.ReplyTexts.{reply_text_by};
 ghost use Rattle.ix_run.specs.Script.{line_reply, line_after};
 ghost use Rattle.ix_run.specs.Writing.{WriteResult};
 ghost use Rattle.ix_run.specs.declared.run.limits.TheConstants.{MAX_LINE_LEN};
 
+use crate::run::replies::ReplyKey;
 use crate::run::reply_buffer::ReplyBuffer;
 use crate::run::scripted::Scripted;
 use crate::run::{Reply, ScriptFault};
@@ -13,13 +14,16 @@ use std::io::Write;
 
 /// A container that runs the commands which lines spell, and shows what it holds.
 pub trait Served {
+    /// The type of the keys in replies.
+    type Key: ReplyKey;
+
     /// The type of the model.
     ghost Model: { Type 0 };
 
     ghost model: { Self → Model };
 
-    /// The reply to the command that a line spells, if any.
-    ghost reply: { Model → List ℕ → Option (Reply ℕ ℕ) };
+    /// The text of the reply to the command that a line spells, if any.
+    ghost reply: { Model → List ℕ → Option (List ℕ) };
 
     /// The model after it.
     ghost after: { Model → List ℕ → Model };
@@ -28,9 +32,9 @@ pub trait Served {
     ghost shown: { Model → List ℕ };
 
     /// Runs the command that the line spells, and returns the reply, or `None` if it spells none.
-    fn run_line(&mut self, line: &[u8]) -> Option<Reply<usize, u64>>
+    fn run_line(&mut self, line: &[u8]) -> Option<Reply<Self::Key, u64>>
         requires { length line.now ≤ MAX_LINE_LEN }
-        ensures value { result ≡ reply (model self.old) line.now }
+        ensures value { option_map (reply_text_by Self.Key.text) result ≡ reply (model self.old) line.now }
         ensures model { model self.new ≡ after (model self.old) line.now };
 
     /// Appends what `show` prints, without a line feed.

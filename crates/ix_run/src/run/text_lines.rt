@@ -1,6 +1,6 @@
 //! Lines of a script for a string.
-ghost use Rattle.std.specs.Prelude.{◌≡◌, ◌<◌, ◌≤◌, ◌+◌, ◌++◌, ◌∷◌, [], codes, length, take};
-ghost use Rattle.ix_string.specs.Escape.{escaped_byte, escaped_text, hex_digit};
+ghost use Rattle.std.specs.Prelude.{◌≡◌, ◌≤◌, ◌+◌, ◌++◌, codes, length};
+ghost use Rattle.ix_string.specs.Escape.{escaped_byte, escaped_text};
 ghost use Rattle.ix_run.specs.Writing.{WriteResult, WritesPart};
 
 use crate::run::containers::{MakesInArena, MakesInline, MakesOnHeap, Named};
@@ -10,7 +10,9 @@ use crate::run::served::Served;
 use crate::run::{Reply, Runs, ScriptFault, read_text_command};
 use bumpalo::Bump;
 use ix_cells::RelocatableContainer;
-use ix_string::{PolymorphicString, RelocatableString, StaticString, String, UninitString};
+use ix_string::{
+    PolymorphicString, RelocatableString, StaticString, String, UninitString, escape_byte,
+};
 use std::alloc::Global;
 use std::io::Write;
 
@@ -49,29 +51,20 @@ fn with_u64_value(reply: Reply<usize, u8>) -> Reply<usize, u64>
     }
 }
 
-/// Returns the lower-case hexadecimal digit.
-fn hex_byte(digit: u8) -> u8
-    requires { digit < 16 }
-    ensures { result ≡ hex_digit digit }
-{
-    if digit < 10 { 48 + digit } else { 87 + digit }
-}
-
 /// A byte that is printed escaped.
 #[derive(Drop)]
-struct EscapedByte(u8);
+struct ShownByte(u8);
 
-impl Piece for EscapedByte {
-    ghost text = { λ escaped. escaped_byte escaped.0 };
+impl Piece for ShownByte {
+    ghost text = { λ shown. escaped_byte shown.0 };
 
     fn put_into(self, replies: &mut ReplyBuffer) {
-        let EscapedByte(byte) = self;
-        match byte {
-            9 => replies.put(b"\\t"),
-            13 => replies.put(b"\\r"),
-            10 => replies.put(b"\\n"),
-            32..=127 => replies.put(&[byte]),
-            _ => replies.put(&[b'\\', b'x', hex_byte(byte / 16), hex_byte(byte % 16)]),
+        let escaped = escape_byte(self.0);
+        match escaped.as_str().as_bytes() {
+            // Texts of so many bytes are put without a call.
+            [byte] => replies.put(&[*byte]),
+            [first, second] => replies.put(&[*first, *second]),
+            bytes => replies.put(bytes),
         }
     }
 }
@@ -86,7 +79,7 @@ fn append_escaped_bytes<W: Write>(
         (W.contents writer.new) pending.new result }
 {
     for byte in bytes {
-        pending.append_piece(writer, EscapedByte(*byte))?;
+        pending.append_piece(writer, ShownByte(*byte))?;
     }
     Ok(())
 }
@@ -126,6 +119,8 @@ impl<S: String> Served for TextLines<S> {
     ghost use Rattle.ix_run.specs.Forms.{text_forms};
     ghost use Rattle.ix_run.specs.Script.{spelled_reply, spelled_after, text_shown};
 
+    type Key = usize;
+
     ghost Model = { Bounded ℕ };
 
     ghost model = { λ lines. S.bounded lines.string };
@@ -148,18 +143,19 @@ impl<S: String> Served for TextLines<S> {
 }
 
 /// The strings that headers name.
+#[derive(Drop)]
 pub struct Strings;
 
 impl Named for Strings {
     ghost use Rattle.ix_run.specs.declared.run.header.Container.TheVariants as container;
 
-    ghost container = { container.Text };
+    ghost container = { λ maker. container.Text };
 }
 
 impl<const N: usize> MakesInline<N> for Strings {
     type Inline = TextLines<StaticString<N>>;
 
-    fn inline() -> TextLines<StaticString<N>> {
+    fn inline(self) -> TextLines<StaticString<N>> {
         TextLines::new(StaticString::new())
     }
 }
@@ -167,7 +163,7 @@ impl<const N: usize> MakesInline<N> for Strings {
 impl MakesOnHeap for Strings {
     type OnHeap = TextLines<PolymorphicString>;
 
-    fn on_heap(alloc: Global, capacity: usize) -> Option<TextLines<PolymorphicString>> {
+    fn on_heap(self, alloc: Global, capacity: usize) -> Option<TextLines<PolymorphicString>> {
         Some(TextLines::new(PolymorphicString::new(alloc, capacity).ok()?))
     }
 }
@@ -176,6 +172,7 @@ impl<'a> MakesInArena<'a> for Strings {
     type InArena = TextLines<RelocatableString<&'a Bump<Global>>>;
 
     fn in_arena(
+        self,
         arena: &'a Bump<Global>,
         capacity: usize,
     ) -> Option<TextLines<RelocatableString<&'a Bump<Global>>>> {

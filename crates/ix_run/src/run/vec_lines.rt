@@ -54,6 +54,8 @@ impl<V: Vector<u64>> Served for VecLines<V> {
     ghost use Rattle.ix_run.specs.Forms.{vec_forms};
     ghost use Rattle.ix_run.specs.Script.{spelled_reply, spelled_after, list_shown};
 
+    type Key = usize;
+
     ghost Model = { Bounded ℕ };
 
     ghost model = { λ lines. V.bounded lines.vector };
@@ -76,18 +78,19 @@ impl<V: Vector<u64>> Served for VecLines<V> {
 }
 
 /// The vectors that headers name.
+#[derive(Drop)]
 pub struct Vectors;
 
 impl Named for Vectors {
     ghost use Rattle.ix_run.specs.declared.run.header.Container.TheVariants as container;
 
-    ghost container = { container.Vec };
+    ghost container = { λ maker. container.Vec };
 }
 
 impl<const N: usize> MakesInline<N> for Vectors {
     type Inline = VecLines<StaticVec<u64, N>>;
 
-    fn inline() -> VecLines<StaticVec<u64, N>> {
+    fn inline(self) -> VecLines<StaticVec<u64, N>> {
         VecLines::new(StaticVec::new())
     }
 }
@@ -95,7 +98,7 @@ impl<const N: usize> MakesInline<N> for Vectors {
 impl MakesOnHeap for Vectors {
     type OnHeap = VecLines<PolymorphicVec<u64>>;
 
-    fn on_heap(alloc: Global, capacity: usize) -> Option<VecLines<PolymorphicVec<u64>>> {
+    fn on_heap(self, alloc: Global, capacity: usize) -> Option<VecLines<PolymorphicVec<u64>>> {
         Some(VecLines::new(PolymorphicVec::new(alloc, capacity).ok()?))
     }
 }
@@ -104,6 +107,7 @@ impl<'a> MakesInArena<'a> for Vectors {
     type InArena = VecLines<RelocatableVec<u64, &'a Bump<Global>>>;
 
     fn in_arena(
+        self,
         arena: &'a Bump<Global>,
         capacity: usize,
     ) -> Option<VecLines<RelocatableVec<u64, &'a Bump<Global>>>> {

@@ -1,19 +1,22 @@
 //! Lines as words: a name, and numbers. A function takes what stands behind the last space that was read, or `None` if no
 //! word is left.
-ghost use Rattle.std.specs.Prelude.{ℕ, ◌≡◌, ◌≤◌, ◌*◌, ◌+◌, List, ◌∷◌, length, bytes_eq};
+ghost use Rattle.std.specs.Prelude.{ℕ, ◌≡◌, ◌≤◌, ◌*◌, ◌+◌, List, ◌∷◌, length, nat_eq, bytes_eq};
 ghost use Rattle.std.specs.Option.{option_map, option_and_then, option_copied};
 ghost use Rattle.std.specs.List.{position_or_len, slice_split};
-ghost use Rattle.ix_run.specs.Words.{is_space, words_after, len_after, numbers_in, byte_of};
+ghost use Rattle.ix_run.specs.Words.{is_space, words_after, len_after, numbers_in, byte_of, key_of};
 ghost use Rattle.ix_run.specs.Words.{alone, one, two, one_byte, number_byte, many_bytes, number_many_bytes};
 
 use crate::run::reading::number_in;
+use ix_maps::SlotMapKey;
 
-/// Returns the number of bytes before the first space.
-fn word_len(bytes: &[u8]) -> usize
-    ensures { result ≡ position_or_len is_space bytes.now }
+/// Returns the number of bytes before the first `separator`.
+#[inline(always)]
+fn word_len(bytes: &[u8], separator: u8) -> usize
+    ensures value { result ≡ position_or_len (λ byte. nat_eq byte separator) bytes.now }
+    ensures within { result ≤ length bytes.now }
 {
     let mut len = 0;
-    while len < bytes.len() && bytes[len] != b' ' {
+    while len < bytes.len() && bytes[len] != separator {
         len += 1;
     }
     len
@@ -26,7 +29,7 @@ pub(crate) fn split_word(bytes: &[u8]) -> (&[u8], Option<&[u8]>)
     ensures words { slice_split is_space bytes.now ≡ result.0.now ∷ words_after (option_copied result.1) }
     ensures len { length result.0.now + len_after (option_copied result.1) ≡ length bytes.now }
 {
-    let (word, rest) = bytes.split_at(word_len(bytes));
+    let (word, rest) = bytes.split_at(word_len(bytes, b' '));
     if rest.is_empty() {
         (word, None)
     } else {
@@ -125,6 +128,23 @@ pub(crate) fn number_and_byte(rest: Option<&[u8]>) -> Option<(u64, u8)>
     let number = number_in(word)?;
     let byte = one_byte(rest)?;
     Some((number, byte))
+}
+
+/// Returns the key whose text `word` is: an index and a generation, with a colon between.
+#[tactic(auto, using(crate::proofs::Keys::key_cut))]
+pub(crate) fn key_in(word: &[u8]) -> Option<SlotMapKey>
+    ensures { result ≡ key_of word.now }
+{
+    let (index, rest) = word.split_at(word_len(word, b':'));
+    if rest.is_empty() {
+        return None;
+    }
+    let index = number_in(index)?;
+    let generation = number_in(&rest[1..])?;
+    if generation > u32::MAX as u64 {
+        return None;
+    }
+    Some(SlotMapKey::new(index as usize, generation as u32))
 }
 
 /// Returns the bytes, in `buffer`, if each word that is left is a byte.

@@ -1,42 +1,100 @@
 //! Escaped text: how the bytes of a string are printed.
-ghost use Rattle.std.specs.Prelude.{◌≡◌, ◌<◌, Some, IfOk, string_bytes};
+ghost use Rattle.std.specs.Prelude.{◌≡◌, ◌<◌, ◌≤◌, [], ◌∷◌, length, Some, IfOk, string_bytes};
 ghost use Rattle.ix_string.specs.Escape.{hex_digit, escaped_byte, escaped_text};
+ghost use Rattle.ix_string.specs.Text.{IsTextByte};
 
 use std::alloc::{AllocError, Global};
-use std::fmt;
+use std::marker::Model;
+use std::{fmt, str};
 
-/// Returns the lower-case hexadecimal digit.
-fn hex_char(digit: u8) -> char
-    requires { digit < 16 }
-    ensures { result ≡ hex_digit digit }
-{
-    if digit < 10 {
-        char::from(48 + digit)
-    } else {
-        char::from(87 + digit)
+/// The text that a byte is printed as, which has one, two or four bytes. Contracts see it as the list of them.
+///
+/// [`escape_byte`] makes it, and `Display` prints it.
+#[derive(Drop)]
+pub struct EscapedByte {
+    bytes: [u8; 4],
+    len: usize,
+}
+
+impl Model for EscapedByte {
+    ghost use Rattle.std.specs.Prelude.{ℕ, ◌≡◌, ◌≤◌, List, length, take};
+    ghost use Rattle.ix_string.specs.Text.{IsText};
+
+    ghost Value = { List ℕ };
+
+    ghost view = { λ escaped. take escaped.len escaped.bytes };
+
+    ghost invariant = { λ escaped. (length escaped.bytes ≡ 4) × (escaped.len ≤ 4) × IsText (take escaped.len escaped.bytes) };
+}
+
+impl EscapedByte {
+    /// Returns the text. O(1).
+    #[inline]
+    pub fn as_str(&self) -> &str
+        ensures value { result.now ≡ self.now }
+        ensures within { length result.now ≤ 4 }
+    {
+        // SAFETY: bytes from 1 to 127 are UTF-8.
+        unsafe { str::from_utf8_unchecked(&self.bytes[..self.len]) }
     }
 }
 
-/// A byte that is printed escaped.
-#[derive(Clone, Copy)]
-struct EscapedByte(u8);
-
+/// Prints the text.
 impl fmt::Display for EscapedByte {
-    ghost output = { λ byte. Some (escaped_byte byte.0) };
+    ghost output = { λ escaped. Some escaped };
 
     fn fmt<W: fmt::Write>(&self, f: &mut fmt::Formatter<W>) -> fmt::Result {
-        match self.0 {
-            9 => f.write_str("\\t"),
-            13 => f.write_str("\\r"),
-            10 => f.write_str("\\n"),
-            32..=127 => f.write_char(char::from(self.0)),
-            byte => {
-                f.write_str("\\x")?;
-                f.write_char(hex_char(byte / 16))?;
-                f.write_char(hex_char(byte % 16))
-            }
-        }
+        f.write_str(self.as_str())
     }
+}
+
+/// Returns the text that `byte` is printed as: `\t`, `\r` and `\n` for the bytes 9, 13 and 10, the byte itself for those
+/// from 32 to 127, a backslash and a quote too, and `\x` and two lower-case hexadecimal digits for every other byte. Does
+/// not allocate. O(1).
+///
+/// ```text
+/// escape_byte(b'a').as_str();    // "a"
+/// escape_byte(9).as_str();       // "\\t"
+/// escape_byte(1).as_str();       // "\\x01"
+/// ```
+#[inline]
+pub fn escape_byte(byte: u8) -> EscapedByte
+    ensures { result ≡ escaped_byte byte }
+{
+    match byte {
+        9 => backslash_and(b't'),
+        13 => backslash_and(b'r'),
+        10 => backslash_and(b'n'),
+        32..=127 => EscapedByte {
+            bytes: [byte, 0, 0, 0],
+            len: 1,
+        },
+        _ => EscapedByte {
+            bytes: [b'\\', b'x', hex_byte(byte / 16), hex_byte(byte % 16)],
+            len: 4,
+        },
+    }
+}
+
+/// Returns the text of a backslash and a letter.
+#[inline]
+fn backslash_and(letter: u8) -> EscapedByte
+    requires { IsTextByte letter }
+    ensures { result ≡ 92 ∷ letter ∷ [] }
+{
+    EscapedByte {
+        bytes: [b'\\', letter, 0, 0],
+        len: 2,
+    }
+}
+
+/// Returns the lower-case hexadecimal digit.
+#[inline]
+fn hex_byte(digit: u8) -> u8
+    requires { digit < 16 }
+    ensures { result ≡ hex_digit digit }
+{
+    if digit < 10 { 48 + digit } else { 87 + digit }
 }
 
 /// Bytes that are printed escaped.
@@ -48,15 +106,14 @@ impl fmt::Display for Escaped<'_> {
 
     fn fmt<W: fmt::Write>(&self, f: &mut fmt::Formatter<W>) -> fmt::Result {
         for byte in self.0 {
-            EscapedByte(*byte).fmt(f)?;
+            escape_byte(*byte).fmt(f)?;
         }
         Ok(())
     }
 }
 
-/// Returns the bytes as a text that can be printed, in memory of `alloc`. The bytes 9, 13 and 10 become `\t`, `\r` and
-/// `\n`. Those from 32 to 127 stay as they are, a backslash and a quote too. Every other byte becomes `\x` and two
-/// lower-case hexadecimal digits. O(`bytes.len()`).
+/// Returns the bytes as a text that can be printed, in memory of `alloc`: the text of each, as [`escape_byte`] returns it.
+/// O(`bytes.len()`).
 ///
 /// ```text
 /// as_escaped_string(alloc, b"a\tb\x01");    // Ok("a\\tb\\x01")

@@ -1,11 +1,10 @@
-use Rattle.std.proofs.Common.{ℕ, ◌≡◌, ◌≤◌, ◌<◌, ◌-◌, false, length, get_or}
-use Rattle.ix_run.specs.Words.{is_space}
+use Rattle.std.proofs.Common.{ℕ, ◌≡◌, ◌≤◌, ◌<◌, ◌-◌, false, length, get_or, nat_eq}
 use Rattle.ix_run.proofs.run.words.word_len.Given as goal
 
 abbrev pub invariant-loop-len : goal.invariant-loop-len
 invariant-loop-len l = record {
   within : l.len ≤ length l.bytes;
-  before : (k : ℕ) → k < l.len → is_space (get_or l.bytes k 0) ≡ false;
+  before : (k : ℕ) → k < l.len → nat_eq (get_or l.bytes k 0) l.separator ≡ false;
 }
 
 abbrev pub decreases-loop-len : goal.decreases-loop-len

@@ -1,9 +1,9 @@
 use Rattle.std.proofs.Common.{rules, ◌∙◌}
-use Rattle.ix_cells.proofs.Places.{held_within, place_at-read, IsSome-read}
+use Rattle.ix_cells.proofs.Places.{shown_within, place_at-read, IsSome-read}
 use Rattle.ix_cells.proofs.cells.inline_table.InlineTableTable.get.Goals as goal
 
 pub place-requires : goal.place-requires
-place-requires g c = (search rules, held_within c.self.view_is c.args.i c.requires)
+place-requires g c = (search rules, shown_within c.self.view_is c.args.i c.requires)
 
 pub item-requires : goal.item-requires
 item-requires g c = IsSome-read c.self.view_is c.args.i c.requires c.place.ensures

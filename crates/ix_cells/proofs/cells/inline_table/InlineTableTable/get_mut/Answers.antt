@@ -1,11 +1,11 @@
 use Rattle.std.proofs.Common.{rules, ◌∙◌, List, Option, Some, refl, ap}
 use Rattle.std.specs.Prelude.{slice_set}
 use Rattle.std.proofs.Math.ListN.{length-set}
-use Rattle.ix_cells.proofs.Places.{held_within, place_at-read, IsSome-read}
+use Rattle.ix_cells.proofs.Places.{shown_within, place_at-read, IsSome-read}
 use Rattle.ix_cells.proofs.cells.inline_table.InlineTableTable.get_mut.Goals as goal
 
 pub place_mut-requires : goal.place_mut-requires
-place_mut-requires g c = (search rules, held_within c.self.view_is c.args.i c.requires)
+place_mut-requires g c = (search rules, shown_within c.self.view_is c.args.i c.requires)
 
 pub item_mut-requires : goal.item_mut-requires
 item_mut-requires g c = IsSome-read c.self.view_is c.args.i c.requires c.place_mut.ensures.value

@@ -1,11 +1,11 @@
 use Rattle.std.proofs.Common.{rules, ◌∙◌, List, Option, None, IsSome, length, ap, subst}
 use Rattle.std.specs.Prelude.{slice_set}
 use Rattle.std.proofs.Math.ListN.{length-set}
-use Rattle.ix_cells.proofs.Places.{held_within, place_at-read, IsSome-read}
+use Rattle.ix_cells.proofs.Places.{shown_within, place_at-read, IsSome-read}
 use Rattle.ix_cells.proofs.cells.inline_table.InlineTableTable.take.Goals as goal
 
 pub replace-requires : goal.replace-requires
-replace-requires g c = (search rules, held_within c.self.view_is c.args.i c.requires)
+replace-requires g c = (search rules, shown_within c.self.view_is c.args.i c.requires)
 
 pub unreachable-requires : goal.unreachable-requires
 unreachable-requires g c =

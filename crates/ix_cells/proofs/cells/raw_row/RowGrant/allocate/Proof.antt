@@ -1,5 +1,5 @@
 -- `allocate` makes empty places of a new block, and keeps the right to deallocate it. Assumes `Logic`.
-use Rattle.ix_cells.proofs.RawNames.{ℕ, ◌*◌, ◌^◌, ◌<◌, [], ◌∷◌, length, replicate, None, Ok, Err, refl, sym, ap, subst, lit<}
+use Rattle.ix_cells.proofs.RawNames.{◌≡◌, ℕ, ◌*◌, ◌^◌, ◌<◌, [], ◌∷◌, length, replicate, None, Ok, Err, refl, sym, ap, subst, lit<}
 use Rattle.ix_cells.proofs.RawNames.{arith, proved, leaves, SProp, ent, emp, ftrue, flft, Fn, Body, named, w64, ty_array}
 use Rattle.ix_cells.proofs.RawNames.{inst_fn, Val, vint, vstruct, vcons, vnil, Env, Wp, after_seq, at_return, ◌⊑◌, Incl-trans}
 use Rattle.ix_cells.proofs.RawNames.{fact, fact_i, tables, Item, ‵, raw, ◌⊛◌, later, at_ret, ◌$◌, ◌∵◌, !, qed, by, move, keep}
@@ -52,11 +52,12 @@ allocate_spec 𝓤 𝓛 𝓜 𝓡 wired T A L LA g d drops met _ =
     let y : W.Ghost = ((κs, qs, bounds, a, (shr_vals self, (vint w64 len ∷ [], tt))), tt) in
     let Post : Val → SProp 𝓤 = W.post y in
     let tokens : Item 𝓤 = ‵ (flft κs.1.0 qs.1.0) ⊛ ‵ (flft κs.1.1.0 qs.1.1.0) ⊛ ‵ ftrue in
-    let ends : (r : Out.Denot) (v : Val) → IfOk r (λ made. IsVacantRow made.1 made.0.start len) → IfOk r (λ made. IsGrantFor made.2 made.0.start len alloc)
-    → ent 𝓤 (⋆ 𝓛 (‵ (Out.own_val r (v ∷ [])) ∷ ‵ (flft κ q) ∷ tokens ∷ [])) (Post v) = λ r v vacant granted.
+    let ends : (r : Out.Denot) (v : Val) → IfOk r (λ made. IsVacantRow made.1 made.0.start len) → IfOk r (λ made. made.1.bytes ≡ len * s T) → IfOk r (λ made. IsGrantFor made.2 made.0.start len alloc)
+    → ent 𝓤 (⋆ 𝓛 (‵ (Out.own_val r (v ∷ [])) ∷ ‵ (flft κ q) ∷ tokens ∷ [])) (Post v) = λ r v vacant sized granted.
     (qed 𝓛 (‵ (Out.own_val r (v ∷ [])) ∷ ‵ (flft κ q) ∷ tokens ∷ []) ∵ move ! (1 ∷ 2 ∷ []) $ join ! $ nothing ! $ nothing ! $
     fjoin ! $ nothing ! $ fjoin ! $
     use0 𝓛 (raw (fact 𝓤 (IfOk r (λ made. IsGrantFor made.2 made.0.start len alloc)))) (fact_i 𝓤 (IfOk r (λ made. IsGrantFor made.2 made.0.start len alloc)) (emp 𝓤) granted) $
+    use0 𝓛 (raw (fact 𝓤 (IfOk r (λ made. made.1.bytes ≡ len * s T)))) (fact_i 𝓤 (IfOk r (λ made. made.1.bytes ≡ len * s T)) (emp 𝓤) sized) $ join ! $
     use0 𝓛 (raw (fact 𝓤 (IfOk r (λ made. IsVacantRow made.1 made.0.start len)))) (fact_i 𝓤 (IfOk r (λ made. IsVacantRow made.1 made.0.start len)) (emp 𝓤) vacant) $
     join ! $
     move ! (2 ∷ 1 ∷ 3 ∷ 0 ∷ []) $ by ! (leaves 𝓛 ended stayed c y v r (tt, (tt, tt)) (tt, (tt, tt)))) in
@@ -79,7 +80,7 @@ allocate_spec 𝓤 𝓛 𝓜 𝓡 wired T A L LA g d drops met _ =
     answers Z ! 𝓜.mem 𝓡.returns alloc block v
     (λ b o e.
     let p : Ptr = block_ptr b o in let start : (Start T).Denot = record { start = p } in
-    let row : (Owner T).Denot = record { mark = record {}; start = p; places = replicate len None } in
+    let row : (Owner T).Denot = record { mark = record {}; start = p; places = replicate len None; bytes = len * s T } in
     let right : Grant.Denot = record { mark = record {}; start = p; len = len; alloc = alloc } in
     let made : Val = three_val (word p) bytes_none bytes_none in
     let typed : Good (layout Three) made = (tt, ((tt, tt), ((tt, tt), ((tt, tt), tt)))) in
@@ -106,7 +107,7 @@ allocate_spec 𝓤 𝓛 𝓜 𝓡 wired T A L LA g d drops met _ =
     use3 𝓛 (‵ (Three.own_val (start, row, right) (made ∷ []))) (three_made 𝓛 (Start T) (Owner T) Grant start row right (word p) bytes_none bytes_none) $
     use1 𝓛 (‵ (Out.own_val (Ok (start, row, right)) (live 0 (vcons made vnil) ∷ []))) (ok_of 𝓛 Three error.the_row (start, row, right) made) $
     returns ! (look_at ! 0 refl) $ free_all ! refl $ keep ! (0 ∷ 1 ∷ 2 ∷ []) $
-    by ! (ends (Ok (start, row, right)) (live 0 (vcons made vnil)) vacant granted))
+    by ! (ends (Ok (start, row, right)) (live 0 (vcons made vnil)) vacant refl granted))
     (λ e.
     let Refusal : RattleType = Struct (Declared.shape error.the_type) in let none : Val = live 1 (vcons (vstruct vnil) vnil) in
     lands_as ! e refl (Answer-typed false 0 0) $ first ! $
@@ -117,4 +118,4 @@ allocate_spec 𝓤 𝓛 𝓜 𝓡 wired T A L LA g d drops met _ =
     sets ! (of_opd ! (get ! refl)) refl (tt, (record { fits = lit< tt }, (tt, tt))) $
     owned ! Refusal (Is Refusal) (Struct-Makes 𝓛 (Declared.shape error.the_type) tt) tt (vstruct vnil ∷ []) (tt, (refl, tt)) $
     use1 𝓛 (‵ (Out.own_val (Err (record {})) (none ∷ []))) (err_of 𝓛 Three error.the_row (record {}) (vstruct vnil)) $
-    returns ! (look_at ! 0 refl) $ free_all ! refl $ keep ! (0 ∷ 1 ∷ 2 ∷ []) $ by ! (ends (Err (record {})) none tt tt)))))))
+    returns ! (look_at ! 0 refl) $ free_all ! refl $ keep ! (0 ∷ 1 ∷ 2 ∷ []) $ by ! (ends (Err (record {})) none tt tt tt)))))))

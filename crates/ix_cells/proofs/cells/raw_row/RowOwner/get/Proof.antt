@@ -11,7 +11,8 @@ use Rattle.ix_cells.proofs.RawNames.{Goes-dropped, after, word, word-Good}
 use Rattle.ix_cells.specs.Places.{IsHeldAt}
 use Rattle.ix_cells.specs.RawMemory.{place_shares, row_shares}
 use Rattle.ix_cells.specs.contracts.cells.raw_row.RowOwner.get as f
-use Rattle.ix_cells.proofs.RawSteps.{P, inst, s, Place, Owner, Start, item_at, held_within, offset_fits, place_seen}
+use Rattle.ix_cells.proofs.Places.{held_item, held_within}
+use Rattle.ix_cells.proofs.RawSteps.{P, inst, s, Place, Owner, Start, offset_fits, place_seen}
 use Rattle.ix_cells.proofs.cells.raw_row.RowPtr.TheLaws.{lowers as start_lowers}
 use Rattle.ix_cells.proofs.cells.raw_row.RowOwner.get.Statement.{statement}
 use Rattle.ix_cells.proofs.cells.raw_row.RowOwner.get.Code as code
@@ -40,7 +41,7 @@ get_spec 𝓤 𝓛 𝓜 𝓡 wired T L =
     -- [what self lends; the tokens]
     enter ! 𝓣.C 𝓣.Λ fn (W.args y) Post $
     alloc_all ! (λ l. pass_all ! refl ((tt, tt), (word-Good [] p, ((tt, record { fits = are.1.1.0.1 }), tt))) $
-    let Ev = env fn.locals l in let found = item_at (get_or d.places i None) held in let x = found.0 in
+    let Ev = env fn.locals l in let found = held_item (get_or d.places i None) held in let x = found.0 in
     let within = held_within d.places i held in
     unhide ! $ fsplit ! $ drop ! $
     in_a_block ! d.start (λ q. row_shares (P T) q d.places κ) (id⊢ 𝓤 (never 𝓤)) (λ b o e. fsplit ! $ flt_l ! (λ small.

@@ -13,7 +13,8 @@ use Rattle.ix_cells.specs.Places.{IsHeldAt}
 use Rattle.ix_cells.specs.RawMemory.{place_owns, places_own, row_owns}
 use Rattle.ix_cells.specs.RawRows.{with_places}
 use Rattle.ix_cells.specs.contracts.cells.raw_row.RowOwner.read as f
-use Rattle.ix_cells.proofs.RawSteps.{P, τ, inst, s, Place, Owner, Start, E, item_at, held_within, offset_fits, others}
+use Rattle.ix_cells.proofs.Places.{held_item, held_within}
+use Rattle.ix_cells.proofs.RawSteps.{P, τ, inst, s, Place, Owner, Start, E, offset_fits, others}
 use Rattle.ix_cells.proofs.RawSteps.{place_out, place_in, item_out}
 use Rattle.ix_cells.proofs.cells.raw_row.RowPtr.TheLaws.{lowers as start_lowers}
 use Rattle.ix_cells.proofs.cells.raw_row.RowOwner.read.Statement.{statement}
@@ -44,7 +45,7 @@ read_spec 𝓤 𝓛 𝓜 𝓡 wired T L =
     -- [self, in two parts; the token; the token of T]
     enter ! 𝓣.C 𝓣.Λ fn (W.args y) Post $
     alloc_all ! (λ l. pass_all ! refl ((tt, tt), (word-Good [] p, ((tt, record { fits = are.1.1.0.1 }), tt))) $
-    let Ev = env fn.locals l in let found = item_at (get_or d.places i None) held in let x = found.0 in
+    let Ev = env fn.locals l in let found = held_item (get_or d.places i None) held in let x = found.0 in
     let within = held_within d.places i held in
     opens ! tt (Owner T) {h = d} rb ro (λ vs. move ! (1 ∷ []) $ fsplit ! $ move ! (1 ∷ []) $
     in_a_block ! d.start (λ q. row_owns (P T) q d.places) (id⊢ 𝓤 (never 𝓤)) (λ b o e. fsplit ! $ flt_l ! (λ small.

@@ -1,7 +1,7 @@
 -- `without_bytes` makes places of no bytes, at an address that is never read. Assumes `Logic`.
 use Rattle.ix_cells.proofs.RawNames.{◌≡◌, ℕ, ◌*◌, ◌^◌, ◌<◌, [], ◌∷◌, length, replicate, None, refl, sym, subst, lit<, proved}
 use Rattle.ix_cells.proofs.RawNames.{leaves, SProp, emp, ftrue, flft, Fn, w64, inst_fn, Val, vint, ◌⊑◌, fact, fact_i, tables, ‵}
-use Rattle.ix_cells.proofs.RawNames.{raw, ◌⊛◌, ◌$◌, ◌∵◌, !, qed, by, move, keep, drop, use0, use2, split, fjoin, flt_i, agg}
+use Rattle.ix_cells.proofs.RawNames.{raw, ◌⊛◌, ◌$◌, ◌∵◌, !, qed, by, move, keep, drop, use0, use2, split, join, fjoin, flt_i, agg}
 use Rattle.ix_cells.proofs.RawNames.{stop, from, addr, and_then, no_more, returns, enter, alloc_all, pass_all}
 use Rattle.ix_cells.proofs.RawNames.{free_all, look_at, get, sets, usize, yes, owns, Ptr, block_ptr, plain, types_at, nothing}
 use Rattle.ix_cells.proofs.RawNames.{heard, Stays, stay_dropped, walk_of, Goes-dropped, word, word-Good, uint_vals, uint_Tells}
@@ -29,7 +29,7 @@ without_bytes_spec 𝓤 𝓛 𝓜 𝓡 wired T L =
     enter ! 𝓣.C 𝓣.Λ fn (vint w64 len ∷ []) Post $ alloc_all ! (λ l. pass_all ! refl ((tt, record { fits = are.0.1 }), tt) $
     let b : ℕ = l 2 in let p : Ptr = block_ptr b 0 in
     let start : (Start T).Denot = record { start = p } in
-    let row : (Owner T).Denot = record { mark = record {}; start = p; places = replicate len None } in
+    let row : (Owner T).Denot = record { mark = record {}; start = p; places = replicate len None; bytes = 0 } in
     let made : Val = pair_val (word p) bytes_none in
     let vacant : IsVacantRow row p len = record { start = refl; places = refl } in
     sets ! (agg ! (no_more !)) refl (tt, tt) $ sets ! (addr ! (from ! (stop !))) refl (tt, tt) $
@@ -44,6 +44,7 @@ without_bytes_spec 𝓤 𝓛 𝓜 𝓡 wired T L =
     use0 𝓛 (‵ ((Start T).own_val start (word p ∷ []))) (start_made T 𝓛 p) $
     use2 𝓛 (‵ ((Tuple (Start T ∷ Owner T ∷ [])).own_val (start, row) (made ∷ []))) (pair_of 𝓛 (Start T) (Owner T) start row (word p) bytes_none) $
     nothing ! $ nothing ! $ fjoin ! $
-    use0 𝓛 (raw (fact 𝓤 (IsVacantRow row p len))) (fact_i 𝓤 (IsVacantRow row p len) (emp 𝓤) vacant) $
+    use0 𝓛 (raw (fact 𝓤 (row.bytes ≡ 0))) (fact_i 𝓤 (row.bytes ≡ 0) (emp 𝓤) refl) $
+    use0 𝓛 (raw (fact 𝓤 (IsVacantRow row p len))) (fact_i 𝓤 (IsVacantRow row p len) (emp 𝓤) vacant) $ join ! $
     move ! (3 ∷ 1 ∷ 2 ∷ 0 ∷ []) $
     by ! (leaves 𝓛 ended stayed c y made (start, row) (tt, tt) (tt, tt)))))

@@ -7,4 +7,4 @@ pub invariant_of-result : goal.invariant_of-result
 invariant_of-result g c =
     let made = c.without_bytes-row.result in
     let held = c.in_ok-held.held in
-    parts_made made.0 made.1 None held.items (vec_allocator held) c.args.len c.without_bytes-row.ensures c.in_ok-held.ensures.value tt
+    parts_made made.0 made.1 None held.items (vec_allocator held) c.args.len c.without_bytes-row.ensures.row c.in_ok-held.ensures.value c.without_bytes-row.ensures.bytes

@@ -1,0 +1,48 @@
+-- Worked runs: the replies to a list of commands are what users expect.
+use Rattle.std.proofs.Common.{ℕ, ◌≡◌, List, [], ◌∷◌, true, false, refl}
+use Rattle.std.specs.Prelude.{nat_eq}
+use Rattle.std.specs.Borrow.{Bor}
+use Rattle.ix_cells.specs.Bounded.{bounded_new}
+use Rattle.ix_maps.specs.SlotState.{slot_new}
+use Rattle.ix_commands.specs.Run.{run_replies}
+use Rattle.ix_commands.specs.QueueRun.{queue_reply, queue_after}
+use Rattle.ix_commands.specs.VecRun.{vec_reply, vec_after}
+use Rattle.ix_commands.specs.TableRun.{table_reply, table_after}
+use Rattle.ix_commands.specs.FlatRun.{flat_reply, flat_after}
+use Rattle.ix_commands.specs.TextRun.{text_reply, text_after}
+use Rattle.ix_commands.specs.declared.command.QueueCommand.TheVariants as queue
+use Rattle.ix_commands.specs.declared.command.VecCommand.TheVariants as vec
+use Rattle.ix_commands.specs.declared.command.TableCommand.TheVariants as table
+use Rattle.ix_commands.specs.declared.command.FlatCommand.TheVariants as flat
+use Rattle.ix_commands.specs.declared.command.TextCommand.TheVariants as text
+use Rattle.ix_commands.specs.declared.reply.Reply.TheVariants as reply
+use Rattle.ix_commands.specs.declared.reply.ReplyError.TheVariants.{OutOfBounds, InsertWouldExceedCapacity, InvalidCharacter, KeyAlreadyExists, IsFull}
+
+-- these numbers as a slice, wherever it lies
+abbrev slice_at : ℕ × ℕ → List ℕ → Bor (List ℕ)
+slice_at place xs = record { ref_ptr = place; now = xs }
+
+-- capacity 1: a full queue refuses 5, and 456 takes the place of 123
+queue-one : run_replies (queue_reply {X = ℕ}) queue_after (bounded_new 1) (queue.Push 123 ∷ queue.Push 5 ∷ queue.Over 456 ∷ queue.Pop ∷ queue.Pop ∷ [])
+    ≡ reply.Bool true ∷ reply.Bool false ∷ reply.Value 123 ∷ reply.Value 456 ∷ reply.None ∷ []
+queue-one = refl
+
+-- capacity 3: the removed key 0 is used again, then key 2 is taken by name, and the table is full
+table-three : run_replies (table_reply {X = ℕ}) table_after (slot_new 3) (table.Insert 10 ∷ table.Insert 20 ∷ table.Remove 0 ∷ table.Next ∷ table.Insert 30 ∷ table.InsertAt 2 40 ∷ table.Insert 50 ∷ [])
+    ≡ reply.Key 0 ∷ reply.Key 1 ∷ reply.Value 10 ∷ reply.Key 0 ∷ reply.Key 0 ∷ reply.Bool true ∷ reply.None ∷ []
+table-three = refl
+
+-- capacity 1: key 1 keeps its value 2, and there is no room for key 2
+flat-one : run_replies (flat_reply {V = ℕ} nat_eq) (flat_after nat_eq) (slot_new 1) (flat.Insert 1 2 ∷ flat.Insert 1 3 ∷ flat.Insert 2 4 ∷ flat.Get 1 ∷ flat.Key 0 ∷ flat.Key 1 ∷ [])
+    ≡ reply.Done ∷ reply.Error KeyAlreadyExists ∷ reply.Error IsFull ∷ reply.Value 2 ∷ reply.Key 1 ∷ reply.None ∷ []
+flat-one = refl
+
+-- capacity 3: index 9 is past the end, and length 4 past the capacity; no more than 3 items is no change
+vec-three : (place : ℕ × ℕ) → run_replies vec_reply vec_after (bounded_new 3) (vec.Extend (slice_at place (1 ∷ 2 ∷ [])) ∷ vec.Insert 9 7 ∷ vec.Resize 4 0 ∷ vec.Resize 3 5 ∷ vec.Truncate 9 ∷ vec.Remove 0 ∷ [])
+    ≡ reply.Done ∷ reply.Error OutOfBounds ∷ reply.Error InsertWouldExceedCapacity ∷ reply.Done ∷ reply.Done ∷ reply.Value 1 ∷ []
+vec-three place = refl
+
+-- capacity 3: 200 is no byte of a string, and after abc there is no room; the empty text occurs last at index 3
+text-three : (place : ℕ × ℕ) → run_replies text_reply text_after (bounded_new 3) (text.Append (slice_at place (97 ∷ 98 ∷ [])) ∷ text.Push 200 ∷ text.Push 99 ∷ text.Push 100 ∷ text.Rfind (slice_at place []) ∷ [])
+    ≡ reply.Done ∷ reply.Error InvalidCharacter ∷ reply.Done ∷ reply.Error InsertWouldExceedCapacity ∷ reply.Key 3 ∷ []
+text-three place = refl

@@ -1,0 +1,109 @@
+//! Commands of slot maps.
+ghost use Rattle.std.specs.Prelude.{◌≡◌, List, is_some, if◌then◌else◌, IfOk, OnOk, OnErr};
+ghost use Rattle.ix_maps.specs.Generations.{SlotMapState, map_value, IsMapFormed};
+ghost use Rattle.ix_maps.specs.SlotMapSteps.{map_set};
+ghost use Rattle.ix_commands.specs.Run.{run_replies, run_state};
+ghost use Rattle.ix_commands.specs.SlotRun.{slot_reply, slot_after, slot_from, DeadStaysDead};
+ghost use Rattle.ix_commands.specs.declared.command.SlotCommand.{SlotCommand};
+
+use crate::reply::{reply_of_entry, reply_of_key, reply_of_option};
+use crate::{Reply, Runs, SlotCommand, run_all};
+use ix_cells::Table;
+use ix_maps::{Link, MetaSlotMap, SlotMapKey};
+use std::alloc::{AllocError, Global};
+
+/// The commands of a slot map, of any kind.
+impl<T: Copy, S: Table<Option<T>>, L: Table<Link>, G: Table<u32>> Runs<SlotCommand<T>>
+    for MetaSlotMap<T, S, L, G> {
+    ghost use Rattle.ix_maps.specs.Generations.{SlotMapState};
+    ghost use Rattle.ix_commands.specs.SlotRun.{slot_reply, slot_after};
+
+    type Reply = Reply<SlotMapKey, T>;
+
+    ghost Model = { SlotMapState T };
+
+    ghost model = { λ map. map };
+
+    ghost reply = { slot_reply };
+
+    ghost after = { slot_after };
+
+    fn run_command(&mut self, command: SlotCommand<T>) -> Reply<SlotMapKey, T> {
+        match command {
+            SlotCommand::Insert(value) => reply_of_key(self.insert(value)),
+            SlotCommand::Next => reply_of_key(self.next_free_key()),
+            SlotCommand::InsertAt(index, value) => reply_of_key(self.insert_at(index, value)),
+            SlotCommand::Remove(key) => reply_of_option(self.remove(key)),
+            SlotCommand::Get(key) => reply_of_option(self.get(key).copied()),
+            SlotCommand::Set(key, value) => Reply::Bool(overwrite(self, key, value)),
+            SlotCommand::Contains(key) => Reply::Bool(self.contains(key)),
+            SlotCommand::From(index) => reply_of_entry(first_entry_from(self, index)),
+            SlotCommand::Retired => Reply::Number(self.retired()),
+            SlotCommand::Len => Reply::Number(self.len()),
+            SlotCommand::Capacity => Reply::Number(self.capacity()),
+            SlotCommand::Empty => Reply::Bool(self.is_empty()),
+            SlotCommand::Full => Reply::Bool(self.is_full()),
+        }
+    }
+}
+
+/// Runs the commands on a slot map of any kind, in order, and returns the replies to them. Allocates the list of replies from
+/// `alloc` before the first command. O(`commands.len()`) beside the calls of the slot map; `SlotCommand::From` takes
+/// O(capacity).
+///
+/// A key that is dead before is dead after any commands.
+///
+/// Returns `AllocError` if there is no memory for the list. Then no command was run.
+pub fn run_slot<T: Copy, S: Table<Option<T>>, L: Table<Link>, G: Table<u32>>(
+    alloc: Global,
+    map: &mut MetaSlotMap<T, S, L, G>,
+    commands: &[SlotCommand<T>],
+) -> Result<Vec<Reply<SlotMapKey, T>>, AllocError>
+    ensures value { IfOk result (λ replies. replies.items ≡ run_replies slot_reply slot_after map.old commands.now) }
+    ensures map { OnOk result (map.new ≡ run_state slot_after map.old commands.now) }
+    ensures refused { OnErr result (map.new ≡ map.old) }
+    ensures dead { DeadStaysDead map.old commands.now }
+{
+    // A call of `len` tells that the map is well formed, from which the last clause follows.
+    let _len = map.len();
+    run_all(alloc, map, commands)
+}
+
+/// A key that is dead before any list of commands is dead after it, and has no value then. This function does nothing: its
+/// contract is the law.
+pub fn dead_law<T>()
+    ensures { (map : SlotMapState T) (commands : List (SlotCommand T)) → IsMapFormed map → DeadStaysDead map commands }
+{}
+
+/// Overwrites the value of `key` and returns `true`, or returns `false` if `key` is not held.
+fn overwrite<T: Copy, S: Table<Option<T>>, L: Table<Link>, G: Table<u32>>(
+    map: &mut MetaSlotMap<T, S, L, G>,
+    key: SlotMapKey,
+    value: T,
+) -> bool
+    ensures value { result ≡ is_some (map_value map.old key) }
+    ensures map { map.new ≡ if is_some (map_value map.old key) then map_set map.old key value else map.old }
+{
+    match map.get_mut(key) {
+        Some(held) => {
+            *held = value;
+            true
+        }
+        None => false,
+    }
+}
+
+/// Returns the first held key whose index is not below `start`, with its value.
+fn first_entry_from<T: Copy, S: Table<Option<T>>, L: Table<Link>, G: Table<u32>>(
+    map: &MetaSlotMap<T, S, L, G>,
+    start: usize,
+) -> Option<(SlotMapKey, T)>
+    ensures { result ≡ slot_from map.now start }
+{
+    for (key, value) in map.iter() {
+        if key.index() >= start {
+            return Some((key, *value));
+        }
+    }
+    None
+}

@@ -1,0 +1,8 @@
+use Rattle.ix_maps.specs.Generations.{map_entries}
+use Rattle.ix_run.specs.ReplyTexts.{key_entry_text}
+use Rattle.ix_run.proofs.Listings.{WritesUpTo}
+use Rattle.ix_run.proofs.run.slot_lines.append_key_entries.Given as goal
+
+abbrev pub invariant-loop-key : goal.invariant-loop-key
+invariant-loop-key g l =
+    WritesUpTo key_entry_text (map_entries l.map) (g.W.Write.contents l.fn.writer) l.fn.pending l.is_first l.key-iterator (g.W.Write.contents l.writer) l.pending
