@@ -14,6 +14,9 @@ module _ {T : Type 0} where
   pub Begins-append : (xs ys zs : List T) → Begins xs ys → Begins xs (ys ++ zs)
   Begins-append xs ys zs begins = (begins.0 ++ zs, ap (λ list. list ++ zs) begins.1 ∙ append_assoc xs begins.0 zs)
 
+  pub Begins-trans : (xs ys zs : List T) → Begins xs ys → Begins ys zs → Begins xs zs
+  Begins-trans xs ys zs first second = subst (Begins xs) (sym second.1) (Begins-append xs ys second.0 first)
+
   pub Begins-length : (xs ys : List T) → Begins xs ys → length xs ≤ length ys
   Begins-length xs ys begins = let whole : length ys ≡ length (xs ++ begins.0) = ap length begins.1 in let parts = length-append xs begins.0 in omega arith
 
@@ -38,7 +41,7 @@ pub get_or-tail : (list : List ℕ) (k : ℕ) → get_or list (k + 1) 0 ≡ get_
 get_or-tail [] k = refl
 get_or-tail (x ∷ xs) k = ap (λ j. get_or (x ∷ xs) j 0) (add-one k)
 
-get_or-get_elem : (list : List ℕ) (i x : ℕ) → get_elem? list i ≡ some x → get_or list i 0 ≡ x
+pub get_or-get_elem : (list : List ℕ) (i x : ℕ) → get_elem? list i ≡ some x → get_or list i 0 ≡ x
 get_or-get_elem [] i x e = absurd (some-ne-none x (sym e))
 get_or-get_elem (y ∷ ys) zero x e = some-injective y x e
 get_or-get_elem (y ∷ ys) (suc i) x e = get_or-get_elem ys i x e

@@ -55,6 +55,18 @@ module _ {S B : Type 0} where
   none_above give index x xs rest zero y above e = absurd (omega arith)
   none_above give index x xs rest (suc i) y above e = rest i y (omega arith) e
 
+  -- it is the last one behind one more item too, where p is what that item leaves of o
+  LastGiven-cons : (give : S → Option B) (x : S) (xs : List S) (o p : Option B) → last_or o (filter_map give (x ∷ xs)) ≡ last_or p (filter_map give xs) → LastGiven give xs p → LastGiven give (x ∷ xs) o
+  LastGiven-cons give x xs o p same given = record {
+    index = suc given.index;
+    item = given.item;
+    value = given.value;
+    stands = given.stands;
+    gives = given.gives;
+    is_last = same ∙ given.is_last;
+    later = none_above give given.index x xs given.later;
+  }
+
   pub last_given : (give : S → Option B) (xs : List S) (o : Option B) → NothingGiven give xs o ⊎ LastGiven give xs o
   last_given give [] o = inl (record { is_first = refl; none = λ i x e. absurd (cc) })
   last_given give (x ∷ xs) o = by_head (give x) refl (λ p. last_given give xs p)
@@ -62,15 +74,7 @@ module _ {S B : Type 0} where
       by_head : (head : Option B) → give x ≡ head → ((p : Option B) → NothingGiven give xs p ⊎ LastGiven give xs p) → NothingGiven give (x ∷ xs) o ⊎ LastGiven give (x ∷ xs) o
       by_head None e rest = elim (rest o) [
         | inl h ↦ inl (record { is_first = ap (λ b. last_or o (cons_option b (filter_map give xs))) e ∙ h.is_first; none = none_first give x xs e h.none })
-        | inr h ↦ inr (record {
-          index = suc h.index;
-          item = h.item;
-          value = h.value;
-          stands = h.stands;
-          gives = h.gives;
-          is_last = ap (λ b. last_or o (cons_option b (filter_map give xs))) e ∙ h.is_last;
-          later = none_above give h.index x xs h.later;
-        })
+        | inr h ↦ inr (LastGiven-cons give x xs o o (ap (λ b. last_or o (cons_option b (filter_map give xs))) e) h)
       ]
       by_head (Some value) e rest = elim (rest (Some value)) [
         | inl h ↦ inr (record {
@@ -82,13 +86,5 @@ module _ {S B : Type 0} where
           is_last = ap (λ b. last_or o (cons_option b (filter_map give xs))) e ∙ h.is_first;
           later = none_later give x xs h.none;
         })
-        | inr h ↦ inr (record {
-          index = suc h.index;
-          item = h.item;
-          value = h.value;
-          stands = h.stands;
-          gives = h.gives;
-          is_last = ap (λ b. last_or o (cons_option b (filter_map give xs))) e ∙ h.is_last;
-          later = none_above give h.index x xs h.later;
-        })
+        | inr h ↦ inr (LastGiven-cons give x xs o (Some value) (ap (λ b. last_or o (cons_option b (filter_map give xs))) e) h)
       ]

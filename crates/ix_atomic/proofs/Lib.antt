@@ -18,6 +18,8 @@ pub mod Beginnings
 pub mod StageBytes
 pub mod DataWords
 pub mod Encodes
+pub mod OwnPlaces
+pub mod Owners
 pub mod SequencedKeeps
 pub mod SequencedCalls
 mod WorkedHistory

@@ -1,33 +1,42 @@
 -- Each step of a sequenced cell keeps its rule.
-use Rattle.std.proofs.Common.{◌≡◌, ◌≢◌, ℕ, zero, suc, ◌+◌, ◌-◌, ◌*◌, ◌/◌, ◌%◌, ◌<◌, ◌≤◌, min, List, [], ◌∷◌, ◌++◌, length, take, drop, get_or, set, true, true≢false, refl, sym, ap, ◌∙◌, subst, ⊎_elim, arith, le_refl, le_trans, append-nil, All, Some}
+use Rattle.std.proofs.Common.{◌≡◌, ◌≢◌, ◌⊎◌, ℕ, zero, suc, ◌+◌, ◌-◌, ◌*◌, ◌/◌, ◌%◌, ◌<◌, ◌≤◌, eqb, min, List, [], ◌∷◌, ◌++◌, length, take, drop, get_or, set, refl, sym, ap, ◌∙◌, subst, inl, inr, ⊎_elim, arith, le_refl, le_trans, append-nil, length-append, All, Some}
 use mathlib.Core.Option.{none, some, some-injective, some-ne-none}
+use mathlib.Core.Logic.{dite}
+use native.Mathlib.Decide.{dec_le}
 use lib.ListN.{get_elem?}
 use lib.Seq.{set-get_or}
-use Rattle.atomic_table.specs.Table.{State, step, keeps, stepped, Allows, Splits, opening, Seen, Final}
-use Rattle.atomic_table.proofs.Lists.{at_set, at_snoc}
+use prog.Atomic.{either}
+use Rattle.std.specs.List.{Contains}
+use Rattle.atomic_table.specs.Table.{State, step, keeps, stepped, Valid, Allows, Splits, Joins, carried_after, opening, Seen, Final}
+use Rattle.atomic_table.proofs.Lists.{at_set, at_snoc, at_longer, set_again, set_else, exchanged}
 use Rattle.std.proofs.lemmas.List.{length-take-le, take-append-drop}
-use Rattle.std.proofs.lemmas.List.Elements.{All-push}
+use Rattle.std.proofs.lemmas.List.Elements.{All-push, All-append, Contains-append_left, Contains-push, Contains-push_cases, Contains-get_or}
 use Rattle.ix_atomic.specs.declared.sequenced.rule.SeatView.{SeatView}
 use Rattle.ix_atomic.specs.declared.sequenced.rule.Stage.{Stage}
 use Rattle.ix_atomic.specs.declared.sequenced.rule.Stage.TheVariants.{Idle, Reading, Writing}
 use Rattle.ix_atomic.specs.History.{Begins, IsEven, IsOdd, last_value}
 use Rattle.ix_atomic.specs.Words.{word_of, bytes_of_word, words_of}
-use Rattle.ix_atomic.specs.SequencedRule.{Content, history, cell_bytes, parity, Holds, Knows, SequencedRule}
-use Rattle.ix_atomic.specs.SequencedSteps.{Seated, stage_bytes, bytes_at, view_new, view_bytes, view_end, view_reader, seated_stage, BeginStep, WordStep, EndStep, LoadVersionStep, IsFrontOf}
+use Rattle.ix_atomic.specs.Writers.{IsRising, AreApart}
+use Rattle.ix_atomic.specs.SequencedRule.{Content, history, cell_bytes, parity, Holds, Knows, ApartSeats, HaveOwners, SequencedRule}
+use Rattle.ix_atomic.specs.SequencedSteps.{Seated, stage_bytes, bytes_at, view_new, view_bytes, view_end, view_further, view_merged, view_spent, view_stage, WordStep, EndStep, ViewLoads, LoadVersionStep, ClaimStep, IsFrontOf}
 use Rattle.ix_atomic.proofs.Beginnings.{Begins-refl, Begins-append, length-push, slice_get-push, front-whole, set-tail, get_or-tail, AreBelow, AreBelow-take, All-weaken}
 use Rattle.ix_atomic.proofs.DataWords.{chunk_at, length-chunk_at, chunk_at-more, load-more, stored-chunk, grown-below, words_of-set}
 use Rattle.ix_atomic.proofs.StageBytes.{parity-stage_bytes, stage_bytes-Reading, stage_bytes-Writing, bytes_at-next}
+use Rattle.ix_atomic.proofs.OwnPlaces.{no_place, IsRising-nil, IsRising-push, merge-cases, merge-rises}
+use Rattle.ix_atomic.proofs.Owners.{at_itself, one_view, ApartSeats-set, HaveOwners-set, ApartSeats-push, HaveOwners-push, ApartSeats-merge, HaveOwners-merge}
 
 abbrev stored_by : Stage → List ℕ
 stored_by (Writing stored) = stored
 stored_by stage = []
 
--- the last value of a seat's list, and its encoding, which the words have
+-- the last value of a history that the seat's list begins, and its encoding, which the words have
 pub record Finished {T : Type 0} (IsEncoding : T → List ℕ → Type 0) (known : List T) (words : List ℕ) : Type 0 where
+  pub history : List T
+  pub begins : Begins known history
   pub value : T
   pub bytes : List ℕ
   pub has : words ≡ words_of bytes
-  pub is_last : last_value known ≡ Some value
+  pub is_last : last_value history ≡ Some value
   pub encoding : IsEncoding value bytes
   pub byte_range : AreBelow 256 bytes
 
@@ -59,56 +68,105 @@ module _ {T : Type 0} (IsEncoding : T → List ℕ → Type 0) where
   cell_bytes-rest : (content : Content T) → content.front ≡ [] → cell_bytes content ≡ content.bytes
   cell_bytes-rest content rest = ap (λ (front : List ℕ). front ++ drop (length front) content.bytes) rest
 
-  -- a load keeps the rule
-  load-keeps : (table : Table) (rule : Rule table) (word seat : ℕ) (held : List (ℕ × Unit {0})) (view : SeatView T) → Knows (version table) rule.content seat view
-      → Rule (stepped table word (get_or table.words word 0) seat held view keeps)
-  load-keeps table rule word seat held view knows = subst (λ (words : List ℕ). Rule (changed table words seat view)) (sym (set-get_or table.words word 0)) record {
+  -- a seat that does not write holds the same, whatever it knows
+  Holds-idle : (n : ℕ) (content : Content T) (seat : ℕ) (known known' : List T) (stage : Stage) → parity stage ≡ 0 → Holds n content seat known stage → Holds n content seat known' stage
+  Holds-idle n content seat known known' Idle idle holds = tt
+  Holds-idle n content seat known known' (Reading first loaded) idle holds = holds
+  Holds-idle n content seat known known' (Writing stored) idle holds = absurd (omega (arith, idle))
+
+  -- no seat writes between two writes, and only one does during one
+  idle-at_rest : (n : ℕ) (content : Content T) (seat : ℕ) (known : List T) (stage : Stage) → IsEven n → Holds n content seat known stage → parity stage ≡ 0
+  idle-at_rest n content seat known Idle even holds = refl
+  idle-at_rest n content seat known (Reading first loaded) even holds = refl
+  idle-at_rest n content seat known (Writing stored) even holds = let odd = holds.1 in absurd (omega arith)
+
+  idle-others : (n : ℕ) (content : Content T) (seat : ℕ) (known : List T) (stage : Stage) → seat ≢ content.writer → Holds n content seat known stage → parity stage ≡ 0
+  idle-others n content seat known Idle other holds = refl
+  idle-others n content seat known (Reading first loaded) other holds = refl
+  idle-others n content seat known (Writing stored) other holds = absurd (other holds.0)
+
+  abbrev WritesAt : List (SeatView T) → ℕ → Type 0
+  WritesAt views seat = (view : SeatView T) × (get_elem? views seat ≡ some view) × (parity view.stage ≡ 1)
+
+  -- the seat that writes is still there when another one changes
+  WritesAt-set : (views : List (SeatView T)) (writer seat : ℕ) (view view' : SeatView T) → get_elem? views seat ≡ some view → parity view.stage ≡ 0 → WritesAt views writer → WritesAt (set views seat view') writer
+  WritesAt-set views writer seat view view' at idle writes = (
+    writes.0,
+    set_else views seat writer view' (λ same. let is = ap (λ (v : SeatView T). parity v.stage) (one_view views seat view writes.0 at (subst (λ s. get_elem? views s ≡ some writes.0) same writes.1)) in
+        let one = writes.2 in omega arith) ∙ writes.1,
+    writes.2,
+  )
+
+  -- other views of the same words keep the rule
+  views-keep : (table : Table) (rule : Rule table) (views : List (SeatView T)) → ((seat : ℕ) (view : SeatView T) → get_elem? views seat ≡ some view → Knows (version table) rule.content seat view)
+      → (IsOdd (version table) → WritesAt views rule.content.writer) → ApartSeats views → HaveOwners (length (history rule.content)) views
+      → Rule (record { words = table.words; homes = table.homes; views = views })
+  views-keep table rule views seats writing apart owners = record {
     content = rule.content;
     words = rule.words;
     version = rule.version;
     last = rule.last;
     between_writes = rule.between_writes;
     during_a_write = rule.during_a_write;
+    writing = writing;
     byte_range = rule.byte_range;
-    seats = seats-set (Knows (version table) rule.content) table.views seat view knows (λ other v _. rule.seats other v);
+    seats = seats;
+    apart = apart;
+    owners = owners;
   }
 
-  front_of_last : (table : Table) (rule : Rule table) (seat : ℕ) (stage : Stage) → Holds (version table) rule.content seat stage → IsFrontOf IsEncoding (history rule.content) (version table) stage
-  front_of_last table rule seat Idle holds = tt
-  front_of_last table rule seat (Writing stored) holds = tt
-  front_of_last table rule seat (Reading first loaded) holds = let content = rule.content in
+  -- a load by a seat that does not write keeps the rule
+  load-keeps : (table : Table) (rule : Rule table) (word seat : ℕ) (held : List (ℕ × Unit {0})) (view view' : SeatView T) → get_elem? table.views seat ≡ some view → parity view.stage ≡ 0 → view'.places ≡ view.places
+      → Knows (version table) rule.content seat view' → Rule (stepped table word (get_or table.words word 0) seat held view' keeps)
+  load-keeps table rule word seat held view view' at idle same knows = subst (λ (words : List ℕ). Rule (changed table words seat view')) (sym (set-get_or table.words word 0))
+      (views-keep table rule (set table.views seat view') (seats-set (Knows (version table) rule.content) table.views seat view' knows (λ other v _. rule.seats other v))
+      (λ odd. WritesAt-set table.views rule.content.writer seat view view' at idle (rule.writing odd))
+      (ApartSeats-set table.views seat view view' at rule.apart (λ place has. inl (subst (λ places. Contains places place) same has)))
+      (HaveOwners-set (length (history rule.content)) table.views seat view view' at rule.owners (λ place has. subst (λ places. Contains places place) (sym same) has)))
+
+  front_of_last : (table : Table) (rule : Rule table) (seat : ℕ) (known : List T) (stage : Stage) → Holds (version table) rule.content seat known stage → IsFrontOf IsEncoding (history rule.content) (version table) stage
+  front_of_last table rule seat known Idle holds = tt
+  front_of_last table rule seat known (Writing stored) holds = tt
+  front_of_last table rule seat known (Reading first loaded) holds = let content = rule.content in
       let count : length (content.earlier ++ content.last ∷ []) ≡ version table / 2 + 1 = rule.version in
       let push = length-push content.earlier content.last in
       λ same even. (content.last, content.bytes, rule.last, slice_get-push content.earlier content.last (version table / 2) (omega arith), holds.1 (sym same) even)
 
-  pub load_version : (slots id : ℕ) (seat : Seated T) → (seat.0.is_writer ≡ true → parity seat.0.stage ≡ 0)
-      → Allows Rule slots id seat 0 (λ word. word) (LoadVersionStep IsEncoding (step slots 0 0 0 none) seat)
-  load_version slots id seat idle table rule _ at _ = let knows = rule.seats id seat.0 at in let n : ℕ = version table in
-      let after : SeatView T = record seat.0 { known = history rule.content; seen = seat.0.seen ++ n ∷ []; stage = Reading n []; touched = seat.0.touched ++ 0 ∷ [] } in (
-        after,
-        keeps,
-        tt,
-        load-keeps table rule 0 id seat.1 after record {
+  -- the seat after a load of the version
+  abbrev view_loaded : List T → ℕ → SeatView T → SeatView T
+  view_loaded known n view = record view { known = known; seen = view.seen ++ n ∷ []; stage = Reading n []; touched = view.touched ++ 0 ∷ [] }
+
+  load-step : (table : Table) (rule : Rule table) (id : ℕ) (seat : Seated T) → get_elem? table.views id ≡ some seat.0 → parity seat.0.stage ≡ 0
+      → Rule (stepped table 0 (version table) id seat.1 (view_loaded (history rule.content) (version table) seat.0) keeps) × ViewLoads IsEncoding seat.0 (view_loaded (history rule.content) (version table) seat.0) (version table)
+  load-step table rule id seat at idle = let knows = rule.seats id seat.0 at in let n : ℕ = version table in
+      let after : SeatView T = view_loaded (history rule.content) n seat.0 in (
+        load-keeps table rule 0 id seat.1 seat.0 after at idle refl record {
           known = Begins-refl (history rule.content);
+          joined = knows.joined;
           seen = All-push (λ earlier. earlier ≤ n) seat.0.seen n knows.seen (le_refl n);
-          writer = λ is. ((knows.writer is).0, refl, (knows.writer is).2 ∙ idle is);
+          rising = knows.rising;
+          places = knows.places;
           stage = (le_refl n, λ _ _. refl);
         },
-        (
-          record {
-            is_writer = refl;
-            seen = refl;
-            later = knows.seen;
-            known = knows.known;
-            up_to = rule.version;
-            stage = refl;
-            touched = refl;
-            front = front_of_last table rule id seat.0.stage knows.stage;
-            writer = λ is. (sym (knows.writer is).1, (knows.writer is).2 ∙ idle is);
-          },
-          refl,
-        ),
+        record {
+          seen = refl;
+          later = knows.seen;
+          known = knows.known;
+          joined = knows.joined;
+          up_to = rule.version;
+          places = refl;
+          rising = knows.rising;
+          inside = λ k d inside. knows.places (get_or seat.0.places k d) (Contains-get_or seat.0.places k d inside);
+          stage = refl;
+          touched = refl;
+          front = front_of_last table rule id seat.0.known seat.0.stage knows.stage;
+        },
       )
+
+  pub load_version : (slots id : ℕ) (seat : Seated T) → parity seat.0.stage ≡ 0
+      → Allows Rule slots id seat 0 (λ word. word) (LoadVersionStep IsEncoding (step slots 0 0 0 none) seat)
+  load_version slots id seat idle table rule _ at _ = let t = load-step table rule id seat at idle in
+      (view_loaded (history rule.content) (version table) seat.0, keeps, tt, t.0, (t.1, refl))
 
   pub load_word : (size : ℕ) → ((value : T) (bytes : List ℕ) → IsEncoding value bytes → length bytes ≡ size)
       → (slots id : ℕ) (seat : Seated T) (first k : ℕ) (loaded : List ℕ) → seat.0.stage ≡ Reading first loaded → length loaded ≡ 8 * k → 8 * k < size
@@ -117,90 +175,146 @@ module _ {T : Type 0} (IsEncoding : T → List ℕ → Type 0) where
       let n : ℕ = get_or table.words (k + 1) 0 in
       let got : List ℕ = bytes_of_word (bytes_at size (k + 1)) n in let part : List ℕ = bytes_of_word (min 8 (size - 8 * k)) n in
       let same_part : part ≡ got = ap (λ z. bytes_of_word z n) (sym (bytes_at-next size k)) in
-      let holds = subst (Holds (version table) content id) is knows.stage in
+      let holds = subst (Holds (version table) content id seat.0.known) is knows.stage in
       let longer : first ≡ version table → IsEven first → loaded ++ part ≡ take (length (loaded ++ part)) content.bytes = λ same even.
       let rest = cell_bytes-rest content (rule.between_writes (ap (λ z. z % 2) (sym same) ∙ even)) in
       let word : n ≡ get_or (words_of content.bytes) k 0 = get_or-tail table.words k ∙ ap (λ words. get_or words k 0) (words-tail table rule) ∙ ap (λ bytes. get_or (words_of bytes) k 0) rest in
       load-more size k n content.bytes loaded (subst (AreBelow 256) rest rule.byte_range) (sized content.last content.bytes rule.last) inside count (holds.1 same even) word in
-      let next : Holds (version table) content id (Reading first (loaded ++ got)) = subst (λ bytes. Holds (version table) content id (Reading first (loaded ++ bytes))) same_part (holds.0, longer) in
+      let next : Holds (version table) content id seat.0.known (Reading first (loaded ++ got)) = subst (λ bytes. Holds (version table) content id seat.0.known (Reading first (loaded ++ bytes))) same_part (holds.0, longer) in
       let after : SeatView T = view_bytes (k + 1) got seat.0 in (
         after,
         keeps,
         tt,
-        load-keeps table rule (k + 1) id seat.1 after record {
+        load-keeps table rule (k + 1) id seat.1 seat.0 after at (ap parity is) refl record {
           known = knows.known;
+          joined = knows.joined;
           seen = knows.seen;
-          writer = λ is_writer. let mine = knows.writer is_writer in (mine.0, mine.1, mine.2 ∙ sym (parity-stage_bytes got seat.0.stage));
-          stage = subst (λ stage. Holds (version table) content id (stage_bytes got stage)) (sym is) (subst (Holds (version table) content id) (sym (stage_bytes-Reading got first loaded)) next);
+          rising = knows.rising;
+          places = knows.places;
+          stage = subst (λ stage. Holds (version table) content id seat.0.known (stage_bytes got stage)) (sym is) (subst (Holds (version table) content id seat.0.known) (sym (stage_bytes-Reading got first loaded)) next);
         },
         refl,
       )
 
-  -- what another seat has loaded stays right at a step of the writer
-  Holds-others : (m n : ℕ) (content content' : Content T) (seat : ℕ) → m ≤ n → ((first : ℕ) → first ≤ m → first ≡ n → IsEven first → ⊥) → seat ≢ content.writer
-      → (stage : Stage) → Holds m content seat stage → Holds n content' seat stage
-  Holds-others m n content content' seat up passed other Idle holds = tt
-  Holds-others m n content content' seat up passed other (Reading first loaded) holds = (le_trans holds.0 up, λ same even. absurd (passed first holds.0 same even))
-  Holds-others m n content content' seat up passed other (Writing stored) holds = absurd (other holds.0)
+  -- what a seat that does not write has loaded stays right at a step of another one
+  Holds-others : (m n : ℕ) (content content' : Content T) (seat : ℕ) (known : List T) → m ≤ n → ((first : ℕ) → first ≤ m → first ≡ n → IsEven first → ⊥)
+      → (stage : Stage) → parity stage ≡ 0 → Holds m content seat known stage → Holds n content' seat known stage
+  Holds-others m n content content' seat known up passed Idle idle holds = tt
+  Holds-others m n content content' seat known up passed (Reading first loaded) idle holds = (le_trans holds.0 up, λ same even. absurd (passed first holds.0 same even))
+  Holds-others m n content content' seat known up passed (Writing stored) idle holds = absurd (omega (arith, idle))
 
-  -- a store keeps the rule
-  store-keeps : (table : Table) (rule : Rule table) (seat : ℕ) (view view' : SeatView T) (n : ℕ) (content : Content T) (more : List T) → get_elem? table.views seat ≡ some view → view.is_writer ≡ true
+  -- what a writer's step does not change: it keeps its places, or gets the one past the history
+  pub record NewPlaces (rule_history : List T) (view view' : SeatView T) (more : List T) : Type 0 where
+    pub new : (place : ℕ) → Contains view'.places place → Contains view.places place ⊎ (place ≡ length rule_history)
+    pub kept : (place : ℕ) → Contains view.places place → Contains view'.places place
+    pub all : (place : ℕ) → length rule_history ≤ place → place < length (rule_history ++ more) → Contains view'.places place
+    pub rising : IsRising view'.places
+    pub inside : (place : ℕ) → Contains view'.places place → (0 < place) × (place < length (rule_history ++ more))
+
+  -- a step that stores keeps the rule, if no other seat writes
+  store-keeps : (table : Table) (rule : Rule table) (seat : ℕ) (view view' : SeatView T) (n : ℕ) (content : Content T) (more : List T) → get_elem? table.views seat ≡ some view
+      → ((other : ℕ) (v : SeatView T) → other ≢ seat → get_elem? table.views other ≡ some v → parity v.stage ≡ 0)
       → version table ≤ n → ((first : ℕ) → first ≤ version table → first ≡ n → IsEven first → ⊥)
-      → view'.seen ≡ view.seen → view'.known ≡ history content → history content ≡ history rule.content ++ more → content.writer ≡ seat
-      → n % 2 ≡ parity view'.stage → Holds n content seat view'.stage → length (history content) ≡ n / 2 + 1 → IsEncoding content.last content.bytes
+      → view'.seen ≡ view.seen → view'.joined ≡ view.joined → view'.known ≡ history content → history content ≡ history rule.content ++ more → content.writer ≡ seat
+      → (IsOdd n → parity view'.stage ≡ 1) → Holds n content seat view'.known view'.stage → NewPlaces (history rule.content) view view' more → length (history content) ≡ n / 2 + 1 → IsEncoding content.last content.bytes
       → (IsEven n → content.front ≡ []) → (IsOdd n → (value : T) × (bytes : List ℕ) × IsEncoding value bytes × Begins content.front bytes)
       → AreBelow 256 (cell_bytes content)
       → Rule (changed table (n ∷ words_of (cell_bytes content)) seat view')
-  store-keeps table rule seat view view' n content more at is_writer up passed seen known longer writer even holds count last between during byte_range =
-      let mine = (rule.seats seat view at).writer is_writer in record {
+  store-keeps table rule seat view view' n content more at others_idle up passed seen joined known longer writer writing holds own count last between during byte_range =
+      let old : List T = history rule.content in let knows = rule.seats seat view at in
+      let grown : length (history content) ≡ length (old ++ more) = ap length longer in let long = length-append old more in record {
         content = content;
         words = refl;
         version = count;
         last = last;
         between_writes = between;
         during_a_write = during;
+        writing = λ odd. (view', subst (λ s. get_elem? (set table.views seat view') s ≡ some view') (sym writer) (at_itself table.views seat view view' at), writing odd);
         byte_range = byte_range;
         seats = seats-set (Knows n content) table.views seat view'
             record {
               known = subst (λ list. Begins list (history content)) (sym known) (Begins-refl (history content));
-              seen = subst (λ list. All (λ earlier. earlier ≤ n) list) (sym seen) (All-weaken (version table) n view.seen up (rule.seats seat view at).seen);
-              writer = λ _. (sym writer, known, even);
+              joined = subst (Begins view'.joined) (sym longer) (Begins-append view'.joined old more (subst (λ list. Begins list old) (sym joined) knows.joined));
+              seen = subst (λ list. All (λ earlier. earlier ≤ n) list) (sym seen) (All-weaken (version table) n view.seen up knows.seen);
+              rising = own.rising;
+              places = λ place has. let t = own.inside place has in (t.0, subst (λ count. place < count) (sym grown) t.1);
               stage = holds;
             }
-            (λ other v differs here. let knows = rule.seats other v here in record {
-              known = subst (Begins v.known) (sym longer) (Begins-append v.known (history rule.content) more knows.known);
-              seen = All-weaken (version table) n v.seen up knows.seen;
-              writer = λ too. absurd (differs ((knows.writer too).0 ∙ sym mine.0));
-              stage = Holds-others (version table) n rule.content content other up passed (λ same. differs (same ∙ sym mine.0)) v.stage knows.stage;
+            (λ other v differs here. let theirs = rule.seats other v here in record {
+              known = subst (Begins v.known) (sym longer) (Begins-append v.known old more theirs.known);
+              joined = subst (Begins v.joined) (sym longer) (Begins-append v.joined old more theirs.joined);
+              seen = All-weaken (version table) n v.seen up theirs.seen;
+              rising = theirs.rising;
+              places = λ place has. let t = theirs.places place has in (t.0, let inside = t.1 in omega arith);
+              stage = Holds-others (version table) n rule.content content other v.known up passed v.stage (others_idle other v differs here) theirs.stage;
             });
+        apart = ApartSeats-set table.views seat view view' at rule.apart (λ place has. ⊎_elim (λ (t : Contains view.places place). inl t)
+            (λ (past : place ≡ length old). inr (λ other v _ there has'. let inside = ((rule.seats other v there).places place has').1 in omega arith)) (own.new place has));
+        owners = λ place above below. dite (dec_le (length old) place)
+            (λ past. (seat, view', at_itself table.views seat view view' at, own.all place past (omega arith)))
+            (λ inside. HaveOwners-set (length old) table.views seat view view' at rule.owners own.kept place above (omega arith));
       }
 
-  pub begin : (slots id : ℕ) (seat : Seated T) (n : ℕ) (value : T) (bytes : List ℕ) → IsEncoding value bytes → seat.0.is_writer ≡ true → parity seat.0.stage ≡ 0 → n + 1 ≡ 2 * length seat.0.known
-      → Allows Rule slots id seat 0 (λ _. n) (λ _. BeginStep (step slots 0 n 0 none) seat n)
-  begin slots id seat n value bytes encodes is_writer idle next table rule _ at _ = let mine = (rule.seats id seat.0 at).writer is_writer in
-      let even : version table % 2 ≡ 0 = mine.2 ∙ idle in
-      let count : length seat.0.known ≡ version table / 2 + 1 = ap length mine.1 ∙ rule.version in
-      let old = rule.content in let rest = cell_bytes-rest old (rule.between_writes even) in
+  same_places : (rule_history : List T) (view view' : SeatView T) → view'.places ≡ view.places → IsRising view.places → ((place : ℕ) → Contains view.places place → (0 < place) × (place < length rule_history)) → NewPlaces rule_history view view' []
+  same_places rule_history view view' same rising inside = let nil : length (rule_history ++ []) ≡ length rule_history = ap length (append-nil rule_history) in record {
+    new = λ place has. inl (subst (λ places. Contains places place) same has);
+    kept = λ place has. subst (λ places. Contains places place) (sym same) has;
+    all = λ place past below. absurd (omega arith);
+    rising = subst IsRising (sym same) rising;
+    inside = λ place has. let t = inside place (subst (λ places. Contains places place) same has) in (t.0, let below = t.1 in omega arith);
+  }
+
+  next_place : (rule_history : List T) (view : SeatView T) (value : T) → view.known ≡ rule_history → 0 < length rule_history → IsRising view.places → ((place : ℕ) → Contains view.places place → (0 < place) × (place < length rule_history))
+      → NewPlaces rule_history view (view_end value view) (value ∷ [])
+  next_place rule_history view value all some_value rising inside = let next : ℕ = length view.known in let count : next ≡ length rule_history = ap length all in
+      let push = length-push rule_history value in record {
+        new = λ place has. ⊎_elim (λ (t : Contains view.places place). inl t) (λ (same : next ≡ place). inr (sym same ∙ count)) (Contains-push_cases view.places next place has);
+        kept = λ place has. Contains-append_left view.places (next ∷ []) place has;
+        all = λ place past below. let same : next ≡ place = omega arith in subst (Contains (view.places ++ next ∷ [])) same (Contains-push view.places next);
+        rising = IsRising-push view.places next rising (λ k d within. let t = (inside (get_or view.places k d) (Contains-get_or view.places k d within)).1 in omega arith);
+        inside = λ place has. ⊎_elim (λ (t : Contains view.places place). let within = inside place t in (within.0, let below = within.1 in omega arith))
+            (λ (same : next ≡ place). (omega arith, omega arith)) (Contains-push_cases view.places next place has);
+      }
+
+  -- the compare-and-exchange of an even version
+  claim-step : (table : Table) (rule : Rule table) (id : ℕ) (seat : Seated T) (n : ℕ) (value : T) (bytes : List ℕ) → IsEncoding value bytes → get_elem? table.views id ≡ some seat.0 → IsEven (version table) → n ≡ version table + 1
+      → Rule (stepped table 0 n id seat.1 (view_stage (0 ∷ []) (Writing []) (record seat.0 { known = history rule.content })) keeps)
+  claim-step table rule id seat n value bytes encodes at even next = let knows = rule.seats id seat.0 at in
+      let old = rule.content in let rest = cell_bytes-rest old (rule.between_writes even) in let count = rule.version in
       let content : Content T = record { earlier = old.earlier; last = old.last; bytes = old.bytes; front = []; writer = id } in
       let words : set table.words 0 n ≡ n ∷ words_of (cell_bytes content) = ap (λ (l : List ℕ). set l 0 n) rule.words ∙ ap (λ (l : List ℕ). n ∷ words_of l) rest in
-      let after : Seated T = seated_stage (0 ∷ []) (Writing []) seat in (
-        after.0,
+      let after : SeatView T = view_stage (0 ∷ []) (Writing []) (record seat.0 { known = history old }) in
+      subst (λ (words : List ℕ). Rule (changed table words id after)) (sym words)
+      (store-keeps table rule id seat.0 after n content [] at (λ other v _ there. idle-at_rest (version table) old other v.known v.stage even (rule.seats other v there).stage)
+      (omega arith) (λ first low same is_even. omega arith) refl refl refl (sym (append-nil (history old))) refl (λ _. refl) (refl, omega arith, refl, refl)
+      (same_places (history old) seat.0 after refl knows.rising knows.places) (omega arith) rule.last (λ _. refl) (λ _. (value, bytes, encodes, (bytes, refl))) (subst (AreBelow 256) rest rule.byte_range))
+
+  pub claim : (slots id : ℕ) (seat : Seated T) (loaded next : ℕ) (value : T) (bytes : List ℕ) → IsEncoding value bytes → parity seat.0.stage ≡ 0 → IsEven loaded → next ≡ loaded + 1
+      → Allows Rule slots id seat 0 (λ n. either (eqb n loaded) next n) (ClaimStep IsEncoding (step slots 0 loaded next none) seat)
+  claim slots id seat loaded next value bytes encodes idle even is_next table rule _ at _ = let n : ℕ = version table in let knows = rule.seats id seat.0 at in
+      let begun : SeatView T = view_stage (0 ∷ []) (Writing []) (record seat.0 { known = history rule.content }) in
+      exchanged n loaded next (λ z. (view : SeatView T) × (act : _) × Valid table.homes seat.1 act × Rule (stepped table 0 z id seat.1 view act) × ClaimStep IsEncoding (step slots 0 loaded next none) seat n (view, carried_after seat.1 act))
+      (λ hit. (
+        begun,
         keeps,
         tt,
-        subst (λ (words : List ℕ). Rule (changed table words id after.0)) (sym words)
-            (store-keeps table rule id seat.0 after.0 n content [] at is_writer (omega arith) (λ first low same is_even. omega arith) refl mine.1 (sym (append-nil (history old))) refl (omega arith) (refl, refl)
-            (sym (ap length mine.1) ∙ omega arith) rule.last (λ _. refl) (λ _. (value, bytes, encodes, (bytes, refl))) (subst (AreBelow 256) rest rule.byte_range)),
-        refl,
-      )
+        claim-step table rule id seat next value bytes encodes at (ap (λ z. z % 2) hit ∙ even) (is_next ∙ ap (λ z. z + 1) (sym hit)),
+        ((λ _. record { history = history rule.content; known = knows.known; up_to = rule.version; begun = refl }), (λ miss. absurd (miss hit)), refl),
+      ))
+      (λ miss. let t = load-step table rule id seat at idle in (view_loaded (history rule.content) n seat.0, keeps, tt, t.0, ((λ hit. absurd (miss hit)), (λ _. t.1), refl)))
+
+  -- the seat that writes is the one of the write in progress
+  others-idle : (table : Table) (rule : Rule table) (id : ℕ) → id ≡ rule.content.writer → (other : ℕ) (v : SeatView T) → other ≢ id → get_elem? table.views other ≡ some v → parity v.stage ≡ 0
+  others-idle table rule id mine other v differs there = idle-others (version table) rule.content other v.known v.stage (λ same. differs (same ∙ sym mine)) (rule.seats other v there).stage
 
   pub store : (size : ℕ) → ((value : T) (bytes : List ℕ) → IsEncoding value bytes → length bytes ≡ size)
-      → (slots id : ℕ) (seat : Seated T) (k word : ℕ) (value : T) (bytes : List ℕ) → IsEncoding value bytes → AreBelow 256 bytes → seat.0.is_writer ≡ true → seat.0.stage ≡ Writing (take (8 * k) bytes)
+      → (slots id : ℕ) (seat : Seated T) (k word : ℕ) (value : T) (bytes : List ℕ) → IsEncoding value bytes → AreBelow 256 bytes → seat.0.stage ≡ Writing (take (8 * k) bytes)
       → 8 * k < size → word ≡ word_of (chunk_at k bytes)
       → Allows Rule slots id seat (k + 1) (λ _. word) (λ _. WordStep size (step slots (k + 1) word 0 none) seat word)
-  store size sized slots id seat k word value bytes encodes below is_writer is inside packed table rule _ at _ = let knows = rule.seats id seat.0 at in let mine = knows.writer is_writer in
-      let n : ℕ = version table in let odd : n % 2 ≡ 1 = mine.2 ∙ ap parity is in let old = rule.content in
+  store size sized slots id seat k word value bytes encodes below is inside packed table rule _ at _ = let knows = rule.seats id seat.0 at in
+      let n : ℕ = version table in let old = rule.content in
       let stored : List ℕ = take (8 * k) bytes in let chunk : List ℕ = chunk_at k bytes in
-      let same : stored ≡ old.front = (subst (Holds n old id) is knows.stage).1 in
+      let mine = subst (Holds n old id seat.0.known) is knows.stage in let odd = mine.1 in let same : stored ≡ old.front = mine.2 in let all = mine.3 in
       let long : length bytes ≡ size = sized value bytes encodes in let old_long : length old.bytes ≡ size = sized old.last old.bytes rule.last in
       let ends : length old.front ≡ 8 * k = ap length (sym same) ∙ length-take-le (8 * k) bytes (omega arith) in
       let chunk_len : length chunk ≡ min 8 (length old.bytes - 8 * k) = length-chunk_at k bytes ∙ ap (λ z. min 8 (z - 8 * k)) (long ∙ sym old_long) in
@@ -217,19 +331,19 @@ module _ {T : Type 0} (IsEncoding : T → List ℕ → Type 0) where
         keeps,
         tt,
         subst (λ (words : List ℕ). Rule (changed table words id after)) (sym words)
-            (store-keeps table rule id seat.0 after n content [] at is_writer (le_refl n) (λ first low e is_even. omega arith) refl mine.1 (sym (append-nil (history old))) refl
-            (mine.2 ∙ sym (parity-stage_bytes got seat.0.stage)) (subst (Holds n content id) (sym stage) (refl, refl)) rule.version rule.last (λ even. absurd (omega arith))
+            (store-keeps table rule id seat.0 after n content [] at (others-idle table rule id mine.0) (le_refl n) (λ first low e is_even. omega arith) refl refl all (sym (append-nil (history old))) refl
+            (λ _. parity-stage_bytes got seat.0.stage ∙ ap parity is) (subst (Holds n content id seat.0.known) (sym stage) (refl, odd, refl, all))
+            (same_places (history old) seat.0 after refl knows.rising knows.places) rule.version rule.last (λ even. absurd (omega arith))
             (λ _. (value, bytes, encodes, begins)) (grown-below old.front chunk old.bytes (subst (AreBelow 256) (sym front) (AreBelow-take 256 (8 * (k + 1)) bytes (omega arith) below)) rule.byte_range)),
         refl,
       )
 
   pub end : (size : ℕ) → ((value : T) (bytes : List ℕ) → IsEncoding value bytes → length bytes ≡ size) → ((v w : T) (bytes : List ℕ) → IsEncoding v bytes → IsEncoding w bytes → v ≡ w)
-      → (slots id : ℕ) (seat : Seated T) (n : ℕ) (value : T) (bytes : List ℕ) → IsEncoding value bytes → seat.0.is_writer ≡ true → seat.0.stage ≡ Writing bytes → n ≡ 2 * length seat.0.known
+      → (slots id : ℕ) (seat : Seated T) (n : ℕ) (value : T) (bytes : List ℕ) → IsEncoding value bytes → seat.0.stage ≡ Writing bytes → n ≡ 2 * length seat.0.known
       → Allows Rule slots id seat 0 (λ _. n) (λ _. EndStep IsEncoding (step slots 0 n 0 none) seat n)
-  end size sized one_value slots id seat n value bytes encodes is_writer is next table rule _ at _ = let knows = rule.seats id seat.0 at in let mine = knows.writer is_writer in
-      let odd : version table % 2 ≡ 1 = mine.2 ∙ ap parity is in let old = rule.content in
-      let same : bytes ≡ old.front = (subst (Holds (version table) old id) is knows.stage).1 in
-      let count : length seat.0.known ≡ version table / 2 + 1 = ap length mine.1 ∙ rule.version in
+  end size sized one_value slots id seat n value bytes encodes is next table rule _ at _ = let knows = rule.seats id seat.0 at in let old = rule.content in
+      let mine = subst (Holds (version table) old id seat.0.known) is knows.stage in let odd = mine.1 in let same : bytes ≡ old.front = mine.2 in let all = mine.3 in
+      let count : length seat.0.known ≡ version table / 2 + 1 = ap length all ∙ rule.version in
       let long : length old.front ≡ length old.bytes = ap length (sym same) ∙ (sized value bytes encodes ∙ sym (sized old.last old.bytes rule.last)) in
       let content : Content T = record { earlier = seat.0.known; last = value; bytes = bytes; front = []; writer = id } in
       let tail : cell_bytes old ≡ cell_bytes content = front-whole old.front old.bytes long ∙ sym same in
@@ -239,25 +353,44 @@ module _ {T : Type 0} (IsEncoding : T → List ℕ → Type 0) where
         keeps,
         tt,
         subst (λ (words : List ℕ). Rule (changed table words id after)) (sym words)
-            (store-keeps table rule id seat.0 after n content (value ∷ []) at is_writer (omega arith) (λ first low e is_even. omega arith) refl refl (ap (λ (l : List T). l ++ value ∷ []) mine.1) refl
-            (omega arith) tt (omega arith) encodes (λ _. refl) (λ is_odd. absurd (omega arith)) (subst (AreBelow 256) tail rule.byte_range)),
+            (store-keeps table rule id seat.0 after n content (value ∷ []) at (others-idle table rule id mine.0) (omega arith) (λ first low e is_even. omega arith) refl refl refl (ap (λ (l : List T). l ++ value ∷ []) all) refl
+            (λ is_odd. absurd (omega arith)) tt (next_place (history old) seat.0 value all (let some_value = rule.version in omega arith) knows.rising knows.places) (omega arith) encodes (λ _. refl) (λ is_odd. absurd (omega arith)) (subst (AreBelow 256) tail rule.byte_range)),
         λ other bytes' encodes' is'.
             ap (λ (v : T). (view_end v seat.0, seat.1)) (one_value value other bytes encodes (subst (IsEncoding other) (ap stored_by (sym is' ∙ is)) encodes')),
       )
 
-  pub new_reader : (id : ℕ) (view : SeatView T) → Splits Rule id view view (view_reader view)
-  new_reader id view table rule at = let knows = rule.seats id view at in let Is = Knows (version table) rule.content in record {
-    content = rule.content;
-    words = rule.words;
-    version = rule.version;
-    last = rule.last;
-    between_writes = rule.between_writes;
-    during_a_write = rule.during_a_write;
-    byte_range = rule.byte_range;
-    seats = λ seat v here. ⊎_elim (seats-set Is table.views id view knows (λ other w _. rule.seats other w) seat v)
-        (λ (t : view_reader view ≡ v). subst (Is seat) t record { known = knows.known; seen = λ k default inside. absurd (omega arith); writer = λ is. absurd (true≢false (sym is)); stage = tt })
-        (at_snoc (set table.views id view) (view_reader view) v seat here);
-  }
+  -- a further seat keeps the rule
+  pub further : (id : ℕ) (view : SeatView T) → Splits Rule id view view (view_further view)
+  further id view table rule at = let knows = rule.seats id view at in let Is = Knows (version table) rule.content in
+      subst (λ (views : List (SeatView T)). Rule (record { words = table.words; homes = table.homes; views = views ++ view_further view ∷ [] })) (sym (set_again table.views id view at))
+      (views-keep table rule (table.views ++ view_further view ∷ []) (λ seat v here. ⊎_elim (rule.seats seat v)
+      (λ (t : view_further view ≡ v). subst (Is seat) t
+      record { known = knows.known; joined = (history rule.content, refl); seen = λ k default inside. absurd (omega arith); rising = IsRising-nil; places = λ place has. absurd (no_place place has); stage = tt })
+      (at_snoc table.views (view_further view) v seat here))
+      (λ odd. let writes = rule.writing odd in (writes.0, at_longer table.views (view_further view ∷ []) rule.content.writer writes.0 writes.1, writes.2))
+      (ApartSeats-push table.views (view_further view) rule.apart no_place) (HaveOwners-push (length (history rule.content)) table.views (view_further view) rule.owners))
+
+  -- a merge of two seats that do not write keeps the rule
+  pub merge : (id : ℕ) (view : SeatView T) (other : ℕ) (view' : SeatView T) → parity view.stage ≡ 0 → parity view'.stage ≡ 0 → Joins Rule id view other view' (view_merged view view') view_spent
+  merge id view other view' idle idle' table rule at differs there' = let knows = rule.seats id view at in let Is = Knows (version table) rule.content in
+      let merged : SeatView T = view_merged view view' in
+      let there : get_elem? table.views other ≡ some view' = sym (set_else table.views id other merged differs) ∙ there' in let theirs = rule.seats other view' there in
+      let apart : AreApart view.places view'.places = λ place has has'. differs (sym (rule.apart id other view view' place at there has has')) in
+      views-keep table rule (set (set table.views id merged) other view_spent)
+      (seats-set Is (set table.views id merged) other view_spent
+      record { known = (history rule.content, refl); joined = (history rule.content, refl); seen = λ k default inside. absurd (omega arith); rising = IsRising-nil; places = λ place has. absurd (no_place place has); stage = tt }
+      (λ seat v _ here. seats-set Is table.views id merged
+      record {
+        known = knows.known;
+        joined = theirs.known;
+        seen = All-append (λ earlier. earlier ≤ version table) view.seen view'.seen knows.seen theirs.seen;
+        rising = merge-rises view.places view'.places knows.rising theirs.rising apart;
+        places = λ place has. ⊎_elim (λ (t : Contains view.places place). knows.places place t) (λ (t : Contains view'.places place). theirs.places place t) (merge-cases view.places view'.places place has);
+        stage = knows.stage;
+      }
+      (λ any u _. rule.seats any u) seat v here))
+      (λ odd. WritesAt-set (set table.views id merged) rule.content.writer other view' view_spent there' idle' (WritesAt-set table.views rule.content.writer id view merged at idle (rule.writing odd)))
+      (ApartSeats-merge table.views id other view view' at there differs rule.apart) (HaveOwners-merge (length (history rule.content)) table.views id other view view' at there differs rule.owners)
 
   pub new : (value : T) (bytes : List ℕ) → IsEncoding value bytes → AreBelow 256 bytes → Rule (opening (0 ∷ words_of bytes) [] (view_new value))
   new value bytes encodes below = record {
@@ -267,26 +400,35 @@ module _ {T : Type 0} (IsEncoding : T → List ℕ → Type 0) where
     last = encodes;
     between_writes = λ _. refl;
     during_a_write = λ odd. absurd (omega arith);
+    writing = λ odd. absurd (omega arith);
     byte_range = below;
     seats = one;
+    apart = λ seat other view view' place at at' has has'. absurd (no_place place (subst (λ (v : SeatView T). Contains v.places place) (sym (only seat view at)) has));
+    owners = λ place above below. absurd (omega arith);
   }
     where
       content : Content T
       content = record { earlier = []; last = value; bytes = bytes; front = []; writer = 0 }
 
-      one : (seat : ℕ) (view : SeatView T) → get_elem? (view_new value ∷ []) seat ≡ some view → Knows 0 content seat view
-      one zero view at = subst (Knows 0 content 0) (some-injective _ _ at) record { known = ([], refl); seen = λ k default inside. absurd (omega arith); writer = λ _. (refl, refl, refl); stage = tt }
-      one (suc seat) view at = absurd (some-ne-none view (sym at))
+      only : (seat : ℕ) (view : SeatView T) → get_elem? (view_new value ∷ []) seat ≡ some view → view_new value ≡ view
+      only zero view at = some-injective _ _ at
+      only (suc seat) view at = absurd (some-ne-none view (sym at))
 
-  pub finished : (id : ℕ) (view : SeatView T) (words : List ℕ) (slots : List (Unit {0})) → Final (Seen Rule id view) words slots → view.is_writer ≡ true → parity view.stage ≡ 0 → Finished IsEncoding view.known (drop 1 words)
-  finished id view words slots final is_writer idle = let table = final.0 in let rule = final.1.0 in let content = rule.content in
-      let mine = (rule.seats id view final.1.1).writer is_writer in
-      let rest = cell_bytes-rest content (rule.between_writes (mine.2 ∙ idle)) in
-      let count : length view.known ≡ length (content.earlier ++ content.last ∷ []) = ap length mine.1 in let push = length-push content.earlier content.last in record {
+      one : (seat : ℕ) (view : SeatView T) → get_elem? (view_new value ∷ []) seat ≡ some view → Knows 0 content seat view
+      one seat view at = subst (Knows 0 content seat) (only seat view at)
+          record { known = ([], refl); joined = (value ∷ [], refl); seen = λ k default inside. absurd (omega arith); rising = IsRising-nil; places = λ place has. absurd (no_place place has); stage = tt }
+
+  pub finished : (id : ℕ) (view : SeatView T) (words : List ℕ) (slots : List (Unit {0})) → Final (Seen Rule id view) words slots → IsEven (get_or words 0 0) → Finished IsEncoding view.known (drop 1 words)
+  finished id view words slots final even = let table = final.0 in let rule = final.1.0 in let content = rule.content in
+      let knows = rule.seats id view final.1.1 in
+      let rest = cell_bytes-rest content (rule.between_writes (ap (λ (l : List ℕ). get_or l 0 0 % 2) final.2 ∙ even)) in
+      let push = length-push content.earlier content.last in record {
+        history = history content;
+        begins = knows.known;
         value = content.last;
         bytes = content.bytes;
         has = ap (λ (l : List ℕ). drop 1 l) (sym final.2) ∙ words-tail table rule ∙ ap words_of rest;
-        is_last = ap (λ (list : List T). last_value list) mine.1 ∙ slice_get-push content.earlier content.last (length (history content) - 1) (omega arith);
+        is_last = slice_get-push content.earlier content.last (length (history content) - 1) (omega arith);
         encoding = rule.last;
         byte_range = subst (AreBelow 256) rest rule.byte_range;
       }

@@ -34,12 +34,6 @@ data_words (suc count) = data_words count ++ suc count ∷ []
 abbrev pub all_words : ℕ → List ℕ
 all_words size = 0 ∷ (data_words (word_count size) ++ 0 ∷ [])
 
--- the writer's seat: its cell, the history, and the words that it has loaded or stored, in order
-pub record Writer (T : Type 0) : Type 0 where
-  pub cell : TableId
-  pub history : List T
-  pub touched : List ℕ
-
 -- a reader's seat: its cell, the beginning of the history that it knows, and the versions and the words that it has loaded, in order
 pub record Reader (T : Type 0) : Type 0 where
   pub cell : TableId

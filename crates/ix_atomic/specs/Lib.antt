@@ -9,5 +9,6 @@ pub mod Versions
 pub mod VersionedSteps
 pub mod StepWalks
 pub mod History
+pub mod Writers
 pub mod SequencedRule
 pub mod SequencedSteps

@@ -1,11 +1,12 @@
 -- What each step of a sequenced cell, a load or store of one word, does to the seat that takes it.
-use Rattle.std.specs.Prelude.{◌≡◌, ℕ, ◌+◌, ◌-◌, ◌*◌, ◌/◌, ◌≤◌, min, List, [], ◌∷◌, ◌++◌, true, false, All, length, take, Some}
+use Rattle.std.specs.Prelude.{◌≡◌, ◌≢◌, ℕ, ◌+◌, ◌-◌, ◌*◌, ◌/◌, ◌<◌, ◌≤◌, min, List, [], ◌∷◌, ◌++◌, All, length, take, Some}
 use Rattle.std.specs.List.{fold}
 use Rattle.atomic_table.specs.Table.{Me, Step}
 use Rattle.ix_atomic.specs.declared.sequenced.rule.SeatView.{SeatView}
 use Rattle.ix_atomic.specs.declared.sequenced.rule.Stage.{Stage}
 use Rattle.ix_atomic.specs.declared.sequenced.rule.Stage.TheVariants.{Idle, Reading, Writing}
-use Rattle.ix_atomic.specs.History.{Begins, IsEven, value_at, Reader, Writer}
+use Rattle.ix_atomic.specs.History.{Begins, IsEven, value_at, Reader}
+use Rattle.ix_atomic.specs.Writers.{Writer, IsRising, places_merge}
 use Rattle.ix_atomic.specs.Words.{bytes_of_word}
 use Rattle.atomic_table.specs.Seated.{TableId}
 
@@ -28,9 +29,9 @@ abbrev pub bytes_at : ℕ → ℕ → ℕ
 bytes_at size index = min 8 (size - 8 * (index - 1))
 
 module _ {T : Type 0} where
-  -- the writer's seat of a new cell
+  -- the seat of a new cell
   abbrev pub view_new : T → SeatView T
-  view_new value = record { is_writer = true; known = value ∷ []; seen = []; stage = Idle; touched = [] }
+  view_new value = record { known = value ∷ []; joined = []; seen = []; places = []; stage = Idle; touched = [] }
 
   -- these words are touched, and then the stage is this one
   abbrev pub view_stage : List ℕ → Stage → SeatView T → SeatView T
@@ -41,11 +42,18 @@ module _ {T : Type 0} where
   view_bytes word bytes view = view_stage (word ∷ []) (stage_bytes bytes view.stage) view
 
   abbrev pub view_end : T → SeatView T → SeatView T
-  view_end value view = record view { known = view.known ++ value ∷ []; stage = Idle; touched = view.touched ++ 0 ∷ [] }
+  view_end value view = record view { known = view.known ++ value ∷ []; places = view.places ++ length view.known ∷ []; stage = Idle; touched = view.touched ++ 0 ∷ [] }
 
-  -- a new reader's seat, made from the writer's
-  abbrev pub view_reader : SeatView T → SeatView T
-  view_reader view = record { is_writer = false; known = view.known; seen = []; stage = Idle; touched = [] }
+  -- a further seat, which knows what this one knows and has no places
+  abbrev pub view_further : SeatView T → SeatView T
+  view_further view = record { known = view.known; joined = []; seen = []; places = []; stage = Idle; touched = [] }
+
+  -- a seat that takes in another one, but for what the other knows
+  abbrev pub view_merged : SeatView T → SeatView T → SeatView T
+  view_merged view other = record view { joined = other.known; seen = view.seen ++ other.seen; places = places_merge view.places other.places; touched = view.touched ++ other.touched }
+
+  abbrev pub view_spent : SeatView T
+  view_spent = record { known = []; joined = []; seen = []; places = []; stage = Idle; touched = [] }
 
   abbrev pub seated_stage : List ℕ → Stage → Seated T → Seated T
   seated_stage words stage seat = (view_stage words stage seat.0, seat.1)
@@ -54,11 +62,7 @@ module _ {T : Type 0} where
   reader_of cell view = record { cell = cell; known = view.known; seen = view.seen; touched = view.touched }
 
   abbrev pub writer_of : TableId → SeatView T → Writer T
-  writer_of cell view = record { cell = cell; history = view.known; touched = view.touched }
-
-  -- the store of an odd version
-  abbrev pub BeginStep : Step (Unit {0}) → Seated T → ℕ → Seated T → Type 0
-  BeginStep step before word after = after ≡ seated_stage (step.word ∷ []) (Writing []) before
+  writer_of cell view = record { cell = cell; known = view.known; seen = view.seen; places = view.places; touched = view.touched }
 
   -- The store or load of a word of bytes stands for those of its bytes, in rising order with nothing between.
   abbrev pub WordStep : ℕ → Step (Unit {0}) → Seated T → ℕ → Seated T → Type 0
@@ -76,15 +80,28 @@ module _ {T : Type 0} where
 
 -- a load of the version, as the seat's view shows it
 pub record ViewLoads {T : Type 0} (IsEncoding : T → List ℕ → Type 0) (before after : SeatView T) (version : ℕ) : Type 0 where
-  pub is_writer : after.is_writer ≡ before.is_writer
   pub seen : after.seen ≡ before.seen ++ version ∷ []
   pub later : All (λ earlier. earlier ≤ version) before.seen
   pub known : Begins before.known after.known
+  pub joined : Begins before.joined after.known
   pub up_to : length after.known ≡ version / 2 + 1
+  pub places : after.places ≡ before.places
+  pub rising : IsRising before.places
+  pub inside : All (λ place. (0 < place) × (place < length after.known)) before.places
   pub stage : after.stage ≡ Reading version []
   pub touched : after.touched ≡ before.touched ++ 0 ∷ []
   pub front : IsFrontOf IsEncoding after.known version before.stage
-  pub writer : before.is_writer ≡ true → (after.known ≡ before.known) × IsEven version
 
 abbrev pub LoadVersionStep : {T : Type 0} → (T → List ℕ → Type 0) → Step (Unit {0}) → Seated T → ℕ → Seated T → Type 0
 LoadVersionStep IsEncoding step before word after = ViewLoads IsEncoding before.0 after.0 word × (after.1 ≡ before.1)
+
+-- The version that was loaded is now the next one, and the seat knows the history up to it.
+pub record ViewClaims {T : Type 0} (before after : SeatView T) (version : ℕ) : Type 0 where
+  pub history : List T
+  pub known : Begins before.known history
+  pub up_to : length history ≡ version / 2 + 1
+  pub begun : after ≡ view_stage (0 ∷ []) (Writing []) (record before { known = history })
+
+-- The compare-and-exchange of an even version for the next odd one: it finds the version, or loads another one.
+abbrev pub ClaimStep : {T : Type 0} → (T → List ℕ → Type 0) → Step (Unit {0}) → Seated T → ℕ → Seated T → Type 0
+ClaimStep IsEncoding step before word after = (word ≡ step.first → ViewClaims before.0 after.0 word) × (word ≢ step.first → ViewLoads IsEncoding before.0 after.0 word) × (after.1 ≡ before.1)

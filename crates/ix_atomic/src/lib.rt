@@ -18,4 +18,6 @@ pub mod sequenced;
 pub use byte_atomic::{
     AtomicCopy, FixedSizeByteAtomic, MaybeTorn, RelocatableByteAtomic, UninitByteAtomic,
 };
-pub use sequenced::{Interfered, ReaderSeat, SequencedByteAtomic, WriterSeat};
+pub use sequenced::{
+    Interfered, ReaderSeat, SequencedByteAtomic, TryWriteError, Unfinished, WriterSeat,
+};

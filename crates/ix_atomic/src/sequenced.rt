@@ -1,28 +1,35 @@
-//! A cell that one thread writes and others read, without a lock: a sequence lock.
+//! A cell that threads write and read without a lock: a sequence lock for several writers.
 //!
 //! This module is this project's own. It is the synchronization that the documentation of `MaybeTorn` of
 //! iceoryx2-bb-container asks its users to bring.
 //!
 //! A [`SequencedByteAtomic`] has a version and the encoding of a value, eight bytes a word. The version is even between two
-//! writes and odd during one; it begins at 0, and each write raises it by 2. A reader loads the version, the bytes, and the
-//! version again: the value is whole if it finds the same even version twice.
+//! writes and odd during one; it begins at 0, and each write raises it by 2. A writer loads the version, and exchanges an even
+//! one for the next odd one: at most one writer succeeds, and the others are told that the cell is busy. A reader loads the
+//! version, the bytes, and the version again: the value is whole if it finds the same even version twice.
 //!
-//! The holder of a [`WriterSeat`] writes, the holder of a [`ReaderSeat`] reads; neither is ever blocked by the other.
+//! All finished writes are one history. The holder of a [`WriterSeat`] knows a beginning of it, and which of its places are its
+//! own; no place belongs to two seats. [`merge`](SequencedByteAtomic::merge) and
+//! [`merge_reader`](SequencedByteAtomic::merge_reader) bring together what two seats know.
+//!
+//! The holders of seats write and read; nobody is ever blocked by another.
 //!
 //! ```text
 //! let (cell, mut writer, mut reader) = SequencedByteAtomic::<u64, 8>::new(alloc, 7)?;
-//! cell.write(&mut writer, 9)?;
-//! cell.try_read(&mut reader);     // Ok(9), unless another thread writes
-//! cell.version(&mut reader);      // 2
-//! cell.close(writer);             // 9
+//! let mut second = cell.writer(alloc, &mut writer)?;     // for another thread
+//! cell.try_write(&mut writer, 9)?;                        // Err(Busy { .. }) beside a write of that thread
+//! cell.try_read(&mut reader);                             // Ok(9), unless another thread writes
+//! cell.version(&mut reader);                              // 2
+//! cell.merge(&mut writer, second);
+//! cell.close(writer);                                     // Ok(9)
 //! ```
 
 mod data_words;
-mod interfered;
+mod errors;
 mod rule;
 mod seats;
 mod sequenced_byte_atomic;
 
-pub use interfered::Interfered;
+pub use errors::{Interfered, TryWriteError, Unfinished};
 pub use seats::{ReaderSeat, WriterSeat};
 pub use sequenced_byte_atomic::SequencedByteAtomic;

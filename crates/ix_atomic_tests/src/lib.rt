@@ -8,15 +8,21 @@ mod cell_tests;
 #[cfg(test)]
 mod encoding_tests;
 #[cfg(test)]
+mod error_tests;
+#[cfg(test)]
 mod foo;
 #[cfg(test)]
 mod memory_tests;
+#[cfg(test)]
+mod readings;
 #[cfg(test)]
 mod refused_tests;
 #[cfg(test)]
 mod sequenced_tests;
 #[cfg(test)]
 mod sequenced_threads;
+#[cfg(test)]
+mod several_writers;
 #[cfg(test)]
 mod size_tests;
 #[cfg(test)]

@@ -1,7 +1,8 @@
 //! Sequenced cells that one thread writes while another reads.
 ghost use Rattle.std.specs.Prelude.{◌≡◌, ◌≤◌};
 
-use ix_atomic::{Interfered, ReaderSeat, SequencedByteAtomic, WriterSeat};
+use crate::readings::Readings;
+use ix_atomic::{ReaderSeat, SequencedByteAtomic, WriterSeat};
 use ix_expect::Findings;
 use ix_string::{StaticString, String};
 use std::alloc::Global;
@@ -11,13 +12,13 @@ use std::thread;
 use std::thread::Threads;
 
 /// How many values are written beside a reader.
-const WRITES: u32 = 1_000;
+pub const WRITES: u32 = 1_000;
 
 /// How often a reader tries to read the texts that are written beside it.
-const READS: u32 = 10_000;
+pub const READS: u32 = 10_000;
 
-/// The most tries of a reader that waits for a value.
-const TURNS: u32 = 10_000_000;
+/// The most tries of a thread that waits for another one.
+pub const TURNS: u32 = 10_000_000;
 
 /// A cell of no bytes: its version alone changes.
 type Counter = SequencedByteAtomic<(), 0>;
@@ -29,7 +30,7 @@ fn count_up(cell: &Counter, writer: &mut WriterSeat<()>) -> bool
 {
     let mut succeeded = true;
     for _ in 0..WRITES {
-        succeeded &= cell.write(writer, ()).is_ok();
+        succeeded &= cell.try_write(writer, ()).is_ok();
     }
     succeeded
 }
@@ -79,7 +80,7 @@ fn versions_beside_writes(rt: HostRuntime) -> Result<(), Fail> {
         Ok(mut other) => findings.expect_same(cell.version(&mut other), 2_000, "to a new seat"),
         Err(_) => findings.miss("a new seat"),
     }
-    cell.close(writer);
+    findings.expect_same(cell.close(writer), Ok(()), "the last value");
     findings.verdict()
 }
 
@@ -92,7 +93,7 @@ fn meet(own: &Flag, writer: &mut WriterSeat<u8>, other: &Flag, reader: &mut Read
     ensures own { writer.new.cell ≡ writer.old.cell }
     ensures other { reader.new.cell ≡ reader.old.cell }
 {
-    if own.write(writer, 1).is_err() {
+    if own.try_write(writer, 1).is_err() {
         return false;
     }
     for _ in 0..TURNS {
@@ -107,6 +108,7 @@ fn meet(own: &Flag, writer: &mut WriterSeat<u8>, other: &Flag, reader: &mut Read
 #[test]
 fn two_threads_meet(rt: HostRuntime) -> Result<(), Fail> {
     let (left, mut left_writer, mut left_reader) = Flag::new(rt.alloc(), 0)?;
+    let findings = Findings::new();
     let right = Flag::new(rt.alloc(), 0);
     let met = match right {
         Ok((right, mut right_writer, mut right_reader)) => {
@@ -115,13 +117,12 @@ fn two_threads_meet(rt: HostRuntime) -> Result<(), Fail> {
                 &mut || meet(&left, &mut left_writer, &right, &mut right_reader),
                 &mut || meet(&right, &mut right_writer, &left, &mut left_reader),
             );
-            right.close(right_writer);
+            findings.expect_same(right.close(right_writer), Ok(1), "the right value");
             met
         }
         Err(_) => (false, false),
     };
-    left.close(left_writer);
-    let findings = Findings::new();
+    findings.expect_same(left.close(left_writer), Ok(1), "the left value");
     findings.expect_same(met, (true, true), "each reads the other's 1");
     findings.verdict()
 }
@@ -157,43 +158,9 @@ fn write_texts(cell: &TextCell, writer: &mut WriterSeat<Text>) -> bool
 {
     let mut succeeded = true;
     for number in 1..=WRITES {
-        succeeded &= cell.write(writer, three_times(number)).is_ok();
+        succeeded &= cell.try_write(writer, three_times(number)).is_ok();
     }
     succeeded
-}
-
-/// What a reader has found so far.
-#[derive(Drop)]
-struct Readings {
-    latest: u64,
-    last: u64,
-    are_expected: bool,
-}
-
-impl Readings {
-    fn new() -> Self {
-        Readings {
-            latest: 0,
-            last: 0,
-            are_expected: true,
-        }
-    }
-
-    /// Notes the order of a value that was read, which is `None` if it is not whole: it is not less than the latest one. Of an
-    /// error, the first version is odd or less than the last one, and not less than the last one of an earlier error.
-    fn note(&mut self, read: Result<Option<u64>, Interfered>) {
-        match read {
-            Ok(Some(order)) => {
-                self.are_expected &= self.latest <= order;
-                self.latest = order;
-            }
-            Ok(None) => self.are_expected = false,
-            Err(Interfered { first, last }) => {
-                self.are_expected &= (first % 2 == 1 || first < last) && self.last <= first;
-                self.last = self.last.max(last);
-            }
-        }
-    }
 }
 
 fn read_texts(cell: &TextCell, reader: &mut ReaderSeat<Text>) -> bool
@@ -202,12 +169,12 @@ fn read_texts(cell: &TextCell, reader: &mut ReaderSeat<Text>) -> bool
 {
     let mut readings = Readings::new();
     for _ in 0..READS {
-        readings.note(match cell.try_read(reader) {
-            Ok(text) => Ok(text_order(&text)),
-            Err(interfered) => Err(interfered),
-        });
+        match cell.try_read(reader) {
+            Ok(text) => readings.note_value(0, text_order(&text)),
+            Err(interfered) => readings.note_interfered(interfered),
+        }
     }
-    readings.are_expected
+    readings.are_expected()
 }
 
 fn read_in_threads<R: Threads>(
@@ -242,14 +209,14 @@ fn texts_are_whole(rt: HostRuntime) -> Result<(), Fail> {
         "the last text",
     );
     findings.expect_same(cell.try_read(&mut reader), Ok(last), "the read after them");
-    findings.expect_same(cell.close(writer), last, "the last value");
+    findings.expect_same(cell.close(writer), Ok(last), "the last value");
     findings.verdict()
 }
 
-type Blocks<const SIZE: usize> = SequencedByteAtomic<[u8; SIZE], SIZE>;
+pub type Blocks<const SIZE: usize> = SequencedByteAtomic<[u8; SIZE], SIZE>;
 
 /// Returns the byte that all of the block is, or `None` if it is not one byte throughout.
-fn block_order(block: &[u8]) -> Option<u64> {
+pub fn block_order(block: &[u8]) -> Option<u64> {
     let first = *block.first()?;
     if block.iter().all(|byte| *byte == first) {
         Some(u64::from(first))
@@ -266,7 +233,7 @@ fn write_blocks<const SIZE: usize>(cell: &Blocks<SIZE>, writer: &mut WriterSeat<
 {
     let mut succeeded = true;
     for number in 1..=WRITES {
-        succeeded &= cell.write(writer, [(number / 4) as u8; SIZE]).is_ok();
+        succeeded &= cell.try_write(writer, [(number / 4) as u8; SIZE]).is_ok();
     }
     succeeded
 }
@@ -278,12 +245,12 @@ fn read_blocks<const SIZE: usize>(cell: &Blocks<SIZE>, reader: &mut ReaderSeat<[
 {
     let mut readings = Readings::new();
     for _ in 0..READS {
-        readings.note(match cell.try_read(reader) {
-            Ok(block) => Ok(block_order(&block)),
-            Err(interfered) => Err(interfered),
-        });
+        match cell.try_read(reader) {
+            Ok(block) => readings.note_value(0, block_order(&block)),
+            Err(interfered) => readings.note_interfered(interfered),
+        }
     }
-    readings.are_expected
+    readings.are_expected()
 }
 
 fn blocks_in_threads<const SIZE: usize, R: Threads>(
@@ -325,7 +292,7 @@ fn check_blocks<const SIZE: usize, R: Threads>(
             let found = blocks_in_threads(rt, &cell, &mut writer, &mut reader);
             findings.expect_same(found, (true, true), place);
             findings.expect_same(cell.try_read(&mut reader), Ok([250; SIZE]), place);
-            findings.expect_same(cell.close(writer), [250; SIZE], place);
+            findings.expect_same(cell.close(writer), Ok([250; SIZE]), place);
         }
         Err(_) => findings.miss(place),
     }

@@ -61,10 +61,10 @@ pub fn check_sequenced<T: AtomicCopy + PartialEq + Debug, const SIZE: usize>(
         Ok((cell, mut writer, mut reader)) => {
             findings.expect_same(cell.words(), words, place);
             findings.expect_same(cell.try_read(&mut reader), Ok(first), place);
-            findings.expect_same(cell.write(&mut writer, second), Ok(()), place);
+            findings.expect_same(cell.try_write(&mut writer, second), Ok(()), place);
             findings.expect_same(cell.try_read(&mut reader), Ok(second), place);
-            findings.expect_same(cell.read_own(&mut writer), second, place);
-            findings.expect_same(cell.close(writer), second, place);
+            findings.expect_same(cell.read_own(&mut writer), Ok(second), place);
+            findings.expect_same(cell.close(writer), Ok(second), place);
         }
         Err(_) => findings.miss(place),
     }

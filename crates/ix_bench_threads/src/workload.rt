@@ -63,7 +63,7 @@ impl Workload {
             if let Some(first) = bytes.first_mut() {
                 *first = (i & 0xff) as u8;
             }
-            let _ = cell.write(writer, bytes);
+            let _ = cell.try_write(writer, bytes);
             for _ in 0..self.pause {
                 self.is_done();
             }
@@ -197,6 +197,6 @@ pub fn run<const SIZE: usize, R: Threads + Sync>(
         let mut third = cell.reader(alloc, &mut writer).unwrap();
         workload.write_beside_three(rt, &cell, &mut writer, &mut first, &mut second, &mut third)
     };
-    cell.close(writer);
+    let _ = cell.close(writer);
     Ok(counts)
 }

@@ -1,2 +1,3 @@
 mod Appending
 mod Windows
+pub mod Written

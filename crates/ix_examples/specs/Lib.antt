@@ -1,2 +1,3 @@
 pub mod UnitNames
 pub mod UnitNamesLaws
+pub mod Written

@@ -1,25 +1,25 @@
-//! A limit that one thread sets and others read, none of which waits for another.
-ghost use Rattle.std.specs.Prelude.{◌≡◌, ◌<◌, ◌++◌, ◌∷◌, ◌⊎◌, ℕ, [], Some, IfOk, IfErr};
+//! A limit that threads set and read, none of which waits for another.
+ghost use Rattle.std.specs.Prelude.{◌≡◌, ◌<◌, ◌⊎◌, ℕ, Some, IfOk, IfErr};
 ghost use Rattle.ix_atomic.specs.History.{IsEven, IsOdd, LoadsTwice, value_at};
+ghost use Rattle.ix_atomic.specs.Writers.{Writes, Refuses};
 
-use ix_atomic::byte_atomic::steps::VersionsUsedUp;
-use ix_atomic::{ReaderSeat, SequencedByteAtomic, WriterSeat};
+use ix_atomic::{ReaderSeat, SequencedByteAtomic, TryWriteError, WriterSeat};
 
-/// The limit. `Limit::new(alloc, 100)?` is a limit of 100, its writer's seat, and a reader's.
+/// The limit. `Limit::new(alloc, 100)?` is a limit of 100, a writer's seat, and a reader's.
 pub type Limit = SequencedByteAtomic<u64, 8>;
 
-/// Sets the limit: it is the last of all limits that were set.
+/// Sets the limit, unless another thread sets it right now: it is the last of all limits that were set.
 pub fn set_limit(
     limit: &Limit,
     writer: &mut WriterSeat<u64>,
     value: u64,
-) -> Result<(), VersionsUsedUp>
+) -> Result<(), TryWriteError>
     requires { writer.old.cell ≡ limit.now }
     ensures cell { writer.new.cell ≡ writer.old.cell }
-    ensures set { IfOk result (λ _. writer.new.history ≡ writer.old.history ++ value ∷ []) }
-    ensures refused { IfErr result (λ _. writer.new ≡ writer.old) }
+    ensures set { IfOk result (λ _. Writes writer.old writer.new value) }
+    ensures refused { IfErr result (λ error. Refuses writer.old writer.new error) }
 {
-    limit.write(writer, value)
+    limit.try_write(writer, value)
 }
 
 /// Returns the limit of the version that it loads before and after it, none from before those that this reader knows of; or

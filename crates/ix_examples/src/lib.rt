@@ -4,9 +4,11 @@
 pub mod configuration;
 pub mod directory;
 pub mod json_message;
+pub mod log_position;
 pub mod message;
 pub mod queues;
 pub mod registry;
+pub mod rising_limit;
 pub mod rolling_window;
 pub mod scripts;
 pub mod session_table;

@@ -1,7 +1,7 @@
-//! A registry of services with stable handles.
-ghost use Rattle.std.specs.Prelude.{◌≡◌, ◌≢◌, ◌↔◌, ℕ, [], None, Some, IfSome, IsNone, option_map};
-ghost use Rattle.ix_maps.specs.SlotState.{value_at, IsHeld};
-ghost use Rattle.ix_maps.specs.SlotSteps.{slot_insert};
+//! A registry of services, whose handles are dead for good once their service is removed.
+ghost use Rattle.std.specs.Prelude.{◌≡◌, ◌≢◌, ◌↔◌, [], None, Some, IsSome, IfSome, IsNone, option_map};
+ghost use Rattle.ix_maps.specs.Generations.{SlotKey, map_value, IsDead};
+ghost use Rattle.ix_maps.specs.SlotMapSteps.{map_insert};
 
 use ix_maps::{FixedSizeSlotMap, SlotMapKey};
 use ix_string::StaticString;
@@ -18,31 +18,44 @@ pub type Registry = FixedSizeSlotMap<Service, 64>;
 
 /// Registers a service and returns its handle, or `None` if the registry is full, which is unchanged then.
 pub fn register(registry: &mut Registry, service: Service) -> Option<SlotMapKey>
-    ensures found { IfSome result (λ handle. value_at registry.new handle ≡ Some service) }
-    ensures kept { (other : ℕ) → IsHeld registry.old other
-        → value_at registry.new other ≡ value_at registry.old other }
-    ensures full { IsNone result ↔ (registry.old.free ≡ []) }
+    ensures found { IfSome result (λ handle. map_value registry.new handle ≡ Some service) }
+    ensures kept { (other : SlotKey) → IsSome (map_value registry.old other)
+        → map_value registry.new other ≡ map_value registry.old other }
+    ensures dead { (other : SlotKey) → IsDead registry.old other → IsDead registry.new other }
+    ensures full { IsNone result ↔ (registry.old.slots.free ≡ []) }
     ensures refused { IsNone result → registry.new ≡ registry.old }
     // No other service is registered.
-    ensures registry { registry.new ≡ slot_insert registry.old service }
+    ensures registry { registry.new ≡ map_insert registry.old service }
 {
     registry.insert(service)
 }
 
 /// Returns the port of the service with this handle, or `None` if there is no such service.
 pub fn port_of(registry: &Registry, handle: SlotMapKey) -> Option<u16>
-    ensures { result ≡ option_map (λ service. service.port) (value_at registry.now handle) }
+    ensures { result ≡ option_map (λ service. service.port) (map_value registry.now handle) }
 {
     let service = registry.get(handle)?;
     Some(service.port)
 }
 
-/// Removes the service with this handle and returns it, or `None` if there is no such service.
+/// Removes the service with this handle and returns it, or `None` if there is no such service. The handle is dead then.
 pub fn unregister(registry: &mut Registry, handle: SlotMapKey) -> Option<Service>
-    ensures value { result ≡ value_at registry.old handle }
-    ensures gone { value_at registry.new handle ≡ None }
-    ensures kept { (other : ℕ) → other ≢ handle
-        → value_at registry.new other ≡ value_at registry.old other }
+    ensures value { result ≡ map_value registry.old handle }
+    ensures dead { IsSome result → IsDead registry.new handle }
+    ensures kept { (other : SlotKey) → other ≢ handle
+        → map_value registry.new other ≡ map_value registry.old other }
 {
     registry.remove(handle)
+}
+
+/// Removes the service with this handle, and registers others, as many as there is room for. The handle finds none of them,
+/// whichever places they get.
+pub fn hand_over(registry: &mut Registry, handle: SlotMapKey, services: &[Service])
+    ensures { IsSome (map_value registry.old handle) → map_value registry.new handle ≡ None }
+{
+    unregister(registry, handle);
+    for service in services {
+        register(registry, *service);
+    }
+    registry.get(handle);
 }

@@ -3,7 +3,7 @@ ghost use Rattle.std.specs.Prelude.{◌≡◌, ◌≢◌, ◌↔◌, ℕ, Some, 
 ghost use Rattle.ix_examples.specs.declared.session_table.Session.{Session};
 ghost use Rattle.ix_maps.specs.SlotState.{value_at, IsHeld};
 
-use ix_maps::{SlotMap, SlotMapKey};
+use ix_maps::{SlotTable, SlotTableKey};
 use std::alloc::Allocator;
 
 /// A session with a peer.
@@ -14,10 +14,10 @@ pub struct Session {
 }
 
 /// Sessions by number. `SessionTable::new(alloc, 1000)?` allocates a table for 1,000 of them.
-pub type SessionTable<A> = SlotMap<Session, A>;
+pub type SessionTable<A> = SlotTable<Session, A>;
 
 /// Opens a session and returns its number, or `None` if the table is full.
-pub fn open<A: Allocator>(table: &mut SessionTable<A>, session: Session) -> Option<SlotMapKey>
+pub fn open<A: Allocator>(table: &mut SessionTable<A>, session: Session) -> Option<SlotTableKey>
     ensures number { result ≡ slice_get table.old.free 0 }
     ensures opened { IfSome result (λ number. value_at table.new number ≡ Some session) }
     ensures kept { (other : ℕ) → IsHeld table.old other
@@ -27,7 +27,11 @@ pub fn open<A: Allocator>(table: &mut SessionTable<A>, session: Session) -> Opti
 }
 
 /// Notes that the peer of a session was heard at `time`. Returns `false` if no session has this number.
-pub fn note_heard<A: Allocator>(table: &mut SessionTable<A>, number: SlotMapKey, time: u64) -> bool
+pub fn note_heard<A: Allocator>(
+    table: &mut SessionTable<A>,
+    number: SlotTableKey,
+    time: u64,
+) -> bool
     ensures value { IsTrue result ↔ IsHeld table.old number }
     ensures heard { IfSome (value_at table.new number) (λ session. session.last_heard ≡ time) }
     ensures peer { option_map (λ (session : Session). session.peer) (value_at table.new number)
@@ -45,7 +49,7 @@ pub fn note_heard<A: Allocator>(table: &mut SessionTable<A>, number: SlotMapKey,
 }
 
 /// Closes a session and returns it, or `None` if no session has this number. The next session gets the number.
-pub fn close<A: Allocator>(table: &mut SessionTable<A>, number: SlotMapKey) -> Option<Session>
+pub fn close<A: Allocator>(table: &mut SessionTable<A>, number: SlotTableKey) -> Option<Session>
     ensures value { result ≡ value_at table.old number }
     ensures free { IfSome result (λ _. slice_get table.new.free 0 ≡ Some number) }
     ensures kept { (other : ℕ) → other ≢ number

@@ -9,13 +9,13 @@ use ix_examples::directory::{
 };
 use ix_examples::json_message::{Samples, from_json, send, to_json};
 use ix_examples::message::{Message, MessageError};
-use ix_examples::registry::{Registry, Service, port_of, register, unregister};
+use ix_examples::registry::{Registry, Service, hand_over, port_of, register, unregister};
 use ix_examples::rolling_window::last_samples;
 use ix_examples::scripts::append_replies;
 use ix_examples::session_table::{Session, SessionTable, close, note_heard, open};
 use ix_examples::unit_name::{UnitName, is_same_unit};
 use ix_examples::{queues, strings, vectors};
-use ix_maps::{FlatMapError, SlotMapKey};
+use ix_maps::{FlatMapError, SlotMapKey, SlotTableKey};
 use ix_names::{JsonFault, RelocatableOption, SemanticStringError};
 use ix_string::{StaticString, String};
 use serde_json::Value;
@@ -99,7 +99,7 @@ fn one_sets_and_two_read(rt: HostRuntime) {
     assert!(rt; at_first == 100 || at_first == 150 || at_first == 200);
     assert!(rt; at_second == 100 || at_second == 150 || at_second == 200);
     assert_eq!(rt; limit_or(&limit, &mut first, 150), 200);
-    assert_eq!(rt; limit.close(writer), 200);
+    assert_eq!(rt; limit.close(writer), Ok(200));
 }
 
 #[test]
@@ -128,7 +128,7 @@ fn names_are_distinct(rt: HostRuntime) {
 }
 
 #[test]
-fn handles_stay(rt: HostRuntime) {
+fn handles_stay_until_they_are_dead(rt: HostRuntime) {
     let name = StaticString::from_bytes(b"camera").expect(&rt, "it fits");
     let mut registry = Registry::new();
     let camera = register(&mut registry, Service { name, port: 80 });
@@ -143,6 +143,10 @@ fn handles_stay(rt: HostRuntime) {
         assert!(rt; register(&mut registry, Service { name, port }).is_some());
     }
     assert!(rt; register(&mut registry, Service { name, port: 1 }).is_none());
+    assert_eq!(rt; port_of(&registry, camera), None);
+    hand_over(&mut registry, radar, &[Service { name, port: 9 }; 2]);
+    assert_eq!(rt; port_of(&registry, radar), None);
+    assert_eq!(rt; port_of(&registry, SlotMapKey::new(1, 1)), Some(9));
 }
 
 #[test]
@@ -152,18 +156,18 @@ fn numbers_are_used_again(rt: HostRuntime) {
         peer,
         last_heard: 0,
     };
-    assert_eq!(rt; open(&mut table, session(70)), Some(SlotMapKey::new(0)));
-    assert_eq!(rt; open(&mut table, session(71)), Some(SlotMapKey::new(1)));
+    assert_eq!(rt; open(&mut table, session(70)), Some(SlotTableKey::new(0)));
+    assert_eq!(rt; open(&mut table, session(71)), Some(SlotTableKey::new(1)));
     assert_eq!(rt; open(&mut table, session(72)), None);
-    assert!(rt; note_heard(&mut table, SlotMapKey::new(0), 9));
+    assert!(rt; note_heard(&mut table, SlotTableKey::new(0), 9));
     let closed = Session {
         peer: 70,
         last_heard: 9,
     };
-    assert_eq!(rt; close(&mut table, SlotMapKey::new(0)), Some(closed));
-    assert!(rt; !note_heard(&mut table, SlotMapKey::new(0), 10));
-    assert_eq!(rt; close(&mut table, SlotMapKey::new(0)), None);
-    assert_eq!(rt; open(&mut table, session(72)), Some(SlotMapKey::new(0)));
+    assert_eq!(rt; close(&mut table, SlotTableKey::new(0)), Some(closed));
+    assert!(rt; !note_heard(&mut table, SlotTableKey::new(0), 10));
+    assert_eq!(rt; close(&mut table, SlotTableKey::new(0)), None);
+    assert_eq!(rt; open(&mut table, session(72)), Some(SlotTableKey::new(0)));
 }
 
 #[test]

@@ -2,4 +2,6 @@
 #![tactic(auto)]
 
 #[cfg(test)]
+mod cell_tests;
+#[cfg(test)]
 mod example_tests;

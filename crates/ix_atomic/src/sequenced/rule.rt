@@ -1,6 +1,6 @@
 //! The rule of the table of words, and the kinds of step on it.
 use crate::byte_atomic::AtomicCopy;
-use atomic_table::{Play, Split, TableRule};
+use atomic_table::{Join, Play, Split, TableRule};
 use std::collections::LinkedList;
 use std::marker::PhantomData;
 
@@ -15,11 +15,14 @@ pub(crate) enum Stage {
 
 /// What the holder of a seat knows. Only contracts speak of it: no value of it is made.
 pub(crate) struct SeatView<T> {
-    is_writer: bool,
     /// A beginning of the history.
     known: LinkedList<T>,
+    /// What the seat knew that was merged into this one last.
+    joined: LinkedList<T>,
     /// The versions that were loaded, in order.
     seen: LinkedList<u64>,
+    /// The places in the history of the values that this seat wrote, rising.
+    places: LinkedList<usize>,
     stage: Stage,
     /// The words that were loaded or stored, in order.
     touched: LinkedList<usize>,
@@ -39,13 +42,14 @@ impl<T: AtomicCopy> TableRule<(), SeatView<T>, T> for CellRule<T> {
     ghost first = { λ value. view_new value };
 }
 
-/// The store of an odd version.
-pub(crate) struct Begin;
+/// The compare-and-exchange of an even version for the next odd one.
+pub(crate) struct Claim;
 
-impl<T> Play<(), SeatView<T>> for Begin {
-    ghost use Rattle.ix_atomic.specs.SequencedSteps.{BeginStep};
+impl<T: AtomicCopy> Play<(), SeatView<T>> for Claim {
+    ghost use Rattle.ix_atomic.specs.SequencedRule.{Encodes};
+    ghost use Rattle.ix_atomic.specs.SequencedSteps.{ClaimStep};
 
-    ghost then = { BeginStep };
+    ghost then = { ClaimStep (Encodes T.is_value T.encoding) };
 }
 
 /// The store of the bytes of a word.
@@ -86,13 +90,24 @@ impl<T: AtomicCopy> Play<(), SeatView<T>> for LoadWord {
     ghost then = { WordStep T.SIZE };
 }
 
-/// A reader's seat that is made from the writer's.
-pub(crate) struct NewReader;
+/// A further seat, which knows what this one knows.
+pub(crate) struct NewSeat;
 
-impl<T> Split<SeatView<T>> for NewReader {
-    ghost use Rattle.ix_atomic.specs.SequencedSteps.{view_reader};
+impl<T> Split<SeatView<T>> for NewSeat {
+    ghost use Rattle.ix_atomic.specs.SequencedSteps.{view_further};
 
     ghost left = { λ view. view };
 
-    ghost right = { view_reader };
+    ghost right = { view_further };
+}
+
+/// A seat that takes in another one, which is spent.
+pub(crate) struct Merge;
+
+impl<T> Join<SeatView<T>> for Merge {
+    ghost use Rattle.ix_atomic.specs.SequencedSteps.{view_merged, view_spent};
+
+    ghost both = { view_merged };
+
+    ghost spent = { view_spent };
 }

@@ -3,7 +3,7 @@ use crate::sequenced::rule::SeatView;
 use atomic_table::Seat;
 use std::marker::Model;
 
-/// Lets its holder read from one cell. It has no lifetime and can be dropped.
+/// Lets its holder read from one cell. It borrows nothing, and can be dropped.
 ///
 /// Contracts see the cell, the beginning of the history that the holder knows, and the versions and the words that it has
 /// loaded.
@@ -13,30 +13,32 @@ pub struct ReaderSeat<T> {
 }
 
 impl<T> Model for ReaderSeat<T> {
-    ghost use Rattle.std.specs.Prelude.{◌≡◌, [], false};
+    ghost use Rattle.std.specs.Prelude.{◌≡◌, []};
     ghost use Rattle.ix_atomic.specs.History.{Reader};
+    ghost use Rattle.ix_atomic.specs.SequencedRule.{parity};
     ghost use Rattle.ix_atomic.specs.SequencedSteps.{reader_of};
 
     ghost Value = { Reader T };
 
     ghost view = { λ reader. reader_of reader.seat.table_id reader.seat.me.0 };
 
-    ghost invariant = { λ reader. (reader.seat.me.1 ≡ []) × (reader.seat.me.0.is_writer ≡ false) };
+    ghost invariant = { λ reader. (reader.seat.me.1 ≡ []) × (parity reader.seat.me.0.stage ≡ 0) × (reader.seat.me.0.places ≡ []) };
 }
 
-/// Lets its holder write to one cell. A cell has one, which is spent by
-/// [`SequencedByteAtomic::close`](crate::SequencedByteAtomic::close) alone: it can't be dropped.
+/// Lets its holder write to one cell, and read from it. A cell may have any number of them, made by
+/// [`SequencedByteAtomic::writer`](crate::SequencedByteAtomic::writer). It can't be dropped: it is consumed by
+/// [`SequencedByteAtomic::merge`](crate::SequencedByteAtomic::merge) or
+/// [`SequencedByteAtomic::close`](crate::SequencedByteAtomic::close).
 ///
-/// Contracts see the cell, its history, which is the finished values in order, and the words that the holder has loaded or
-/// stored.
+/// Contracts see the cell, the beginning of the history that the holder knows, the versions that it has loaded, the places in the
+/// history of the values that it has written, and the words that it has loaded or stored.
 pub struct WriterSeat<T> {
     pub(crate) seat: Seat<(), SeatView<T>>,
-    pub(crate) version: u64,
 }
 
 impl<T> Model for WriterSeat<T> {
-    ghost use Rattle.std.specs.Prelude.{◌≡◌, ◌+◌, ◌*◌, [], true, length};
-    ghost use Rattle.ix_atomic.specs.History.{Writer};
+    ghost use Rattle.std.specs.Prelude.{◌≡◌, []};
+    ghost use Rattle.ix_atomic.specs.Writers.{Writer};
     ghost use Rattle.ix_atomic.specs.SequencedRule.{parity};
     ghost use Rattle.ix_atomic.specs.SequencedSteps.{writer_of};
 
@@ -44,6 +46,5 @@ impl<T> Model for WriterSeat<T> {
 
     ghost view = { λ writer. writer_of writer.seat.table_id writer.seat.me.0 };
 
-    ghost invariant = { λ writer. (writer.seat.me.1 ≡ []) × (writer.seat.me.0.is_writer ≡ true)
-        × (parity writer.seat.me.0.stage ≡ 0) × (writer.version + 2 ≡ 2 * length writer.seat.me.0.known) };
+    ghost invariant = { λ writer. (writer.seat.me.1 ≡ []) × (parity writer.seat.me.0.stage ≡ 0) };
 }

@@ -1,18 +1,18 @@
 //! The cell, its calls, and the walks over its words.
-ghost use Rattle.std.specs.Prelude.{◌≡◌, ℕ, ◌+◌, ◌/◌, ◌<◌, ◌⊎◌, ◌↔◌, true, [], ◌∷◌, ◌++◌, length, Some, IsOk, IsErr, IfOk, IfErr};
-ghost use Rattle.ix_atomic.specs.Versions.{last_version};
+ghost use Rattle.std.specs.Prelude.{◌≡◌, ℕ, ◌+◌, ◌/◌, ◌<◌, ◌⊎◌, [], ◌∷◌, ◌++◌, List, length, Some, IsOk, IfOk, IfErr};
 ghost use Rattle.ix_atomic.specs.Words.{word_count};
-ghost use Rattle.ix_atomic.specs.History.{Loads, LoadsTwice, version_of, value_at, last_value, IsEven, IsOdd, data_words, all_words};
-ghost use Rattle.ix_atomic.specs.SequencedRule.{Encodes};
-ghost use Rattle.ix_atomic.specs.SequencedSteps.{seated_stage};
+ghost use Rattle.ix_atomic.specs.History.{Begins, Loads, LoadsTwice, value_at, last_value, IsEven, IsOdd, data_words, all_words};
+ghost use Rattle.ix_atomic.specs.Writers.{Writes, Refuses, AreOwn, AreApart, as_reader, places_merge};
+ghost use Rattle.ix_atomic.specs.SequencedRule.{Encodes, parity};
+ghost use Rattle.ix_atomic.specs.SequencedSteps.{seated_stage, reader_of, writer_of, view_merged, ViewLoads};
 ghost use Rattle.ix_atomic.specs.declared.sequenced.rule.Stage.TheVariants.{Reading, Writing};
 
 use crate::byte_atomic::AtomicCopy;
-use crate::byte_atomic::steps::{VersionsUsedUp, next_versions};
+use crate::byte_atomic::steps::next_versions;
 use crate::sequenced::data_words::{new_words, set_word_at, word_at};
-use crate::sequenced::interfered::Interfered;
+use crate::sequenced::errors::{Interfered, TryWriteError, Unfinished};
 use crate::sequenced::rule::{
-    Begin, CellRule, End, LoadVersion, LoadWord, NewReader, SeatView, Store,
+    CellRule, Claim, End, LoadVersion, LoadWord, Merge, NewSeat, SeatView, Store,
 };
 use crate::sequenced::seats::{ReaderSeat, WriterSeat};
 use atomic_table::{Seat, Table};
@@ -22,16 +22,18 @@ use std::marker::Model;
 /// No allocation has more bytes than `isize::MAX`. One word is the version, each other one has eight bytes.
 const MAX_SIZE: usize = (isize::MAX as usize / size_of::<u64>() - 1) * 8;
 
-/// A cell that one thread writes and others read, without a lock. `SIZE` is the size of `T`.
+/// A cell that threads write and read without a lock. `SIZE` is the size of `T`.
 ///
-/// Threads share it by reference. The holder of the [`WriterSeat`] writes, the holders of [`ReaderSeat`]s read. Each call
-/// loads or stores single words, each of them once, and neither waits nor tries again.
+/// Threads share it by reference. The holders of [`WriterSeat`]s write, the holders of [`ReaderSeat`]s read. Each call loads or
+/// stores single words, and neither waits nor tries again. All finished writes are one history.
 ///
 /// ```text
 /// let (cell, mut writer, mut reader) = SequencedByteAtomic::<u64, 8>::new(alloc, 7)?;
-/// cell.write(&mut writer, 9)?;
-/// cell.try_read(&mut reader);     // Ok(9), unless another thread writes
-/// cell.close(writer);             // 9
+/// let mut second = cell.writer(alloc, &mut writer)?;      // for another thread
+/// cell.try_write(&mut writer, 9)?;
+/// cell.try_read(&mut reader);         // Ok(9), unless another thread writes
+/// cell.merge(&mut writer, second);
+/// cell.close(writer);                 // Ok(9)
 /// ```
 #[derive(Drop)]
 pub struct SequencedByteAtomic<T: AtomicCopy, const SIZE: usize> {
@@ -55,13 +57,15 @@ impl<T: AtomicCopy, const SIZE: usize> Model for SequencedByteAtomic<T, SIZE> {
 }
 
 impl<T: AtomicCopy, const SIZE: usize> SequencedByteAtomic<T, SIZE> {
-    /// Creates a cell at version 0 whose last value is `value`, its writer's seat, and a reader's.
+    /// Creates a cell at version 0 whose last value is `value`, a writer's seat, and a reader's.
     ///
     /// O(`SIZE`). Allocates from `alloc`. Returns `AllocError` if there is not enough memory, and for any `SIZE` whose words,
     /// 8 bytes each, would fill more than `isize::MAX` bytes.
     pub fn new(alloc: Global, value: T) -> Result<(Self, WriterSeat<T>, ReaderSeat<T>), AllocError>
         requires { SIZE ≡ T.SIZE }
-        ensures writer { IfOk result (λ made. (made.1.cell ≡ made.0) × (made.1.history ≡ value ∷ [])) }
+        ensures writer { IfOk result (λ made.
+            (made.1.cell ≡ made.0) × (made.1.known ≡ value ∷ []) × (made.1.seen ≡ []) × (made.1.places ≡ [])) }
+        ensures own { IfOk result (λ made. AreOwn made.1) }
         ensures reader { IfOk result (λ made.
             (made.2.cell ≡ made.0) × (made.2.known ≡ value ∷ []) × (made.2.seen ≡ [])) }
     {
@@ -73,35 +77,48 @@ impl<T: AtomicCopy, const SIZE: usize> SequencedByteAtomic<T, SIZE> {
         let words = new_words(alloc, &bytes)?;
         let (table, mut seat) = Table::of_words(alloc, words.as_slice(), &value)?;
         let reader = ReaderSeat {
-            seat: table.shared.split_seat::<NewReader>(&mut seat),
+            seat: table.shared.split_seat::<NewSeat>(&mut seat),
         };
-        let writer = WriterSeat { seat, version: 0 };
-        Ok((SequencedByteAtomic { table }, writer, reader))
+        Ok((SequencedByteAtomic { table }, WriterSeat { seat }, reader))
     }
 
-    /// Appends `value` to the history: it becomes the last finished value. O(`SIZE`).
+    /// Appends `value` to the history, unless another write is in progress: it becomes the last finished value. O(`SIZE`).
     ///
-    /// Stores the next odd version, the bytes of `value`, and the next even version.
+    /// Loads the version, exchanges it for the next odd one, stores the bytes of `value`, and then the next even version. Does not
+    /// try again.
     ///
     /// # Errors
     ///
-    /// [`VersionsUsedUp`] at version 18,446,744,073,709,551,614, the greatest even number of a `u64`. Then nothing changes.
-    pub fn write(&self, seat: &mut WriterSeat<T>, value: T) -> Result<(), VersionsUsedUp>
+    /// - [`TryWriteError::Busy`] if the version is odd, or is no longer the loaded one when it would be exchanged.
+    /// - [`TryWriteError::VersionsUsedUp`] at version 18,446,744,073,709,551,614, the greatest even number of a `u64`.
+    ///
+    /// Then the cell is left unchanged.
+    pub fn try_write(&self, seat: &mut WriterSeat<T>, value: T) -> Result<(), TryWriteError>
         requires { seat.old.cell ≡ self.now }
         ensures cell { seat.new.cell ≡ seat.old.cell }
-        ensures history { IfOk result (λ _. seat.new.history ≡ seat.old.history ++ value ∷ []) }
-        ensures used_up { IsErr result ↔ (version_of seat.old.history ≡ last_version) }
-        ensures refused { IfErr result (λ _. seat.new ≡ seat.old) }
-        ensures touches { IfOk result (λ _. seat.new.touched ≡ seat.old.touched ++ all_words SIZE) }
+        ensures written { IfOk result (λ _. Writes seat.old seat.new value) }
+        ensures refused { IfErr result (λ error. Refuses seat.old seat.new error) }
+        ensures no_place { IfErr result (λ _. seat.new.places ≡ seat.old.places) }
+        ensures own { AreOwn seat.new }
+        ensures touches { IfOk result (λ _. seat.new.touched ≡ seat.old.touched ++ 0 ∷ all_words SIZE) }
     {
-        let (odd, even) = next_versions(seat.version)?;
         let shared = &self.table.shared;
         let mut bytes = [0u8; SIZE];
         value.encode(&mut bytes);
-        shared.store::<Begin>(&mut seat.seat, 0, odd);
+        let loaded = shared.load::<LoadVersion>(&mut seat.seat, 0);
+        if loaded % 2 == 1 {
+            return Err(TryWriteError::Busy {
+                loaded,
+                found: loaded,
+            });
+        }
+        let (odd, even) = next_versions(loaded)?;
+        let found = shared.compare_exchange::<Claim>(&mut seat.seat, 0, loaded, odd);
+        if found != loaded {
+            return Err(TryWriteError::Busy { loaded, found });
+        }
         self.store_bytes(&mut seat.seat, &bytes);
         shared.store::<End>(&mut seat.seat, 0, even);
-        seat.version = even;
         Ok(())
     }
 
@@ -120,19 +137,7 @@ impl<T: AtomicCopy, const SIZE: usize> SequencedByteAtomic<T, SIZE> {
             × (IsOdd error.first ⊎ (error.first < error.last))) }
         ensures touches { seat.new.touched ≡ seat.old.touched ++ all_words SIZE }
     {
-        let shared = &self.table.shared;
-        let mut bytes = [0u8; SIZE];
-        let first = shared.load::<LoadVersion>(&mut seat.seat, 0);
-        self.load_bytes(&mut seat.seat, first, &mut bytes);
-        let last = shared.load::<LoadVersion>(&mut seat.seat, 0);
-        if first == last && first % 2 == 0 {
-            match T::decode(&bytes) {
-                Some(value) => Ok(value),
-                None => unreachable!(),
-            }
-        } else {
-            Err(Interfered { first, last })
-        }
+        self.read(&mut seat.seat)
     }
 
     /// Returns the number of the cell's words, of 8 bytes each: one for the version, and one for each eight bytes of a value
@@ -155,25 +160,27 @@ impl<T: AtomicCopy, const SIZE: usize> SequencedByteAtomic<T, SIZE> {
         self.table.shared.load::<LoadVersion>(&mut seat.seat, 0)
     }
 
-    /// Returns the last finished value. O(`SIZE`).
-    pub fn read_own(&self, seat: &mut WriterSeat<T>) -> T
+    /// Returns the value of the version that it loads before and after the bytes, as [`try_read`](Self::try_read) does: none from
+    /// before the last one that was written with this seat. O(`SIZE`).
+    ///
+    /// # Errors
+    ///
+    /// [`Interfered`] with both versions, unless they are equal and even. The cell does not change.
+    pub fn read_own(&self, seat: &mut WriterSeat<T>) -> Result<T, Interfered>
         requires { seat.old.cell ≡ self.now }
-        ensures value { last_value seat.old.history ≡ Some result }
-        ensures seat { (seat.new.cell ≡ seat.old.cell) × (seat.new.history ≡ seat.old.history) }
+        ensures value { IfOk result (λ value. (version : ℕ) × LoadsTwice (as_reader seat.old) (as_reader seat.new) version version
+            × IsEven version × (value_at seat.new.known version ≡ Some value)) }
+        ensures interfered { IfErr result (λ error.
+            LoadsTwice (as_reader seat.old) (as_reader seat.new) error.first error.last
+            × (IsOdd error.first ⊎ (error.first < error.last))) }
+        ensures places { seat.new.places ≡ seat.old.places }
+        ensures own { AreOwn seat.new }
         ensures touches { seat.new.touched ≡ seat.old.touched ++ all_words SIZE }
     {
-        let shared = &self.table.shared;
-        let mut bytes = [0u8; SIZE];
-        let version = shared.load::<LoadVersion>(&mut seat.seat, 0);
-        self.load_bytes(&mut seat.seat, version, &mut bytes);
-        shared.load::<LoadVersion>(&mut seat.seat, 0);
-        match T::decode(&bytes) {
-            Some(value) => value,
-            None => unreachable!(),
-        }
+        self.read(&mut seat.seat)
     }
 
-    /// Returns a new reader's seat, whose holder knows all that the writer finished. Takes no memory. O(1).
+    /// Returns a new reader's seat, whose holder knows what the holder of `seat` knows. Takes no memory. O(1).
     #[inline]
     pub fn reader(
         &self,
@@ -182,38 +189,143 @@ impl<T: AtomicCopy, const SIZE: usize> SequencedByteAtomic<T, SIZE> {
     ) -> Result<ReaderSeat<T>, AllocError>
         requires { seat.old.cell ≡ self.now }
         ensures reader { IfOk result (λ reader.
-            (reader.cell ≡ seat.old.cell) × (reader.known ≡ seat.old.history) × (reader.seen ≡ [])) }
+            (reader.cell ≡ seat.old.cell) × (reader.known ≡ seat.old.known) × (reader.seen ≡ [])) }
         ensures seat { seat.new ≡ seat.old }
         ensures memory { IsOk result }
     {
-        let reader = self.table.shared.split_seat::<NewReader>(&mut seat.seat);
+        let reader = self.table.shared.split_seat::<NewSeat>(&mut seat.seat);
         Ok(ReaderSeat { seat: reader })
     }
 
+    /// Returns a new writer's seat, whose holder knows what the holder of `seat` knows, and has written nothing. Takes no
+    /// memory. O(1).
+    #[inline]
+    pub fn writer(
+        &self,
+        _alloc: Global,
+        seat: &mut WriterSeat<T>,
+    ) -> Result<WriterSeat<T>, AllocError>
+        requires { seat.old.cell ≡ self.now }
+        ensures writer { IfOk result (λ writer. (writer.cell ≡ seat.old.cell) × (writer.known ≡ seat.old.known)
+            × (writer.seen ≡ []) × (writer.places ≡ [])) }
+        ensures own { IfOk result AreOwn }
+        ensures seat { seat.new ≡ seat.old }
+        ensures memory { IsOk result }
+    {
+        let writer = self.table.shared.split_seat::<NewSeat>(&mut seat.seat);
+        Ok(WriterSeat { seat: writer })
+    }
+
+    /// Consumes `other`: the holder of `seat` then knows what both knew, and all that was written with either is its own. Takes no
+    /// memory. O(1).
+    pub fn merge(&self, seat: &mut WriterSeat<T>, other: WriterSeat<T>)
+        requires seat { seat.old.cell ≡ self.now }
+        requires other { other.cell ≡ self.now }
+        ensures cell { seat.new.cell ≡ seat.old.cell }
+        ensures known { Begins seat.old.known seat.new.known × Begins other.known seat.new.known }
+        ensures places { seat.new.places ≡ places_merge seat.old.places other.places }
+        ensures own { AreOwn seat.new }
+        ensures apart { AreApart seat.old.places other.places }
+        ensures seen { (version : ℕ) × (seat.new.seen ≡ (seat.old.seen ++ other.seen) ++ version ∷ [])
+            × (length seat.new.known ≡ version / 2 + 1) }
+        ensures touches { seat.new.touched ≡ (seat.old.touched ++ other.touched) ++ 0 ∷ [] }
+    {
+        let WriterSeat { seat: other } = other;
+        self.take_in(&mut seat.seat, other);
+    }
+
+    /// Consumes `reader`: the holder of `seat` then knows what both knew. Takes no memory. O(1).
+    pub fn merge_reader(&self, seat: &mut WriterSeat<T>, reader: ReaderSeat<T>)
+        requires seat { seat.old.cell ≡ self.now }
+        requires reader { reader.cell ≡ self.now }
+        ensures cell { seat.new.cell ≡ seat.old.cell }
+        ensures known { Begins seat.old.known seat.new.known × Begins reader.known seat.new.known }
+        ensures places { seat.new.places ≡ seat.old.places }
+        ensures own { AreOwn seat.new }
+        ensures seen { (version : ℕ) × (seat.new.seen ≡ (seat.old.seen ++ reader.seen) ++ version ∷ [])
+            × (length seat.new.known ≡ version / 2 + 1) }
+        ensures touches { seat.new.touched ≡ (seat.old.touched ++ reader.touched) ++ 0 ∷ [] }
+    {
+        let ReaderSeat { seat: reader } = reader;
+        self.take_in(&mut seat.seat, reader);
+    }
+
     /// Deallocates the cell and returns the last finished value. O(`SIZE`).
-    pub fn close(self, seat: WriterSeat<T>) -> T
+    ///
+    /// # Errors
+    ///
+    /// [`Unfinished`] if a write is in progress: the version is odd. The cell is deallocated then too.
+    pub fn close(self, seat: WriterSeat<T>) -> Result<T, Unfinished>
         requires { seat.cell ≡ self }
-        ensures value { last_value seat.history ≡ Some result }
+        ensures value { IfOk result (λ value. (history : List T) × Begins seat.known history × (last_value history ≡ Some value)) }
     {
         let SequencedByteAtomic { table } = self;
-        let WriterSeat { seat, version: _ } = seat;
+        let WriterSeat { seat } = seat;
         let closed = table.close_with(seat);
+        let is_unfinished = closed.word(0) % 2 == 1;
         let mut bytes = [0u8; SIZE];
         for i in 0..SIZE.div_ceil(8) {
             set_word_at(&mut bytes, i, closed.word(i + 1));
         }
         closed.free();
+        if is_unfinished {
+            return Err(Unfinished);
+        }
         match T::decode(&bytes) {
-            Some(value) => value,
+            Some(value) => Ok(value),
             None => unreachable!(),
         }
+    }
+
+    /// Loads the version, each word of bytes, and the version again. Returns the value, unless the versions differ or are odd.
+    /// O(`SIZE`).
+    fn read(&self, seat: &mut Seat<(), SeatView<T>>) -> Result<T, Interfered>
+        requires cell { seat.old.table_id ≡ self.now }
+        requires between_calls { parity seat.old.me.0.stage ≡ 0 }
+        ensures value { IfOk result (λ value. (version : ℕ)
+            × LoadsTwice (reader_of seat.old.table_id seat.old.me.0) (reader_of seat.new.table_id seat.new.me.0) version version
+            × IsEven version × (value_at seat.new.me.0.known version ≡ Some value)) }
+        ensures interfered { IfErr result (λ error.
+            LoadsTwice (reader_of seat.old.table_id seat.old.me.0) (reader_of seat.new.table_id seat.new.me.0) error.first error.last
+            × (IsOdd error.first ⊎ (error.first < error.last))) }
+        ensures places { seat.new.me.0.places ≡ seat.old.me.0.places }
+        ensures own { AreOwn (writer_of seat.new.table_id seat.new.me.0) }
+        ensures touches { seat.new.me.0.touched ≡ seat.old.me.0.touched ++ all_words SIZE }
+        ensures seat { (seat.new.me.1 ≡ seat.old.me.1) × (parity seat.new.me.0.stage ≡ 0) }
+    {
+        let shared = &self.table.shared;
+        let mut bytes = [0u8; SIZE];
+        let first = shared.load::<LoadVersion>(seat, 0);
+        self.load_bytes(seat, first, &mut bytes);
+        let last = shared.load::<LoadVersion>(seat, 0);
+        if first == last && first % 2 == 0 {
+            match T::decode(&bytes) {
+                Some(value) => Ok(value),
+                None => unreachable!(),
+            }
+        } else {
+            Err(Interfered { first, last })
+        }
+    }
+
+    /// Merges `other` into `seat`, and loads the version: the seat then knows the history, which both knew a beginning of.
+    fn take_in(&self, seat: &mut Seat<(), SeatView<T>>, other: Seat<(), SeatView<T>>)
+        requires cell { (seat.old.table_id ≡ self.now) × (other.table_id ≡ self.now) }
+        requires holds_nothing { other.me.1 ≡ [] }
+        requires between_calls { (parity seat.old.me.0.stage ≡ 0) × (parity other.me.0.stage ≡ 0) }
+        ensures place { (seat.new.table_id ≡ seat.old.table_id) × (seat.new.me.1 ≡ seat.old.me.1) }
+        ensures loads { (version : ℕ) × ViewLoads (Encodes T.is_value T.encoding) (view_merged seat.old.me.0 other.me.0) seat.new.me.0 version }
+    {
+        let shared = &self.table.shared;
+        shared.join_seat::<Merge>(seat, other);
+        shared.load::<LoadVersion>(seat, 0);
     }
 
     /// Stores the bytes of a value, eight a word, from the first to the last. O(`SIZE`).
     fn store_bytes(&self, seat: &mut Seat<(), SeatView<T>>, bytes: &[u8; SIZE])
         requires cell { seat.old.table_id ≡ self.now }
         requires bytes { (value : T) × Encodes T.is_value T.encoding value bytes.now }
-        requires writer { (seat.old.me.0.is_writer ≡ true) × (seat.old.me.0.stage ≡ Writing []) }
+        requires writing { seat.old.me.0.stage ≡ Writing [] }
         ensures place { (seat.new.table_id ≡ seat.old.table_id) × (seat.new.id ≡ seat.old.id) }
         ensures seat { seat.new.me ≡ seated_stage (data_words (word_count SIZE)) (Writing bytes.now) seat.old.me }
     {

@@ -1,9 +1,10 @@
-use Rattle.std.proofs.Common.{arith, ◌≡◌, ◌*◌, ◌<◌, ℕ, ◌+◌, List, length, take, get_or, sym, ap, ◌∙◌, subst, Some}
+use Rattle.std.proofs.Common.{arith, ◌≡◌, ◌*◌, ◌<◌, ℕ, ◌+◌, ◌%◌, List, length, take, get_or, sym, ap, ◌∙◌, subst, Some}
 use Rattle.std.specs.Slots.{slots_items}
 use Rattle.std.proofs.lemmas.List.{take_all}
-use Rattle.ix_atomic.specs.History.{Writer, last_value}
+use Rattle.ix_atomic.specs.History.{Begins, IsEven, last_value}
+use Rattle.ix_atomic.specs.Writers.{Writer}
 use Rattle.ix_atomic.specs.SequencedRule.{Encodes}
-use Rattle.ix_atomic.proofs.Beginnings.{get_elem-tail}
+use Rattle.ix_atomic.proofs.Beginnings.{get_or-get_elem, get_elem-tail}
 use Rattle.ix_atomic.proofs.DataWords.{length-with_word, unpack-more}
 use Rattle.ix_atomic.proofs.Encodes.{Encodes-length}
 use Rattle.ix_atomic.proofs.SequencedKeeps.{finished}
@@ -14,34 +15,38 @@ use Rattle.ix_atomic.proofs.sequenced.sequenced_byte_atomic.SequencedByteAtomic.
 pub loop-i-preserved : goal.loop-i-preserved
 loop-i-preserved g c =
     let words : List ℕ = slots_items c.close_with-closed.result.words in
-    let out = c.loop-i.bytes in let k = c.loop-i.i in let word = c.word.result in let kept = c.loop-i.invariant in
+    let out = c.loop-i.bytes in let k = c.loop-i.i in let word = c.word-in-loop-i.result in let kept = c.loop-i.invariant in
     let test = c.loop-i-test.true in let end = c.div_ceil-i-end.ensures in let all : length out ≡ g.row.SIZE = kept.0 in
     let inside : 8 * k < length out = omega arith in
     let written = c.set_word_at.ensures.bytes in (
       ap length written ∙ length-with_word k word out inside ∙ all,
       λ bytes below long has. ap (take (8 * (k + 1))) written
-          ∙ unpack-more k word bytes out below (long ∙ sym all) inside (get_elem-tail words k word c.word.ensures ∙ ap (λ list. get_or list k 0) has) (kept.1 bytes below long has),
+          ∙ unpack-more k word bytes out below (long ∙ sym all) inside (get_elem-tail words k word c.word-in-loop-i.ensures ∙ ap (λ list. get_or list k 0) has) (kept.1 bytes below long has),
     )
 
--- the last value, and the bytes
-at_rest : (g : Over) (c : After-decode g) → (value : g.row.T.Denot) × (last_value c.seat.inside.seat.me.0.known ≡ Some value) × Encodes g.T.AtomicCopy.is_value g.T.AtomicCopy.encoding value c.loop-i.bytes
-at_rest g c =
-    let writer = c.seat.invariant in let is_value = g.T.AtomicCopy.is_value in let encoding = g.T.AtomicCopy.encoding in let size = g.T.AtomicCopy.SIZE in
+-- the last value of a history that the seat's list begins, and the bytes, if no write is in progress
+at_rest : (g : Over) (c : After-decode g) → IsEven c.word.result
+    → (history : List g.row.T.Denot) × (value : g.row.T.Denot) × Begins c.seat.inside.seat.me.0.known history × (last_value history ≡ Some value)
+    × Encodes g.T.AtomicCopy.is_value g.T.AtomicCopy.encoding value c.loop-i.bytes
+at_rest g c even =
+    let is_value = g.T.AtomicCopy.is_value in let encoding = g.T.AtomicCopy.encoding in let size = g.T.AtomicCopy.SIZE in
     let words : List ℕ = slots_items c.close_with-closed.result.words in
-    let last = finished (Encodes is_value encoding) _ _ words _ c.close_with-closed.ensures.values.2 writer.1 writer.2 in
+    let last = finished (Encodes is_value encoding) _ _ words _ c.close_with-closed.ensures.values.2 (ap (λ n. n % 2) (get_or-get_elem words 0 c.word.result c.word.ensures) ∙ even) in
     let long = Encodes-length is_value encoding size g.met.T.AtomicCopy.encoding_len last.value last.bytes last.encoding in
     let same : g.row.SIZE ≡ size = c.self.invariant.2 in let kept = c.loop-i.invariant in let past = c.loop-i-test.false in let end = c.div_ceil-i-end.ensures in
     let out = c.loop-i.bytes in let k = c.loop-i.i in let all : length out ≡ g.row.SIZE = kept.0 in
     let bytes : out ≡ last.bytes =
     sym (take_all (8 * k) out (omega arith)) ∙ kept.1 last.bytes last.byte_range (long ∙ sym same) last.has ∙ take_all (8 * k) last.bytes (omega arith) in
-    (last.value, last.is_last, (last.encoding.0, bytes ∙ last.encoding.1))
+    (last.history, last.value, last.begins, last.is_last, (last.encoding.0, bytes ∙ last.encoding.1))
 
 pub unreachable-requires : goal.unreachable-requires
 unreachable-requires g c =
-    let last = at_rest g c.before in let found = (c.in-None.ensures last.0).1 last.2 in absurd (cc)
+    let not_odd = c.if-is_unfinished.false in
+    let last = at_rest g c.before (omega arith) in let found = (c.in-None.ensures last.1).1 last.4 in absurd (cc)
 
 pub returns : goal.returns
 returns g c =
-    let last = at_rest g c.before in
-    let found = (c.in-Some.ensures last.0).1 last.2 in let value : c.in-Some.value ≡ last.0 = cc in
-    record { value = subst (λ (w : Writer g.row.T.Denot). last_value w.history ≡ Some c.in-Some.value) c.seat.view_is (last.1 ∙ ap Some (sym value)) }
+    let not_odd = c.if-is_unfinished.false in
+    let last = at_rest g c.before (omega arith) in
+    let found = (c.in-Some.ensures last.1).1 last.4 in let value : c.in-Some.value ≡ last.1 = cc in
+    record { value = (last.0, subst (λ (w : Writer g.row.T.Denot). Begins w.known last.0) c.seat.view_is last.2, last.3 ∙ ap Some (sym value)) }

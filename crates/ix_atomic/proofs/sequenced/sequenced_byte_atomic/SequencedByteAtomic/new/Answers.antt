@@ -16,7 +16,7 @@ of_words-requires g c =
     (step.new IsEncoding c.args.value (g.T.AtomicCopy.encoding c.args.value) (search rules) (subst (AreBelow 256) (search rules) c.in_ok-words.ensures.byte_range))
 
 pub split_seat-requires : goal.split_seat-requires
-split_seat-requires g c = (search rules, search rules, step.new_reader _ _ _)
+split_seat-requires g c = (search rules, search rules, step.further _ _ _)
 
 pub invariant_of-result : goal.invariant_of-result
 invariant_of-result g c =

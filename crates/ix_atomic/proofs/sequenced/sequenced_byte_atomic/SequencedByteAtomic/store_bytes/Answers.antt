@@ -15,7 +15,7 @@ store-requires g c =
     let count = c.self.invariant.0 in (
       search rules,
       omega arith,
-      step.store (Encodes is_value encoding) size sized _ _ _ k c.word_at.result value bytes c.requires.bytes.1 c.word_at.ensures.byte_range (ap (λ seat. seat.0.is_writer) kept.2 ∙ c.requires.writer.0)
+      step.store (Encodes is_value encoding) size sized _ _ _ k c.word_at.result value bytes c.requires.bytes.1 c.word_at.ensures.byte_range
           (ap (λ seat. seat.0.stage) kept.2) inside c.word_at.ensures.value,
     )
 

@@ -1,0 +1,39 @@
+//! Positions of a log that two threads publish, neither of which waits for the other.
+ghost use Rattle.std.specs.Prelude.{◌≡◌, ◌++◌, ◌∷◌, ℕ, [], List, true, false};
+ghost use Rattle.ix_atomic.specs.Writers.{AreOwn, AreApart, IsRising};
+ghost use Rattle.ix_examples.specs.Written.{HasWritten, StandAt};
+
+use ix_atomic::{SequencedByteAtomic, WriterSeat};
+
+/// The last position. `Position::new(alloc, 0)?` is one, with a writer's seat and a reader's; `position.writer(alloc, &mut seat)?`
+/// is a seat for another thread.
+pub type Position = SequencedByteAtomic<u64, 8>;
+
+/// Publishes a position, unless another thread is publishing one right now. Returns whether it did.
+pub fn publish(position: &Position, seat: &mut WriterSeat<u64>, value: u64) -> bool
+    requires { seat.old.cell ≡ position.now }
+    ensures cell { seat.new.cell ≡ seat.old.cell }
+    ensures own { AreOwn seat.new }
+    ensures published { result ≡ true → (values : List ℕ) → HasWritten seat.old values → HasWritten seat.new (values ++ value ∷ []) }
+    ensures not_published { result ≡ false → (values : List ℕ) → HasWritten seat.old values → HasWritten seat.new values }
+{
+    match position.try_write(seat, value) {
+        Ok(()) => true,
+        Err(_) => false,
+    }
+}
+
+/// Takes back the seat of another thread. What was published with either seat stands in one history, each position once and in
+/// its order.
+pub fn take_back(position: &Position, seat: &mut WriterSeat<u64>, other: WriterSeat<u64>)
+    requires seat { (seat.old.cell ≡ position.now) × AreOwn seat.old }
+    requires other { (other.cell ≡ position.now) × AreOwn other }
+    ensures cell { seat.new.cell ≡ seat.old.cell }
+    ensures own { AreOwn seat.new }
+    ensures seat { (values : List ℕ) → HasWritten seat.old values → StandAt seat.new.known seat.old.places values }
+    ensures other { (values : List ℕ) → HasWritten other values → StandAt seat.new.known other.places values }
+    ensures once { AreApart seat.old.places other.places }
+    ensures order { IsRising seat.old.places × IsRising other.places }
+{
+    position.merge(seat, other);
+}
