@@ -3,9 +3,11 @@
 import re
 
 MOST = 2**64 - 1
+LAST_GENERATION = 2**32 - 1
 LINE = 200
 NUMBER = re.compile(rb"0|[1-9][0-9]*")
-HEADER = re.compile(rb"(queue|vec|slot|flat|text) (?:(fixed) (0|1|3|8)|(heap|arena) (0|[1-9][0-9]*))")
+KEY = re.compile(rb"(0|[1-9][0-9]*):(0|[1-9][0-9]*)")
+HEADER = re.compile(rb"(queue|vec|table|slot|flat|text) (?:(fixed) (0|1|3|8)|(heap|arena) (0|[1-9][0-9]*))(?: at (0|[1-9][0-9]*))?")
 PRINTED = {9: "\\t", 13: "\\r", 10: "\\n", **{byte: chr(byte) for byte in range(32, 128)}}
 
 
@@ -29,10 +31,23 @@ def item_at(items, index):
     return items[index] if index < len(items) else None
 
 
+class Key:
+    """A key of a slot map: the index of a place, and a generation."""
+
+    def __init__(self, index, generation):
+        self.index = index
+        self.generation = generation
+
+    def __str__(self):
+        return f"{self.index}:{self.generation}"
+
+
 class Container:
-    """What all containers have. `commands` says how many numbers each command takes: a number, or None for any."""
+    """What all containers have. `commands` says how many words each command takes: a number, or None for any. The first word of
+    a command of `with_key` is a key; each other word is a number."""
 
     commands = {}
+    with_key = ()
 
     def __init__(self, capacity):
         self.capacity = capacity
@@ -50,6 +65,8 @@ class Container:
             return str(plain[name]()) if not numbers else None
         wanted = self.commands.get(name, -1)
         if wanted == -1 or wanted is not None and len(numbers) != wanted:
+            return None
+        if any(isinstance(word, Key) != (place == 0 and name in self.with_key) for place, word in enumerate(numbers)):
             return None
         try:
             return getattr(self, "do_" + name)(*numbers)
@@ -143,7 +160,7 @@ class Vector(Container):
         return "ok"
 
 
-class SlotMap(Container):
+class SlotTable(Container):
     commands = {"insert": 1, "next": 0, "insert_at": 2, "remove": 1, "get": 1, "set": 2, "contains": 1, "from": 1, "capacity": 0}
 
     def __init__(self, capacity):
@@ -198,12 +215,84 @@ class SlotMap(Container):
         return some(min(keys), self.items[min(keys)]) if keys else "none"
 
 
+class SlotMap(Container):
+    """A slot map: a place has a generation, and is free, holds a value, or is retired."""
+
+    commands = {"insert": 1, "next": 0, "insert_at": 2, "remove": 1, "get": 1, "set": 2, "contains": 1, "from": 1, "retired": 0, "capacity": 0}
+    with_key = ("remove", "get", "set", "contains")
+
+    def __init__(self, capacity, generation):
+        super().__init__(capacity)
+        self.items = {}
+        self.free = list(range(capacity))
+        self.generations = [generation] * capacity
+
+    def is_full(self):
+        return not self.free
+
+    def key_of(self, place):
+        return Key(place, self.generations[place])
+
+    def is_held(self, key):
+        return key.index in self.items and self.generations[key.index] == key.generation
+
+    def show(self):
+        return spaced(f"{self.key_of(place)}={self.items[place]}" for place in sorted(self.items))
+
+    def do_insert(self, x):
+        if not self.free:
+            return "none"
+        place = self.free.pop(0)
+        self.items[place] = x
+        return some(self.key_of(place))
+
+    def do_next(self):
+        return some(self.key_of(self.free[0]) if self.free else None)
+
+    def do_insert_at(self, place, x):
+        if place in self.free:
+            self.free.remove(place)
+        elif place in self.items and self.generations[place] < LAST_GENERATION:
+            self.generations[place] += 1
+        else:
+            return "none"
+        self.items[place] = x
+        return some(self.key_of(place))
+
+    def do_remove(self, key):
+        if not self.is_held(key):
+            return "none"
+        if key.generation < LAST_GENERATION:
+            self.generations[key.index] += 1
+            self.free.insert(0, key.index)
+        return some(self.items.pop(key.index))
+
+    def do_get(self, key):
+        return some(self.items[key.index] if self.is_held(key) else None)
+
+    def do_set(self, key, x):
+        if not self.is_held(key):
+            return "false"
+        self.items[key.index] = x
+        return "true"
+
+    def do_contains(self, key):
+        return truth(self.is_held(key))
+
+    def do_from(self, place):
+        places = [it for it in self.items if it >= place]
+        return some(self.key_of(min(places)), self.items[min(places)]) if places else "none"
+
+    def do_retired(self):
+        return str(self.capacity - len(self.items) - len(self.free))
+
+
 class FlatMap(Container):
     commands = {"insert": 2, "get": 1, "set": 2, "remove": 1, "contains": 1, "key": 1}
 
     def __init__(self, capacity):
         super().__init__(capacity)
-        self.slots = SlotMap(capacity)
+        self.slots = SlotTable(capacity)
 
     def len(self):
         return self.slots.len()
@@ -262,7 +351,7 @@ class Text(Container):
 
     def reply(self, name, numbers):
         first = self.bytes_from.get(name, len(numbers))
-        if any(number > 255 for number in numbers[first:]) or name == "insert_bytes" and not numbers:
+        if any(isinstance(number, Key) or number > 255 for number in numbers[first:]) or name == "insert_bytes" and not numbers:
             return None
         return super().reply(name, numbers)
 
@@ -341,7 +430,7 @@ class Text(Container):
         return "ok"
 
 
-CONTAINERS = {b"queue": Queue, b"vec": Vector, b"slot": SlotMap, b"flat": FlatMap, b"text": Text}
+CONTAINERS = {b"queue": Queue, b"vec": Vector, b"table": SlotTable, b"slot": SlotMap, b"flat": FlatMap, b"text": Text}
 
 
 def container_of(line):
@@ -350,15 +439,29 @@ def container_of(line):
     if not found:
         return None
     capacity = int(found[3] or found[5])
-    return CONTAINERS[found[1]](capacity) if found[2] or capacity <= 1000 else None
+    generation = int(found[6] or 0)
+    if not found[2] and capacity > 1000 or generation > LAST_GENERATION:
+        return None
+    if found[1] == b"slot":
+        return SlotMap(capacity, generation)
+    return None if found[6] else CONTAINERS[found[1]](capacity)
+
+
+def word_of(word):
+    """Returns the number or the key that a word spells, or None if it spells none."""
+    if NUMBER.fullmatch(word) and int(word) <= MOST:
+        return int(word)
+    found = KEY.fullmatch(word)
+    if not found or int(found[1]) > MOST or int(found[2]) > LAST_GENERATION:
+        return None
+    return Key(int(found[1]), int(found[2]))
 
 
 def command_of(line):
-    """Returns the name and the numbers that a line spells, or None if it spells none."""
+    """Returns the name, and the keys and numbers that a line spells, or None if it spells none."""
     name, *words = line.split(b" ")
-    if not name or any(not NUMBER.fullmatch(word) or int(word) > MOST for word in words):
-        return None
-    return name.decode("latin-1"), [int(word) for word in words]
+    read = [word_of(word) for word in words]
+    return (name.decode("latin-1"), read) if name and None not in read else None
 
 
 def replies_to(script):

@@ -7,7 +7,7 @@ mod generator;
 mod queues;
 mod semantic_strings;
 mod sequenced_cells;
-mod slot_maps;
+mod slot_tables;
 mod strings;
 mod vectors;
 
@@ -55,28 +55,28 @@ pub extern "C" fn ix_bench_queue_new(rounds: u64, _param: u64) -> u64 {
     queues::made(rounds)
 }
 
-/// Remove, insert and get on a fixed slot map of 512 that is half full.
+/// Remove, insert and get on a fixed slot table of 512 that is half full.
 #[unsafe(no_mangle)]
 pub extern "C" fn ix_bench_slot_churn_fixed(rounds: u64, _param: u64) -> u64 {
-    slot_maps::fixed_churn(rounds)
+    slot_tables::fixed_churn(rounds)
 }
 
-/// Remove, insert and get on an allocated slot map of `param` that is half full.
+/// Remove, insert and get on an allocated slot table of `param` that is half full.
 #[unsafe(no_mangle)]
 pub extern "C" fn ix_bench_slot_churn_heap(alloc: Global, rounds: u64, param: u64) -> u64 {
-    slot_maps::allocated_churn(alloc, rounds, param as usize)
+    slot_tables::allocated_churn(alloc, rounds, param as usize)
 }
 
-/// `insert_at` of a free key or `remove` of a held one, on an allocated slot map of `param`.
+/// `insert_at` of a free key or `remove` of a held one, on an allocated slot table of `param`.
 #[unsafe(no_mangle)]
 pub extern "C" fn ix_bench_slot_at(alloc: Global, rounds: u64, param: u64) -> u64 {
-    slot_maps::at_any_key(alloc, rounds, param as usize)
+    slot_tables::at_any_key(alloc, rounds, param as usize)
 }
 
-/// Iterates an allocated slot map of `param`, of which every second key is held.
+/// Iterates an allocated slot table of `param`, of which every second key is held.
 #[unsafe(no_mangle)]
 pub extern "C" fn ix_bench_slot_iter(alloc: Global, rounds: u64, param: u64) -> u64 {
-    slot_maps::walk(alloc, rounds, param as usize)
+    slot_tables::walk(alloc, rounds, param as usize)
 }
 
 /// Looks up a key of a full allocated flat map of `param`.

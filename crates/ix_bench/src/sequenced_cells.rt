@@ -29,7 +29,7 @@ fn write_blocks<const SIZE: usize>(alloc: Global, rounds: u64) -> u64
         Ok((cell, mut writer, mut reader)) => {
             write_each(&cell, &mut writer, rounds);
             let version = cell.version(&mut reader);
-            cell.close(writer);
+            let _ = cell.close(writer);
             version
         }
         Err(_) => 0,
@@ -48,7 +48,7 @@ fn write_each<const SIZE: usize>(
     let mut bytes = [7; SIZE];
     for i in 0..rounds {
         bytes[0] = (i & 0xff) as u8;
-        let _ = cell.write(writer, bytes);
+        let _ = cell.try_write(writer, bytes);
     }
 }
 
@@ -58,7 +58,7 @@ fn read_blocks<const SIZE: usize>(alloc: Global, rounds: u64) -> u64
     match Cell::<SIZE>::new(alloc, [0; SIZE]) {
         Ok((cell, writer, mut reader)) => {
             let sum = read_each(&cell, &mut reader, rounds);
-            cell.close(writer);
+            let _ = cell.close(writer);
             sum
         }
         Err(_) => 0,
