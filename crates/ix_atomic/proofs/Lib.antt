@@ -23,3 +23,4 @@ pub mod Owners
 pub mod SequencedKeeps
 pub mod SequencedCalls
 mod WorkedHistory
+mod WorkedWriters

@@ -1,26 +1,32 @@
 //! Positions of a log that two threads publish, neither of which waits for the other.
-ghost use Rattle.std.specs.Prelude.{◌≡◌, ◌++◌, ◌∷◌, ℕ, [], List, true, false};
-ghost use Rattle.ix_atomic.specs.Writers.{AreOwn, AreApart, IsRising};
+ghost use Rattle.std.specs.Prelude.{◌≡◌, ◌++◌, ◌∷◌, ℕ, [], List, IfOk, IfErr};
+ghost use Rattle.ix_atomic.specs.Writers.{AreOwn, AreApart, IsRising, Refuses, places_merge};
 ghost use Rattle.ix_examples.specs.Written.{HasWritten, StandAt};
 
-use ix_atomic::{SequencedByteAtomic, WriterSeat};
+use ix_atomic::{SequencedByteAtomic, TryWriteError, WriterSeat};
 
 /// The last position. `Position::new(alloc, 0)?` is one, with a writer's seat and a reader's; `position.writer(alloc, &mut seat)?`
 /// is a seat for another thread.
 pub type Position = SequencedByteAtomic<u64, 8>;
 
-/// Publishes a position, unless another thread is publishing one right now. Returns whether it did.
-pub fn publish(position: &Position, seat: &mut WriterSeat<u64>, value: u64) -> bool
+/// Publishes a position, unless another thread is publishing one right now.
+///
+/// # Errors
+///
+/// As [`SequencedByteAtomic::try_write`].
+pub fn publish(
+    position: &Position,
+    seat: &mut WriterSeat<u64>,
+    value: u64,
+) -> Result<(), TryWriteError>
     requires { seat.old.cell ≡ position.now }
     ensures cell { seat.new.cell ≡ seat.old.cell }
     ensures own { AreOwn seat.new }
-    ensures published { result ≡ true → (values : List ℕ) → HasWritten seat.old values → HasWritten seat.new (values ++ value ∷ []) }
-    ensures not_published { result ≡ false → (values : List ℕ) → HasWritten seat.old values → HasWritten seat.new values }
+    ensures published { IfOk result (λ _. (values : List ℕ) → HasWritten seat.old values → HasWritten seat.new (values ++ value ∷ [])) }
+    ensures refused { IfErr result (λ error. Refuses seat.old seat.new error) }
+    ensures not_published { IfErr result (λ _. (values : List ℕ) → HasWritten seat.old values → HasWritten seat.new values) }
 {
-    match position.try_write(seat, value) {
-        Ok(()) => true,
-        Err(_) => false,
-    }
+    position.try_write(seat, value)
 }
 
 /// Takes back the seat of another thread. What was published with either seat stands in one history, each position once and in
@@ -32,6 +38,7 @@ pub fn take_back(position: &Position, seat: &mut WriterSeat<u64>, other: WriterS
     ensures own { AreOwn seat.new }
     ensures seat { (values : List ℕ) → HasWritten seat.old values → StandAt seat.new.known seat.old.places values }
     ensures other { (values : List ℕ) → HasWritten other values → StandAt seat.new.known other.places values }
+    ensures places { seat.new.places ≡ places_merge seat.old.places other.places }
     ensures once { AreApart seat.old.places other.places }
     ensures order { IsRising seat.old.places × IsRising other.places }
 {

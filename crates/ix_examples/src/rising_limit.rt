@@ -1,8 +1,9 @@
 //! A limit that only grows, so that no reader ever reads a lower one after a higher one.
-ghost use Rattle.std.specs.Prelude.{◌≡◌, ◌≤◌, ◌+◌, ◌++◌, ◌∷◌, ℕ, [], List, Some, length, cond, true, false};
+ghost use Rattle.std.specs.Prelude.{◌≡◌, ◌<◌, ◌≤◌, ◌+◌, ◌⊎◌, ◌++◌, ◌∷◌, ℕ, [], List, Some, length, cond, true, false};
 ghost use Rattle.std.specs.List.Sorted.{IsNonDecreasing};
 ghost use Rattle.ix_atomic.specs.History.{Begins, value_at};
-ghost use Rattle.ix_atomic.specs.Writers.{AreOwn};
+ghost use Rattle.ix_atomic.specs.Writers.{AreOwn, Refuses};
+ghost use Rattle.ix_atomic.specs.declared.sequenced.errors.TryWriteError.{TryWriteError};
 ghost use Rattle.ix_examples.specs.Written.{HasSet, GrewTo};
 
 use crate::configuration::Limit;
@@ -18,6 +19,7 @@ pub fn raise_limit(limit: &Limit, writer: &mut WriterSeat<u64>, last: &mut u64, 
     ensures count { length writer.new.places ≡ length writer.old.places + cond result 1 0 }
     ensures raised { result ≡ true → (limits : List ℕ) → HasSet writer.old limits → GrewTo last.old limits
         → HasSet writer.new (limits ++ value ∷ []) × GrewTo last.new (limits ++ value ∷ []) }
+    ensures refused { result ≡ false → (value < last.old) ⊎ ((error : TryWriteError) × Refuses writer.old writer.new error) }
     ensures not_raised { result ≡ false → (last.new ≡ last.old) × ((limits : List ℕ) → HasSet writer.old limits → HasSet writer.new limits) }
 {
     if value < *last {

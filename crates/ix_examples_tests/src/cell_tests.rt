@@ -21,7 +21,7 @@ fn publish_at_last(position: &Position, seat: &mut WriterSeat<u64>, value: u64) 
     ensures { (seat.new.cell ≡ seat.old.cell) × AreOwn seat.new }
 {
     for _ in 0..TRIES {
-        if log_position::publish(position, seat, value) {
+        if log_position::publish(position, seat, value).is_ok() {
             return true;
         }
     }
