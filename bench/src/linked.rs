@@ -32,6 +32,10 @@ operations! {
     slot_churn_heap = ix_bench_slot_churn_heap, 512, "HashMap", plain::slot_churn;
     slot_at = ix_bench_slot_at, 512, "HashMap", plain::slot_at;
     slot_iter = ix_bench_slot_iter, 512, "HashMap", plain::slot_iter;
+    slot_map_churn_fixed = ix_bench_slot_map_churn_fixed, 512, "HashMap", plain::slot_map_churn;
+    slot_map_churn_heap = ix_bench_slot_map_churn_heap, 512, "HashMap", plain::slot_map_churn;
+    slot_map_at = ix_bench_slot_map_at, 512, "HashMap", plain::slot_map_at;
+    slot_map_iter = ix_bench_slot_map_iter, 512, "HashMap", plain::slot_map_iter;
     flat_get_8 = ix_bench_flat_get, 8, "Vec of pairs", plain::flat_get;
     flat_get_64 = ix_bench_flat_get, 64, "Vec of pairs", plain::flat_get;
     flat_get_512 = ix_bench_flat_get, 512, "Vec of pairs", plain::flat_get;

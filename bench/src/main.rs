@@ -46,12 +46,12 @@ const MILLISECONDS_A_RUN: f64 = 4.0;
 const ROUNDS_TO_COMPARE: u64 = 1000;
 
 fn main() {
-    println!("{:<18} {:>10} {:>10} {:>10} {:>10} {:>7}  {}", "operation", "Tolkzin ns", "Rust ns", "(least)", "(least)", "ratio", "Rust's side");
+    println!("{:<20} {:>10} {:>10} {:>10} {:>10} {:>7}  {}", "operation", "Tolkzin ns", "Rust ns", "(least)", "(least)", "ratio", "Rust's side");
     let mut rows = Vec::new();
     for operation in linked::OPERATIONS {
         let row = timed(operation);
         let (ours, theirs) = (&row.ours, &row.theirs);
-        println!("{:<18} {:>10.2} {:>10.2} {:>10.2} {:>10.2} {:>7.2}  {}", row.name, ours.median, theirs.median, ours.least, theirs.least, row.ratio(), row.peer);
+        println!("{:<20} {:>10.2} {:>10.2} {:>10.2} {:>10.2} {:>7.2}  {}", row.name, ours.median, theirs.median, ours.least, theirs.least, row.ratio(), row.peer);
         rows.push(row);
     }
     if let Some(path) = std::env::args().nth(1) {

@@ -14,7 +14,7 @@ const TICKS: [f64; 5] = [0.0, 0.5, 1.0, 1.5, GREATEST];
 
 const MARGIN: usize = 12;
 const TOP: usize = 84;
-const LEFT: usize = 136;
+const LEFT: usize = 160;
 const WIDTH: usize = 440;
 const RIGHT: usize = LEFT + WIDTH;
 const OPERATION_END: usize = LEFT - 10;

@@ -132,6 +132,75 @@ pub fn slot_iter(rounds: u64, capacity: u64) -> u64 {
     sum
 }
 
+/// A map that gives out keys, each of them once.
+struct Numbered {
+    values: HashMap<u64, u64>,
+    capacity: usize,
+    next: u64,
+}
+
+impl Numbered {
+    fn new(capacity: usize) -> Numbered {
+        Numbered { values: HashMap::with_capacity(capacity), capacity, next: 0 }
+    }
+
+    fn insert(&mut self, value: u64) -> Option<u64> {
+        if self.values.len() == self.capacity {
+            return None;
+        }
+        let key = self.next;
+        self.values.insert(key, value);
+        self.next += 1;
+        Some(key)
+    }
+}
+
+pub fn slot_map_churn(rounds: u64, capacity: u64) -> u64 {
+    let mut map = Numbered::new(capacity as usize);
+    let mut keys: Vec<u64> = (0..capacity / 2).map(|i| map.insert(i).unwrap_or(0)).collect();
+    let (mut x, mut sum) = (1u64, 0u64);
+    for i in 0..rounds {
+        x = step(x);
+        let place = (x >> 33) as usize % keys.len();
+        sum = sum.wrapping_add(map.values.remove(&keys[place]).unwrap_or(1));
+        keys[place] = map.insert(i).unwrap_or(0);
+        x = step(x);
+        let place = (x >> 33) as usize % keys.len();
+        sum = sum.wrapping_add(map.values.get(&keys[place]).copied().unwrap_or(1));
+    }
+    sum
+}
+
+pub fn slot_map_at(rounds: u64, capacity: u64) -> u64 {
+    let mut map = Numbered::new(capacity as usize);
+    let mut keys = vec![u64::MAX; capacity as usize];
+    let (mut x, mut sum) = (1u64, 0u64);
+    for i in 0..rounds {
+        x = step(x);
+        let place = (x >> 33) as usize % keys.len();
+        if map.values.contains_key(&keys[place]) {
+            sum = sum.wrapping_add(map.values.remove(&keys[place]).unwrap_or(1));
+        } else {
+            keys[place] = map.insert(i).unwrap_or(0);
+        }
+    }
+    sum
+}
+
+pub fn slot_map_iter(rounds: u64, capacity: u64) -> u64 {
+    let mut map = Numbered::new(capacity as usize);
+    for i in (0..capacity).step_by(2) {
+        map.insert(i);
+    }
+    let (mut first, mut sum) = (0u64, 0u64);
+    for _ in 0..rounds {
+        sum = sum.wrapping_add(map.values.values().fold(0, |all: u64, value| all.wrapping_add(*value)));
+        map.values.remove(&first);
+        first = map.insert(sum & 1023).unwrap_or(0);
+    }
+    sum
+}
+
 /// Pairs of which no two have equal keys, which can only be compared.
 struct Pairs {
     pairs: Vec<(u64, u64)>,

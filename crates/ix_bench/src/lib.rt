@@ -7,6 +7,7 @@ mod generator;
 mod queues;
 mod semantic_strings;
 mod sequenced_cells;
+mod slot_maps;
 mod slot_tables;
 mod strings;
 mod vectors;
@@ -77,6 +78,30 @@ pub extern "C" fn ix_bench_slot_at(alloc: Global, rounds: u64, param: u64) -> u6
 #[unsafe(no_mangle)]
 pub extern "C" fn ix_bench_slot_iter(alloc: Global, rounds: u64, param: u64) -> u64 {
     slot_tables::walk(alloc, rounds, param as usize)
+}
+
+/// Remove, insert and get on a fixed slot map of 512 that is half full.
+#[unsafe(no_mangle)]
+pub extern "C" fn ix_bench_slot_map_churn_fixed(rounds: u64, _param: u64) -> u64 {
+    slot_maps::fixed_churn(rounds)
+}
+
+/// Remove, insert and get on an allocated slot map of `param` that is half full.
+#[unsafe(no_mangle)]
+pub extern "C" fn ix_bench_slot_map_churn_heap(alloc: Global, rounds: u64, param: u64) -> u64 {
+    slot_maps::allocated_churn(alloc, rounds, param as usize)
+}
+
+/// `insert_at` of a free place or `remove` of a held key, on an allocated slot map of `param`.
+#[unsafe(no_mangle)]
+pub extern "C" fn ix_bench_slot_map_at(alloc: Global, rounds: u64, param: u64) -> u64 {
+    slot_maps::at_any_place(alloc, rounds, param as usize)
+}
+
+/// Iterates an allocated slot map of `param`, of which every second place has a value.
+#[unsafe(no_mangle)]
+pub extern "C" fn ix_bench_slot_map_iter(alloc: Global, rounds: u64, param: u64) -> u64 {
+    slot_maps::walk(alloc, rounds, param as usize)
 }
 
 /// Looks up a key of a full allocated flat map of `param`.
