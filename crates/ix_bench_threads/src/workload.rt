@@ -1,4 +1,4 @@
-//! A cell that one thread writes, and that others read until it is done.
+//! A cell that some threads write, and that others read until these are done.
 ghost use Rattle.std.specs.Prelude.{◌≡◌, ◌≤◌};
 
 use ix_atomic::{ReaderSeat, SequencedByteAtomic, WriterSeat};
@@ -13,6 +13,31 @@ type Writer<const SIZE: usize> = WriterSeat<[u8; SIZE]>;
 
 type Reader<const SIZE: usize> = ReaderSeat<[u8; SIZE]>;
 
+/// How many threads write, or how many read.
+#[derive(Clone, Copy)]
+pub enum Crew {
+    One,
+    Two,
+    Three,
+}
+
+/// What writers did.
+#[derive(Clone, Copy)]
+pub struct WriteCounts {
+    pub tries: u64,
+    pub finished: u64,
+}
+
+impl WriteCounts {
+    /// Returns what both did.
+    fn add(self, other: WriteCounts) -> WriteCounts {
+        WriteCounts {
+            tries: self.tries.wrapping_add(other.tries),
+            finished: self.finished.wrapping_add(other.finished),
+        }
+    }
+}
+
 /// What readers did.
 #[derive(Clone, Copy)]
 pub struct ReadCounts {
@@ -23,6 +48,7 @@ pub struct ReadCounts {
 }
 
 impl ReadCounts {
+    /// Returns what both did.
     fn add(self, other: ReadCounts) -> ReadCounts {
         ReadCounts {
             tries: self.tries.wrapping_add(other.tries),
@@ -32,45 +58,154 @@ impl ReadCounts {
     }
 }
 
-/// How often the cell is written, how many loads are made after each write, and whether the writer is done.
+/// Who writes and reads, how often each writer tries to write, how many loads it makes after each try, and whether all writers
+/// are done.
 #[derive(Drop)]
 pub struct Workload {
-    writes: u64,
+    writers: Crew,
+    readers: Crew,
+    tries: u64,
     pause: u64,
     is_done: AtomicBool,
 }
 
 impl Workload {
-    pub fn new(writes: u64, pause: u64) -> Self {
+    /// Returns the workload of so many writers and readers, which none has begun.
+    pub fn new(writers: Crew, readers: Crew, tries: u64, pause: u64) -> Self {
         Workload {
-            writes,
+            writers,
+            readers,
+            tries,
             pause,
             is_done: AtomicBool::new(false),
         }
     }
 
+    /// Returns whether all writers are done.
     fn is_done(&self) -> bool {
         self.is_done.load(Ordering::SeqCst)
     }
 
-    fn write_all<const SIZE: usize>(&self, cell: &Cell<SIZE>, writer: &mut Writer<SIZE>)
+    /// Makes the loads that follow a try of writing.
+    fn pause(&self) {
+        for _ in 0..self.pause {
+            self.is_done();
+        }
+    }
+
+    /// Makes the tries of one writer. A try that finds the cell busy is over, and the next one is of the next value.
+    fn write_all<const SIZE: usize>(
+        &self,
+        cell: &Cell<SIZE>,
+        writer: &mut Writer<SIZE>,
+    ) -> WriteCounts
         requires size { SIZE ≤ 256 }
         requires writer { writer.old.cell ≡ cell.now }
         ensures { writer.new.cell ≡ writer.old.cell }
     {
         let mut bytes = [7; SIZE];
-        for i in 0..self.writes {
+        let mut finished: u64 = 0;
+        for i in 0..self.tries {
             if let Some(first) = bytes.first_mut() {
                 *first = (i & 0xff) as u8;
             }
-            let _ = cell.try_write(writer, bytes);
-            for _ in 0..self.pause {
-                self.is_done();
+            if cell.try_write(writer, bytes).is_ok() {
+                finished = finished.wrapping_add(1);
             }
+            self.pause();
         }
-        self.is_done.store(true, Ordering::SeqCst);
+        WriteCounts {
+            tries: self.tries,
+            finished,
+        }
     }
 
+    /// Makes the tries of two writers, in two threads.
+    fn write_twice<const SIZE: usize, R: Threads>(
+        &self,
+        rt: &R,
+        cell: &Cell<SIZE>,
+        first: &mut Writer<SIZE>,
+        second: &mut Writer<SIZE>,
+    ) -> WriteCounts
+        requires size { SIZE ≤ 256 }
+        requires first { first.old.cell ≡ cell.now }
+        requires second { second.old.cell ≡ cell.now }
+        ensures first { first.new.cell ≡ first.old.cell }
+        ensures second { second.new.cell ≡ second.old.cell }
+    {
+        let (by_first, by_second) = thread::join_mut(
+            rt,
+            &mut ||
+                requires { (SIZE ≤ 256) × (first.now.cell ≡ cell.now) }
+                ensures { first.exit.now.cell ≡ first.entry.now.cell }
+            { self.write_all(cell, first) },
+            &mut ||
+                requires { (SIZE ≤ 256) × (second.now.cell ≡ cell.now) }
+                ensures { second.exit.now.cell ≡ second.entry.now.cell }
+            { self.write_all(cell, second) },
+        );
+        by_first.add(by_second)
+    }
+
+    /// Makes the tries of three writers, in three threads.
+    fn write_thrice<const SIZE: usize, R: Threads + Sync>(
+        &self,
+        rt: &R,
+        cell: &Cell<SIZE>,
+        first: &mut Writer<SIZE>,
+        second: &mut Writer<SIZE>,
+        third: &mut Writer<SIZE>,
+    ) -> WriteCounts
+        requires size { SIZE ≤ 256 }
+        requires first { first.old.cell ≡ cell.now }
+        requires second { second.old.cell ≡ cell.now }
+        requires third { third.old.cell ≡ cell.now }
+        ensures first { first.new.cell ≡ first.old.cell }
+        ensures second { second.new.cell ≡ second.old.cell }
+        ensures third { third.new.cell ≡ third.old.cell }
+    {
+        let (by_two, by_third) = thread::join_mut(
+            rt,
+            &mut ||
+                requires { (SIZE ≤ 256) × (first.now.cell ≡ cell.now) × (second.now.cell ≡ cell.now) }
+                ensures { (first.exit.now.cell ≡ first.entry.now.cell) × (second.exit.now.cell ≡ second.entry.now.cell) }
+            { self.write_twice(rt, cell, first, second) },
+            &mut ||
+                requires { (SIZE ≤ 256) × (third.now.cell ≡ cell.now) }
+                ensures { third.exit.now.cell ≡ third.entry.now.cell }
+            { self.write_all(cell, third) },
+        );
+        by_two.add(by_third)
+    }
+
+    /// Makes the tries of all writers, and tells the readers when these are done.
+    fn write_by_all<const SIZE: usize, R: Threads + Sync>(
+        &self,
+        rt: &R,
+        cell: &Cell<SIZE>,
+        first: &mut Writer<SIZE>,
+        second: &mut Writer<SIZE>,
+        third: &mut Writer<SIZE>,
+    ) -> WriteCounts
+        requires size { SIZE ≤ 256 }
+        requires first { first.old.cell ≡ cell.now }
+        requires second { second.old.cell ≡ cell.now }
+        requires third { third.old.cell ≡ cell.now }
+        ensures first { first.new.cell ≡ first.old.cell }
+        ensures second { second.new.cell ≡ second.old.cell }
+        ensures third { third.new.cell ≡ third.old.cell }
+    {
+        let counts = match self.writers {
+            Crew::One => self.write_all(cell, first),
+            Crew::Two => self.write_twice(rt, cell, first, second),
+            Crew::Three => self.write_thrice(rt, cell, first, second, third),
+        };
+        self.is_done.store(true, Ordering::SeqCst);
+        counts
+    }
+
+    /// Reads until all writers are done.
     fn read_until_done<const SIZE: usize>(
         &self,
         cell: &Cell<SIZE>,
@@ -111,7 +246,7 @@ impl Workload {
         requires first { first.old.cell ≡ cell.now }
         requires second { second.old.cell ≡ cell.now }
     {
-        let (at_first, at_second) = thread::join_mut(
+        let (by_first, by_second) = thread::join_mut(
             rt,
             &mut ||
                 requires { (SIZE ≤ 256) × (first.now.cell ≡ cell.now) }
@@ -120,83 +255,117 @@ impl Workload {
                 requires { (SIZE ≤ 256) × (second.now.cell ≡ cell.now) }
             { self.read_until_done(cell, second) },
         );
-        at_first.add(at_second)
+        by_first.add(by_second)
     }
 
-    /// Writes in this thread, and reads in another.
-    fn write_beside_one<const SIZE: usize, R: Threads>(
+    /// Reads in three threads.
+    fn read_thrice<const SIZE: usize, R: Threads + Sync>(
         &self,
         rt: &R,
         cell: &Cell<SIZE>,
-        writer: &mut Writer<SIZE>,
-        reader: &mut Reader<SIZE>,
-    ) -> ReadCounts
-        requires size { SIZE ≤ 256 }
-        requires writer { writer.old.cell ≡ cell.now }
-        requires reader { reader.old.cell ≡ cell.now }
-        ensures { writer.new.cell ≡ writer.old.cell }
-    {
-        let (counts, ()) = thread::join_mut(
-            rt,
-            &mut ||
-                requires { (SIZE ≤ 256) × (reader.now.cell ≡ cell.now) }
-            { self.read_until_done(cell, reader) },
-            &mut ||
-                requires { (SIZE ≤ 256) × (writer.now.cell ≡ cell.now) }
-                ensures { writer.exit.now.cell ≡ writer.entry.now.cell }
-            { self.write_all(cell, writer) },
-        );
-        counts
-    }
-
-    /// Writes in this thread, and reads in three others.
-    fn write_beside_three<const SIZE: usize, R: Threads + Sync>(
-        &self,
-        rt: &R,
-        cell: &Cell<SIZE>,
-        writer: &mut Writer<SIZE>,
         first: &mut Reader<SIZE>,
         second: &mut Reader<SIZE>,
         third: &mut Reader<SIZE>,
     ) -> ReadCounts
         requires size { SIZE ≤ 256 }
-        requires writer { writer.old.cell ≡ cell.now }
         requires first { first.old.cell ≡ cell.now }
         requires second { second.old.cell ≡ cell.now }
         requires third { third.old.cell ≡ cell.now }
-        ensures { writer.new.cell ≡ writer.old.cell }
     {
-        let (at_two, at_third) = thread::join_mut(
+        let (by_two, by_third) = thread::join_mut(
             rt,
             &mut ||
                 requires { (SIZE ≤ 256) × (first.now.cell ≡ cell.now) × (second.now.cell ≡ cell.now) }
             { self.read_twice(rt, cell, first, second) },
             &mut ||
-                requires { (SIZE ≤ 256) × (writer.now.cell ≡ cell.now) × (third.now.cell ≡ cell.now) }
-                ensures { writer.exit.now.cell ≡ writer.entry.now.cell }
-            { self.write_beside_one(rt, cell, writer, third) },
+                requires { (SIZE ≤ 256) × (third.now.cell ≡ cell.now) }
+            { self.read_until_done(cell, third) },
         );
-        at_two.add(at_third)
+        by_two.add(by_third)
+    }
+
+    /// Reads in as many threads as there are readers.
+    fn read_by_all<const SIZE: usize, R: Threads + Sync>(
+        &self,
+        rt: &R,
+        cell: &Cell<SIZE>,
+        first: &mut Reader<SIZE>,
+        second: &mut Reader<SIZE>,
+        third: &mut Reader<SIZE>,
+    ) -> ReadCounts
+        requires size { SIZE ≤ 256 }
+        requires first { first.old.cell ≡ cell.now }
+        requires second { second.old.cell ≡ cell.now }
+        requires third { third.old.cell ≡ cell.now }
+    {
+        match self.readers {
+            Crew::One => self.read_until_done(cell, first),
+            Crew::Two => self.read_twice(rt, cell, first, second),
+            Crew::Three => self.read_thrice(rt, cell, first, second, third),
+        }
+    }
+
+    /// Writes and reads at once.
+    fn write_beside_reads<const SIZE: usize, R: Threads + Sync>(
+        &self,
+        rt: &R,
+        cell: &Cell<SIZE>,
+        first: &mut Writer<SIZE>,
+        second: &mut Writer<SIZE>,
+        third: &mut Writer<SIZE>,
+        reader: &mut Reader<SIZE>,
+        second_reader: &mut Reader<SIZE>,
+        third_reader: &mut Reader<SIZE>,
+    ) -> (WriteCounts, ReadCounts)
+        requires size { SIZE ≤ 256 }
+        requires writers { (first.old.cell ≡ cell.now) × (second.old.cell ≡ cell.now) × (third.old.cell ≡ cell.now) }
+        requires readers { (reader.old.cell ≡ cell.now)
+            × (second_reader.old.cell ≡ cell.now) × (third_reader.old.cell ≡ cell.now) }
+        ensures first { first.new.cell ≡ first.old.cell }
+        ensures second { second.new.cell ≡ second.old.cell }
+        ensures third { third.new.cell ≡ third.old.cell }
+    {
+        thread::join_mut(
+            rt,
+            &mut ||
+                requires { (SIZE ≤ 256) × (first.now.cell ≡ cell.now)
+                    × (second.now.cell ≡ cell.now) × (third.now.cell ≡ cell.now) }
+                ensures { (first.exit.now.cell ≡ first.entry.now.cell)
+                    × (second.exit.now.cell ≡ second.entry.now.cell) × (third.exit.now.cell ≡ third.entry.now.cell) }
+            { self.write_by_all(rt, cell, first, second, third) },
+            &mut ||
+                requires { (SIZE ≤ 256) × (reader.now.cell ≡ cell.now)
+                    × (second_reader.now.cell ≡ cell.now) × (third_reader.now.cell ≡ cell.now) }
+            { self.read_by_all(rt, cell, reader, second_reader, third_reader) },
+        )
     }
 }
 
-/// Writes a new cell beside one reader, or beside three. Returns what the readers did.
+/// Writes a new cell while it is read. Returns what the writers and the readers did.
 pub fn run<const SIZE: usize, R: Threads + Sync>(
     rt: &R,
     alloc: Global,
     workload: &Workload,
-    readers: u64,
-) -> Result<ReadCounts, AllocError>
+) -> Result<(WriteCounts, ReadCounts), AllocError>
     requires { SIZE ≤ 256 }
 {
-    let (cell, mut writer, mut first) = Cell::<SIZE>::new(alloc, [7; SIZE])?;
-    let counts = if readers == 1 {
-        workload.write_beside_one(rt, &cell, &mut writer, &mut first)
-    } else {
-        let mut second = cell.reader(alloc, &mut writer).unwrap();
-        let mut third = cell.reader(alloc, &mut writer).unwrap();
-        workload.write_beside_three(rt, &cell, &mut writer, &mut first, &mut second, &mut third)
-    };
-    let _ = cell.close(writer);
+    let (cell, mut first, mut reader) = Cell::<SIZE>::new(alloc, [7; SIZE])?;
+    let mut second = cell.writer(alloc, &mut first).unwrap();
+    let mut third = cell.writer(alloc, &mut first).unwrap();
+    let mut second_reader = cell.reader(alloc, &mut first).unwrap();
+    let mut third_reader = cell.reader(alloc, &mut first).unwrap();
+    let counts = workload.write_beside_reads(
+        rt,
+        &cell,
+        &mut first,
+        &mut second,
+        &mut third,
+        &mut reader,
+        &mut second_reader,
+        &mut third_reader,
+    );
+    cell.merge(&mut first, second);
+    cell.merge(&mut first, third);
+    let _ = cell.close(first);
     Ok(counts)
 }
