@@ -20,7 +20,7 @@ const RIGHT: usize = LEFT + WIDTH;
 const OPERATION_END: usize = LEFT - 10;
 const RATIO_END: usize = RIGHT + 62;
 const PEER: usize = RATIO_END + 16;
-const PICTURE_WIDTH: usize = PEER + 84;
+const PICTURE_WIDTH: usize = PEER + 104;
 const AXIS_HEIGHT: usize = 32;
 
 const ROW: usize = 22;
