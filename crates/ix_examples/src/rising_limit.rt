@@ -16,6 +16,7 @@ pub fn raise_limit(limit: &Limit, writer: &mut WriterSeat<u64>, last: &mut u64, 
     requires { writer.old.cell ≡ limit.now }
     ensures cell { writer.new.cell ≡ writer.old.cell }
     ensures own { AreOwn writer.old → AreOwn writer.new }
+    ensures last { last.new ≡ cond result value last.old }
     ensures count { length writer.new.places ≡ length writer.old.places + cond result 1 0 }
     ensures raised { result ≡ true → (limits : List ℕ) → HasSet writer.old limits → GrewTo last.old limits
         → HasSet writer.new (limits ++ value ∷ []) × GrewTo last.new (limits ++ value ∷ []) }
