@@ -1,4 +1,4 @@
-"""A plain model of the program boxes, written from the tables of README.md: the reply line to each line of a script."""
+"""A plain model of the program boxes, written from the tables of docs/SCRIPTS.md: the reply line to each line of a script."""
 
 import re
 
