@@ -1,0 +1,213 @@
+"""The public items of the library's crates, by module, as their sources have them."""
+
+import collections
+import glob
+import os
+import re
+
+from crates import ROOT, read
+
+LIBRARY = ("ix_cells", "ix_string", "ix_names", "ix_maps", "ix_atomic", "ix_commands", "ix_run")
+HEAD = re.compile(r"(pub )?(?:(?:const|unsafe|final) )*(fn|struct|enum|trait|type|const|impl)\b(.*)")
+GENERICS = re.compile(r"^<(?:[^<>]|<(?:[^<>]|<[^<>]*>)*>)*>\s*")
+REEXPORT = re.compile(r"(#\[doc\(hidden\)\]\n)?^pub use (?:\w+::)+(?:\{([^}]*)\}|(\w+));", re.M)
+IMPORT = re.compile(r"ghost use Rattle\.(ix_\w+)\.specs\.((?!declared|contracts)[\w.]+)\.\{([^}]*)\};")
+
+Item = collections.namedtuple("Item", "kind name is_public docs head first last members")
+
+
+def text_of(path):
+    return read(path).decode()
+
+
+def paths(crate, pattern):
+    found = glob.glob(os.path.join(ROOT, "crates", crate, pattern), recursive=True)
+    return sorted(os.path.relpath(path, ROOT) for path in found)
+
+
+def extent(lines, first, indent):
+    """Returns the index after an item's head, and that of its last line. The head has the contract, and no brace of the body."""
+    for i in range(first, len(lines)):
+        line = lines[i]
+        at_margin = line.startswith(indent) and not line.startswith(indent + " ")
+        if line.endswith("{}") or line.endswith(";"):
+            return i + 1, i
+        is_impl = " for " in line and lines[first].startswith(indent + "impl")
+        if line.endswith("{") and (at_margin or is_impl):
+            last = next(j for j in range(i, len(lines)) if lines[j] == indent + "}")
+            return (i if line == indent + "{" else i + 1), last
+    raise ValueError(f"an item without an end: {lines[first]}")
+
+
+def name_of(kind, rest, head):
+    """Returns an item's name, or what an impl is of, without its bounds."""
+    if kind != "impl":
+        return re.match(r"\s*(\w+)", rest).group(1)
+    whole = " ".join(line.strip() for line in head).partition("impl")[2]
+    return GENERICS.sub("", whole).strip().removesuffix("{}").removesuffix("{").strip()
+
+
+def items_of(lines, indent="", first=0, end=None):
+    """Returns the items between two lines that stand at this indent, each with the items in it if it is a trait or an impl."""
+    items, docs, i = [], [], first
+    end = len(lines) if end is None else end
+    while i < end:
+        line = lines[i]
+        match = HEAD.match(line[len(indent):]) if line.startswith(indent) else None
+        if line.startswith(indent + "///"):
+            docs.append(line.strip()[4:])
+        elif match:
+            after, last = extent(lines, i, indent)
+            is_public, kind, rest = match.groups()
+            head = [it.removesuffix(" {}").removesuffix(" {").removeprefix(indent) for it in lines[i:after]]
+            if kind in ("struct", "enum"):
+                head = [*derives(lines, i), *visible(lines[i : last + 1])]
+            if kind == "trait":
+                head += ghost_members(lines[after:last])
+            members = items_of(lines, indent + "    ", after, last) if kind in ("trait", "impl") else []
+            items.append(Item(kind, name_of(kind, rest, head), bool(is_public), docs, head, i, last, members))
+            docs, i = [], last
+        elif line.strip() and not line.strip().startswith("#["):
+            docs = []
+        i += 1
+    return items
+
+
+def derives(lines, i):
+    """Returns the line of an item's derived traits, if it has one."""
+    while lines[i - 1].startswith(("#[", "///")):
+        i -= 1
+        if lines[i].startswith("#[derive"):
+            return [lines[i]]
+    return []
+
+
+def visible(lines):
+    """Returns a type's lines without its private fields."""
+    if not lines[0].startswith("pub struct") or len(lines) == 1:
+        return lines
+    public = [it for i, it in enumerate(lines[1:-1], 1) if it.startswith("    pub ") or it.startswith("    ///") and any(
+        re.match(r"    pub ", later) for later in lines[i:] if not later.startswith("    ///"))]
+    if not any(it.startswith("    pub ") for it in public):
+        return [lines[0].removesuffix("{") + "{ .. }"]
+    return [lines[0], *public, lines[-1]]
+
+
+def ghost_members(lines):
+    """Returns what contracts of a trait speak of, with docs, as its module shows it."""
+    members, docs, i = [], [], 0
+    while i < len(lines):
+        if lines[i].startswith("    ///"):
+            docs.append(lines[i])
+        elif re.match(r"    ghost (?!use)", lines[i]):
+            last = next(j for j in range(i, len(lines)) if lines[j].endswith(";"))
+            members += [*docs, *lines[i : last + 1]]
+            docs, i = [], last
+        elif not lines[i].startswith("    #["):
+            docs = []
+        i += 1
+    return members
+
+
+def base_of(name):
+    """Returns the type that an impl is for, without its parameters."""
+    words = re.findall(r"[\w:]+", name.partition(" for ")[2] or name)
+    return words[0].rpartition("::")[2] if words else name
+
+
+def words_of(text):
+    """Returns the file that defines each word which a source file imports from specs/ of the library."""
+    found = {}
+    for crate, module, names in IMPORT.findall(text):
+        path = f"crates/{crate}/specs/{module.replace('.', '/')}.antt"
+        if os.path.exists(os.path.join(ROOT, path)):
+            found.update((word.strip(), path) for word in names.split(",") if word.strip())
+    return found
+
+
+def trait_of(name):
+    """Returns the trait that an impl is of, without its parameters, or nothing."""
+    words = re.findall(r"[\w:]+", name.partition(" for ")[0]) if " for " in name else []
+    return words[0].rpartition("::")[2] if words else ""
+
+
+def is_own(item):
+    """Says whether an impl is of the type itself and not of a trait."""
+    return " for " not in item.name
+
+
+def is_shown(owner, member):
+    """Says whether a caller sees a member: those of traits, public ones, and those of an impl of a trait that have a contract."""
+    if owner.kind == "trait" or member.is_public:
+        return True
+    has_contract = any(line.lstrip().startswith(("requires", "ensures")) for line in member.head)
+    return not is_own(owner) and (has_contract or bool(member.docs))
+
+
+class Module:
+    """A public module: its source file, the names that it exports, and its items by source file."""
+
+    def __init__(self, crate, name, path, exported):
+        self.crate, self.name, self.path = crate, name, path
+        self.exported = exported
+        self.items = []
+
+
+def exported_names(text):
+    """Returns the names that a module passes on from private modules, but for hidden ones."""
+    lists = [names or name for hidden, names, name in REEXPORT.findall(text) if not hidden]
+    return {name.strip() for names in lists for name in names.split(",") if name.strip()}
+
+
+def modules_of(crate):
+    """Yields each public module of a crate; the crate itself where all its modules are private."""
+    root = f"crates/{crate}/src/lib.rt"
+    modules = re.findall(r"^pub mod (\w+);", text_of(root), re.M)
+    if not modules:
+        yield Module(crate, "", root, exported_names(text_of(root)))
+    for module in modules:
+        yield from submodules(crate, module, f"crates/{crate}/src/{module}.rt")
+
+
+def submodules(crate, name, path):
+    text = text_of(path)
+    yield Module(crate, name, path, exported_names(text) | {item.name for item in items_of(text.splitlines()) if item.is_public})
+    for module in re.findall(r"^pub mod (\w+);", text, re.M):
+        yield from submodules(crate, f"{name}::{module}", f"{path.removesuffix('.rt')}/{module}.rt")
+
+
+def files_of(module, others):
+    """Returns the source files of a module: its own and those below it that are of no other module."""
+    if not module.name:
+        return paths(module.crate, "src/**/*.rt")
+    folder = module.path.removeprefix(f"crates/{module.crate}/").removesuffix(".rt")
+    lower = [it.path.removesuffix(".rt") for it in others if it is not module and it.path.startswith(f"crates/{module.crate}/{folder}/")]
+    found = [module.path, *paths(module.crate, f"{folder}/**/*.rt")]
+    return [path for path in found if not any(path.removesuffix(".rt") == it or path.startswith(it + "/") for it in lower)]
+
+
+def fill(module, others):
+    """Finds the items of a module, each file's own in their order: exported ones, and impls for exported types."""
+    for path in files_of(module, others):
+        items = [it for it in items_of(text_of(path).splitlines()) if is_listed(it, module.exported)]
+        if items:
+            module.items.append((path, items))
+
+
+def is_listed(item, exported):
+    """Says whether a module has an item: an exported one, or an impl for an exported type or of an exported trait."""
+    if item.kind != "impl":
+        return item.is_public and item.name in exported
+    if trait_of(item.name) == "Model":
+        return False
+    if is_own(item):
+        return base_of(item.name) in exported and any(it.is_public for it in item.members)
+    return base_of(item.name) in exported or trait_of(item.name) in exported
+
+
+def public_modules(crate):
+    """Returns the public modules of a crate that have items."""
+    found = list(modules_of(crate))
+    for module in found:
+        fill(module, found)
+    return [module for module in found if module.items]
