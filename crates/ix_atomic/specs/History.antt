@@ -41,8 +41,8 @@ pub record Reader (T : Type 0) : Type 0 where
   pub seen : List ℕ
   pub touched : List ℕ
 
--- One load of the version by a reader's seat. The version is less than none that the seat had loaded or knew of; then the
--- seat knows the history up to it.
+-- One load of the version by a reader's seat. No version that the seat had loaded or knew of is greater; then the seat knows
+-- the history up to it.
 pub record Loads {T : Type 0} (before after : Reader T) (version : ℕ) : Type 0 where
   pub cell : after.cell ≡ before.cell
   pub seen : after.seen ≡ before.seen ++ version ∷ []

@@ -9,7 +9,7 @@ use std::alloc::AllocError;
 pub enum Reply<K, X> {
     /// `ok`: the command was done.
     Done,
-    /// `true` or `false`: whether the command was done, or what it asks is so.
+    /// `true` or `false`: whether the command was done, or the answer to its question.
     Bool(bool),
     /// A number.
     Number(usize),

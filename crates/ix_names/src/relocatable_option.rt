@@ -126,7 +126,7 @@ impl<T> RelocatableOption<T> {
         self.as_option_ref().into()
     }
 
-    /// Returns the value. There has to be one: `msg` says why there is.
+    /// Returns the value. There has to be one. `_msg` is not read; it is there as in [`Option::expect`].
     #[inline]
     pub fn expect(self, _msg: &str) -> T
         requires { IsSome (option_of self) }

@@ -1,4 +1,4 @@
-//! Commands, the replies to them, and scripts of them.
+//! Scripts: lines are read as commands of `ix_commands`, and replies are written as lines.
 //!
 //! ```text
 //! let mut queue = FixedSizeQueue::<u64, 1>::new();

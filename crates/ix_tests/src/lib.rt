@@ -1,4 +1,4 @@
-//! Tests that cross crates: queues beside a plain slow one, whole scripts on faulty devices, and findings.
+//! Tests that cross crates: runs of commands, readers of lines, scripts of every container, devices that fail, a slow queue.
 #![tactic(auto)]
 
 #[cfg(test)]

@@ -122,7 +122,7 @@ impl<T: AtomicCopy, const SIZE: usize> SequencedByteAtomic<T, SIZE> {
         Ok(())
     }
 
-    /// Returns the value of the version that it loads before and after the bytes. O(`SIZE`).
+    /// Returns the value, if the version is the same even number before and after its bytes are loaded. O(`SIZE`).
     ///
     /// Loads the version, each word of bytes, and the version again, each of them once, whatever it finds.
     ///

@@ -5,7 +5,7 @@ use crate::cells::{RawSlots, Table};
 use std::alloc::{AllocError, Allocator, Global};
 use std::marker::Model;
 
-/// A table that allocates its places from `A` once, when it is made, and deallocates them when it ends.
+/// A table that allocates its places from `A` when it is made, and never after, and deallocates them when it ends.
 ///
 /// ```text
 /// let mut table = HeapTable::new(alloc, 3)?;

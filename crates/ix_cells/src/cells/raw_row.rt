@@ -32,8 +32,10 @@ impl<T> Clone for RowPtr<T> {
 
 impl<T> Copy for RowPtr<T> {}
 
+// SAFETY: an address owns nothing.
 unsafe impl<T> Send for RowPtr<T> {}
 
+// SAFETY: as above.
 unsafe impl<T> Sync for RowPtr<T> {}
 
 /// The ownership of the places of a row and of their items, of size zero. Contracts see how many bytes were allocated for
@@ -51,8 +53,10 @@ impl<T> Model for RowOwner<T> {
     ghost also_shares = { λ row _ κ. row_shares T.row row.start row.places κ };
 }
 
+// SAFETY: it owns items, which may be sent.
 unsafe impl<T: Send> Send for RowOwner<T> {}
 
+// SAFETY: a `&` to it is a `&` to items, which may be shared.
 unsafe impl<T: Sync> Sync for RowOwner<T> {}
 
 /// The right to deallocate the block of a row from `alloc`, of size zero.
@@ -69,9 +73,10 @@ impl<T, A: Allocator> Model for RowGrant<T, A> {
     ghost also_shares = { λ _ _ _. ftrue };
 }
 
+// SAFETY: it owns the right to give a block back to an allocator, which may be sent.
 unsafe impl<T, A: Allocator + Send> Send for RowGrant<T, A> {}
 
-// A `&` to it owns nothing.
+// SAFETY: a `&` to it owns nothing.
 unsafe impl<T, A: Allocator> Sync for RowGrant<T, A> {}
 
 impl<T, A: Allocator> RowGrant<T, A> {
@@ -109,6 +114,7 @@ impl<T, A: Allocator> RowGrant<T, A> {
     {
         let RowGrant { mark: _ } = self;
         let RowOwner { mark: _ } = row;
+        // SAFETY: the grant is for this block of `alloc`, and no place of it holds an item.
         unsafe {
             alloc.deallocate(ptr.start as *mut u8, len * size_of::<T>(), align_of::<T>());
         }
@@ -141,6 +147,7 @@ impl<T> RowOwner<T> {
         requires place { IsEmptyAt self.old.places i }
         ensures { self.new ≡ with_places self.old (slice_set self.old.places i (Some item)) }
     {
+        // SAFETY: the row owns place `i`, which is room for an item.
         unsafe { ptr.start.add(i).write(item) }
     }
 
@@ -152,6 +159,7 @@ impl<T> RowOwner<T> {
         ensures value { place_at self.old.places i ≡ Some result }
         ensures row { self.new ≡ with_places self.old (slice_set self.old.places i None) }
     {
+        // SAFETY: the row owns the item in place `i`, and gives it away.
         unsafe { ptr.start.add(i).read() }
     }
 
@@ -162,6 +170,7 @@ impl<T> RowOwner<T> {
         requires place { IsHeldAt self.now.places i }
         ensures { place_at self.now.places i ≡ Some result.now }
     {
+        // SAFETY: the row owns the item in place `i`, and is borrowed as long as the reference.
         unsafe { &*ptr.start.add(i) }
     }
 
@@ -173,6 +182,7 @@ impl<T> RowOwner<T> {
         ensures* writes_back { sem 𝓛 (row_lends T.row self.entry i result) }
         ensures value { place_at self.old.places i ≡ Some result.now }
     {
+        // SAFETY: as above, and nobody else borrows the row.
         unsafe { &mut *ptr.start.add(i) }
     }
 

@@ -10,7 +10,8 @@ use std::marker::Model;
 use std::mem::size_of;
 use std_alloc::room::may_hold;
 
-/// A fixed row of places, each empty or holding one item, in memory that is allocated from `A` once, when it is made.
+/// A fixed row of places, each empty or holding one item, in memory that is allocated from `A` when it is made, and
+/// never after.
 ///
 /// Places are indexed from 0. A place takes the bytes of an item and one byte more, its mark. Contracts see the content of
 /// each place. The owner takes every item out before it consumes the row by [`RawSlots::end`]; a row can't be dropped.

@@ -12,7 +12,7 @@ pub const MAX_FIXED_CAPACITY: usize = 4_294_967_295;
 /// Places are indexed from 0. A table can't be asked whether a place holds an item: its owner knows. The owner takes
 /// every item out before it consumes the table by [`Table::end`]; a table can't be dropped.
 ///
-/// Every call is O(1) and does not allocate.
+/// Every call is O(1) and does not allocate, but `end`, which may take O(`len`): an inline table drops its places.
 pub trait Table<T>: Sized {
     /// The content of each place.
     ghost places: { Self → List (Option T) };

@@ -9,8 +9,6 @@ use std::alloc::{AllocError, Allocator, Global};
 
 /// A flat map whose memory is allocated from `A` when it is made, and deallocated when it is dropped.
 ///
-/// `A` is an allocator whose value can be copied.
-///
 /// ```text
 /// let mut map = FlatMap::<u16, char>::new(alloc, 3)?;
 /// map.insert(80, 'a');                      // Ok(())

@@ -18,8 +18,8 @@ use std::marker::Model;
 /// A map from keys to values, over a table of pairs `S` and a table of links `L`. Keys are compared by their `Eq`.
 /// Contracts see a slot table of pairs, in which no two keys are equal.
 ///
-/// A pair stays at its place until it is removed, and a new one takes the first free place, that of the pair which was
-/// removed last. Slot order is that of the places. A call that looks for a key compares it with the keys of the map in
+/// A pair stays at its place until it is removed, and a new one takes the first free place: the one vacated last, or else
+/// the least that was never used. Slot order is that of the places. A call that looks for a key compares it with the keys of the map in
 /// slot order, up to the equal one.
 ///
 /// Each call that looks for a key takes O(capacity) time, any other O(1), if nothing else is said. No call allocates.

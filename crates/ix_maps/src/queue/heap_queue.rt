@@ -8,8 +8,6 @@ use std::alloc::{AllocError, Allocator, Global};
 
 /// A queue whose memory is allocated from `A` when it is made, and deallocated when it is dropped.
 ///
-/// `A` is an allocator whose value can be copied.
-///
 /// ```text
 /// let mut queue = Queue::new(alloc, 2)?;
 /// queue.push(1);                    // true
@@ -23,8 +21,6 @@ pub type Queue<T, A = Global> = MetaQueue<T, HeapTable<T, A>>;
 
 /// A queue that is made in two steps: first its capacity, as an [`UninitQueue`], and later its memory, allocated from
 /// `A`.
-///
-/// `A` is an allocator whose value can be copied.
 ///
 /// ```text
 /// let uninit = RelocatableQueue::<u64>::new_uninit(2);

@@ -135,7 +135,7 @@ impl<T, S: Table<T>> MetaQueue<T, S> {
         self.len == self.table.len()
     }
 
-    /// Appends `value` at the back and returns `true`; or drops it and returns false if the queue is full.
+    /// Appends `value` at the back and returns `true`. Returns `false`, and drops `value`, if the queue is full.
     #[inline]
     pub fn push(&mut self, value: T) -> bool
     where

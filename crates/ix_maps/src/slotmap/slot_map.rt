@@ -9,8 +9,6 @@ use std::alloc::{AllocError, Allocator, Global};
 
 /// A slot map whose memory is allocated from `A` when it is made, and deallocated when it is dropped.
 ///
-/// `A` is an allocator whose value can be copied.
-///
 /// ```text
 /// let mut map = SlotMap::<char>::new(alloc, 3)?;
 /// map.insert('a');                          // Some: index 0, generation 0

@@ -8,8 +8,6 @@ use std::alloc::{AllocError, Allocator, Global};
 
 /// A slot table whose memory is allocated from `A` when it is made, and deallocated when it is dropped.
 ///
-/// `A` is an allocator whose value can be copied.
-///
 /// ```text
 /// let mut map = SlotTable::<char>::new(alloc, 3)?;
 /// map.insert('a');                          // Some: the key 0

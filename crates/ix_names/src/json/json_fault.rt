@@ -2,7 +2,7 @@
 
 use thiserror::Error;
 
-/// Why a value is not converted to JSON, or a JSON value is none of a type.
+/// The error of a conversion to JSON or from it.
 #[derive(Clone, Copy, PartialEq, Eq, Debug, Error)]
 pub enum JsonFault {
     /// The JSON value is of another kind, or a number of another type.

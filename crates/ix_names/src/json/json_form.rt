@@ -41,7 +41,7 @@ pub trait JsonForm: Sized {
 
     /// Converts from JSON. Does not allocate.
     ///
-    /// Returns the fault for which `value` is no value of this type, and never [`JsonFault::OutOfMemory`].
+    /// Returns the first reason why `value` is not of this type, and never [`JsonFault::OutOfMemory`].
     fn from_value(value: &Value) -> Result<Self, JsonFault>
         ensures value { result ≡ read (view value.now) }
         ensures memory { result ≢ Err OutOfMemory };

@@ -11,16 +11,16 @@ use ix_string::StaticString;
 /// `false`. Two texts mean the same if their normal forms are equal. The predicates are called with the bytes of a whole
 /// text, and may assume nothing else of it.
 ///
-/// This is the macro `semantic_string!` of iceoryx2-bb-container.
+/// It takes the place of the macro `semantic_string!` of iceoryx2-bb-container.
 pub trait Rules<const CAPACITY: usize> {
     /// What the functions return.
     ghost rules: { TextRules };
 
-    /// Returns `true` if the text may not be held as a whole.
+    /// Returns `true` if the whole text is not allowed.
     fn invalid_content(bytes: &[u8]) -> bool
         ensures { result ≡ rules.invalid_content bytes.now };
 
-    /// Returns `true` if a byte of the text may not stand in any.
+    /// Returns `true` if the text has a byte that no text may have.
     fn invalid_characters(bytes: &[u8]) -> bool
         ensures { result ≡ rules.invalid_characters bytes.now };
 

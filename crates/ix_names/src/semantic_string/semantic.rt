@@ -46,7 +46,7 @@ impl<R: Rules<CAPACITY>, const CAPACITY: usize> Model for Semantic<R, CAPACITY> 
     ghost inverse = { λ text. record { text = text; rules = record {} } };
 }
 
-/// Strings can be copied whatever their rules, so these are not derived.
+/// `Clone` and `Copy` are written by hand: a derive would ask them of the rules.
 impl<R: Rules<CAPACITY>, const CAPACITY: usize> Clone for Semantic<R, CAPACITY> {
     ghost is_clone = { λ string clone. clone ≡ string };
 
@@ -147,7 +147,8 @@ impl<R: Rules<CAPACITY>, const CAPACITY: usize> Semantic<R, CAPACITY> {
         CAPACITY
     }
 
-    /// Returns the least index at which `bytes` occur, or `None` if they do not occur. No bytes occur at 0.
+    /// Returns the least index at which `bytes` occur, or `None` if they do not occur. An empty `bytes`
+    /// occurs at 0.
     /// O(`len + bytes.len()`).
     pub fn find(&self, bytes: &[u8]) -> Option<usize>
         ensures { IsFirstMatch self.now bytes.now result }
@@ -155,7 +156,8 @@ impl<R: Rules<CAPACITY>, const CAPACITY: usize> Semantic<R, CAPACITY> {
         self.text.find(bytes)
     }
 
-    /// Returns the greatest index at which `bytes` occur, or `None` if they do not occur. No bytes occur at `len`.
+    /// Returns the greatest index at which `bytes` occur, or `None` if they do not occur. An empty
+    /// `bytes` occurs at `len`.
     /// O(`len + bytes.len()`).
     pub fn rfind(&self, bytes: &[u8]) -> Option<usize>
         ensures { IsLastMatch self.now bytes.now result }

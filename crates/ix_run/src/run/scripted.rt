@@ -1,4 +1,4 @@
-//! What a script works on.
+//! What replies to the lines of a script.
 ghost use Rattle.std.specs.Prelude.{ℕ, ◌≡◌, ◌≤◌, ◌∷◌, List, Bool, false, IfSome, length, option_copied};
 ghost use Rattle.ix_run.specs.Lines.{LimitedLine};
 ghost use Rattle.ix_run.specs.Progress.{AdvanceResult};
@@ -8,7 +8,7 @@ use crate::run::ScriptFault;
 use crate::run::reply_buffer::ReplyBuffer;
 use std::io::Write;
 
-/// What replies to lines.
+/// Replies to lines: before the header, or with a container.
 pub trait Scripted {
     /// The type of the model.
     ghost State: { Type 0 };
@@ -18,7 +18,7 @@ pub trait Scripted {
     /// The replies to lines, each with its line feed.
     ghost replies: { State → List LimitedLine → List ℕ };
 
-    /// Whether the lines that come are for something else.
+    /// Whether it takes no more lines.
     ghost is_done_at: { State → Bool };
 
     /// Does what a line asks, and appends the reply. The line is `None` if it is too long.
@@ -33,7 +33,7 @@ pub trait Scripted {
         ensures { AdvanceResult (W.contents writer.old) pending.old (λ lines. replies (state self.old) (option_copied line.entry ∷ lines))
             (W.contents writer.new) pending.new (λ lines. replies (state self.new) lines) result };
 
-    /// Returns `true` if the lines that come are for something else.
+    /// Returns `true` if it takes no more lines.
     fn is_done(&self) -> bool
         ensures { result ≡ is_done_at (state self.now) };
 }

@@ -1,4 +1,4 @@
-//! A container that lines of a script are for.
+//! A container that a script runs commands on.
 ghost use Rattle.std.specs.Prelude.{ℕ, ◌≡◌, ◌≤◌, List, Option, IfSome, length, option_copied, option_map};
 ghost use Rattle.ix_run.specs.Lines.{with_line_feed};
 ghost use Rattle.ix_run.specs.ReplyTexts.{reply_text_by};

@@ -1,5 +1,5 @@
-//! Lines as words: a name, and numbers. A function takes what stands behind the last space that was read, or `None` if no
-//! word is left.
+//! Lines as words: a name, and numbers. `rest` is the part of a line after the last space that was read, or `None` at its
+//! end.
 ghost use Rattle.std.specs.Prelude.{ℕ, ◌≡◌, ◌≤◌, ◌*◌, ◌+◌, List, ◌∷◌, length, nat_eq, bytes_eq};
 ghost use Rattle.std.specs.Option.{option_map, option_and_then, option_copied};
 ghost use Rattle.std.specs.List.{position_or_len, slice_split};

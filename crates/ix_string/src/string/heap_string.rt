@@ -26,7 +26,7 @@ use std::marker::{Model, PhantomData};
 /// string is dropped. Contracts see the string as a bounded list.
 ///
 /// The two kinds `K` have names of their own, [`PolymorphicString`](crate::PolymorphicString) and
-/// [`RelocatableString`](crate::RelocatableString). `A` is an allocator whose value can be copied.
+/// [`RelocatableString`](crate::RelocatableString). `try_clone` asks for an allocator that is `Copy`.
 ///
 /// ```text
 /// let mut string = PolymorphicString::new(alloc, 4)?;

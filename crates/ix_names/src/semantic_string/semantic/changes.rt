@@ -1,7 +1,7 @@
 //! The changes of a semantic string.
 //!
-//! Where the whole text after a change is a part of the text before it, the rules judge that part first. Other changes are
-//! made, judged and undone; what removes from the middle is made in a copy.
+//! `truncate` asks the rules first. `insert_bytes`, `remove`, `strip_prefix` and `strip_suffix` change the text and undo a
+//! refused change; `remove_range` and `retain` change a copy.
 ghost use Rattle.std.specs.Prelude.{◌≡◌, ◌-◌, ◌≤◌, [], ◌∷◌, ◌++◌, List, ℕ, length, take, drop, remove, true, false, Some, Ok, OnOk, OnErr, slice_get};
 ghost use Rattle.std.specs.List.{insert_slice};
 ghost use Rattle.ix_string.specs.Retain.{Retains};
