@@ -1,6 +1,7 @@
-//! Examples of the library, each in a file of its own. The README quotes them.
+//! Examples of the library, each in a file of its own, which README.md and docs/EXAMPLES.md quote.
 #![tactic(auto)]
 
+pub mod arena;
 pub mod configuration;
 pub mod directory;
 pub mod json_message;
@@ -13,5 +14,6 @@ pub mod rolling_window;
 pub mod scripts;
 pub mod session_table;
 pub mod strings;
+pub mod temperature;
 pub mod unit_name;
 pub mod vectors;

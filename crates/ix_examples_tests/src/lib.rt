@@ -5,3 +5,5 @@
 mod cell_tests;
 #[cfg(test)]
 mod example_tests;
+#[cfg(test)]
+mod own_type_tests;

@@ -1,0 +1,44 @@
+//! A type of one's own in cells and in JSON, and two containers in one arena.
+use bumpalo::Bump;
+use ix_atomic::FixedSizeByteAtomic;
+use ix_examples::arena::connect;
+use ix_examples::temperature::{Temperature, through_bytes};
+use ix_names::{JsonFault, JsonForm};
+use ix_string::String;
+use serde_json::Value;
+
+#[test]
+fn temperatures_in_cells(rt: HostRuntime) {
+    let warm = Temperature {
+        millikelvin: 293_150,
+    };
+    assert_eq!(rt; through_bytes(&warm), Some(warm));
+    let cell = FixedSizeByteAtomic::<Temperature, 8>::new(Temperature { millikelvin: 0 });
+    cell.write(warm);
+    assert_eq!(rt; cell.read().assume_consistent(), Some(warm));
+}
+
+#[test]
+fn temperatures_as_json(rt: HostRuntime) {
+    let warm = Temperature {
+        millikelvin: 293_150,
+    };
+    assert_eq!(rt; warm.to_value(rt.alloc()), Ok(Value::from(293_150u64)));
+    assert_eq!(rt; Temperature::from_value(&Value::from(293_150u64)), Ok(warm));
+    assert_eq!(rt;
+        Temperature::from_value(&Value::Null),
+        Err(JsonFault::WrongKind)
+    );
+}
+
+#[test]
+fn a_connection_in_an_arena(rt: HostRuntime) {
+    let arena = Bump::new(rt.alloc());
+    let mut connection = connect(&arena, 2).expect(&rt, "there is memory");
+    assert!(rt; connection.inbox.push(7));
+    assert!(rt; connection.inbox.push(8));
+    assert!(rt; !connection.inbox.push(9));
+    assert_eq!(rt; connection.path.capacity(), 64);
+    assert_eq!(rt; connection.path.push_bytes(b"/dev"), Ok(()));
+    assert_eq!(rt; connection.inbox.pop(), Some(7));
+}
