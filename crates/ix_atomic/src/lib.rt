@@ -15,8 +15,10 @@
 pub mod byte_atomic;
 pub mod sequenced;
 
+pub use byte_atomic::steps::VersionsUsedUp;
 pub use byte_atomic::{
-    AtomicCopy, FixedSizeByteAtomic, MaybeTorn, RelocatableByteAtomic, UninitByteAtomic,
+    AtomicCopy, FixedSizeByteAtomic, MaybeTorn, RelocatableByteAtomic, UninitByteAtomic, pack_word,
+    unpack_word,
 };
 pub use sequenced::{
     Interfered, ReaderSeat, SequencedByteAtomic, TryWriteError, Unfinished, WriterSeat,

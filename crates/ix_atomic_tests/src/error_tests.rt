@@ -1,9 +1,9 @@
 //! The errors of sequenced cells: their texts, and which of them are equal.
 use ix_atomic::TryWriteError::{Busy, VersionsUsedUp};
-use ix_atomic::byte_atomic::steps;
 use ix_atomic::{Interfered, TryWriteError, Unfinished};
 use ix_expect::Findings;
-use std::fmt::{Debug, Display, InlineText};
+use std::error::Error;
+use std::fmt::InlineText;
 use std::test::Fail;
 
 /// The errors of a write, and their texts by `Debug`.
@@ -49,12 +49,7 @@ const READ_ERRORS: &[(Interfered, &str)] = &[
 ];
 
 /// Checks the texts of an error.
-fn check_printed<E: Display + Debug + Copy>(
-    findings: &Findings,
-    error: E,
-    displayed: &str,
-    debugged: &str,
-) {
+fn check_printed<E: Error + Copy>(findings: &Findings, error: E, displayed: &str, debugged: &str) {
     let found = InlineText::<80>::of(format_args!("{error}"));
     findings.expect_same(found.as_str(), displayed, "the `Display` text");
     let found = InlineText::<80>::of(format_args!("{error:?}"));
@@ -107,7 +102,7 @@ fn equal_errors() -> Result<(), Fail> {
     check_equality(&findings, WRITE_ERRORS);
     check_equality(&findings, READ_ERRORS);
     findings.expect_same(Unfinished, Unfinished, "the error of a cell that is closed");
-    let converted = TryWriteError::from(steps::VersionsUsedUp);
+    let converted = TryWriteError::from(ix_atomic::VersionsUsedUp);
     findings.expect_same(converted, VersionsUsedUp, "the error of the versions");
     findings.verdict()
 }

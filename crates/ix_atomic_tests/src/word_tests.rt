@@ -2,8 +2,7 @@
 ghost use Rattle.std.specs.Prelude.{◌≡◌};
 
 use crate::foo::Foo;
-use ix_atomic::byte_atomic::{pack_word, unpack_word};
-use ix_atomic::{AtomicCopy, SequencedByteAtomic};
+use ix_atomic::{AtomicCopy, SequencedByteAtomic, pack_word, unpack_word};
 use ix_expect::Findings;
 use ix_string::StaticString;
 use std::alloc::Global;

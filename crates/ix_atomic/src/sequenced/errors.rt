@@ -2,6 +2,7 @@
 ghost use Rattle.std.specs.Prelude.{◌≡◌, Some};
 
 use crate::byte_atomic::steps::VersionsUsedUp;
+use std::error::Error;
 use std::fmt;
 
 /// The error of a read that a write interfered with. It holds the two versions that the read loaded: the first is odd, or
@@ -23,6 +24,8 @@ impl fmt::Display for Interfered {
         f.write_str("a write interfered with the read")
     }
 }
+
+impl Error for Interfered {}
 
 /// The error of a write that did not begin. It holds the versions that the call loaded.
 #[derive(Clone, Copy, Debug, PartialEq, Eq)]
@@ -62,6 +65,8 @@ impl fmt::Display for TryWriteError {
     }
 }
 
+impl Error for TryWriteError {}
+
 /// The error of a cell that is closed during a write.
 #[derive(Clone, Copy, Debug, PartialEq, Eq)]
 pub struct Unfinished;
@@ -75,3 +80,5 @@ impl fmt::Display for Unfinished {
         f.write_str("a write is in progress")
     }
 }
+
+impl Error for Unfinished {}

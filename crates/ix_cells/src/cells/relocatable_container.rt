@@ -1,6 +1,7 @@
 //! Containers that are made in two steps: first with a capacity, then with memory.
 ghost use Rattle.std.specs.Prelude.{◌≡◌, ℕ, IfOk, IfErr, Some, codes};
 
+use std::error::Error;
 use std::fmt;
 use std::marker::Model;
 
@@ -55,6 +56,8 @@ impl<U> fmt::Debug for InitError<U> {
         f.write_str("InitError { .. }")
     }
 }
+
+impl<U: Drop> Error for InitError<U> {}
 
 /// A container that is made in two steps: first uninitialised with a capacity, then initialised with memory of an
 /// allocator `A`.

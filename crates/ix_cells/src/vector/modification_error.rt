@@ -1,6 +1,7 @@
 //! The error of calls that change a vector.
 ghost use Rattle.std.specs.Prelude.{Some};
 
+use std::error::Error;
 use std::fmt;
 
 /// The error of calls that change a vector. The vector is unchanged when it is returned.
@@ -31,3 +32,5 @@ impl fmt::Display for VectorModificationError {
         })
     }
 }
+
+impl Error for VectorModificationError {}

@@ -1,6 +1,7 @@
 //! The error of inserting into a flat map.
 ghost use Rattle.std.specs.Prelude.{Some};
 
+use std::error::Error;
 use std::fmt;
 
 /// The error of inserting into a flat map. The map is unchanged when it is returned.
@@ -26,3 +27,5 @@ impl fmt::Display for FlatMapError {
         })
     }
 }
+
+impl Error for FlatMapError {}

@@ -3,6 +3,7 @@ ghost use Rattle.std.specs.Prelude.{◌≡◌, Some};
 ghost use Rattle.ix_names.specs.ErrorTexts.{semantic_error_of, semantic_error_text};
 
 use ix_string::StringModificationError;
+use std::error::Error;
 use std::fmt;
 
 /// The error of a text or of a change that a semantic string refuses. The string is left unchanged.
@@ -43,3 +44,5 @@ impl fmt::Display for SemanticStringError {
         })
     }
 }
+
+impl Error for SemanticStringError {}

@@ -1,6 +1,7 @@
 //! The error of a change that a string refuses.
 ghost use Rattle.std.specs.Prelude.{Some};
 
+use std::error::Error;
 use std::fmt;
 
 /// The error of a change that a string refuses. The string is left unchanged.
@@ -30,3 +31,5 @@ impl fmt::Display for StringModificationError {
         })
     }
 }
+
+impl Error for StringModificationError {}

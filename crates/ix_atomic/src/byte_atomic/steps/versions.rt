@@ -2,6 +2,7 @@
 ghost use Rattle.std.specs.Prelude.{◌≡◌, ◌+◌, ◌%◌, ◌↔◌, Some, IfOk, IsErr};
 ghost use Rattle.ix_atomic.specs.Versions.{last_version};
 
+use std::error::Error;
 use std::fmt;
 
 /// The greatest even version: no write can begin at it.
@@ -20,6 +21,8 @@ impl fmt::Display for VersionsUsedUp {
         f.write_str("all versions are used up")
     }
 }
+
+impl Error for VersionsUsedUp {}
 
 /// Returns the odd version during a write that begins at the even `version`, and the even version after it. O(1).
 ///
