@@ -3,6 +3,7 @@ pub mod Calls
 pub mod Cloning
 pub mod Conversions
 pub mod ErrorTexts
+pub mod Iterating
 pub mod Lending
 pub mod Places
 pub mod RawLending

@@ -24,6 +24,6 @@ pub use cells::{
     RelocatableContainer, Table, Touches, Uninit,
 };
 pub use vector::{
-    PolymorphicVec, RelocatableVec, StaticVec, UninitVec, VecFamily, Vector,
+    PolymorphicVec, RelocatableVec, StaticVec, StaticVecIntoIter, UninitVec, VecFamily, Vector,
     VectorModificationError,
 };

@@ -16,5 +16,5 @@ mod vector_trait;
 pub use modification_error::VectorModificationError;
 pub use polymorphic_vec::PolymorphicVec;
 pub use relocatable_vec::{RelocatableVec, UninitVec, VecFamily};
-pub use static_vec::StaticVec;
+pub use static_vec::{StaticVec, StaticVecIntoIter};
 pub use vector_trait::Vector;

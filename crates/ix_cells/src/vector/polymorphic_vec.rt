@@ -1,5 +1,5 @@
 //! The vector that allocates when it is made.
-ghost use Rattle.std.specs.Prelude.{◌≡◌, ◌≤◌, length, IsOk, IfOk};
+ghost use Rattle.std.specs.Prelude.{◌≡◌, ◌^◌, ◌<◌, ◌≤◌, length, IsOk, IfOk};
 ghost use Rattle.std.specs.Cmp.{on_per, on_equiv};
 ghost use Rattle.std.specs.Cmp.Lexicographic.{pointwise, lists_per, lists_equiv};
 ghost use Rattle.std.proofs.Common.{arith, ap};
@@ -11,8 +11,8 @@ ghost use Rattle.ix_cells.specs.VectorSteps.{vec_refill};
 
 use crate::vector::Vector;
 use std::alloc::{AllocError, Allocator, Global};
-use std::fmt;
 use std::marker::Model;
+use std::{fmt, slice, vec};
 
 /// A vector that allocates from `A` once, when it is made, and deallocates when it is dropped. Contracts see it as a
 /// bounded list.
@@ -140,6 +140,61 @@ impl<T: Drop, A: Allocator> Drop for PolymorphicVec<T, A> {
     fn drop(mut self) {
         self.clear();
         let PolymorphicVec { items: _ } = self;
+    }
+}
+
+/// Yields the items by value, from the first to the last; O(1), without an allocation. The items that are left when the
+/// iterator is dropped are dropped with it, the first one first.
+impl<T: Drop, A: Allocator> IntoIterator for PolymorphicVec<T, A> {
+    type Item = T;
+
+    type IntoIter = vec::IntoIter<T, A>;
+
+    ghost use Rattle.std.specs.Iterator.Runs.{YieldsInOrder, YieldsInReverse};
+    ghost use Rattle.std_alloc.specs.Vec.Iter.{into_iter_items, into_iter_len, into_iter_steps, into_iter_steps_back};
+
+    ghost into_iter_gives = { λ vector it. (into_iter_items it ≡ vector.items)
+        × (into_iter_len it ≡ length vector.items) × (into_iter_len it < 2 ^ 64)
+        × YieldsInOrder (into_iter_steps {X = T} {Z = A}) into_iter_items
+        × YieldsInReverse (into_iter_steps_back {X = T} {Z = A}) into_iter_items };
+
+    fn into_iter(self) -> vec::IntoIter<T, A> {
+        let PolymorphicVec { items } = self;
+        items.into_iter()
+    }
+}
+
+/// Yields references to the items, as [`Vector::iter`] does.
+impl<'a, T: Drop, A: Allocator> IntoIterator for &'a PolymorphicVec<T, A> {
+    type Item = &'a T;
+
+    type IntoIter = slice::Iter<'a, T>;
+
+    ghost use Rattle.ix_cells.specs.Iterating.{YieldsRefsTo};
+
+    ghost into_iter_gives = { λ vector it. YieldsRefsTo vector.now.items it };
+
+    fn into_iter(self) -> slice::Iter<'a, T> {
+        self.iter()
+    }
+}
+
+/// Yields mutable references to the items, as [`Vector::iter_mut`] does.
+impl<'a, T: Drop, A: Allocator> IntoIterator for &'a mut PolymorphicVec<T, A> {
+    type Item = &'a mut T;
+
+    type IntoIter = slice::IterMut<'a, T>;
+
+    ghost use Rattle.std.specs.Borrow.{sem};
+    ghost use Rattle.ix_cells.specs.Iterating.{YieldsMutRefsTo, polymorphic_vec_lends_iter};
+
+    ghost into_iter_gives = { λ vector it. YieldsMutRefsTo vector.now.items it };
+
+    fn into_iter(self) -> slice::IterMut<'a, T>
+        ensures* writes_back { sem 𝓛 (polymorphic_vec_lends_iter T.row A.row A.Allocator self.entry result) }
+        ensures into_iter_gives { YieldsMutRefsTo self.old.items result }
+    {
+        self.iter_mut()
     }
 }
 

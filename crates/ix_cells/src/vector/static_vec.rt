@@ -1,8 +1,12 @@
 //! The vector that is stored inline.
-ghost use Rattle.std.specs.Prelude.{◌≡◌, ◌+◌, ◌<◌, ◌≤◌, [], length, take, IsOk, OnOk, OnErr};
+ghost use Rattle.std.specs.Prelude.{◌≡◌, ◌+◌, ◌<◌, ◌≤◌, [], length, take, IsOk, IsOkUnless, IfOk, OnOk, OnErr};
 ghost use Rattle.std.specs.List.{AllZip, AppendsClones, refill};
+ghost use Rattle.std.specs.Iterator.{IsFiniteIterable};
 ghost use Rattle.std.specs.Cmp.Lexicographic.{pointwise, lists_per, lists_equiv};
+ghost use Rattle.ix_cells.specs.Bounded.{bounded_new};
 ghost use Rattle.ix_cells.specs.Cloning.{AreInfallible};
+ghost use Rattle.ix_cells.specs.Iterating.{AreItemsOf, YieldsMoreThanFit};
+ghost use Rattle.ix_cells.specs.declared.vector.modification_error.VectorModificationError.TheVariants.{InsertWouldExceedCapacity};
 ghost use Rattle.std.proofs.Common.{arith, ap};
 ghost use Rattle.std.proofs.lemmas.Grind.{common_steps};
 
@@ -11,8 +15,8 @@ use crate::cells::row::{front_mut, put, put_clones, put_defaults, replace};
 use crate::vector::{Vector, VectorModificationError};
 use arrayvec::ArrayVec;
 use std::alloc::AllocError;
-use std::fmt;
 use std::marker::Model;
+use std::{fmt, slice};
 
 /// A vector of at most `CAPACITY` items that is stored inline and does not allocate. Contracts see it as the list of
 /// its items.
@@ -81,6 +85,29 @@ impl<T: Default, const CAPACITY: usize> StaticVec<T, CAPACITY> {
         ensures { result ≡ CAPACITY }
     {
         CAPACITY
+    }
+}
+
+impl<T: Default + Drop, const CAPACITY: usize> StaticVec<T, CAPACITY> {
+    /// Creates a vector that holds the items of `iter`, in the order in which they come. `CAPACITY` is at most
+    /// [`MAX_FIXED_CAPACITY`]. O(`CAPACITY`).
+    ///
+    /// Returns [`VectorModificationError::InsertWouldExceedCapacity`] if more than `CAPACITY` items come. All that came and
+    /// the iterator are dropped then.
+    pub fn try_from_iter<U: IntoIterator<Item = T>>(
+        iter: U,
+    ) -> Result<Self, VectorModificationError>
+        requires capacity { CAPACITY ≤ MAX_FIXED_CAPACITY }
+        requires iter { IsFiniteIterable U.into_iter_gives U.IntoIter.can_next U.IntoIter.remaining iter }
+        ensures value { IsOkUnless result InsertWouldExceedCapacity }
+        ensures vector { IfOk result (λ vector.
+            AreItemsOf U.into_iter_gives U.IntoIter.next_gives iter vector) }
+        ensures full { OnErr result (YieldsMoreThanFit U.into_iter_gives U.IntoIter.next_gives iter
+            (bounded_new CAPACITY)) }
+    {
+        let mut vector = StaticVec::new();
+        vector.extend_from_iter(iter)?;
+        Ok(vector)
     }
 }
 
@@ -167,6 +194,64 @@ impl<T: Default + Drop, const CAPACITY: usize> Drop for StaticVec<T, CAPACITY> {
     fn drop(mut self) {
         self.clear();
         let StaticVec { row: _, len: _ } = self;
+    }
+}
+
+/// The items of a [`StaticVec`] by value, as `into_iter` returns them.
+pub type StaticVecIntoIter<T, const CAPACITY: usize> = arrayvec::IntoIter<T, CAPACITY>;
+
+/// Yields the items by value, from the first to the last; O(`CAPACITY`). The items that are left when the iterator is
+/// dropped are dropped with it, the first one first.
+impl<T: Default + Drop, const CAPACITY: usize> IntoIterator for StaticVec<T, CAPACITY> {
+    type Item = T;
+
+    type IntoIter = StaticVecIntoIter<T, CAPACITY>;
+
+    ghost use Rattle.std.specs.Iterator.{YieldsFirst, YieldsLast};
+    ghost use Rattle.std.specs.Iterator.Runs.{YieldsInOrder, YieldsInReverse};
+
+    ghost into_iter_gives = { λ vector it. (it ≡ vector) × (length it ≤ CAPACITY)
+        × YieldsInOrder (YieldsFirst {A = T} (λ rest. rest)) (λ rest. rest)
+        × YieldsInReverse (YieldsLast {A = T} (λ rest. rest)) (λ rest. rest) };
+
+    fn into_iter(self) -> StaticVecIntoIter<T, CAPACITY> {
+        let StaticVec { mut row, len } = self;
+        row.truncate(len);
+        row.into_iter()
+    }
+}
+
+/// Yields references to the items, as [`Vector::iter`] does.
+impl<'a, T: Default + Drop, const CAPACITY: usize> IntoIterator for &'a StaticVec<T, CAPACITY> {
+    type Item = &'a T;
+
+    type IntoIter = slice::Iter<'a, T>;
+
+    ghost use Rattle.ix_cells.specs.Iterating.{YieldsRefsTo};
+
+    ghost into_iter_gives = { λ vector it. YieldsRefsTo vector.now it };
+
+    fn into_iter(self) -> slice::Iter<'a, T> {
+        self.iter()
+    }
+}
+
+/// Yields mutable references to the items, as [`Vector::iter_mut`] does.
+impl<'a, T: Default + Drop, const CAPACITY: usize> IntoIterator for &'a mut StaticVec<T, CAPACITY> {
+    type Item = &'a mut T;
+
+    type IntoIter = slice::IterMut<'a, T>;
+
+    ghost use Rattle.std.specs.Borrow.{sem};
+    ghost use Rattle.ix_cells.specs.Iterating.{YieldsMutRefsTo, static_vec_lends_iter};
+
+    ghost into_iter_gives = { λ vector it. YieldsMutRefsTo vector.now it };
+
+    fn into_iter(self) -> slice::IterMut<'a, T>
+        ensures* writes_back { sem 𝓛 (static_vec_lends_iter T.row CAPACITY.row T.Default self.entry result) }
+        ensures into_iter_gives { YieldsMutRefsTo self.old result }
+    {
+        self.iter_mut()
     }
 }
 

@@ -2,14 +2,17 @@
 ghost use Rattle.std.specs.Prelude.{◌≡◌, ◌+◌, ◌<◌, ◌≤◌, ◌↔◌, List, [], ◌∷◌, ◌++◌, length, take, drop, Ok, Err, IsTrue, IsOk, IsOkUnless, OnOk, OnErr, slice_get, slice_range};
 ghost use Rattle.std.specs.List.{AppendsResults, remove_range};
 ghost use Rattle.std.specs.Borrow.{sem};
+ghost use Rattle.std.specs.Iterator.{IsFiniteIterable};
 ghost use Rattle.ix_cells.specs.Bounded.{Bounded, IsWithin, IsFull, with_items, bounded_push};
 ghost use Rattle.ix_cells.specs.Cloning.{AreEqualClones, AreInfallible};
 ghost use Rattle.ix_cells.specs.Lending.{vec_lends};
+ghost use Rattle.ix_cells.specs.Iterating.{YieldsRefsTo, YieldsMutRefsTo, vec_lends_iter, ExtendsByItemsOf, YieldsMoreThanFit};
 ghost use Rattle.ix_cells.specs.VectorSteps.{HasRoomFor, LacksRoomFor, vec_push_result, vec_insert, vec_insert_result, vec_remove, vec_pop, vec_last, vec_truncate, vec_extend, vec_resize, vec_resize_result};
 ghost use Rattle.ix_cells.specs.declared.vector.modification_error.VectorModificationError.TheVariants.{InsertWouldExceedCapacity, OutOfMemory};
 
 use crate::vector::VectorModificationError;
 use std::alloc::AllocError;
+use std::slice;
 
 /// A contiguous list of at most [`capacity`](Vector::capacity) items. Contracts see it as a bounded list.
 ///
@@ -41,6 +44,27 @@ pub trait Vector<T: Drop> {
     fn as_mut_slice(&mut self) -> &mut [T]
         ensures* writes_back { sem 𝓛 (vec_lends Self.row T.row with_slice self.entry result) }
         ensures value { result.now ≡ (bounded self.old).items };
+
+    /// Returns an iterator over references to the items, from the first to the last. O(1).
+    ///
+    /// ```text
+    /// for item in vector.iter().rev() { report(item) }
+    /// ```
+    #[inline]
+    final fn iter(&self) -> slice::Iter<'_, T>
+        ensures { YieldsRefsTo (bounded self.now).items result }
+    {
+        self.as_slice().iter()
+    }
+
+    /// Returns an iterator over mutable references to the items, from the first to the last. O(1).
+    #[inline]
+    final fn iter_mut(&mut self) -> slice::IterMut<'_, T>
+        ensures* writes_back { sem 𝓛 (vec_lends_iter Self.row T.row with_slice self.entry result) }
+        ensures value { YieldsMutRefsTo (bounded self.old).items result }
+    {
+        self.as_mut_slice().iter_mut()
+    }
 
     /// Returns the maximum number of items. O(1).
     fn capacity(&self) -> usize
@@ -192,6 +216,32 @@ pub trait Vector<T: Drop> {
             Ok(()) => Ok(()),
             Err(AllocError) => Err(VectorModificationError::OutOfMemory),
         }
+    }
+
+    /// Appends the items of `iter`, in the order in which they come. O(the number of items).
+    ///
+    /// Returns [`VectorModificationError::InsertWouldExceedCapacity`] if an item comes for which there is no room. That item
+    /// and the iterator are dropped, and the items that were appended before it, the last one first.
+    final fn extend_from_iter<U: IntoIterator<Item = T>>(
+        &mut self,
+        iter: U,
+    ) -> Result<(), VectorModificationError>
+        requires { IsFiniteIterable U.into_iter_gives U.IntoIter.can_next U.IntoIter.remaining iter }
+        ensures value { IsOkUnless result InsertWouldExceedCapacity }
+        ensures vector { OnOk result (ExtendsByItemsOf U.into_iter_gives U.IntoIter.next_gives iter
+            (bounded self.old) (bounded self.new)) }
+        ensures full { OnErr result (YieldsMoreThanFit U.into_iter_gives U.IntoIter.next_gives iter
+            (bounded self.old)) }
+        ensures refused { OnErr result (bounded self.new ≡ bounded self.old) }
+    {
+        let old_len = self.len();
+        for item in iter {
+            if let Err(error) = self.push(item) {
+                self.truncate(old_len);
+                return Err(error);
+            }
+        }
+        Ok(())
     }
 
     /// Resizes the vector to `n` items: truncates it, or appends clones of `item`. O(`len - n`), or O(`n - len`) clones.

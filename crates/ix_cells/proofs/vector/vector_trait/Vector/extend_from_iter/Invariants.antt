@@ -1,0 +1,10 @@
+use Rattle.std.proofs.Common.{◌≡◌}
+use Rattle.ix_cells.specs.Bounded.{IsWithin}
+use Rattle.ix_cells.specs.VectorSteps.{vec_extend}
+use Rattle.ix_cells.proofs.vector.vector_trait.Vector.extend_from_iter.Given as goal
+
+abbrev pub invariant-loop-item : goal.invariant-loop-item
+invariant-loop-item g l = (goal.iterator-loop-item g).can_next l.item-iterator
+    × (goal.iterator-loop-item g).is_finite l.item-iterator
+    × IsWithin (g.Self.Vector.bounded l.self)
+    × (g.Self.Vector.bounded l.self ≡ vec_extend (g.Self.Vector.bounded l.initial.self) l.yielded)
