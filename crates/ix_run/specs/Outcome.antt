@@ -28,6 +28,11 @@ outcome_status (Err Read) = 1
 outcome_status (Err Write) = 1
 outcome_status (Err OutOfMemory) = 2
 
+abbrev pub script_fault_text : ScriptFault → List ℕ
+script_fault_text Read = codes "read fault"
+script_fault_text Write = codes "write fault"
+script_fault_text OutOfMemory = codes "out of memory"
+
 -- the line that names a fault on standard error
 abbrev pub fault_text : ScriptFault → List ℕ
 fault_text Read = codes "boxes: read fault"

@@ -1,6 +1,9 @@
 //! Why a script stops, and how the program reports it.
-ghost use Rattle.std.specs.Prelude.{◌≡◌};
+ghost use Rattle.std.specs.Prelude.{◌≡◌, Some};
 ghost use Rattle.ix_run.specs.Outcome.{outcome_status, fault_text};
+
+use std::error::Error;
+use std::fmt;
 
 /// Why a script stopped.
 #[derive(Clone, Copy, PartialEq, Eq, Debug)]
@@ -12,6 +15,22 @@ pub enum ScriptFault {
     /// There was no memory for a container.
     OutOfMemory,
 }
+
+impl fmt::Display for ScriptFault {
+    ghost use Rattle.ix_run.specs.Outcome.{script_fault_text};
+
+    ghost output = { λ fault. Some (script_fault_text fault) };
+
+    fn fmt<W: fmt::Write>(&self, f: &mut fmt::Formatter<W>) -> fmt::Result {
+        f.write_str(match self {
+            ScriptFault::Read => "read fault",
+            ScriptFault::Write => "write fault",
+            ScriptFault::OutOfMemory => "out of memory",
+        })
+    }
+}
+
+impl Error for ScriptFault {}
 
 /// Returns the exit status of the program: 0, 1 after a read or a write fault, 2 without memory. O(1).
 pub fn exit_status(outcome: &Result<(), ScriptFault>) -> u8
