@@ -68,6 +68,7 @@ impl<T: AtomicCopy, const SIZE: usize> SequencedByteAtomic<T, SIZE> {
         ensures own { IfOk result (λ made. AreOwn made.1) }
         ensures reader { IfOk result (λ made.
             (made.2.cell ≡ made.0) × (made.2.known ≡ value ∷ []) × (made.2.seen ≡ [])) }
+        ensures touches { IfOk result (λ made. (made.1.touched ≡ []) × (made.2.touched ≡ [])) }
     {
         if SIZE > MAX_SIZE {
             return Err(AllocError);
@@ -191,6 +192,7 @@ impl<T: AtomicCopy, const SIZE: usize> SequencedByteAtomic<T, SIZE> {
         ensures reader { IfOk result (λ reader.
             (reader.cell ≡ seat.old.cell) × (reader.known ≡ seat.old.known) × (reader.seen ≡ [])) }
         ensures seat { seat.new ≡ seat.old }
+        ensures touches { IfOk result (λ reader. reader.touched ≡ []) }
         ensures memory { IsOk result }
     {
         let reader = self.table.shared.split_seat::<NewSeat>(&mut seat.seat);
@@ -210,6 +212,7 @@ impl<T: AtomicCopy, const SIZE: usize> SequencedByteAtomic<T, SIZE> {
             × (writer.seen ≡ []) × (writer.places ≡ [])) }
         ensures own { IfOk result AreOwn }
         ensures seat { seat.new ≡ seat.old }
+        ensures touches { IfOk result (λ writer. writer.touched ≡ []) }
         ensures memory { IsOk result }
     {
         let writer = self.table.shared.split_seat::<NewSeat>(&mut seat.seat);
