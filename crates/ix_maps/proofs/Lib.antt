@@ -1,5 +1,6 @@
 pub mod Pairs
 pub mod Rings
+pub mod Ranges
 mod WorkedQueues
 mod WorkedFlatMaps
 mod WorkedSlotTables

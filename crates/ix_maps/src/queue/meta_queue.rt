@@ -11,6 +11,7 @@ ghost use Rattle.ix_cells.specs.Places.{IsVacant};
 ghost use Rattle.ix_maps.specs.QueueSteps.{queue_overflow, queue_overflow_item, queue_front, queue_pop, queue_set_front};
 ghost use Rattle.ix_maps.specs.Ring.{ring_place, ring_next};
 
+use crate::queue::Iter;
 use ix_cells::Table;
 use std::fmt::{self, Debug, Formatter, Write};
 use std::marker::{Model, PhantomData};
@@ -266,9 +267,23 @@ impl<T, S: Table<T>> MetaQueue<T, S> {
         self.get(index)
     }
 
+    /// Returns an iterator over the items, the front item first. O(1), and O(`len`) for all of its items together.
+    ///
+    /// ```text
+    /// for item in queue.iter() {        // or `in &queue`
+    ///     report(*item);
+    /// }
+    /// ```
+    #[inline]
+    pub fn iter(&self) -> Iter<'_, T, S>
+        ensures { result ≡ self.now.items }
+    {
+        Iter::new(self)
+    }
+
     /// Returns a reference to the item at `index`, where 0 is the front.
     #[inline]
-    fn item_at(&self, index: usize) -> &T
+    pub(crate) fn item_at(&self, index: usize) -> &T
         requires { index < length self.now.items }
         ensures { slice_get self.now.items index ≡ Some result.now }
     {
@@ -341,10 +356,6 @@ impl<T: Eq, S: Table<T>> Eq for MetaQueue<T, S> {
 /// Prints a list of the items, the front item first. O(`len`).
 impl<T: Debug, S: Table<T>> Debug for MetaQueue<T, S> {
     fn fmt<W: Write>(&self, f: &mut Formatter<W>) -> fmt::Result {
-        let mut list = f.debug_list();
-        for i in 0..self.len() {
-            list.entry(self.item_at(i));
-        }
-        list.finish()
+        self.iter().fmt(f)
     }
 }
