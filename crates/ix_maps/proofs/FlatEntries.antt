@@ -3,10 +3,12 @@ use Rattle.std.proofs.Common.{◌≡◌, ℕ, zero, suc, ◌+◌, ◌↔◌, Lis
 use Rattle.std.proofs.lemmas.Bool.{cases_Bool, both_ways}
 use Rattle.std.specs.Cmp.{IsEquivalence}
 use Rattle.std.specs.List.{find}
-use Rattle.std.specs.Prelude.{option_map}
+use Rattle.std.specs.Map.{keys_of, lookup}
+use Rattle.std.specs.Prelude.{map, option_map}
+use Rattle.std.proofs.lemmas.Simd.{map-map}
 use Rattle.ix_cells.specs.Places.{place_at}
-use Rattle.ix_maps.specs.SlotState.{SlotState, value_at, entries_from, slot_new}
-use Rattle.ix_maps.specs.FlatState.{HasDistinctKeys, flat_entry, flat_value}
+use Rattle.ix_maps.specs.SlotState.{SlotState, value_at, entries, entries_from, slot_new}
+use Rattle.ix_maps.specs.FlatState.{HasDistinctKeys, flat_entry, flat_value, flat_keys, flat_item, flat_items}
 use Rattle.ix_maps.specs.declared.flatmap.pair.Pair.{Pair}
 
 find-equal : {X : Type 0} (test : X → Bool) (x : X) (xs : List X) → test x ≡ true → find test (x ∷ xs) ≡ Some x
@@ -160,3 +162,18 @@ module _ {K V : Type 0} where
       place_at-replicate zero i = refl
       place_at-replicate (suc n) zero = refl
       place_at-replicate (suc n) (suc i) = place_at-replicate n i
+
+module _ {K V : Type 0} where
+  pub keys_of-flat_items : (s : SlotState (Pair K V)) → keys_of (flat_items s) ≡ flat_keys s
+  keys_of-flat_items s = map-map (λ (item : K × V). item.0) flat_item (entries s)
+
+  lookup-items : (eq : K → K → Bool) (key : K) (items : List (ℕ × Pair K V)) → lookup (λ other. eq other key) (map flat_item items) ≡ option_map (λ (entry : ℕ × Pair K V). entry.1.value) (find (λ entry. eq entry.1.key key) items)
+  lookup-items eq key [] = refl
+  lookup-items eq key (entry ∷ items) = either (eq entry.1.key key) (lookup-items eq key items)
+    where
+      either : (b : Bool) → lookup (λ other. eq other key) (map flat_item items) ≡ option_map (λ (found : ℕ × Pair K V). found.1.value) (find (λ other. eq other.1.key key) items) → cond b (Some entry.1.value) (lookup (λ other. eq other key) (map flat_item items)) ≡ option_map (λ (found : ℕ × Pair K V). found.1.value) (cond b (Some entry) (find (λ other. eq other.1.key key) items))
+      either true later = refl
+      either false later = later
+
+  pub lookup-flat_items : (eq : K → K → Bool) (s : SlotState (Pair K V)) (key : K) → lookup (λ other. eq other key) (flat_items s) ≡ flat_value eq s key
+  lookup-flat_items eq s key = lookup-items eq key (entries s)

@@ -21,3 +21,11 @@ module _ {K V : Type 0} where
   -- the keys in slot order, that of their places
   abbrev pub flat_keys : SlotState (Pair K V) → List K
   flat_keys s = map (λ entry. entry.1.key) (entries s)
+
+  -- the key and the value of an entry
+  abbrev pub flat_item : ℕ × Pair K V → K × V
+  flat_item entry = (entry.1.key, entry.1.value)
+
+  -- the keys in slot order, each with its value
+  abbrev pub flat_items : SlotState (Pair K V) → List (K × V)
+  flat_items s = map flat_item (entries s)

@@ -1,11 +1,13 @@
 //! The iterator over the keys of flat maps.
-ghost use Rattle.std.specs.Prelude.{◌≡◌, map};
-ghost use Rattle.std.specs.Iterator.{YieldsFirstBy, item_count};
+ghost use Rattle.std.specs.Prelude.{◌≡◌, length, map, Some, IfSome};
+ghost use Rattle.std.specs.Iterator.{YieldsFirstBy, UpTo, at_most, item_count};
+ghost use Rattle.std.specs.Iterator.SizeHint.{IsWithinCount};
 
 use crate::flatmap::Pair;
 use crate::slottable::{Iter, Link};
 use ix_cells::Table;
 use std::fmt::{self, Debug, Formatter, Write};
+use std::iter::FusedIterator;
 use std::marker::Model;
 
 /// An iterator over the keys of a flat map in slot order, as [`MetaFlatMap::keys`](crate::flatmap::MetaFlatMap::keys)
@@ -57,7 +59,27 @@ impl<'a, K, V, S: Table<Pair<K, V>>, L: Table<Link>> Iterator for Keys<'a, K, V,
             None => None,
         }
     }
+
+    /// Returns the number of keys that are still to come, as both bounds. O(1).
+    #[inline]
+    fn size_hint(&self) -> (usize, Option<usize>)
+        ensures value { result ≡ (length self.now, Some (length self.now)) }
+        ensures lower { IsWithinCount result.0 (at_most (length self.now)) }
+        ensures upper { IfSome result.1 (UpTo (at_most (length self.now))) }
+    {
+        self.pairs.size_hint()
+    }
 }
+
+impl<'a, K, V, S: Table<Pair<K, V>>, L: Table<Link>> ExactSizeIterator for Keys<'a, K, V, S, L> {
+    /// Returns the number of keys that are still to come. O(1).
+    #[inline]
+    fn len(&self) -> usize {
+        self.pairs.len()
+    }
+}
+
+impl<'a, K, V, S: Table<Pair<K, V>>, L: Table<Link>> FusedIterator for Keys<'a, K, V, S, L> {}
 
 /// Prints a list of the keys that are still to come. O(capacity).
 impl<'a, K: Debug, V, S: Table<Pair<K, V>>, L: Table<Link>> Debug for Keys<'a, K, V, S, L> {

@@ -2,13 +2,14 @@
 ghost use Rattle.std.specs.Prelude.{◌≡◌, ◌↔◌, ◌+◌, ℕ, [], length, Some, None, IsSome, IsTrue, IsNone, IsOk, IfSome, IfOk, OnErr, option_copied, option_map, slice_get, false, true};
 ghost use Rattle.std.specs.Borrow.{sem, Lends, LendsIf};
 ghost use Rattle.std.specs.Option.{option_copied_mut};
+ghost use Rattle.std.specs.Map.{keys_of, lookup};
 ghost use Rattle.ix_cells.specs.Cloning.{AreEqualClones};
 ghost use Rattle.ix_maps.specs.SlotState.{IsWellFormed, IsHeld, value_at, held_count};
-ghost use Rattle.ix_maps.specs.FlatState.{HasDistinctKeys, flat_entry, flat_value, flat_keys};
+ghost use Rattle.ix_maps.specs.FlatState.{HasDistinctKeys, flat_entry, flat_value, flat_keys, flat_items};
 ghost use Rattle.ix_maps.specs.FlatSteps.{flat_insert_result, flat_insert, pair_set, flat_set, flat_remove, ListsUntilStop};
 ghost use Rattle.ix_maps.specs.SlotSteps.{slot_set, SlotRemove};
 
-use crate::flatmap::{CallbackProgression, FlatMapError, Keys, Pair};
+use crate::flatmap::{CallbackProgression, FlatMapError, Iter, Keys, Pair};
 use crate::slottable::{Link, MetaSlotTable, SlotTableKey, held_mut};
 use ix_cells::Table;
 use std::alloc::AllocError;
@@ -216,6 +217,24 @@ impl<K: Eq + Drop, V: Drop, S: Table<Pair<K, V>>, L: Table<Link>> MetaFlatMap<K,
         Keys::new(self.pairs.iter())
     }
 
+    /// Returns an iterator over the keys in slot order, each with its value. O(1), and O(capacity) for all of its items
+    /// together.
+    ///
+    /// ```text
+    /// for (key, value) in map.iter() {      // or `in &map`
+    ///     report(*key, *value);
+    /// }
+    /// ```
+    #[inline]
+    pub fn iter(&self) -> Iter<'_, K, V, S, L>
+        ensures items { result ≡ flat_items self.now }
+        ensures keys { keys_of result ≡ flat_keys self.now }
+        // A key comes with its value exactly if the map has an equal one.
+        ensures exactly { (key : K) → lookup (λ other. K.eq other key) result ≡ flat_value K.eq self.now key }
+    {
+        Iter::new(self.pairs.iter())
+    }
+
     /// Returns the key that [`MetaFlatMap::list_keys`] lists after `n` others, or `None` if there are at most `n` keys.
     pub fn nth_key(&self, n: usize) -> Option<&K>
         ensures { option_copied result ≡ slice_get (flat_keys self.now) n }
@@ -297,10 +316,6 @@ fn remove_pair<T, S: Table<T>, L: Table<Link>>(
 impl<K: Eq + Debug, V: Debug, S: Table<Pair<K, V>>, L: Table<Link>> Debug
     for MetaFlatMap<K, V, S, L> {
     fn fmt<W: Write>(&self, f: &mut Formatter<W>) -> fmt::Result {
-        let mut map = f.debug_map();
-        for (_, pair) in self.pairs.iter() {
-            map.entry(&pair.key, &pair.value);
-        }
-        map.finish()
+        f.debug_map().entries(Iter::new(self.pairs.iter())).finish()
     }
 }

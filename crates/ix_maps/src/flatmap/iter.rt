@@ -1,0 +1,112 @@
+//! The iterator of flat maps.
+ghost use Rattle.std.specs.Prelude.{◌≡◌, length, map, Some, IfSome};
+ghost use Rattle.std.specs.Iterator.{YieldsFirstBy, UpTo, at_most, item_count};
+ghost use Rattle.std.specs.Iterator.SizeHint.{IsWithinCount};
+ghost use Rattle.ix_maps.specs.FlatState.{flat_item};
+
+use crate::flatmap::{MetaFlatMap, Pair};
+use crate::slottable::{self, Link};
+use ix_cells::Table;
+use std::fmt::{self, Debug, Formatter, Write};
+use std::iter::FusedIterator;
+use std::marker::Model;
+
+/// An iterator over the keys of a flat map in slot order, each with its value, as
+/// [`MetaFlatMap::iter`](crate::flatmap::MetaFlatMap::iter) returns it. Contracts see the items that are still to come.
+///
+/// ```text
+/// let mut map = FixedSizeFlatMap::<u16, char, 3>::new();
+/// map.insert(443, 'b');
+/// map.insert(80, 'a');
+/// for (key, value) in map.iter() {      // (443, 'b'), (80, 'a')
+///     report(*key, *value);
+/// }
+/// ```
+#[derive(Drop)]
+pub struct Iter<'a, K, V, S: Table<Pair<K, V>>, L: Table<Link>> {
+    pairs: slottable::Iter<'a, Pair<K, V>, S, L>,
+}
+
+impl<'a, K, V, S: Table<Pair<K, V>>, L: Table<Link>> Model for Iter<'a, K, V, S, L> {
+    ghost use Rattle.std.specs.Prelude.{List, map};
+    ghost use Rattle.ix_maps.specs.FlatState.{flat_item};
+
+    ghost Value = { List (K × V) };
+
+    ghost view = { λ iter. map flat_item iter.pairs };
+}
+
+impl<'a, K, V, S: Table<Pair<K, V>>, L: Table<Link>> Iter<'a, K, V, S, L> {
+    /// Returns an iterator over the keys of pairs, each with its value. O(1).
+    #[inline]
+    pub(crate) fn new(pairs: slottable::Iter<'a, Pair<K, V>, S, L>) -> Self
+        ensures { result ≡ map flat_item pairs.entry }
+    {
+        Iter { pairs }
+    }
+}
+
+impl<'a, K, V, S: Table<Pair<K, V>>, L: Table<Link>> Iterator for Iter<'a, K, V, S, L> {
+    type Item = (&'a K, &'a V);
+
+    ghost next_gives = { YieldsFirstBy (λ item. (item.0.now, item.1.now)) (λ rest. rest) };
+
+    ghost remaining = { item_count (λ rest. rest) };
+
+    /// Returns the next key with its value, or `None` after the last one. O(the number of free places before it).
+    #[inline]
+    fn next(&mut self) -> Option<(&'a K, &'a V)> {
+        match self.pairs.next() {
+            Some((_, pair)) => Some((&pair.key, &pair.value)),
+            None => None,
+        }
+    }
+
+    /// Returns the number of items that are still to come, as both bounds. O(1).
+    #[inline]
+    fn size_hint(&self) -> (usize, Option<usize>)
+        ensures value { result ≡ (length self.now, Some (length self.now)) }
+        ensures lower { IsWithinCount result.0 (at_most (length self.now)) }
+        ensures upper { IfSome result.1 (UpTo (at_most (length self.now))) }
+    {
+        self.pairs.size_hint()
+    }
+}
+
+impl<'a, K, V, S: Table<Pair<K, V>>, L: Table<Link>> ExactSizeIterator for Iter<'a, K, V, S, L> {
+    /// Returns the number of items that are still to come. O(1).
+    #[inline]
+    fn len(&self) -> usize {
+        self.pairs.len()
+    }
+}
+
+impl<'a, K, V, S: Table<Pair<K, V>>, L: Table<Link>> FusedIterator for Iter<'a, K, V, S, L> {}
+
+/// Prints a list of the items that are still to come, each a key and its value. O(capacity).
+impl<'a, K: Debug, V: Debug, S: Table<Pair<K, V>>, L: Table<Link>> Debug for Iter<'a, K, V, S, L> {
+    fn fmt<W: Write>(&self, f: &mut Formatter<W>) -> fmt::Result {
+        let mut list = f.debug_list();
+        for (_, pair) in self.pairs.rest() {
+            list.entry(&(&pair.key, &pair.value));
+        }
+        list.finish()
+    }
+}
+
+impl<'a, K: Eq, V, S: Table<Pair<K, V>>, L: Table<Link>> IntoIterator
+    for &'a MetaFlatMap<K, V, S, L> {
+    ghost use Rattle.ix_maps.specs.FlatState.{flat_items};
+
+    type Item = (&'a K, &'a V);
+
+    type IntoIter = Iter<'a, K, V, S, L>;
+
+    ghost into_iter_gives = { λ map iter. iter ≡ flat_items map.now };
+
+    /// Returns an iterator over the keys in slot order, each with its value. O(1).
+    #[inline]
+    fn into_iter(self) -> Iter<'a, K, V, S, L> {
+        Iter::new(self.pairs.iter())
+    }
+}
