@@ -1,12 +1,15 @@
 -- The entries of a slot map with generations: each held key once, in rising order of the indexes.
-use Rattle.std.proofs.Common.{◌≡◌, ℕ, zero, suc, ◌+◌, ◌<◌, List, [], ◌∷◌, map, true, false, Bool, Option, Some, None, refl, ap, ◌∙◌, arith}
-use Rattle.std.specs.Prelude.{nat_eq, if◌then◌else◌}
+use Rattle.std.proofs.Common.{◌≡◌, ℕ, zero, suc, ◌+◌, ◌<◌, List, [], ◌∷◌, length, map, true, false, Bool, Option, Some, None, refl, ap, ◌∙◌, arith}
+use Rattle.std.specs.Prelude.{nat_eq, if◌then◌else◌, is_some, count_by}
 use Rattle.std.specs.Option.{option_flatten}
 use Rattle.std.specs.Map.{lookup}
 use Rattle.std.proofs.lemmas.Bool.Decides.{nat_tests}
+use Rattle.std.proofs.lemmas.List.Sums.{sum_by-cons}
 use Rattle.ix_cells.specs.Places.{place_at}
-use Rattle.ix_maps.specs.SlotState.{entries_from}
-use Rattle.ix_maps.specs.Generations.{SlotKey, slot_key_eq, SlotMapState, generation_at, held_entries, map_entries, KeysRise, ListsExactly}
+use Rattle.ix_maps.specs.SlotState.{entries_from, entries}
+use Rattle.ix_maps.specs.Generations.{SlotKey, slot_key_eq, SlotMapState, generation_at, held_entries, map_len, map_entries, KeysRise, ListsExactly}
+use Rattle.ix_maps.specs.GenerationTable.{AreEntriesOf}
+use Rattle.ix_maps.proofs.Generations.{AreEntriesBelow-entries}
 use Rattle.ix_maps.proofs.Entries.{Rises, Rises-none, Rises-weaken, Rises-cons}
 
 module _ {T : Type 0} (s : SlotMapState T) where
@@ -62,3 +65,14 @@ module _ {T : Type 0} (s : SlotMapState T) where
 
   pub ListsExactly-map_entries : ListsExactly (map_entries s) s
   ListsExactly-map_entries key = found_at key 0 key.index s.slots.values (omega arith)
+
+  count_by-held : (start : ℕ) (places : List (Option (Option T))) → count_by (λ content. is_some (option_flatten content)) places ≡ length (held_entries s (entries_from start places))
+  count_by-held start [] = refl
+  count_by-held start (None ∷ places) = count_by-held (start + 1) places
+  count_by-held start (Some None ∷ places) = count_by-held (start + 1) places
+  count_by-held start (Some (Some value) ∷ places) =
+      let one = sum_by-cons (λ (content : Option (Option T)). if is_some (option_flatten content) then 1 else 0) (Some (Some value)) places in
+      let later = count_by-held (start + 1) places in omega arith
+
+  pub AreEntriesOf-map_entries : (len : ℕ) → len ≡ map_len s → AreEntriesOf s (entries s.slots) len
+  AreEntriesOf-map_entries len is = record { below = AreEntriesBelow-entries s.slots; counted = is ∙ count_by-held 0 s.slots.values }

@@ -1,7 +1,7 @@
 -- How a slot map keeps its generations: a number in each place of a table. No clause of a public call cites this.
 use Rattle.std.specs.Prelude.{◌≡◌, ℕ, ◌<◌, List, [], ◌∷◌, length, map, unwrap_or, Option}
 use Rattle.ix_cells.specs.Places.{IsHeldAt}
-use Rattle.ix_maps.specs.Generations.{SlotMapState, greatest_generation, generation_at, IsRetired, retired_count}
+use Rattle.ix_maps.specs.Generations.{SlotMapState, greatest_generation, generation_at, IsRetired, retired_count, held_entries}
 
 -- the numbers in the places of a table
 abbrev pub numbers_in : List (Option ℕ) → List ℕ
@@ -22,3 +22,8 @@ module _ {T : Type 0} where
   abbrev pub AreEntriesBelow : ℕ → List (ℕ × Option T) → Type 0
   AreEntriesBelow capacity [] = Unit {0}
   AreEntriesBelow capacity (entry ∷ entries) = (entry.0 < capacity) × AreEntriesBelow capacity entries
+
+  -- the entries are of places of the map, and so many of them hold a value
+  pub record AreEntriesOf (s : SlotMapState T) (items : List (ℕ × Option T)) (held : ℕ) : Type 0 where
+    pub below : AreEntriesBelow (length s.slots.values) items
+    pub counted : held ≡ length (held_entries s items)

@@ -1,12 +1,14 @@
 //! The iterator of slot maps.
-ghost use Rattle.std.specs.Prelude.{◌≡◌};
-ghost use Rattle.std.specs.Iterator.{YieldsFirstBy, item_count};
+ghost use Rattle.std.specs.Prelude.{◌≡◌, length, Some, IfSome};
+ghost use Rattle.std.specs.Iterator.{YieldsFirstBy, UpTo, at_most, item_count};
+ghost use Rattle.std.specs.Iterator.SizeHint.{IsWithinCount};
 ghost use Rattle.ix_maps.specs.Generations.{map_entries};
 
 use crate::slotmap::{MetaSlotMap, SlotMapKey};
 use crate::slottable::{self, Link};
 use ix_cells::Table;
 use std::fmt::{self, Debug, Formatter, Write};
+use std::iter::FusedIterator;
 use std::marker::Model;
 
 /// An iterator over the held keys of a slot map in rising order of their indexes, each with its value, as
@@ -27,18 +29,20 @@ pub struct Iter<'a, T, S: Table<Option<T>>, L: Table<Link>, G: Table<u32>> {
     map: &'a MetaSlotMap<T, S, L, G>,
     /// The places that are still to be visited, but for the free ones.
     slots: slottable::Iter<'a, Option<T>, S, L>,
+    /// The number of items that are still to come.
+    left: usize,
 }
 
 impl<'a, T, S: Table<Option<T>>, L: Table<Link>, G: Table<u32>> Model for Iter<'a, T, S, L, G> {
-    ghost use Rattle.std.specs.Prelude.{List, length};
+    ghost use Rattle.std.specs.Prelude.{List};
     ghost use Rattle.ix_maps.specs.Generations.{SlotKey, held_entries};
-    ghost use Rattle.ix_maps.specs.GenerationTable.{AreEntriesBelow};
+    ghost use Rattle.ix_maps.specs.GenerationTable.{AreEntriesOf};
 
     ghost Value = { List (SlotKey × T) };
 
     ghost view = { λ iter. held_entries iter.map.now iter.slots };
 
-    ghost invariant = { λ iter. AreEntriesBelow (length iter.map.now.slots.values) iter.slots };
+    ghost invariant = { λ iter. AreEntriesOf iter.map.now iter.slots iter.left };
 }
 
 impl<'a, T, S: Table<Option<T>>, L: Table<Link>, G: Table<u32>> Iter<'a, T, S, L, G> {
@@ -50,6 +54,7 @@ impl<'a, T, S: Table<Option<T>>, L: Table<Link>, G: Table<u32>> Iter<'a, T, S, L
         Iter {
             map,
             slots: map.slots(),
+            left: map.len(),
         }
     }
 
@@ -61,6 +66,7 @@ impl<'a, T, S: Table<Option<T>>, L: Table<Link>, G: Table<u32>> Iter<'a, T, S, L
         Iter {
             map: self.map,
             slots: self.slots.rest(),
+            left: self.left,
         }
     }
 }
@@ -78,12 +84,35 @@ impl<'a, T, S: Table<Option<T>>, L: Table<Link>, G: Table<u32>> Iterator for Ite
     fn next(&mut self) -> Option<(SlotMapKey, &'a T)> {
         while let Some((place, content)) = self.slots.next() {
             if let Some(value) = content {
+                self.left -= 1;
                 return Some((self.map.key_at(place), value));
             }
         }
         None
     }
+
+    /// Returns the number of items that are still to come, as both bounds. O(1).
+    #[inline]
+    fn size_hint(&self) -> (usize, Option<usize>)
+        ensures value { result ≡ (length self.now, Some (length self.now)) }
+        ensures lower { IsWithinCount result.0 (at_most (length self.now)) }
+        ensures upper { IfSome result.1 (UpTo (at_most (length self.now))) }
+    {
+        (self.left, Some(self.left))
+    }
 }
+
+impl<'a, T, S: Table<Option<T>>, L: Table<Link>, G: Table<u32>> ExactSizeIterator
+    for Iter<'a, T, S, L, G> {
+    /// Returns the number of items that are still to come. O(1).
+    #[inline]
+    fn len(&self) -> usize {
+        self.left
+    }
+}
+
+impl<'a, T, S: Table<Option<T>>, L: Table<Link>, G: Table<u32>> FusedIterator
+    for Iter<'a, T, S, L, G> {}
 
 /// Prints a list of the items that are still to come, each the index and the generation of its key, and its value.
 /// O(capacity).
@@ -95,5 +124,20 @@ impl<'a, T: Debug, S: Table<Option<T>>, L: Table<Link>, G: Table<u32>> Debug
             list.entry(&(key.index(), key.generation(), value));
         }
         list.finish()
+    }
+}
+
+impl<'a, T, S: Table<Option<T>>, L: Table<Link>, G: Table<u32>> IntoIterator
+    for &'a MetaSlotMap<T, S, L, G> {
+    type Item = (SlotMapKey, &'a T);
+
+    type IntoIter = Iter<'a, T, S, L, G>;
+
+    ghost into_iter_gives = { λ map iter. iter ≡ map_entries map.now };
+
+    /// Returns an iterator over the held keys in rising order of their indexes, each with its value. O(1).
+    #[inline]
+    fn into_iter(self) -> Iter<'a, T, S, L, G> {
+        self.iter()
     }
 }

@@ -1,11 +1,13 @@
 //! The iterator of slot tables.
-ghost use Rattle.std.specs.Prelude.{◌≡◌};
-ghost use Rattle.std.specs.Iterator.{YieldsFirstBy, item_count};
+ghost use Rattle.std.specs.Prelude.{◌≡◌, length, Some, IfSome};
+ghost use Rattle.std.specs.Iterator.{YieldsFirstBy, UpTo, at_most, item_count};
+ghost use Rattle.std.specs.Iterator.SizeHint.{IsWithinCount};
 ghost use Rattle.ix_maps.specs.SlotState.{entries};
 
 use crate::slottable::{Link, MetaSlotTable, SlotTableKey};
 use ix_cells::Table;
 use std::fmt::{self, Debug, Formatter, Write};
+use std::iter::FusedIterator;
 use std::marker::Model;
 
 /// An iterator over the held keys of a slot table in rising order, each with its value, as [`MetaSlotTable::iter`] returns
@@ -86,7 +88,27 @@ impl<'a, T, S: Table<T>, L: Table<Link>> Iterator for Iter<'a, T, S, L> {
         self.left -= 1;
         Some((SlotTableKey::new(key), self.map.held_value(key)))
     }
+
+    /// Returns the number of items that are still to come, as both bounds. O(1).
+    #[inline]
+    fn size_hint(&self) -> (usize, Option<usize>)
+        ensures value { result ≡ (length self.now, Some (length self.now)) }
+        ensures lower { IsWithinCount result.0 (at_most (length self.now)) }
+        ensures upper { IfSome result.1 (UpTo (at_most (length self.now))) }
+    {
+        (self.left, Some(self.left))
+    }
 }
+
+impl<'a, T, S: Table<T>, L: Table<Link>> ExactSizeIterator for Iter<'a, T, S, L> {
+    /// Returns the number of items that are still to come. O(1).
+    #[inline]
+    fn len(&self) -> usize {
+        self.left
+    }
+}
+
+impl<'a, T, S: Table<T>, L: Table<Link>> FusedIterator for Iter<'a, T, S, L> {}
 
 /// Prints a list of the items that are still to come, each the number of its key and its value. O(capacity).
 impl<'a, T: Debug, S: Table<T>, L: Table<Link>> Debug for Iter<'a, T, S, L> {
@@ -96,5 +118,19 @@ impl<'a, T: Debug, S: Table<T>, L: Table<Link>> Debug for Iter<'a, T, S, L> {
             list.entry(&(key.value(), value));
         }
         list.finish()
+    }
+}
+
+impl<'a, T, S: Table<T>, L: Table<Link>> IntoIterator for &'a MetaSlotTable<T, S, L> {
+    type Item = (SlotTableKey, &'a T);
+
+    type IntoIter = Iter<'a, T, S, L>;
+
+    ghost into_iter_gives = { λ map iter. iter ≡ entries map.now };
+
+    /// Returns an iterator over the held keys in rising order, each with its value. O(1).
+    #[inline]
+    fn into_iter(self) -> Iter<'a, T, S, L> {
+        self.iter()
     }
 }

@@ -1,8 +1,8 @@
-use Rattle.std.proofs.Common.{length, sym, subst}
-use Rattle.ix_maps.specs.GenerationTable.{AreEntriesBelow}
-use Rattle.ix_maps.proofs.Generations.{AreEntriesBelow-entries}
+use Rattle.std.proofs.Common.{sym, subst}
+use Rattle.ix_maps.specs.GenerationTable.{AreEntriesOf}
+use Rattle.ix_maps.proofs.MapEntries.{AreEntriesOf-map_entries}
 use Rattle.ix_maps.proofs.slotmap.iter.Iter.new.Goals as goal
 
 pub invariant_of-result : goal.invariant_of-result
 invariant_of-result g c =
-    subst (AreEntriesBelow (length c.args.map.now.slots.values)) (sym c.slots.ensures) (AreEntriesBelow-entries c.args.map.now.slots)
+    subst (λ items. AreEntriesOf c.args.map.now items c.len.result) (sym c.slots.ensures) (AreEntriesOf-map_entries c.args.map.now c.len.result c.len.ensures.value)

@@ -1,12 +1,12 @@
 use Rattle.std.proofs.Common.{◌≡◌, length}
 use Rattle.ix_maps.specs.Generations.{held_entries}
-use Rattle.ix_maps.specs.GenerationTable.{AreEntriesBelow}
+use Rattle.ix_maps.specs.GenerationTable.{AreEntriesOf}
 use Rattle.ix_maps.proofs.slotmap.iter.IterIterator.next.Given as goal
 
 -- only retired places were passed
 abbrev pub invariant-loop-place : goal.invariant-loop-place
 invariant-loop-place g l = record {
-  below : AreEntriesBelow (length l.self-inside.map.now.slots.values) l.self-inside.slots;
+  of : AreEntriesOf l.self-inside.map.now l.self-inside.slots l.self-inside.left;
   left : held_entries l.self-inside.map.now l.self-inside.slots ≡ l.fn.self;
 }
 
