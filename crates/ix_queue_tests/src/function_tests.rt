@@ -156,7 +156,7 @@ fn from_table() -> Result<(), Fail> {
 }
 
 /// Checks the `Debug` text of a value.
-fn check_text<T: Debug>(findings: &Findings, value: &T, text: &str) {
+pub fn check_text<T: Debug>(findings: &Findings, value: &T, text: &str) {
     let found = InlineText::<80>::of(format_args!("{value:?}"));
     findings.expect_same(found.as_str(), text, "the text");
 }

@@ -11,6 +11,8 @@ mod equality_tests;
 #[cfg(test)]
 mod function_tests;
 #[cfg(test)]
+mod iter_tests;
+#[cfg(test)]
 mod memory_tests;
 #[cfg(test)]
 mod own_table;
