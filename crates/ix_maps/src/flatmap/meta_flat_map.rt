@@ -230,7 +230,8 @@ impl<K: Eq + Drop, V: Drop, S: Table<Pair<K, V>>, L: Table<Link>> MetaFlatMap<K,
         ensures items { result ≡ flat_items self.now }
         ensures keys { keys_of result ≡ flat_keys self.now }
         // A key comes with its value exactly if the map has an equal one.
-        ensures exactly { (key : K) → lookup (λ other. K.eq other key) result ≡ flat_value K.eq self.now key }
+        ensures exactly { (key : K)
+            → lookup (λ other. K.eq other key) result ≡ flat_value K.eq self.now key }
     {
         Iter::new(self.pairs.iter())
     }
