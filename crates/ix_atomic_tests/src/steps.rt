@@ -35,13 +35,18 @@ fn version(version: u64) -> VersionedStep {
     VersionedStep::LoadVersion { reader: 1, version }
 }
 
-/// Reader 2 loads the byte.
-fn read(place: usize, byte: u8) -> VersionedStep {
+/// The reader loads the byte.
+fn read_by(reader: u64, place: usize, byte: u8) -> VersionedStep {
     VersionedStep::LoadByte {
-        reader: 2,
+        reader,
         place,
         byte,
     }
+}
+
+/// Reader 2 loads the byte.
+fn read(place: usize, byte: u8) -> VersionedStep {
+    read_by(2, place, byte)
 }
 
 /// Checks that `replay` returns `legal` for each of these lists.
@@ -305,8 +310,29 @@ fn versions() -> Result<(), Fail> {
     findings.verdict()
 }
 
+/// A read that overlaps no write has the last bytes before it, and so has one between two loads of an even version: a list is
+/// legal with no others.
 #[test]
-fn laws() {
+fn laws() -> Result<(), Fail> {
     plain_read_law();
     versioned_read_law();
+    let findings = Findings::new();
+    for byte in 0..10u8 {
+        let before_writes = [load(0, byte), store(0, 5)];
+        check_plain(&findings, &[4], &[&before_writes], byte == 4);
+        let after_writes = [store(0, 5), by(3, store(0, 6)), load(0, byte)];
+        check_plain(&findings, &[4], &[&after_writes], byte == 6);
+        let unwritten = [version(0), read_by(1, 0, byte), version(0), Begin];
+        check_versioned(&findings, &[4], &[&unwritten], byte == 4);
+        let written = [
+            Begin,
+            write(0, 7),
+            End,
+            version(2),
+            read_by(1, 0, byte),
+            version(2),
+        ];
+        check_versioned(&findings, &[4], &[&written], byte == 7);
+    }
+    findings.verdict()
 }

@@ -296,12 +296,19 @@ fn long_lines_in_pieces(rt: HostRuntime) -> Result<(), Fail> {
     findings.verdict()
 }
 
+/// Scripts whose readers fail, and their output if they do not.
+const READ: &[Example] = &[
+    (INPUT, OUTPUT),
+    (ENDED_INPUT, OUTPUT),
+    (b"queue fixed 1\npush 1\npu", b"ready\ntrue\n?\n"),
+];
+
 /// The reader fails at its call number `calls`, and the replies to the whole lines before are written; or the input ends
 /// before that call.
 fn check_read_fault(
     findings: &Findings,
     alloc: Global,
-    input: &[u8],
+    (input, all_output): &Example,
     (piece, calls): (usize, usize),
 ) {
     let case = (piece, calls);
@@ -313,9 +320,9 @@ fn check_read_fault(
     let given = input.len().saturating_sub(reader.rest.len());
     let all = piece.wrapping_mul(calls);
     let (wanted, output) = if all >= input.len().wrapping_add(piece) {
-        (Ok(()), OUTPUT)
+        (Ok(()), *all_output)
     } else {
-        let output = first_lines(OUTPUT, line_ends(&input[..given]));
+        let output = first_lines(all_output, line_ends(&input[..given]));
         (Err(ScriptFault::Read), output)
     };
     let found = (case, given, outcome);
@@ -329,8 +336,9 @@ fn read_faults(rt: HostRuntime) -> Result<(), Fail> {
     let findings = Findings::new();
     for piece in &[1, 3, 7, 14, 46, 47, 100] {
         for calls in 0..50 {
-            check_read_fault(&findings, rt.alloc(), INPUT, (*piece, calls));
-            check_read_fault(&findings, rt.alloc(), ENDED_INPUT, (*piece, calls));
+            for example in READ {
+                check_read_fault(&findings, rt.alloc(), example, (*piece, calls));
+            }
         }
     }
     findings.verdict()
