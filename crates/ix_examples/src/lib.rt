@@ -4,6 +4,7 @@
 pub mod arena;
 pub mod configuration;
 pub mod directory;
+pub mod iteration;
 pub mod json_message;
 pub mod log_position;
 pub mod message;
@@ -15,5 +16,6 @@ pub mod scripts;
 pub mod session_table;
 pub mod strings;
 pub mod temperature;
+pub mod three_errors;
 pub mod unit_name;
 pub mod vectors;

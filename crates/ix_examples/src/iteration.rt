@@ -1,0 +1,26 @@
+//! Vectors and iterators.
+ghost use Rattle.std.specs.Prelude.{◌≡◌, ◌++◌, IfOk, OnOk, OnErr};
+
+use ix_cells::{PolymorphicVec, StaticVec, Vector, VectorModificationError};
+use std::alloc::Allocator;
+
+/// Copies the samples into a vector that is stored inline. Returns an error if there are more than 8.
+pub fn stored_inline<A: Allocator>(
+    samples: &PolymorphicVec<u64, A>,
+) -> Result<StaticVec<u64, 8>, VectorModificationError>
+    ensures { IfOk result (λ copy. copy ≡ samples.now.items) }
+{
+    StaticVec::try_from_iter(samples.iter().copied())
+}
+
+/// Appends all items of `more`. Returns an error if there is no room for all of them, and appends none then.
+pub fn append<V: Vector<u64>>(
+    vector: &mut V,
+    more: StaticVec<u64, 4>,
+) -> Result<(), VectorModificationError>
+    ensures appended { OnOk result ((V.bounded vector.new).items
+        ≡ (V.bounded vector.old).items ++ more) }
+    ensures refused { OnErr result (V.bounded vector.new ≡ V.bounded vector.old) }
+{
+    vector.extend_from_iter(more)
+}
