@@ -1,7 +1,7 @@
 //! A directory of services, by names of any type that can be compared.
-ghost use Rattle.std.specs.Prelude.{◌≡◌, ◌↔◌, false, Some, None, Err, IsTrue, IsSome, IsOk, OnErr};
+ghost use Rattle.std.specs.Prelude.{◌≡◌, ◌↔◌, false, Some, None, Err, IsTrue, IsSome, IsOk, OnErr, slice_get};
 ghost use Rattle.ix_maps.specs.FlatState.{flat_value};
-ghost use Rattle.ix_maps.specs.declared.flatmap.flat_map_error.FlatMapError.TheVariants.{KeyAlreadyExists};
+ghost use Rattle.ix_maps.specs.declared.flatmap.flat_map_error.FlatMapError.TheVariants.{KeyAlreadyExists, IsFull};
 
 use ix_maps::{FixedSizeFlatMap, FlatMapError};
 
@@ -16,6 +16,7 @@ pub fn publish<N: Eq + Drop>(
 ) -> Result<(), FlatMapError>
     ensures published { IsOk result → flat_value N.eq directory.new name ≡ Some port }
     ensures taken { result ≡ Err KeyAlreadyExists ↔ IsSome (flat_value N.eq directory.old name) }
+    ensures full { result ≡ Err IsFull → slice_get directory.old.free 0 ≡ None }
     ensures refused { OnErr result (directory.new ≡ directory.old) }
     ensures kept { (other : N) → N.eq other name ≡ false
         → flat_value N.eq directory.new other ≡ flat_value N.eq directory.old other }

@@ -1,7 +1,8 @@
 //! A message as JSON and back.
-ghost use Rattle.std.specs.Prelude.{◌≡◌, IfOk};
+ghost use Rattle.std.specs.Prelude.{◌≡◌, IfOk, IfErr};
 ghost use Rattle.serde_json.specs.View.{view};
 ghost use Rattle.ix_names.specs.JsonTree.{option_read, list_read, i64_read};
+ghost use Rattle.ix_names.specs.declared.json.json_fault.JsonFault.TheVariants.{OutOfMemory};
 
 use ix_cells::StaticVec;
 use ix_names::{JsonFault, JsonForm, RelocatableOption};
@@ -11,10 +12,12 @@ use std::alloc::Global;
 /// At most 8 samples of a sensor, or `None` if the sensor is off.
 pub type Samples = RelocatableOption<StaticVec<i64, 8>>;
 
-/// Converts to JSON: a list of numbers, or null. The same samples are read from it.
+/// Converts to JSON: a list of numbers, or null. The same samples are read from it. Returns an error only if there is not enough
+/// memory.
 pub fn to_json(samples: &Samples, alloc: Global) -> Result<Value, JsonFault>
-    ensures { IfOk result (λ value.
+    ensures value { IfOk result (λ value.
         option_read (list_read 8 i64_read) (view value) ≡ Ok samples.now) }
+    ensures fault { IfErr result (λ fault. fault ≡ OutOfMemory) }
 {
     samples.to_value(alloc)
 }
@@ -26,9 +29,10 @@ pub fn from_json(value: &Value) -> Result<Samples, JsonFault>
     Samples::from_value(value)
 }
 
-/// Sends the samples as JSON, and returns what is received.
+/// Sends the samples as JSON, and returns what is received. Returns an error only if there is not enough memory.
 pub fn send(samples: &Samples, alloc: Global) -> Result<Samples, JsonFault>
-    ensures { IfOk result (λ received. received ≡ samples.now) }
+    ensures received { IfOk result (λ received. received ≡ samples.now) }
+    ensures fault { IfErr result (λ fault. fault ≡ OutOfMemory) }
 {
     let value = to_json(samples, alloc)?;
     from_json(&value)

@@ -1,5 +1,5 @@
 //! A message that owns all its memory.
-ghost use Rattle.std.specs.Prelude.{◌≡◌, ◌≤◌, length, IsOk, IsOkUnless, IfOk};
+ghost use Rattle.std.specs.Prelude.{◌≡◌, ◌≤◌, length, Err, IsOk, IsOkUnless, IfOk};
 ghost use Rattle.ix_examples.specs.declared.message.MessageError.TheVariants.{Values};
 ghost use Rattle.ix_string.specs.Text.{IsText};
 
@@ -26,6 +26,7 @@ impl Message {
         ensures topic { IfOk result (λ message. message.topic ≡ topic.now) }
         ensures values { IfOk result (λ message. message.values ≡ values.now) }
         ensures topic_fits { IsText topic.now → length topic.now ≤ 32 → IsOkUnless result Values }
+        ensures values_refused { result ≡ Err Values → IsText topic.now × (length topic.now ≤ 32) }
         ensures both_fit { IsText topic.now → length topic.now ≤ 32 → length values.now ≤ 8
             → IsOk result }
     {

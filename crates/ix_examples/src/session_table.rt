@@ -1,7 +1,8 @@
 //! A table of sessions, whose numbers are used again.
-ghost use Rattle.std.specs.Prelude.{◌≡◌, ◌≢◌, ◌↔◌, ℕ, Some, IsTrue, IfSome, slice_get, option_map};
+ghost use Rattle.std.specs.Prelude.{◌≡◌, ◌≢◌, ◌↔◌, ℕ, Some, None, IsTrue, IfSome, slice_get, option_map};
 ghost use Rattle.ix_examples.specs.declared.session_table.Session.{Session};
 ghost use Rattle.ix_maps.specs.SlotState.{value_at, IsHeld};
+ghost use Rattle.ix_maps.specs.SlotSteps.{slot_insert};
 
 use ix_maps::{SlotTable, SlotTableKey};
 use std::alloc::Allocator;
@@ -22,6 +23,8 @@ pub fn open<A: Allocator>(table: &mut SessionTable<A>, session: Session) -> Opti
     ensures opened { IfSome result (λ number. value_at table.new number ≡ Some session) }
     ensures kept { (other : ℕ) → IsHeld table.old other
         → value_at table.new other ≡ value_at table.old other }
+    // No other session is opened.
+    ensures table { table.new ≡ slot_insert table.old session }
 {
     table.insert(session)
 }
@@ -51,6 +54,7 @@ pub fn note_heard<A: Allocator>(
 /// Closes a session and returns it, or `None` if no session has this number. The next session gets the number.
 pub fn close<A: Allocator>(table: &mut SessionTable<A>, number: SlotTableKey) -> Option<Session>
     ensures value { result ≡ value_at table.old number }
+    ensures closed { value_at table.new number ≡ None }
     ensures free { IfSome result (λ _. slice_get table.new.free 0 ≡ Some number) }
     ensures kept { (other : ℕ) → other ≢ number
         → value_at table.new other ≡ value_at table.old other }
