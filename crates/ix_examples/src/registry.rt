@@ -1,7 +1,7 @@
 //! A registry of services, whose handles are dead for good once their service is removed.
-ghost use Rattle.std.specs.Prelude.{◌≡◌, ◌≢◌, ◌↔◌, [], None, Some, IsSome, IfSome, IsNone, option_map};
+ghost use Rattle.std.specs.Prelude.{◌≡◌, ◌≢◌, ◌↔◌, [], None, Some, IsSome, IfSome, IsNone, fold, option_map};
 ghost use Rattle.ix_maps.specs.Generations.{SlotKey, map_value, IsDead};
-ghost use Rattle.ix_maps.specs.SlotMapSteps.{map_insert};
+ghost use Rattle.ix_maps.specs.SlotMapSteps.{map_insert, map_remove};
 
 use ix_maps::{FixedSizeSlotMap, SlotMapKey};
 use ix_string::StaticString;
@@ -44,6 +44,7 @@ pub fn unregister(registry: &mut Registry, handle: SlotMapKey) -> Option<Service
     ensures dead { IsSome result → IsDead registry.new handle }
     ensures kept { (other : SlotKey) → other ≢ handle
         → map_value registry.new other ≡ map_value registry.old other }
+    ensures registry { registry.new ≡ map_remove registry.old handle }
 {
     registry.remove(handle)
 }
@@ -51,7 +52,9 @@ pub fn unregister(registry: &mut Registry, handle: SlotMapKey) -> Option<Service
 /// Removes the service with this handle, and registers others, as many as there is room for. The handle finds none of them,
 /// whichever places they get.
 pub fn hand_over(registry: &mut Registry, handle: SlotMapKey, services: &[Service])
-    ensures { IsSome (map_value registry.old handle) → map_value registry.new handle ≡ None }
+    ensures dead { IsSome (map_value registry.old handle) → map_value registry.new handle ≡ None }
+    ensures registry { registry.new
+        ≡ fold map_insert (map_remove registry.old handle) services.now }
 {
     unregister(registry, handle);
     for service in services {
