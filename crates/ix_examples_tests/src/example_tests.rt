@@ -2,17 +2,19 @@
 ghost use Rattle.std.specs.Prelude.{◌≡◌};
 
 use ix_atomic::ReaderSeat;
-use ix_cells::{StaticVec, Vector};
+use ix_cells::{PolymorphicVec, StaticVec, Vector, VectorModificationError};
 use ix_examples::configuration::{Limit, limit_or, set_limit};
 use ix_examples::directory::{
     Directory, change_port, port_of as published_port, publish, withdraw,
 };
+use ix_examples::iteration::{append, stored_inline};
 use ix_examples::json_message::{Samples, from_json, send, to_json};
 use ix_examples::message::{Message, MessageError};
 use ix_examples::registry::{Registry, Service, hand_over, port_of, register, unregister};
 use ix_examples::rolling_window::last_samples;
 use ix_examples::scripts::append_replies;
 use ix_examples::session_table::{Session, SessionTable, close, note_heard, open};
+use ix_examples::three_errors::{Services, add};
 use ix_examples::unit_name::{UnitName, is_same_unit};
 use ix_examples::{queues, strings, vectors};
 use ix_maps::{FlatMapError, SlotMapKey, SlotTableKey};
@@ -20,6 +22,7 @@ use ix_names::{JsonFault, RelocatableOption, SemanticStringError};
 use ix_string::{StaticString, String};
 use serde_json::Value;
 use std::alloc::AllocError;
+use std::fmt::InlineText;
 use std::thread;
 use std::thread::Threads;
 
@@ -63,6 +66,59 @@ fn strings_of_each_kind(rt: HostRuntime) {
     assert!(rt; none.is_none());
     let relocatable = strings::relocatable(rt.alloc(), rt.alloc(), 200);
     assert_eq!(rt; relocatable.map(|string| string.capacity()).ok(), Some(200));
+}
+
+#[test]
+fn vectors_of_iterators(rt: HostRuntime) {
+    let samples = PolymorphicVec::from_fn(rt.alloc(), 8, |n| n as u64);
+    let mut samples = samples.expect(&rt, "there is memory");
+    let copy = stored_inline(&samples).expect(&rt, "there is room");
+    assert_eq!(rt; copy.as_slice(), samples.as_slice());
+    samples.truncate(6);
+    let two = StaticVec::try_from_iter([8, 9].iter().copied()).expect(&rt, "there is room");
+    assert_eq!(rt; append(&mut samples, two), Ok(()));
+    assert_eq!(rt; samples.as_slice(), [0, 1, 2, 3, 4, 5, 8, 9].as_slice());
+    let one = StaticVec::try_from_iter([7].iter().copied()).expect(&rt, "there is room");
+    let refused = append(&mut samples, one);
+    assert_eq!(rt;
+        refused,
+        Err(VectorModificationError::InsertWouldExceedCapacity)
+    );
+    assert_eq!(rt; samples.len(), 8);
+}
+
+/// Services that are refused, each by one of three containers, and the texts of the errors.
+const REFUSED: &[(u32, &str, &[u16], &str)] = &[
+    (
+        2,
+        "a name of more than 16 bytes",
+        &[80],
+        "StringModificationError::InsertWouldExceedCapacity",
+    ),
+    (
+        2,
+        "pong",
+        &[1, 2, 3, 4, 5],
+        "VectorModificationError::InsertWouldExceedCapacity",
+    ),
+    (1, "pong", &[80], "FlatMapError::KeyAlreadyExists"),
+];
+
+#[test]
+fn errors_of_three_containers(rt: HostRuntime) {
+    let mut services = Services::new();
+    let added = add(&mut services, 1, "ping", &[80, 443]);
+    assert!(rt; added.is_ok());
+    for (number, name, ports, text) in REFUSED {
+        let refused = add(&mut services, *number, name, ports);
+        let error = refused.err().expect(&rt, "it is refused");
+        let found = InlineText::<80>::of(format_args!("{error}"));
+        assert_eq!(rt; found.as_str(), *text);
+    }
+    let found = services.get_ref(&1).expect(&rt, "it was added");
+    assert_eq!(rt; found.name.as_str(), "ping");
+    assert_eq!(rt; found.ports.as_slice(), [80, 443].as_slice());
+    assert_eq!(rt; services.len(), 1);
 }
 
 /// Reads the limit in two threads.

@@ -19,6 +19,7 @@ pub enum Call<'a, T> {
     Clear,
     Extend(&'a [T]),
     ExtendUnchecked(&'a [T]),
+    ExtendFromIter(&'a [T]),
     Resize(usize, T),
     /// With a closure that returns the items of the slice in turn, and then the last one. It is called once for each item of
     /// the slice.
@@ -94,6 +95,7 @@ fn outcome_of<T: Copy + Drop, V: Vector<T>>(vector: &mut V, call: &Call<T>) -> O
         Call::Truncate(n) => vector.truncate(*n),
         Call::Clear => vector.clear(),
         Call::Extend(items) => vector.extend_from_slice(items)?,
+        Call::ExtendFromIter(items) => vector.extend_from_iter(items.iter().copied())?,
         Call::Resize(n, item) => vector.resize(*n, *item)?,
         Call::ResizeWith(n, made, more) => return resize_with(vector, *n, made, *more),
         Call::Fill(item) => return fill(vector, *item),

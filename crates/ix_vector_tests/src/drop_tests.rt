@@ -1,6 +1,6 @@
 //! The drops of items: each is dropped once, the last one first.
 use crate::noted_calls::NotedCall::{
-    Clear, Insert, Pop, Push, Remove, Resize, ResizeWith, Truncate,
+    Clear, ExtendFromIter, Insert, Pop, Push, Remove, Resize, ResizeWith, Truncate,
 };
 use crate::noted_calls::{NotedRow, check_noted_kinds};
 use ix_cells::VectorModificationError::{InsertWouldExceedCapacity, OutOfBounds};
@@ -47,8 +47,33 @@ const CUTS: &[NotedRow] = &[
     (Push(9), Ok(None), 0, 689),
 ];
 
+/// Items of an iterator: the one that finds no room is dropped first, and then those that were appended before it.
+const EXTENSIONS: &[NotedRow] = &[
+    (ExtendFromIter(1, 1), Ok(None), 0, 0),
+    (ExtendFromIter(1, 3), Ok(None), 0, 12),
+    (
+        ExtendFromIter(5, 9),
+        Err(InsertWouldExceedCapacity),
+        765,
+        12,
+    ),
+    (ExtendFromIter(3, 5), Ok(None), 0, 1234),
+    (ExtendFromIter(5, 5), Ok(None), 0, 1234),
+    (
+        ExtendFromIter(8, 10),
+        Err(InsertWouldExceedCapacity),
+        8,
+        1234,
+    ),
+];
+
 /// Calls, and the items that are dropped with the vector.
-const EXAMPLES: &[(&[NotedRow], u64)] = &[(REFUSALS, 4321), (RETURNED, 391), (CUTS, 986)];
+const EXAMPLES: &[(&[NotedRow], u64)] = &[
+    (REFUSALS, 4321),
+    (RETURNED, 391),
+    (CUTS, 986),
+    (EXTENSIONS, 4321),
+];
 
 fn check_examples<'a>(findings: &Findings, alloc: Global, notes: &'a Notes) {
     for example in EXAMPLES {

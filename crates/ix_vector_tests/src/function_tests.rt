@@ -2,8 +2,8 @@
 ghost use Rattle.ix_cells.specs.Places.{IsVacant};
 
 use crate::calls::Call::{
-    Clear, Extend, ExtendUnchecked, Fill, Insert, Pop, Push, PushUnchecked, Remove, Resize,
-    ResizeWith, Truncate,
+    Clear, Extend, ExtendFromIter, ExtendUnchecked, Fill, Insert, Pop, Push, PushUnchecked, Remove,
+    Resize, ResizeWith, Truncate,
 };
 use crate::calls::{Row, check_in, check_kinds};
 use bumpalo::Bump;
@@ -53,6 +53,29 @@ const LENGTHS: &[Row<u64>] = &[
 ];
 
 /// Calls of a vector of capacity 3.
+const EXTENSIONS: &[Row<u64>] = &[
+    (ExtendFromIter(&[]), Ok(None), &[]),
+    (
+        ExtendFromIter(&[1, 2, 3, 4]),
+        Err(InsertWouldExceedCapacity),
+        &[],
+    ),
+    (ExtendFromIter(&[1]), Ok(None), &[1]),
+    (
+        ExtendFromIter(&[4, 5, 6]),
+        Err(InsertWouldExceedCapacity),
+        &[1],
+    ),
+    (ExtendFromIter(&[4, 5]), Ok(None), &[1, 4, 5]),
+    (ExtendFromIter(&[]), Ok(None), &[1, 4, 5]),
+    (
+        ExtendFromIter(&[6]),
+        Err(InsertWouldExceedCapacity),
+        &[1, 4, 5],
+    ),
+];
+
+/// Calls of a vector of capacity 3.
 const RESIZES: &[Row<u64>] = &[
     (Push(1), Ok(None), &[1]),
     (Push(2), Ok(None), &[1, 2]),
@@ -77,7 +100,7 @@ const INSERTS: &[Row<u64>] = &[
 fn calls_of_each_kind(rt: HostRuntime) -> Result<(), Fail> {
     let findings = Findings::new();
     let arena = Bump::new(rt.alloc());
-    for rows in &[PUSHES, REMOVALS, LENGTHS, RESIZES, INSERTS] {
+    for rows in &[PUSHES, REMOVALS, LENGTHS, EXTENSIONS, RESIZES, INSERTS] {
         let fixed = StaticVec::<u64, 3>::new();
         check_kinds(&findings, rt.alloc(), fixed, 3, rows);
         check_in(&findings, &arena, 3, rows);

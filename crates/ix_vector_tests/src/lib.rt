@@ -13,6 +13,8 @@ mod function_tests;
 #[cfg(test)]
 mod items;
 #[cfg(test)]
+mod iterating_tests;
+#[cfg(test)]
 mod making_tests;
 #[cfg(test)]
 mod noted_calls;

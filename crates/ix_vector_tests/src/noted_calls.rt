@@ -15,6 +15,8 @@ pub enum NotedCall {
     Clear,
     Extend(u64),
     ExtendUnchecked(u64),
+    /// The items have the names from the first number to the one before the last.
+    ExtendFromIter(u64, u64),
     Resize(usize, u64, u64),
     ResizeWith(usize, u64),
 }
@@ -76,6 +78,9 @@ pub fn outcome_of<'a, V: Vector<Noted<'a>>>(
         NotedCall::Remove(index) => return Ok(name_of(findings, notes, vector.remove(*index))),
         NotedCall::Truncate(n) => vector.truncate(*n),
         NotedCall::Clear => vector.clear(),
+        NotedCall::ExtendFromIter(first, end) => {
+            vector.extend_from_iter((*first..*end).map(|name| Noted::new(name, notes)))?;
+        }
         NotedCall::ResizeWith(n, name) => vector.resize_with(*n, || Noted::new(*name, notes))?,
         _ => return clone_outcome(vector, call, notes, others),
     }

@@ -1,7 +1,7 @@
 //! Vectors of capacity 0, items of size zero, and capacities that can't be allocated.
 use crate::calls::Call::{
-    Clear, Extend, ExtendUnchecked, Fill, Insert, Pop, Push, PushUnchecked, Remove, Resize,
-    ResizeWith, Truncate,
+    Clear, Extend, ExtendFromIter, ExtendUnchecked, Fill, Insert, Pop, Push, PushUnchecked, Remove,
+    Resize, ResizeWith, Truncate,
 };
 use crate::calls::{Row, check_kinds, check_made};
 use ix_cells::VectorModificationError::{InsertWouldExceedCapacity, OutOfBounds};
@@ -26,6 +26,8 @@ const OF_CAPACITY_0: &[Row<u64>] = &[
     (Clear, Ok(None), &[]),
     (Extend(&[]), Ok(None), &[]),
     (ExtendUnchecked(&[]), Ok(None), &[]),
+    (ExtendFromIter(&[]), Ok(None), &[]),
+    (ExtendFromIter(&[1]), Err(InsertWouldExceedCapacity), &[]),
     (Extend(&[1]), Err(InsertWouldExceedCapacity), &[]),
     (Resize(0, 1), Ok(None), &[]),
     (Resize(1, 1), Err(InsertWouldExceedCapacity), &[]),
@@ -53,6 +55,8 @@ const OF_CAPACITY_1: &[Row<u64>] = &[
     (PushUnchecked(8), Ok(None), &[8]),
     (Pop, Ok(Some(8)), &[]),
     (ExtendUnchecked(&[9]), Ok(None), &[9]),
+    (ExtendFromIter(&[]), Ok(None), &[9]),
+    (ExtendFromIter(&[1]), Err(InsertWouldExceedCapacity), &[9]),
     (Truncate(0), Ok(None), &[]),
     (ResizeWith(2, &[], 6), Err(InsertWouldExceedCapacity), &[]),
     (ResizeWith(1, &[4], 6), Ok(None), &[4]),
@@ -97,6 +101,13 @@ fn capacity_0_of_an_allocator(rt: HostRuntime) -> Result<(), Fail> {
 const OF_SIZE_ZERO: &[Row<()>] = &[
     (Push(()), Ok(None), &[()]),
     (Insert(0, ()), Ok(None), &[(), ()]),
+    (
+        ExtendFromIter(&[(), ()]),
+        Err(InsertWouldExceedCapacity),
+        &[(), ()],
+    ),
+    (ExtendFromIter(&[()]), Ok(None), &[(), (), ()]),
+    (Truncate(2), Ok(None), &[(), ()]),
     (Extend(&[()]), Ok(None), &[(), (), ()]),
     (Push(()), Err(InsertWouldExceedCapacity), &[(), (), ()]),
     (Remove(1), Ok(Some(())), &[(), ()]),
