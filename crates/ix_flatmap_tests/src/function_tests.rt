@@ -44,6 +44,10 @@ fn texts_of_maps(rt: HostRuntime) -> Result<(), Fail> {
     check_debug(&findings, &keys, "[8080, 443]");
     findings.expect_same(keys.next().copied(), Some(8080), "the first key");
     check_debug(&findings, &keys, "[443]");
+    let mut items = fixed.iter();
+    check_debug(&findings, &items, "[(8080, 3), (443, 2)]");
+    findings.expect(items.next() == Some((&8080, &3)), "the first item");
+    check_debug(&findings, &items, "[(443, 2)]");
     match FlatMap::<u64, u64>::new(rt.alloc(), 3) {
         Ok(mut map) => {
             check_debug(&findings, &map, "{}");
@@ -52,6 +56,47 @@ fn texts_of_maps(rt: HostRuntime) -> Result<(), Fail> {
         }
         Err(AllocError) => findings.miss("there is memory"),
     }
+    findings.verdict()
+}
+
+/// Returns the values in slot order, up to the first that is `last`, as digits.
+fn values_up_to<S: Table<Pair<u64, u64>>, L: Table<Link>>(
+    map: &MetaFlatMap<u64, u64, S, L>,
+    last: u64,
+) -> u64 {
+    let mut digits = 0u64;
+    for (_, value) in map {
+        digits = digits.wrapping_mul(10).wrapping_add(*value);
+        if *value == last {
+            break;
+        }
+    }
+    digits
+}
+
+#[test]
+fn loops_over_a_map(rt: HostRuntime) -> Result<(), Fail> {
+    let findings = Findings::new();
+    let mut fixed = FixedSizeFlatMap::<u64, u64, 3>::new();
+    findings.expect_same(values_up_to(&fixed, 0), 0, "no key");
+    insert_two(&mut fixed);
+    findings.expect_same(values_up_to(&fixed, 0), 32, "each value");
+    findings.expect_same(values_up_to(&fixed, 3), 3, "a loop that stops");
+    findings.expect_same(fixed.len(), 2, "the map is as it was");
+    match FlatMap::<u64, u64>::new(rt.alloc(), 3) {
+        Ok(mut map) => {
+            insert_two(&mut map);
+            findings.expect_same(values_up_to(&map, 0), 32, "in memory");
+        }
+        Err(AllocError) => findings.miss("there is memory"),
+    }
+    let none = FixedSizeFlatMap::<u64, u64, 0>::new();
+    findings.expect_same(none.iter().count(), 0, "capacity 0");
+    findings.expect_same(none.iter().len(), 0, "capacity 0");
+    let mut unit = FixedSizeFlatMap::<(), (), 2>::new();
+    let _ = unit.insert((), ());
+    findings.expect(unit.iter().next() == Some((&(), &())), "of size zero");
+    findings.expect_same(unit.iter().count(), 1, "of size zero");
     findings.verdict()
 }
 

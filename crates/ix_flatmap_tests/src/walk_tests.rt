@@ -88,18 +88,28 @@ fn check_keys<S: Table<Pair<u64, u64>>, L: Table<Link>>(
     findings.expect_same(found, slow.key_at(last), "a key by its number");
 }
 
-/// Compares the keys that the iterator returns with those of the slow map.
-fn check_iterator<S: Table<Pair<u64, u64>>, L: Table<Link>>(
+/// Compares what the iterators return with the keys and values of the slow map.
+fn check_iterators<S: Table<Pair<u64, u64>>, L: Table<Link>>(
     findings: &Findings,
     map: &MetaFlatMap<u64, u64, S, L>,
     slow: &SlowMap,
 ) {
-    let mut number = 0u64;
-    for key in map.keys() {
-        findings.expect_same(Some(*key), slow.key_at(number), "a key of the iterator");
-        number = number.wrapping_add(1);
+    let len = slow.len();
+    let mut keys = map.keys();
+    let mut items = map.iter();
+    for number in 0..len {
+        let left = len - number;
+        findings.expect_same((keys.len(), items.len()), (left, left), "items to come");
+        let hints = (keys.size_hint(), items.size_hint());
+        findings.expect_same(hints, ((left, Some(left)), (left, Some(left))), "hints");
+        let key = slow.key_at(number as u64);
+        findings.expect_same(keys.next().copied(), key, "a key of the iterator");
+        let item = items.next().map(|(key, value)| (*key, Some(*value)));
+        let wanted = key.map(|key| (key, slow.get(key)));
+        findings.expect_same(item, wanted, "an item of the iterator");
     }
-    findings.expect_same(number, slow.len() as u64, "the number of keys");
+    let is_end = keys.next().is_none() && items.next().is_none();
+    findings.expect(is_end, "the end of the iterators");
 }
 
 /// Compares the contents of both maps, of which no key reaches `keys`.
@@ -110,7 +120,7 @@ fn check_content<S: Table<Pair<u64, u64>>, L: Table<Link>>(
     keys: u64,
 ) {
     check_keys(findings, map, slow, keys);
-    check_iterator(findings, map, slow);
+    check_iterators(findings, map, slow);
     for key in 0..keys {
         let wanted = slow.get(key);
         findings.expect_same(map.get_ref(&key).copied(), wanted, "a value");

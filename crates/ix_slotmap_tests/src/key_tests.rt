@@ -94,3 +94,37 @@ fn texts(rt: HostRuntime) -> Result<(), Fail> {
     }
     findings.verdict()
 }
+
+/// Returns the values in the order of their places, up to the first that is `last`, as digits.
+fn values_up_to<S: Table<Option<u64>>, L: Table<Link>, G: Table<u32>>(
+    map: &MetaSlotMap<u64, S, L, G>,
+    last: u64,
+) -> u64 {
+    let mut digits = 0u64;
+    for (_, value) in map {
+        digits = digits.wrapping_mul(10).wrapping_add(*value);
+        if *value == last {
+            break;
+        }
+    }
+    digits
+}
+
+#[test]
+fn loops_over_a_map() -> Result<(), Fail> {
+    let findings = Findings::new();
+    let mut map = FixedSizeSlotMap::<u64, 4>::starting_at(u32::MAX);
+    findings.expect_same(values_up_to(&map, 0), 0, "no value");
+    for value in 1..5 {
+        let _ = map.insert(value);
+    }
+    let _ = map.remove(SlotMapKey::new(1, u32::MAX));
+    findings.expect_same(values_up_to(&map, 0), 134, "a retired place is passed over");
+    findings.expect_same(map.iter().len(), 3, "a retired place is not counted");
+    findings.expect_same(map.iter().size_hint(), (3, Some(3)), "nor hinted at");
+    findings.expect_same(values_up_to(&map, 3), 13, "a loop that stops");
+    let none = FixedSizeSlotMap::<u64, 0>::new();
+    findings.expect_same(values_up_to(&none, 0), 0, "capacity 0");
+    findings.expect_same(none.iter().len(), 0, "capacity 0");
+    findings.verdict()
+}

@@ -106,16 +106,22 @@ fn check_content<S: Table<Option<u64>>, L: Table<Link>, G: Table<u32>>(
     map: &MetaSlotMap<u64, S, L, G>,
     slow: &SlowMap,
 ) {
+    let (held, retired) = slow.counts();
     let mut count = 0usize;
     let mut least = 0usize;
-    for (key, value) in map.iter() {
+    let mut items = map.iter();
+    for (key, value) in map {
+        let left = held.saturating_sub(count);
+        let found = (items.len(), items.size_hint());
+        findings.expect_same(found, (left, (left, Some(left))), "items to come");
+        findings.expect(items.next() == Some((key, value)), "an item");
         let (index, generation) = (key.index(), key.generation());
         findings.expect(index >= least, "the indexes rise");
         findings.expect_same(slow.get((index, generation)), Some(*value), "a held key");
         least = index.wrapping_add(1);
         count = count.wrapping_add(1);
     }
-    let (held, retired) = slow.counts();
+    findings.expect_same(items.len(), 0, "no item to come");
     let found = (count, map.len(), map.retired());
     findings.expect_same(found, (held, held, retired), "the numbers of places");
 }

@@ -184,6 +184,35 @@ fn walks_end() -> Result<(), Fail> {
 }
 
 #[test]
+fn loops_over_a_map() -> Result<(), Fail> {
+    let findings = Findings::new();
+    let mut map = FixedSizeSlotTable::<u64, 3>::new();
+    insert_two(&mut map);
+    let mut last = 0;
+    for (key, value) in &map {
+        last = *value;
+        if key == SlotTableKey::new(0) {
+            break;
+        }
+    }
+    findings.expect_same(last, 5, "a loop that stops");
+    for (_, value) in &map {
+        last = *value;
+    }
+    findings.expect_same(last, 7, "a loop to the end");
+    let none = FixedSizeSlotTable::<u64, 0>::new();
+    findings.expect_same(none.iter().len(), 0, "capacity 0");
+    let mut unit = FixedSizeSlotTable::<(), 2>::new();
+    let _ = unit.insert(());
+    findings.expect_same(
+        (unit.iter().len(), unit.iter().count()),
+        (1, 1),
+        "of size zero",
+    );
+    findings.verdict()
+}
+
+#[test]
 fn functions_of_a_user() -> Result<(), Fail> {
     let findings = Findings::new();
     let mut map = FixedSizeSlotTable::<u64, 2>::new();

@@ -80,15 +80,21 @@ fn check_content<S: Table<u64>, L: Table<Link>>(
     map: &MetaSlotTable<u64, S, L>,
     slow: &SlowMap,
 ) {
+    let len = slow.len();
     let mut count = 0usize;
     let mut least = 0usize;
-    for (key, value) in map.iter() {
+    let mut items = map.iter();
+    for (key, value) in map {
+        let left = len.saturating_sub(count);
+        let found = (items.len(), items.size_hint());
+        findings.expect_same(found, (left, (left, Some(left))), "items to come");
+        findings.expect(items.next() == Some((key, value)), "an item");
         findings.expect(key.value() >= least, "the keys rise");
         findings.expect_same(slow.get(key.value()), Some(*value), "a held key");
         least = key.value().wrapping_add(1);
         count = count.wrapping_add(1);
     }
-    let len = slow.len();
+    findings.expect_same(items.len(), 0, "no item to come");
     findings.expect_same((map.len(), count), (len, len), "the number of entries");
 }
 
