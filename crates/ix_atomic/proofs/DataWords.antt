@@ -7,7 +7,7 @@ use Rattle.std.proofs.lemmas.List.{take_at, drop_at, take_all, take-take, drop-d
 use Rattle.std.proofs.lemmas.Slice.{drop-append-drop}
 use Rattle.ix_atomic.specs.Words.{word_of, bytes_of_word, word_count, words_of}
 use Rattle.ix_atomic.proofs.Beginnings.{AreBelow, AreBelow-take, AreBelow-drop, AreBelow-append}
-use Rattle.ix_atomic.specs.SequencedSteps.{bytes_at}
+use Rattle.ix_atomic.specs.inner.SequencedSteps.{bytes_at}
 use Rattle.ix_atomic.proofs.StageBytes.{bytes_at-next}
 use Rattle.ix_atomic.proofs.WordBytes.{bytes_of_word-word_of, length-bytes_of_word}
 

@@ -3,7 +3,7 @@ use Rattle.std.proofs.Common.{◌≡◌, List, [], ◌∷◌, ◌++◌, Bool, tr
 use Rattle.std.proofs.lemmas.List.{append-nil}
 use Rattle.std.proofs.lemmas.Bool.{and_parts, and_from}
 use Rattle.ix_atomic.specs.EachStep.{EachAfter}
-use Rattle.ix_atomic.specs.StepWalks.{walk}
+use Rattle.ix_atomic.specs.inner.StepWalks.{walk}
 
 module _ {A S : Type 0} where
   -- the state is this one after these steps, and after one more

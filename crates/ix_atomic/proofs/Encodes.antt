@@ -1,6 +1,6 @@
 -- The laws of encodings, of values and bytes that belong together.
 use Rattle.std.proofs.Common.{◌≡◌, ℕ, List, length, sym, ap, ◌∙◌}
-use Rattle.ix_atomic.specs.SequencedRule.{Encodes}
+use Rattle.ix_atomic.specs.inner.SequencedRule.{Encodes}
 
 module _ {T : Type 0} (is_value : T → Type 0) (encoding : T → List ℕ) where
   pub Encodes-length : (size : ℕ) → ((v : T) → is_value v → length (encoding v) ≡ size) → (v : T) (bytes : List ℕ) → Encodes is_value encoding v bytes → length bytes ≡ size

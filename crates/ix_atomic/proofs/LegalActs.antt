@@ -8,7 +8,7 @@ use Rattle.ix_atomic.specs.declared.byte_atomic.steps.plain.Act.{Act}
 use Rattle.ix_atomic.specs.declared.byte_atomic.steps.plain.Act.TheVariants.{Store, Load}
 use Rattle.ix_atomic.specs.EachStep.{EachAfter}
 use Rattle.ix_atomic.specs.ByteActs.{byte_after, IsLegalAfter, AreLegal}
-use Rattle.ix_atomic.specs.StepWalks.{act_place, is_within, all_within, load_agrees, next_byte, loads_agree}
+use Rattle.ix_atomic.specs.inner.StepWalks.{act_place, is_within, all_within, load_agrees, next_byte, loads_agree}
 use Rattle.ix_atomic.proofs.EachStep.{EachAfter-walk, walk-EachAfter}
 use Rattle.ix_atomic.proofs.LastStored.{byte_after-push}
 

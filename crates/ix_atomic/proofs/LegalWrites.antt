@@ -7,7 +7,7 @@ use Rattle.std.proofs.lemmas.Bool.{and_parts, and_from}
 use Rattle.ix_atomic.specs.declared.byte_atomic.steps.versioned.VersionedStep.{VersionedStep}
 use Rattle.ix_atomic.specs.declared.byte_atomic.steps.versioned.VersionedStep.TheVariants.{Begin, Store, End, LoadVersion, LoadByte}
 use Rattle.ix_atomic.specs.VersionedSteps.{is_of_writer, byte_steps, write_of, AreWrites}
-use Rattle.ix_atomic.specs.StepWalks.{are_in_turn}
+use Rattle.ix_atomic.specs.inner.StepWalks.{are_in_turn}
 
 -- what is left of the write in progress, which has stored so many bytes and these are to come
 abbrev pub rest_of : Option ℕ → List ℕ → List VersionedStep

@@ -5,7 +5,7 @@ use Rattle.std.specs.Int.{w64, cast_signed, cast_unsigned, to_le_bytes, from_le_
 use Rattle.std.proofs.lemmas.Int.{of_z-to_z}
 use Rattle.std.proofs.lemmas.Nat.{le_bytes_8, from_le_bytes-to_le_bytes_8}
 use Rattle.ix_atomic.specs.Encoding.{i64_encoding}
-use Rattle.ix_atomic.specs.EncodingLaws.{i64-from_encoding}
+use Rattle.ix_atomic.specs.laws.EncodingLaws.{i64-from_encoding}
 
 abbrev pub AreBytes : List ℕ → Type 0
 AreBytes bytes = (i : ℕ) → slice_index bytes i < 256

@@ -7,8 +7,8 @@ use native.Mathlib.Decide.{ℕ_discrete}
 use lib.ListN.{get_elem?}
 use Rattle.atomic_table.proofs.Lists.{at_set, at_snoc, set_else, at_longer}
 use Rattle.ix_atomic.specs.declared.sequenced.rule.SeatView.{SeatView}
-use Rattle.ix_atomic.specs.SequencedRule.{ApartSeats, HaveOwners}
-use Rattle.ix_atomic.specs.SequencedSteps.{view_merged, view_spent}
+use Rattle.ix_atomic.specs.inner.SequencedRule.{ApartSeats, HaveOwners}
+use Rattle.ix_atomic.specs.inner.SequencedSteps.{view_merged, view_spent}
 use Rattle.ix_atomic.proofs.OwnPlaces.{no_place, merge-left, merge-right, merge-cases}
 
 module _ {T : Type 0} where

@@ -11,7 +11,7 @@ use Rattle.ix_string.specs.Text.{IsText, padded_text, nul_position, before_nul}
 use Rattle.ix_string.specs.TextSteps.{StringFromBytes}
 use Rattle.ix_string.specs.declared.string.modification_error.StringModificationError.{StringModificationError}
 use Rattle.ix_string.specs.declared.string.modification_error.StringModificationError.TheVariants.{InvalidCharacter, InsertWouldExceedCapacity}
-use Rattle.ix_atomic.specs.EncodingLaws.{nul_position-padded_text, before_nul-padded_text}
+use Rattle.ix_atomic.specs.laws.EncodingLaws.{nul_position-padded_text, before_nul-padded_text}
 
 abbrev pub AreZeros : List ℕ → Type 0
 AreZeros bytes = All (λ b. b ≡ 0) bytes

@@ -8,7 +8,7 @@ use Rattle.ix_atomic.specs.declared.sequenced.rule.Stage.TheVariants.{Reading, W
 use Rattle.ix_atomic.specs.History.{Begins, IsEven, Loads, LoadsTwice, version_of, value_at, data_words, all_words}
 use Rattle.ix_atomic.specs.Versions.{last_version}
 use Rattle.ix_atomic.specs.Writers.{IsRising, AreOwn, Writes}
-use Rattle.ix_atomic.specs.SequencedSteps.{Seated, stage_bytes, bytes_at, view_stage, view_bytes, seated_stage, view_end, reader_of, writer_of, ViewLoads, ViewClaims}
+use Rattle.ix_atomic.specs.inner.SequencedSteps.{Seated, stage_bytes, bytes_at, view_stage, view_bytes, seated_stage, view_end, reader_of, writer_of, ViewLoads, ViewClaims}
 use Rattle.ix_atomic.specs.Words.{word_of, bytes_of_word, word_count}
 use Rattle.ix_atomic.proofs.Beginnings.{Begins-trans, Begins-length, length-push, All-last, AreBelow}
 use Rattle.ix_atomic.proofs.DataWords.{chunk_at, chunk_at-more, stored-chunk, with_word, with_word-front}

@@ -17,8 +17,8 @@ use Rattle.ix_atomic.specs.declared.sequenced.rule.Stage.TheVariants.{Idle, Read
 use Rattle.ix_atomic.specs.History.{Begins, IsEven, IsOdd, last_value}
 use Rattle.ix_atomic.specs.Words.{word_of, bytes_of_word, words_of}
 use Rattle.ix_atomic.specs.Writers.{IsRising, AreApart}
-use Rattle.ix_atomic.specs.SequencedRule.{Content, history, cell_bytes, parity, Holds, Knows, ApartSeats, HaveOwners, SequencedRule}
-use Rattle.ix_atomic.specs.SequencedSteps.{Seated, stage_bytes, bytes_at, view_new, view_bytes, view_end, view_further, view_merged, view_spent, view_stage, WordStep, EndStep, ViewLoads, LoadVersionStep, ClaimStep, IsFrontOf}
+use Rattle.ix_atomic.specs.inner.SequencedRule.{Content, history, cell_bytes, parity, Holds, Knows, ApartSeats, HaveOwners, SequencedRule}
+use Rattle.ix_atomic.specs.inner.SequencedSteps.{Seated, stage_bytes, bytes_at, view_new, view_bytes, view_end, view_further, view_merged, view_spent, view_stage, WordStep, EndStep, ViewLoads, LoadVersionStep, ClaimStep, IsFrontOf}
 use Rattle.ix_atomic.proofs.Beginnings.{Begins-refl, Begins-append, length-push, slice_get-push, front-whole, set-tail, get_or-tail, AreBelow, AreBelow-take, All-weaken}
 use Rattle.ix_atomic.proofs.DataWords.{chunk_at, length-chunk_at, chunk_at-more, load-more, stored-chunk, grown-below, words_of-set}
 use Rattle.ix_atomic.proofs.StageBytes.{parity-stage_bytes, stage_bytes-Reading, stage_bytes-Writing, bytes_at-next}

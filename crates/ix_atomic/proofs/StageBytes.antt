@@ -2,8 +2,8 @@
 use Rattle.std.proofs.Common.{◌≡◌, ℕ, ◌+◌, ◌-◌, ◌*◌, min, List, [], ◌∷◌, ◌++◌, refl, sym, ap, ◌∙◌, arith, append-nil, append_assoc}
 use Rattle.ix_atomic.specs.declared.sequenced.rule.Stage.{Stage}
 use Rattle.ix_atomic.specs.declared.sequenced.rule.Stage.TheVariants.{Idle, Reading, Writing}
-use Rattle.ix_atomic.specs.SequencedRule.{parity}
-use Rattle.ix_atomic.specs.SequencedSteps.{stage_byte, stage_bytes, bytes_at}
+use Rattle.ix_atomic.specs.inner.SequencedRule.{parity}
+use Rattle.ix_atomic.specs.inner.SequencedSteps.{stage_byte, stage_bytes, bytes_at}
 
 parity-stage_byte : (byte : ℕ) (stage : Stage) → parity (stage_byte byte stage) ≡ parity stage
 parity-stage_byte byte Idle = refl

@@ -7,7 +7,7 @@ use Rattle.ix_atomic.specs.declared.byte_atomic.steps.versioned.VersionedStep.{V
 use Rattle.ix_atomic.specs.declared.byte_atomic.steps.versioned.VersionedStep.TheVariants.{Begin, Store, End, LoadVersion, LoadByte}
 use Rattle.ix_atomic.specs.EachStep.{EachAfter}
 use Rattle.ix_atomic.specs.VersionedSteps.{is_of_writer, is_begin_or_end, version_after, HasVersion}
-use Rattle.ix_atomic.specs.StepWalks.{version_agrees, next_version, versions_agree}
+use Rattle.ix_atomic.specs.inner.StepWalks.{version_agrees, next_version, versions_agree}
 use Rattle.ix_atomic.proofs.EachStep.{EachAfter-walk, walk-EachAfter}
 
 -- by how much a step raises the version

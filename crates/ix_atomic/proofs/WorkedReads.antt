@@ -4,7 +4,7 @@ use Rattle.ix_atomic.specs.declared.byte_atomic.steps.plain.Act.TheVariants.{Sto
 use Rattle.ix_atomic.specs.declared.byte_atomic.steps.plain.Step.{Step}
 use Rattle.ix_atomic.specs.PlainSteps.{IsLegal}
 use Rattle.ix_atomic.specs.Operations.{Takes, IsStepOf, times_stored, times_loaded, IsWrite, IsRead, AreReadsAndWrites, Lasts, OverlapsNoWrite, IsBefore, IsLastWriteBefore}
-use Rattle.ix_atomic.specs.StepWalks.{loads_agree}
+use Rattle.ix_atomic.specs.inner.StepWalks.{loads_agree}
 use Rattle.ix_atomic.proofs.LegalActs.{AreLegal-walks}
 use Rattle.ix_atomic.proofs.PlainReads.{after_last_write}
 

@@ -10,7 +10,7 @@ use Rattle.ix_atomic.specs.declared.byte_atomic.steps.versioned.VersionedStep.Th
 use Rattle.ix_atomic.specs.ByteActs.{byte_after}
 use Rattle.ix_atomic.specs.PlainSteps.{IsLegal}
 use Rattle.ix_atomic.specs.Operations.{Overlap}
-use Rattle.ix_atomic.specs.StepWalks.{loads_agree}
+use Rattle.ix_atomic.specs.inner.StepWalks.{loads_agree}
 use Rattle.ix_atomic.specs.VersionedSteps.{byte_act, write_of, AreWrites, version_after, IsLegalVersioned, IsVersionedRead}
 use Rattle.ix_atomic.proofs.LegalActs.{AreLegal-walks}
 use Rattle.ix_atomic.proofs.Versions.{HasVersion-walk}

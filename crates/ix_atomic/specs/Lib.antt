@@ -1,5 +1,4 @@
 pub mod Encoding
-pub mod EncodingLaws
 pub mod Words
 pub mod EachStep
 pub mod ByteActs
@@ -7,8 +6,7 @@ pub mod PlainSteps
 pub mod Operations
 pub mod Versions
 pub mod VersionedSteps
-pub mod StepWalks
 pub mod History
 pub mod Writers
-pub mod SequencedRule
-pub mod SequencedSteps
+pub mod laws
+pub mod inner

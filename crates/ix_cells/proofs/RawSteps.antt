@@ -37,7 +37,7 @@ use Rattle.core.proofs.mem.Param.{El, Good}
 use Rattle.core.proofs.ptr.Rows.{times_below, one_below}
 use Rattle.std_alloc.proofs.RawLayout.{as_raw, as_written}
 use Rattle.std_alloc.proofs.RcSteps.{word}
-use Rattle.ix_cells.specs.RawMemory.{place_owns, places_own, place_shares, places_share}
+use Rattle.ix_cells.specs.inner.RawMemory.{place_owns, places_own, place_shares, places_share}
 use Rattle.ix_cells.specs.contracts.cells.raw_row.RowOwner as owner
 use Rattle.ix_cells.specs.contracts.cells.raw_row.RowPtr as start
 

@@ -8,7 +8,7 @@ use Rattle.std.proofs.lemmas.List.{length-take-le}
 use Rattle.std.proofs.lemmas.Result.{on_ok_weaker}
 use Rattle.std.proofs.lemmas.Slice.{take-put_mid, take-put_mid_below}
 use borrow.Rule.Slice.PartMut.{put_mid}
-use Rattle.ix_cells.specs.Rows.{IsFront}
+use Rattle.ix_cells.specs.inner.Rows.{IsFront}
 use Rattle.ix_cells.proofs.Refilling.{refill-same_length}
 
 -- the items are as many as len says

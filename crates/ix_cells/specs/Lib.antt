@@ -6,8 +6,5 @@ pub mod ErrorTexts
 pub mod Iterating
 pub mod Lending
 pub mod Places
-pub mod RawLending
-pub mod RawMemory
-pub mod RawRows
-pub mod Rows
 pub mod VectorSteps
+pub mod inner

@@ -6,7 +6,7 @@ use Rattle.std.proofs.lemmas.List.{get_or-set_same, get_or-set_other}
 use Rattle.ix_cells.specs.Places.{place_at}
 use Rattle.ix_cells.proofs.Places.{place_at_within}
 use Rattle.ix_maps.specs.declared.slottable.link.Link.{Link}
-use Rattle.ix_maps.specs.FreeList.{free_link, first_or, last_or, links_keys_from, IsChain, links_set_next, links_set_previous}
+use Rattle.ix_maps.specs.inner.FreeList.{free_link, first_or, last_or, links_keys_from, IsChain, links_set_next, links_set_previous}
 use Rattle.ix_maps.proofs.FreeKeys.{key_count, key_count-cons, hit_same, hit_other, first_occurs, apart_from_last_or}
 
 -- the links around one key of a chain

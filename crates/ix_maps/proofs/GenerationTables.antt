@@ -5,7 +5,7 @@ use Rattle.std.proofs.Math.ListN.{get_or-map}
 use Rattle.std.proofs.lemmas.Bool.{cases_eq}
 use Rattle.std.proofs.lemmas.List.{get_or-set_same, get_or-set_other, length-map, length-set, map-set}
 use Rattle.ix_cells.specs.Places.{place_at}
-use Rattle.ix_maps.specs.GenerationTable.{numbers_in, HasEachPlace}
+use Rattle.ix_maps.specs.inner.GenerationTable.{numbers_in, HasEachPlace}
 
 pub numbers_in-at : (row : List (Option ℕ)) (place number : ℕ) → place_at row place ≡ Some number → get_or (numbers_in row) place 0 ≡ number
 numbers_in-at row place number at = get_or-map (λ (p : Option ℕ). unwrap_or p 0) row place None ∙ ap (λ (p : Option ℕ). unwrap_or p 0) at

@@ -9,7 +9,7 @@ use Rattle.std.proofs.lemmas.List.Folds.{sum_by-replicate}
 use Rattle.ix_cells.specs.Places.{place_at}
 use Rattle.ix_maps.specs.SlotState.{SlotState, value_at, IsWellFormed, slot_new, entries_from, entries}
 use Rattle.ix_maps.specs.Generations.{SlotMapState, is_retired, IsMapFormed}
-use Rattle.ix_maps.specs.GenerationTable.{HasGenerations, AreEntriesBelow}
+use Rattle.ix_maps.specs.inner.GenerationTable.{HasGenerations, AreEntriesBelow}
 use Rattle.ix_maps.proofs.SlotTables.{place_at_past}
 
 pub none_of_not_some : {X : Type 0} (content : Option X) → (IsSome content → ⊥) → content ≡ None

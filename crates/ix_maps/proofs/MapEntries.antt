@@ -8,7 +8,7 @@ use Rattle.std.proofs.lemmas.List.Sums.{sum_by-cons}
 use Rattle.ix_cells.specs.Places.{place_at}
 use Rattle.ix_maps.specs.SlotState.{entries_from, entries}
 use Rattle.ix_maps.specs.Generations.{SlotKey, slot_key_eq, SlotMapState, generation_at, held_entries, map_len, map_entries, KeysRise, ListsExactly}
-use Rattle.ix_maps.specs.GenerationTable.{AreEntriesOf}
+use Rattle.ix_maps.specs.inner.GenerationTable.{AreEntriesOf}
 use Rattle.ix_maps.proofs.Generations.{AreEntriesBelow-entries}
 use Rattle.ix_maps.proofs.Entries.{Rises, Rises-none, Rises-weaken, Rises-cons}
 

@@ -9,7 +9,7 @@ use Rattle.std.specs.List.{push}
 use Rattle.ix_cells.specs.Bounded.{Bounded, bounded_new, with_items}
 use Rattle.ix_cells.specs.Places.{place_at, IsEmptyAt, IsHeldAt, IsVacant}
 use Rattle.ix_maps.specs.QueueSteps.{is_too_long, queue_overflow, queue_pop, queue_set_front}
-use Rattle.ix_maps.specs.Ring.{ring_place, ring_next, ring_row, row_items, IsRingOf, IsRing}
+use Rattle.ix_maps.specs.inner.Ring.{ring_place, ring_next, ring_row, row_items, IsRingOf, IsRing}
 
 -- before the end of the row
 ring_place_low : (start i capacity : ℕ) → i < capacity - start → ring_place start i capacity ≡ start + i

@@ -13,7 +13,7 @@ use Rattle.ix_cells.specs.Places.{place_at}
 use Rattle.ix_maps.specs.declared.slottable.link.Link.{Link}
 use Rattle.ix_maps.specs.SlotState.{SlotState, value_at, IsHeld, IsFree, slot_new}
 use Rattle.ix_maps.specs.SlotSteps.{slot_fill, slot_vacate, slot_insert, SlotInsert}
-use Rattle.ix_maps.specs.FreeList.{no_key, held_link, free_link, first_or, last_or, IsChain, IsKeyOrNone, IsLinkWithin, links_set_next, links_set_previous, links_remove, links_remove_first, links_insert_first, first_after_remove, IsRisingList, Represents}
+use Rattle.ix_maps.specs.inner.FreeList.{no_key, held_link, free_link, first_or, last_or, IsChain, IsKeyOrNone, IsLinkWithin, links_set_next, links_set_previous, links_remove, links_remove_first, links_insert_first, first_after_remove, IsRisingList, Represents}
 use Rattle.ix_maps.proofs.FreeKeys.{key_count, key_count-cons, hit, hit_same, hit_other, key_count-append, keys_without-absent, apart_from_last_or, apart_from_first_or, key_count-range_past, key_count-range_within}
 use Rattle.ix_cells.proofs.Places.{held_item, held_within}
 use Rattle.ix_maps.proofs.Chains.{IsChain-append, IsChain-set_other, IsChain-links_set_next, IsChain-links_set_previous}

@@ -6,7 +6,7 @@ use Rattle.ix_cells.specs.Places.{place_at, IsEmptyAt, IsHeldAt, IsVacant}
 use Rattle.ix_maps.specs.declared.slottable.link.Link.{Link}
 use Rattle.ix_maps.specs.SlotState.{SlotState, value_at, IsHeld, IsFree, IsWellFormed}
 use Rattle.ix_maps.specs.SlotSteps.{keys_without}
-use Rattle.ix_maps.specs.FreeList.{no_key, held_link, free_link, first_or, last_or, links_keys_from, IsChain, IsLinkTable, IsKeyOrNone, IsLinkWithin, slots_of, MatchesLink, MatchesLinks, Represents}
+use Rattle.ix_maps.specs.inner.FreeList.{no_key, held_link, free_link, first_or, last_or, links_keys_from, IsChain, IsLinkTable, IsKeyOrNone, IsLinkWithin, slots_of, MatchesLink, MatchesLinks, Represents}
 use Rattle.ix_maps.proofs.FreeKeys.{key_count, key_count-cons, hit, hit_same, key_count-append, split_at_key, first_occurs, apart_from_last_or, apart_from_first_or}
 use Rattle.ix_cells.proofs.Places.{place_at_within}
 use Rattle.ix_maps.proofs.Chains.{chain_parts, place_at-chain, links_keys_from-chain}

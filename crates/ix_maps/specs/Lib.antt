@@ -1,11 +1,9 @@
 pub use Rattle.ix_cells.specs.Bounded
 pub mod QueueSteps
-pub mod Ring
-pub mod FreeList
 pub mod SlotState
 pub mod SlotSteps
 pub mod Generations
-pub mod GenerationTable
 pub mod SlotMapSteps
 pub mod FlatState
 pub mod FlatSteps
+pub mod inner

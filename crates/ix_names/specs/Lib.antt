@@ -3,5 +3,5 @@ pub mod JsonTree
 pub mod Optional
 pub mod Rules
 pub mod SampleRules
-pub mod SampleRulesLaws
 pub mod SemanticSteps
+pub mod laws

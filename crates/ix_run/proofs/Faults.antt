@@ -1,6 +1,6 @@
 -- Which faults come from a device.
 use Rattle.std.proofs.Common.{ℕ, ◌≡◌, List}
-use Rattle.ix_run.specs.Faults.{IsDeviceFault, LeftUnwritten}
+use Rattle.ix_run.specs.inner.Faults.{IsDeviceFault, LeftUnwritten}
 use Rattle.ix_run.specs.declared.run.fault.ScriptFault.{ScriptFault}
 use Rattle.ix_run.specs.declared.run.fault.ScriptFault.TheVariants.{Read, Write, OutOfMemory}
 

@@ -2,7 +2,7 @@
 use Rattle.std.proofs.Common.{ℕ, ◌≡◌, ◌<◌, ◌≤◌, ◌+◌, ◌-◌, List, [], ◌∷◌, ◌++◌, Some, None, length, take, drop, refl, sym, ap, ◌∙◌, append_assoc, arith}
 use Rattle.std.proofs.lemmas.Grind.{common_steps}
 use Rattle.std.proofs.lemmas.List.{drop-take, drop-drop}
-use Rattle.ix_run.specs.Input.{line_at, last_line, lines_from}
+use Rattle.ix_run.specs.inner.Input.{line_at, last_line, lines_from}
 use Rattle.ix_run.specs.Lines.{LimitedLine, limited_line, limited_line_append, line_feed, IsOneLine}
 use Rattle.ix_run.proofs.Pieces.{Lacks, Lacks-IsOneLine, limited_line_append-nil, limited_line_append-append}
 

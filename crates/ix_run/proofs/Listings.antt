@@ -8,7 +8,7 @@ use Rattle.std.specs.Option.{option_flatten}
 use Rattle.ix_maps.specs.SlotState.{entries_from}
 use Rattle.ix_maps.specs.Generations.{SlotMapState, held_entries, map_entries, map_len}
 use Rattle.ix_run.specs.ReplyTexts.{items_text, more_items_text, items_left_text, next_text}
-use Rattle.ix_run.specs.Writing.{Writes, WritesPart}
+use Rattle.ix_run.specs.inner.Writing.{Writes, WritesPart}
 use Rattle.ix_run.proofs.KnownBytes.{Appends-nil}
 use Rattle.ix_run.proofs.Writing.{Writes-append, WritesPart-Writes, WritesPart_append}
 

@@ -1,12 +1,12 @@
 -- A script from line to line: the replies so far, and those to what is to come.
 use Rattle.std.proofs.Common.{ℕ, ◌≡◌, List, [], ◌++◌, Option, Bool, true, false, Result, Ok, Err, OnOk, OnErr, refl, sym, ap, ◌∙◌, append_assoc, append-nil, subst, codes}
 use Rattle.std.specs.Io.KnownBytes.{Appends, Consumes, IsAtEnd}
-use Rattle.ix_run.specs.Faults.{IsDeviceFault}
+use Rattle.ix_run.specs.inner.Faults.{IsDeviceFault}
 use Rattle.ix_run.specs.Lines.{with_line_feed}
 use Rattle.ix_run.specs.Outcome.{WritesReplies, WritesPartOfReplies, WritesRepliesBeforeReady}
 use Rattle.ix_run.specs.Script.{replies_to}
-use Rattle.ix_run.specs.Progress.{Advances, AdvancesPart, AdvanceResult, DriveResult, ReadsFrom, FinishResult, StopResult}
-use Rattle.ix_run.specs.Writing.{Writes, WritesPart, WriteResult}
+use Rattle.ix_run.specs.inner.Progress.{Advances, AdvancesPart, AdvanceResult, DriveResult, ReadsFrom, FinishResult, StopResult}
+use Rattle.ix_run.specs.inner.Writing.{Writes, WritesPart, WriteResult}
 use Rattle.ix_run.specs.declared.run.fault.ScriptFault.{ScriptFault}
 use Rattle.ix_run.specs.declared.run.fault.ScriptFault.TheVariants.{Read, Write, OutOfMemory}
 use Rattle.ix_run.proofs.Faults.{IsDeviceFault-Write, LeftUnwritten-device, LeftUnwritten-Write}

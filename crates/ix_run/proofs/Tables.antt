@@ -6,7 +6,7 @@ use Rattle.std.specs.Map.{lookup}
 use Rattle.std.proofs.lemmas.Map.Made.{lookup-map_values}
 use Rattle.ix_maps.specs.Generations.{SlotKey}
 use Rattle.ix_run.specs.Words.{Form, KeyForm, is_space, numbers_in, words_of, fits_byte, make_named, command_of, key_and_numbers, name_key_numbers, make_with_key, key_command_of}
-use Rattle.ix_run.specs.Tables.{numbers_taken, items_taken, bytes_taken, forms_by}
+use Rattle.ix_run.specs.inner.Tables.{numbers_taken, items_taken, bytes_taken, forms_by}
 use Rattle.ix_run.specs.declared.run.tables.Takes.{Takes}
 use Rattle.ix_run.specs.declared.run.tables.Takes.TheVariants.{Nothing, Number, TwoNumbers, Numbers, Byte, NumberAndByte, Bytes, NumberAndBytes}
 use Rattle.ix_run.proofs.Words.{command_of_split}

@@ -1,7 +1,7 @@
 -- Bytes that are appended to pending ones.
 use Rattle.std.proofs.Common.{ℕ, List, [], ◌++◌, Option, Result, Ok, Err, refl, sym, ap, ◌∙◌, append_assoc, append-nil}
 use Rattle.std.specs.Io.KnownBytes.{Appends, Keeps}
-use Rattle.ix_run.specs.Writing.{Writes, WritesPart, WriteResult}
+use Rattle.ix_run.specs.inner.Writing.{Writes, WritesPart, WriteResult}
 use Rattle.ix_run.specs.declared.run.fault.ScriptFault.{ScriptFault}
 use Rattle.ix_run.proofs.KnownBytes.{Appends-nil, Appends-append, Appends-Keeps}
 

@@ -1,14 +1,10 @@
-pub mod Faults
 pub mod Forms
 pub mod Headers
-pub mod Input
 pub mod Laws
 pub mod Lines
 pub mod Outcome
-pub mod Progress
 pub mod Reading
 pub mod ReplyTexts
 pub mod Script
-pub mod Tables
 pub mod Words
-pub mod Writing
+pub mod inner

@@ -1,7 +1,7 @@
 -- What a script leaves of its reader and its writer, and what the program reports.
 use Rattle.std.specs.Prelude.{ℕ, ◌≡◌, List, ◌++◌, Option, Result, Ok, Err, codes}
 use Rattle.std.specs.Io.KnownBytes.{Appends, Consumes, IsAtEnd}
-use Rattle.ix_run.specs.Faults.{BeginsWithReady}
+use Rattle.ix_run.specs.Lines.{with_line_feed}
 use Rattle.ix_run.specs.Script.{replies_to}
 use Rattle.ix_run.specs.declared.run.fault.ScriptFault.{ScriptFault}
 use Rattle.ix_run.specs.declared.run.fault.ScriptFault.TheVariants.{Read, Write, OutOfMemory}
@@ -15,6 +15,10 @@ WritesReplies input output input' output' =
 abbrev pub WritesPartOfReplies : Option (List ℕ) → Option (List ℕ) → Option (List ℕ) → Option (List ℕ) → Type 0
 WritesPartOfReplies input output input' output' =
     (read written rest : List ℕ) × Consumes input input' read × Appends output output' written × (replies_to read ≡ written ++ rest)
+
+-- the replies from `ready` on
+abbrev pub BeginsWithReady : List ℕ → Type 0
+BeginsWithReady replies = (rest : List ℕ) × (replies ≡ with_line_feed (codes "ready") ++ rest)
 
 -- some input was read, and the replies to it that come before `ready` were written
 abbrev pub WritesRepliesBeforeReady : Option (List ℕ) → Option (List ℕ) → Option (List ℕ) → Option (List ℕ) → Type 0

@@ -1,7 +1,7 @@
 //! The encodings of fixed strings.
 ghost use Rattle.std.specs.Prelude.{◌≡◌, ◌≤◌, ◌↔◌, length, All, IsTrue};
 ghost use Rattle.ix_string.specs.Text.{IsText, padded_text};
-ghost use Rattle.ix_atomic.specs.EncodingLaws.{padded_text-len, padded_text-one_value};
+ghost use Rattle.ix_atomic.specs.laws.EncodingLaws.{padded_text-len, padded_text-one_value};
 
 use crate::byte_atomic::AtomicCopy;
 use ix_string::{StaticString, String, strnlen};

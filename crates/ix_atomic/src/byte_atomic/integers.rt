@@ -4,7 +4,7 @@ ghost use Rattle.std.specs.Int.{w16, w32, w64, to_le_bytes, from_le_bytes};
 ghost use Rattle.std.proofs.Common.{sym, ◌∙◌, ap};
 ghost use Rattle.std.proofs.lemmas.Nat.{from_le_bytes-to_le_bytes_2, from_le_bytes-to_le_bytes_4, from_le_bytes-to_le_bytes_8};
 ghost use Rattle.ix_atomic.specs.Encoding.{i64_encoding};
-ghost use Rattle.ix_atomic.specs.EncodingLaws.{i64_encoding-one_value};
+ghost use Rattle.ix_atomic.specs.laws.EncodingLaws.{i64_encoding-one_value};
 
 use crate::byte_atomic::AtomicCopy;
 

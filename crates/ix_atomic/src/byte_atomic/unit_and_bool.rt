@@ -1,7 +1,7 @@
 //! The encodings of `()` and `bool`.
 ghost use Rattle.std.specs.Prelude.{true, false, [], refl};
 ghost use Rattle.ix_atomic.specs.Encoding.{bool_encoding};
-ghost use Rattle.ix_atomic.specs.EncodingLaws.{bool_encoding-one_value};
+ghost use Rattle.ix_atomic.specs.laws.EncodingLaws.{bool_encoding-one_value};
 
 use crate::byte_atomic::AtomicCopy;
 

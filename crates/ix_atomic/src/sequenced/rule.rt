@@ -34,8 +34,8 @@ pub(crate) struct CellRule<T> {
 }
 
 impl<T: AtomicCopy> TableRule<(), SeatView<T>, T> for CellRule<T> {
-    ghost use Rattle.ix_atomic.specs.SequencedRule.{Encodes, SequencedRule};
-    ghost use Rattle.ix_atomic.specs.SequencedSteps.{view_new};
+    ghost use Rattle.ix_atomic.specs.inner.SequencedRule.{Encodes, SequencedRule};
+    ghost use Rattle.ix_atomic.specs.inner.SequencedSteps.{view_new};
 
     ghost holds = { λ _. SequencedRule (Encodes T.is_value T.encoding) };
 
@@ -46,8 +46,8 @@ impl<T: AtomicCopy> TableRule<(), SeatView<T>, T> for CellRule<T> {
 pub(crate) struct Claim;
 
 impl<T: AtomicCopy> Play<(), SeatView<T>> for Claim {
-    ghost use Rattle.ix_atomic.specs.SequencedRule.{Encodes};
-    ghost use Rattle.ix_atomic.specs.SequencedSteps.{ClaimStep};
+    ghost use Rattle.ix_atomic.specs.inner.SequencedRule.{Encodes};
+    ghost use Rattle.ix_atomic.specs.inner.SequencedSteps.{ClaimStep};
 
     ghost then = { ClaimStep (Encodes T.is_value T.encoding) };
 }
@@ -56,7 +56,7 @@ impl<T: AtomicCopy> Play<(), SeatView<T>> for Claim {
 pub(crate) struct Store;
 
 impl<T: AtomicCopy> Play<(), SeatView<T>> for Store {
-    ghost use Rattle.ix_atomic.specs.SequencedSteps.{WordStep};
+    ghost use Rattle.ix_atomic.specs.inner.SequencedSteps.{WordStep};
 
     ghost then = { WordStep T.SIZE };
 }
@@ -65,8 +65,8 @@ impl<T: AtomicCopy> Play<(), SeatView<T>> for Store {
 pub(crate) struct End;
 
 impl<T: AtomicCopy> Play<(), SeatView<T>> for End {
-    ghost use Rattle.ix_atomic.specs.SequencedRule.{Encodes};
-    ghost use Rattle.ix_atomic.specs.SequencedSteps.{EndStep};
+    ghost use Rattle.ix_atomic.specs.inner.SequencedRule.{Encodes};
+    ghost use Rattle.ix_atomic.specs.inner.SequencedSteps.{EndStep};
 
     ghost then = { EndStep (Encodes T.is_value T.encoding) };
 }
@@ -75,8 +75,8 @@ impl<T: AtomicCopy> Play<(), SeatView<T>> for End {
 pub(crate) struct LoadVersion;
 
 impl<T: AtomicCopy> Play<(), SeatView<T>> for LoadVersion {
-    ghost use Rattle.ix_atomic.specs.SequencedRule.{Encodes};
-    ghost use Rattle.ix_atomic.specs.SequencedSteps.{LoadVersionStep};
+    ghost use Rattle.ix_atomic.specs.inner.SequencedRule.{Encodes};
+    ghost use Rattle.ix_atomic.specs.inner.SequencedSteps.{LoadVersionStep};
 
     ghost then = { LoadVersionStep (Encodes T.is_value T.encoding) };
 }
@@ -85,7 +85,7 @@ impl<T: AtomicCopy> Play<(), SeatView<T>> for LoadVersion {
 pub(crate) struct LoadWord;
 
 impl<T: AtomicCopy> Play<(), SeatView<T>> for LoadWord {
-    ghost use Rattle.ix_atomic.specs.SequencedSteps.{WordStep};
+    ghost use Rattle.ix_atomic.specs.inner.SequencedSteps.{WordStep};
 
     ghost then = { WordStep T.SIZE };
 }
@@ -94,7 +94,7 @@ impl<T: AtomicCopy> Play<(), SeatView<T>> for LoadWord {
 pub(crate) struct NewSeat;
 
 impl<T> Split<SeatView<T>> for NewSeat {
-    ghost use Rattle.ix_atomic.specs.SequencedSteps.{view_further};
+    ghost use Rattle.ix_atomic.specs.inner.SequencedSteps.{view_further};
 
     ghost left = { λ view. view };
 
@@ -105,7 +105,7 @@ impl<T> Split<SeatView<T>> for NewSeat {
 pub(crate) struct Merge;
 
 impl<T> Join<SeatView<T>> for Merge {
-    ghost use Rattle.ix_atomic.specs.SequencedSteps.{view_merged, view_spent};
+    ghost use Rattle.ix_atomic.specs.inner.SequencedSteps.{view_merged, view_spent};
 
     ghost both = { view_merged };
 

@@ -15,8 +15,8 @@ pub struct ReaderSeat<T> {
 impl<T> Model for ReaderSeat<T> {
     ghost use Rattle.std.specs.Prelude.{◌≡◌, []};
     ghost use Rattle.ix_atomic.specs.History.{Reader};
-    ghost use Rattle.ix_atomic.specs.SequencedRule.{parity};
-    ghost use Rattle.ix_atomic.specs.SequencedSteps.{reader_of};
+    ghost use Rattle.ix_atomic.specs.inner.SequencedRule.{parity};
+    ghost use Rattle.ix_atomic.specs.inner.SequencedSteps.{reader_of};
 
     ghost Value = { Reader T };
 
@@ -39,8 +39,8 @@ pub struct WriterSeat<T> {
 impl<T> Model for WriterSeat<T> {
     ghost use Rattle.std.specs.Prelude.{◌≡◌, []};
     ghost use Rattle.ix_atomic.specs.Writers.{Writer};
-    ghost use Rattle.ix_atomic.specs.SequencedRule.{parity};
-    ghost use Rattle.ix_atomic.specs.SequencedSteps.{writer_of};
+    ghost use Rattle.ix_atomic.specs.inner.SequencedRule.{parity};
+    ghost use Rattle.ix_atomic.specs.inner.SequencedSteps.{writer_of};
 
     ghost Value = { Writer T };
 

@@ -3,8 +3,8 @@ ghost use Rattle.std.specs.Prelude.{◌≡◌, ℕ, ◌+◌, ◌/◌, ◌<◌, �
 ghost use Rattle.ix_atomic.specs.Words.{word_count};
 ghost use Rattle.ix_atomic.specs.History.{Begins, Loads, LoadsTwice, value_at, last_value, IsEven, IsOdd, data_words, all_words};
 ghost use Rattle.ix_atomic.specs.Writers.{Writes, Refuses, AreOwn, AreApart, as_reader, places_merge};
-ghost use Rattle.ix_atomic.specs.SequencedRule.{Encodes, parity};
-ghost use Rattle.ix_atomic.specs.SequencedSteps.{seated_stage, reader_of, writer_of, view_merged, ViewLoads};
+ghost use Rattle.ix_atomic.specs.inner.SequencedRule.{Encodes, parity};
+ghost use Rattle.ix_atomic.specs.inner.SequencedSteps.{seated_stage, reader_of, writer_of, view_merged, ViewLoads};
 ghost use Rattle.ix_atomic.specs.declared.sequenced.rule.Stage.TheVariants.{Reading, Writing};
 
 use crate::byte_atomic::AtomicCopy;

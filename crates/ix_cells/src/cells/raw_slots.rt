@@ -33,7 +33,7 @@ pub struct RawSlots<T, A: Allocator = Global> {
 impl<T, A: Allocator> Model for RawSlots<T, A> {
     ghost use Rattle.std.specs.Prelude.{List, Option};
     ghost use Rattle.std.specs.Vec.{vec_allocator};
-    ghost use Rattle.ix_cells.specs.RawRows.{AreParts};
+    ghost use Rattle.ix_cells.specs.inner.RawRows.{AreParts};
 
     ghost Value = { List (Option T) };
 

@@ -33,7 +33,7 @@ pub struct Iter<'a, T, S: Table<T>> {
 
 impl<'a, T, S: Table<T>> Model for Iter<'a, T, S> {
     ghost use Rattle.std.specs.Prelude.{List, slice_range};
-    ghost use Rattle.ix_maps.specs.Ring.{IsRangeOf};
+    ghost use Rattle.ix_maps.specs.inner.Ring.{IsRangeOf};
 
     ghost Value = { List T };
 

@@ -9,7 +9,7 @@ ghost use Rattle.std.specs.Option.{option_copied_mut};
 ghost use Rattle.ix_cells.specs.Bounded.{IsWithin, IsFull, has_room, bounded_new, bounded_push, with_items};
 ghost use Rattle.ix_cells.specs.Places.{IsVacant};
 ghost use Rattle.ix_maps.specs.QueueSteps.{queue_overflow, queue_overflow_item, queue_front, queue_pop, queue_set_front};
-ghost use Rattle.ix_maps.specs.Ring.{ring_place, ring_next};
+ghost use Rattle.ix_maps.specs.inner.Ring.{ring_place, ring_next};
 
 use crate::queue::Iter;
 use ix_cells::Table;
@@ -41,7 +41,7 @@ pub struct MetaQueue<T, S: Table<T>> {
 impl<T, S: Table<T>> Model for MetaQueue<T, S> {
     ghost use Rattle.std.specs.Prelude.{length};
     ghost use Rattle.ix_cells.specs.Bounded.{Bounded, bounded_code};
-    ghost use Rattle.ix_maps.specs.Ring.{ring_row, row_items, IsRing};
+    ghost use Rattle.ix_maps.specs.inner.Ring.{ring_row, row_items, IsRing};
 
     ghost Value = { Bounded T };
 

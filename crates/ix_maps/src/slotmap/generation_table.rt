@@ -1,7 +1,7 @@
 //! A table with a generation in each of its places.
 ghost use Rattle.std.specs.Prelude.{◌≡◌, ℕ, ◌+◌, ◌<◌, length, replicate, Some, slice_index_or, slice_set};
 ghost use Rattle.ix_cells.specs.Places.{place_at, IsVacant};
-ghost use Rattle.ix_maps.specs.GenerationTable.{HasEachPlace};
+ghost use Rattle.ix_maps.specs.inner.GenerationTable.{HasEachPlace};
 
 use ix_cells::{Counted, Table, Touches};
 use std::marker::Model;
@@ -14,7 +14,7 @@ pub(crate) struct GenerationTable<G: Table<u32>> {
 impl<G: Table<u32>> Model for GenerationTable<G> {
     ghost use Rattle.std.specs.Prelude.{ℕ, List};
     ghost use Rattle.std.specs.Coded.{coded_ℕ, coded_list};
-    ghost use Rattle.ix_maps.specs.GenerationTable.{numbers_in, HasEachPlace};
+    ghost use Rattle.ix_maps.specs.inner.GenerationTable.{numbers_in, HasEachPlace};
 
     ghost Value = { List ℕ };
 

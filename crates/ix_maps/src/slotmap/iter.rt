@@ -36,7 +36,7 @@ pub struct Iter<'a, T, S: Table<Option<T>>, L: Table<Link>, G: Table<u32>> {
 impl<'a, T, S: Table<Option<T>>, L: Table<Link>, G: Table<u32>> Model for Iter<'a, T, S, L, G> {
     ghost use Rattle.std.specs.Prelude.{List};
     ghost use Rattle.ix_maps.specs.Generations.{SlotKey, held_entries};
-    ghost use Rattle.ix_maps.specs.GenerationTable.{AreEntriesOf};
+    ghost use Rattle.ix_maps.specs.inner.GenerationTable.{AreEntriesOf};
 
     ghost Value = { List (SlotKey × T) };
 

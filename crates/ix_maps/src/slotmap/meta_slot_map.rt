@@ -49,7 +49,7 @@ pub struct MetaSlotMap<T, S: Table<Option<T>>, L: Table<Link>, G: Table<u32>> {
 
 impl<T, S: Table<Option<T>>, L: Table<Link>, G: Table<u32>> Model for MetaSlotMap<T, S, L, G> {
     ghost use Rattle.ix_maps.specs.Generations.{SlotMapState, slot_map_state_code};
-    ghost use Rattle.ix_maps.specs.GenerationTable.{HasGenerations};
+    ghost use Rattle.ix_maps.specs.inner.GenerationTable.{HasGenerations};
 
     ghost Value = { SlotMapState T };
 

@@ -2,7 +2,7 @@
 ghost use Rattle.std.specs.Prelude.{◌≡◌, ◌+◌, ◌<◌, ◌≤◌, length, Some, None, replicate, slice_set};
 ghost use Rattle.std.specs.List.{range_with_len};
 ghost use Rattle.ix_cells.specs.Places.{IsHeldAt, IsVacant};
-ghost use Rattle.ix_maps.specs.FreeList.{no_key, first_or, IsLinkTable, IsKeyOrNone, IsLinkWithin, IsRisingList, MatchesLinks, links_set_next, links_set_previous, links_remove, links_remove_first, links_insert_first, first_after_remove};
+ghost use Rattle.ix_maps.specs.inner.FreeList.{no_key, first_or, IsLinkTable, IsKeyOrNone, IsLinkWithin, IsRisingList, MatchesLinks, links_set_next, links_set_previous, links_remove, links_remove_first, links_insert_first, first_after_remove};
 
 use crate::slottable::Link;
 use crate::slottable::link::NO_KEY;

@@ -7,7 +7,7 @@ ghost use Rattle.std.specs.Option.{option_copied_mut};
 ghost use Rattle.ix_cells.specs.Places.{IsVacant};
 ghost use Rattle.ix_maps.specs.SlotState.{value_at, IsHeld, IsKey, IsFree, IsWellFormed, slot_new, held_count, entries, entries_from};
 ghost use Rattle.ix_maps.specs.SlotSteps.{slot_set, slot_fill, slot_vacate, slot_insert, SlotInsert, SlotInsertAt, SlotRemove};
-ghost use Rattle.ix_maps.specs.FreeList.{no_key};
+ghost use Rattle.ix_maps.specs.inner.FreeList.{no_key};
 
 use crate::slottable::free_list::{
     drop_all, first_after_remove, insert_first, link_all, remove, remove_first,
@@ -49,7 +49,7 @@ pub struct MetaSlotTable<T, S: Table<T>, L: Table<Link>> {
 
 impl<T, S: Table<T>, L: Table<Link>> Model for MetaSlotTable<T, S, L> {
     ghost use Rattle.ix_maps.specs.SlotState.{SlotState, slot_state_code};
-    ghost use Rattle.ix_maps.specs.FreeList.{slots_of, Represents};
+    ghost use Rattle.ix_maps.specs.inner.FreeList.{slots_of, Represents};
 
     ghost Value = { SlotState T };
 

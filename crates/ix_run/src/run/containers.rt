@@ -2,8 +2,8 @@
 ghost use Rattle.std.specs.Prelude.{◌≡◌, ◌≤◌, [], true, IfSome};
 ghost use Rattle.ix_cells.specs.declared.cells.table.TheConstants.{MAX_FIXED_CAPACITY};
 ghost use Rattle.ix_run.specs.Headers.{capacity_of, fixed_capacity};
-ghost use Rattle.ix_run.specs.Input.{lines_to_come};
-ghost use Rattle.ix_run.specs.Progress.{FinishResult};
+ghost use Rattle.ix_run.specs.inner.Input.{lines_to_come};
+ghost use Rattle.ix_run.specs.inner.Progress.{FinishResult};
 ghost use Rattle.ix_run.specs.Script.{IsEmptyContainer, replies_from_ready, replies_from_header};
 ghost use Rattle.ix_run.specs.declared.run.header.Container.{Container};
 

@@ -2,7 +2,7 @@
 ghost use Rattle.std.specs.Prelude.{◌≡◌, decimal};
 ghost use Rattle.ix_maps.specs.FlatState.{flat_keys};
 ghost use Rattle.ix_run.specs.ReplyTexts.{items_text};
-ghost use Rattle.ix_run.specs.Writing.{WriteResult};
+ghost use Rattle.ix_run.specs.inner.Writing.{WriteResult};
 
 use crate::run::containers::{MakesInArena, MakesInline, MakesOnHeap, Named};
 use crate::run::replies::ListedNumber;

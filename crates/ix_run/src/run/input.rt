@@ -1,6 +1,6 @@
 //! The lines of an input that is read in pieces.
 ghost use Rattle.std.specs.Prelude.{◌≡◌, ◌<◌, ◌≤◌, ◌+◌, ◌*◌, ◌++◌, ◌∷◌, ◌↔◌, [], Some, IfSome, IfNone, IsTrue, length, take, drop, option_copied};
-ghost use Rattle.ix_run.specs.Input.{ReadsOnce, TakesLine, FillResult, NextLine, current_line};
+ghost use Rattle.ix_run.specs.inner.Input.{ReadsOnce, TakesLine, FillResult, NextLine, current_line};
 ghost use Rattle.ix_run.specs.Lines.{IsOneLine, line_feed};
 ghost use Rattle.ix_run.specs.declared.run.limits.TheConstants.{BUFFER_LEN, MAX_LINE_LEN, MAX_TRIES};
 
@@ -52,7 +52,7 @@ pub struct Input {
 
 impl Model for Input {
     ghost use Rattle.std.specs.Prelude.{◌≡◌, ◌≤◌, ◌+◌, ◌-◌, ◌*◌, length, take, drop};
-    ghost use Rattle.ix_run.specs.Input.{Unread};
+    ghost use Rattle.ix_run.specs.inner.Input.{Unread};
     ghost use Rattle.ix_run.specs.declared.run.limits.TheConstants.{BUFFER_LEN};
 
     ghost Value = { Unread };

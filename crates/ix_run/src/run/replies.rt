@@ -2,7 +2,7 @@
 ghost use Rattle.std.specs.Prelude.{ℕ, ◌≡◌, ◌≤◌, ◌+◌, ◌++◌, List, length, codes, decimal};
 ghost use Rattle.ix_run.specs.Lines.{with_line_feed};
 ghost use Rattle.ix_run.specs.ReplyTexts.{error_name, reply_text_by, items_text, next_text};
-ghost use Rattle.ix_run.specs.Writing.{WriteResult};
+ghost use Rattle.ix_run.specs.inner.Writing.{WriteResult};
 ghost use Rattle.ix_run.specs.declared.run.limits.TheConstants.{BUFFER_LEN, MAX_KEY_LEN, MAX_REPLY_LEN};
 
 use crate::run::listing::Listing;

@@ -1,7 +1,7 @@
 //! What replies to the lines of a script.
 ghost use Rattle.std.specs.Prelude.{ℕ, ◌≡◌, ◌≤◌, ◌∷◌, List, Bool, false, IfSome, length, option_copied};
 ghost use Rattle.ix_run.specs.Lines.{LimitedLine};
-ghost use Rattle.ix_run.specs.Progress.{AdvanceResult};
+ghost use Rattle.ix_run.specs.inner.Progress.{AdvanceResult};
 ghost use Rattle.ix_run.specs.declared.run.limits.TheConstants.{MAX_LINE_LEN};
 
 use crate::run::ScriptFault;

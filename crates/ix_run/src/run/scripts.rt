@@ -1,7 +1,7 @@
 //! Scripts: input bytes to reply bytes.
 ghost use Rattle.std.specs.Prelude.{◌≡◌, [], false, Err, OnOk, OnErr};
 ghost use Rattle.ix_run.specs.Outcome.{WritesReplies, WritesPartOfReplies, WritesRepliesBeforeReady};
-ghost use Rattle.ix_run.specs.Progress.{FinishResult};
+ghost use Rattle.ix_run.specs.inner.Progress.{FinishResult};
 ghost use Rattle.ix_run.specs.Script.{replies_to};
 ghost use Rattle.ix_run.specs.declared.run.fault.ScriptFault.TheVariants.{OutOfMemory};
 

@@ -3,7 +3,7 @@ ghost use Rattle.std.specs.Prelude.{ℕ, ◌≡◌, ◌≤◌, List, Option, IfS
 ghost use Rattle.ix_run.specs.Lines.{with_line_feed};
 ghost use Rattle.ix_run.specs.ReplyTexts.{reply_text_by};
 ghost use Rattle.ix_run.specs.Script.{line_reply, line_after};
-ghost use Rattle.ix_run.specs.Writing.{WriteResult};
+ghost use Rattle.ix_run.specs.inner.Writing.{WriteResult};
 ghost use Rattle.ix_run.specs.declared.run.limits.TheConstants.{MAX_LINE_LEN};
 
 use crate::run::replies::ReplyKey;

@@ -1,10 +1,10 @@
 //! A running script: its input, and the replies that are not written yet.
 ghost use Rattle.std.specs.Prelude.{ℕ, ◌≡◌, ◌∷◌, ◌++◌, [], true, false, IfOk, IfSome, codes};
-ghost use Rattle.ix_run.specs.Input.{current_line, last_line, lines_to_come};
+ghost use Rattle.ix_run.specs.inner.Input.{current_line, last_line, lines_to_come};
 ghost use Rattle.ix_run.specs.Lines.{with_line_feed};
-ghost use Rattle.ix_run.specs.Progress.{AdvanceResult, DriveResult, FinishResult, StopResult};
+ghost use Rattle.ix_run.specs.inner.Progress.{AdvanceResult, DriveResult, FinishResult, StopResult};
 ghost use Rattle.ix_run.specs.Script.{IsEmptyContainer, replies_to_lines, replies_from_ready};
-ghost use Rattle.ix_run.specs.Writing.{WriteResult};
+ghost use Rattle.ix_run.specs.inner.Writing.{WriteResult};
 ghost use Rattle.ix_run.specs.declared.run.header.Container.{Container};
 
 use crate::run::ScriptFault;

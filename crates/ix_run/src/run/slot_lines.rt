@@ -3,7 +3,7 @@ ghost use Rattle.std.specs.Prelude.{◌≡◌};
 ghost use Rattle.ix_maps.specs.Generations.{map_entries};
 ghost use Rattle.ix_run.specs.Headers.{first_generation};
 ghost use Rattle.ix_run.specs.ReplyTexts.{items_text, key_entry_text, next_text};
-ghost use Rattle.ix_run.specs.Writing.{WriteResult};
+ghost use Rattle.ix_run.specs.inner.Writing.{WriteResult};
 
 use crate::run::containers::{MakesInArena, MakesInline, MakesOnHeap, Named};
 use crate::run::replies::ReplyKey;

@@ -2,7 +2,7 @@
 ghost use Rattle.std.specs.Prelude.{◌≡◌};
 ghost use Rattle.ix_maps.specs.SlotState.{entries};
 ghost use Rattle.ix_run.specs.ReplyTexts.{items_text, entry_text, next_text};
-ghost use Rattle.ix_run.specs.Writing.{WriteResult};
+ghost use Rattle.ix_run.specs.inner.Writing.{WriteResult};
 
 use crate::run::containers::{MakesInArena, MakesInline, MakesOnHeap, Named};
 use crate::run::reply_buffer::{Piece, ReplyBuffer};

@@ -3,7 +3,7 @@ ghost use Rattle.std.specs.Prelude.{ℕ, ◌≡◌, ◌≤◌, ◌*◌, List, []
 ghost use Rattle.std.specs.Option.{option_map, option_and_then, option_copied};
 ghost use Rattle.std.specs.Map.{lookup};
 ghost use Rattle.ix_run.specs.Words.{words_after, len_after, numbers_in, command_of};
-ghost use Rattle.ix_run.specs.Tables.{rows, numbers_taken, items_taken, bytes_taken, forms_by};
+ghost use Rattle.ix_run.specs.inner.Tables.{rows, numbers_taken, items_taken, bytes_taken, forms_by};
 
 use crate::run::words::{
     alone, bytes_of_words, is_word, many_numbers, number_and_byte, number_and_bytes, one_byte,

@@ -1,7 +1,7 @@
 //! Lines of a script for a string.
 ghost use Rattle.std.specs.Prelude.{◌≡◌, ◌≤◌, ◌+◌, ◌++◌, codes, length};
 ghost use Rattle.ix_string.specs.Escape.{escaped_byte, escaped_text};
-ghost use Rattle.ix_run.specs.Writing.{WriteResult, WritesPart};
+ghost use Rattle.ix_run.specs.inner.Writing.{WriteResult, WritesPart};
 
 use crate::run::containers::{MakesInArena, MakesInline, MakesOnHeap, Named};
 use crate::run::limits::MAX_NUMBERS;

@@ -2,7 +2,7 @@
 ghost use Rattle.std.specs.Prelude.{◌≡◌};
 ghost use Rattle.ix_run.specs.Words.{command_of};
 ghost use Rattle.ix_run.specs.Forms.{flat_forms};
-ghost use Rattle.ix_run.specs.Tables.{flat_with};
+ghost use Rattle.ix_run.specs.inner.Tables.{flat_with};
 
 use crate::run::FlatCommand;
 use crate::run::tables::{Takes, read_by_table};

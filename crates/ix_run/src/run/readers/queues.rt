@@ -2,7 +2,7 @@
 ghost use Rattle.std.specs.Prelude.{◌≡◌};
 ghost use Rattle.ix_run.specs.Words.{command_of};
 ghost use Rattle.ix_run.specs.Forms.{queue_forms};
-ghost use Rattle.ix_run.specs.Tables.{queue_with};
+ghost use Rattle.ix_run.specs.inner.Tables.{queue_with};
 
 use crate::run::QueueCommand;
 use crate::run::tables::{Takes, read_by_table};

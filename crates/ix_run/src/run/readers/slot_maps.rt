@@ -3,7 +3,7 @@ ghost use Rattle.std.specs.Prelude.{◌≡◌, bytes_eq};
 ghost use Rattle.std.specs.Map.{lookup};
 ghost use Rattle.ix_run.specs.Words.{command_of, key_command_of};
 ghost use Rattle.ix_run.specs.Forms.{slot_forms, slot_key_forms, slot_command_of};
-ghost use Rattle.ix_run.specs.Tables.{constant_rows, slot_named, slot_key_named};
+ghost use Rattle.ix_run.specs.inner.Tables.{constant_rows, slot_named, slot_key_named};
 
 use crate::run::SlotCommand;
 use crate::run::tables::{Takes, read_by_table, read_numbers, value_named};

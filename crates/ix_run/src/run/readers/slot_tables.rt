@@ -2,7 +2,7 @@
 ghost use Rattle.std.specs.Prelude.{◌≡◌};
 ghost use Rattle.ix_run.specs.Words.{command_of};
 ghost use Rattle.ix_run.specs.Forms.{table_forms};
-ghost use Rattle.ix_run.specs.Tables.{table_with};
+ghost use Rattle.ix_run.specs.inner.Tables.{table_with};
 
 use crate::run::TableCommand;
 use crate::run::tables::{Takes, read_by_table};

@@ -3,7 +3,7 @@ ghost use Rattle.std.specs.Prelude.{◌≡◌, ◌≤◌, length, bytes_eq, opti
 ghost use Rattle.std.specs.Map.{lookup};
 ghost use Rattle.ix_run.specs.Words.{command_of};
 ghost use Rattle.ix_run.specs.Forms.{text_forms, text_plain};
-ghost use Rattle.ix_run.specs.Tables.{constant_rows, text_named};
+ghost use Rattle.ix_run.specs.inner.Tables.{constant_rows, text_named};
 ghost use Rattle.ix_run.specs.declared.run.readers.strings.TheConstants.{NAMES};
 ghost use Rattle.ix_run.specs.declared.run.limits.TheConstants.{MAX_LINE_LEN};
 

@@ -1,6 +1,6 @@
 use Rattle.std.proofs.Common.{◌≡◌, ℕ, ◌<◌, ◌≤◌, length, None}
 use Rattle.ix_cells.specs.Places.{place_at}
-use Rattle.ix_maps.specs.FreeList.{MatchesLink}
+use Rattle.ix_maps.specs.inner.FreeList.{MatchesLink}
 use Rattle.ix_maps.proofs.slottable.free_list.drop_all.Given as goal
 
 -- nothing is left before the key, and from there on all is as it was

@@ -1,7 +1,7 @@
 use Rattle.std.proofs.Common.{◌≡◌, ℕ, ◌+◌, ◌-◌, ◌<◌, ◌≤◌, length, Some, None}
 use Rattle.std.specs.Prelude.{nat_eq, if◌then◌else◌}
 use Rattle.ix_cells.specs.Places.{place_at}
-use Rattle.ix_maps.specs.FreeList.{no_key, free_link}
+use Rattle.ix_maps.specs.inner.FreeList.{no_key, free_link}
 use Rattle.ix_maps.proofs.slottable.free_list.link_all.Given as goal
 
 -- the keys so far are linked, and the others are not yet

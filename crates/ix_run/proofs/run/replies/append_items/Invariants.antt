@@ -1,6 +1,6 @@
 use Rattle.std.proofs.Common.{ℕ, List, ◌≡◌, ◌++◌, drop, decimal}
 use Rattle.ix_run.specs.ReplyTexts.{items_text, more_items_text}
-use Rattle.ix_run.specs.Writing.{Writes}
+use Rattle.ix_run.specs.inner.Writing.{Writes}
 use Rattle.ix_run.proofs.run.replies.append_items.Given as goal
 
 abbrev pub invariant-loop-i : goal.invariant-loop-i

@@ -1,7 +1,7 @@
 use Rattle.std.proofs.Common.{ℕ, List, ◌≡◌, ◌∙◌, [], Some, None, false, is_some, Option, Ok, subst, refl, sym, ap}
 use Rattle.std.proofs.lemmas.Result.{err_from_is_err_and}
-use Rattle.ix_run.specs.Input.{lines_to_come}
-use Rattle.ix_run.specs.Progress.{DriveResult}
+use Rattle.ix_run.specs.inner.Input.{lines_to_come}
+use Rattle.ix_run.specs.inner.Progress.{DriveResult}
 use Rattle.ix_run.specs.declared.run.header.Header.{Header}
 use Rattle.ix_run.specs.Script.{opening_replies, replies_to}
 use Rattle.ix_run.proofs.KnownBytes.{Appends-nil}

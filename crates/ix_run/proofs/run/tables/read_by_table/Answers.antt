@@ -1,6 +1,6 @@
 use Rattle.std.proofs.Common.{ℕ, ◌∙◌, sym, ap, option_map, option_copied}
 use Rattle.ix_run.specs.Words.{words_after, numbers_in}
-use Rattle.ix_run.specs.Tables.{rows}
+use Rattle.ix_run.specs.inner.Tables.{rows}
 use Rattle.ix_run.proofs.Tables.{value_and_numbers, line_by_table}
 use Rattle.ix_run.proofs.run.tables.read_by_table.Goals as goal
 

@@ -1,6 +1,6 @@
 use Rattle.std.proofs.Common.{◌≡◌, bytes_eq, drop}
 use Rattle.std.specs.Map.{lookup}
-use Rattle.ix_run.specs.Tables.{rows}
+use Rattle.ix_run.specs.inner.Tables.{rows}
 use Rattle.ix_run.proofs.run.tables.value_named.Given as goal
 
 abbrev pub invariant-loop-row : goal.invariant-loop-row

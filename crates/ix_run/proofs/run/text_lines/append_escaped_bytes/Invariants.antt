@@ -1,6 +1,6 @@
 use Rattle.std.proofs.Common.{ℕ, List, ◌≡◌, ◌++◌, drop}
 use Rattle.ix_string.specs.Escape.{escaped_text}
-use Rattle.ix_run.specs.Writing.{Writes}
+use Rattle.ix_run.specs.inner.Writing.{Writes}
 use Rattle.ix_run.proofs.run.text_lines.append_escaped_bytes.Given as goal
 
 abbrev pub invariant-loop-byte : goal.invariant-loop-byte

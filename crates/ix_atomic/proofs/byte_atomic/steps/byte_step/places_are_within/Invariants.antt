@@ -1,6 +1,6 @@
 use Rattle.std.proofs.Common.{◌≡◌, drop}
 use Rattle.std.specs.List.{filter_map}
-use Rattle.ix_atomic.specs.StepWalks.{all_within}
+use Rattle.ix_atomic.specs.inner.StepWalks.{all_within}
 use Rattle.ix_atomic.proofs.byte_atomic.steps.byte_step.places_are_within.Given as goal
 
 -- what the walk over the rest returns is what the whole walk does

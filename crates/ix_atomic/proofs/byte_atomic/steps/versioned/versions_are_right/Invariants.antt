@@ -1,5 +1,5 @@
 use Rattle.std.proofs.Common.{◌≡◌, ◌≤◌, drop}
-use Rattle.ix_atomic.specs.StepWalks.{versions_agree}
+use Rattle.ix_atomic.specs.inner.StepWalks.{versions_agree}
 use Rattle.ix_atomic.proofs.byte_atomic.steps.versioned.versions_are_right.Given as goal
 
 abbrev pub invariant-loop-step : goal.invariant-loop-step

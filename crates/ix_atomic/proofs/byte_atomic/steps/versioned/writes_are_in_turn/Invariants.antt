@@ -1,5 +1,5 @@
 use Rattle.std.proofs.Common.{◌≡◌, drop, None}
-use Rattle.ix_atomic.specs.StepWalks.{are_in_turn}
+use Rattle.ix_atomic.specs.inner.StepWalks.{are_in_turn}
 use Rattle.ix_atomic.proofs.byte_atomic.steps.versioned.writes_are_in_turn.Given as goal
 
 -- what the walk over the rest returns is what the whole walk does

@@ -3,7 +3,7 @@ use Rattle.std.specs.Slots.{slots_items}
 use Rattle.std.proofs.lemmas.List.{take_all}
 use Rattle.ix_atomic.specs.History.{Begins, IsEven, last_value}
 use Rattle.ix_atomic.specs.Writers.{Writer}
-use Rattle.ix_atomic.specs.SequencedRule.{Encodes}
+use Rattle.ix_atomic.specs.inner.SequencedRule.{Encodes}
 use Rattle.ix_atomic.proofs.Beginnings.{get_or-get_elem, get_elem-tail}
 use Rattle.ix_atomic.proofs.DataWords.{length-with_word, unpack-more}
 use Rattle.ix_atomic.proofs.Encodes.{Encodes-length}

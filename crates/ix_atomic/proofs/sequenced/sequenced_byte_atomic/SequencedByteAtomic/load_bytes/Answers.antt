@@ -1,8 +1,8 @@
 use Rattle.std.proofs.Common.{rules, arith, ◌≡◌, ◌+◌, ◌*◌, ◌<◌, length, take, sym, ap, ◌∙◌}
 use Rattle.std.proofs.lemmas.List.{length-take-le}
 use Rattle.ix_atomic.specs.History.{data_words}
-use Rattle.ix_atomic.specs.SequencedRule.{Encodes}
-use Rattle.ix_atomic.specs.SequencedSteps.{seated_stage}
+use Rattle.ix_atomic.specs.inner.SequencedRule.{Encodes}
+use Rattle.ix_atomic.specs.inner.SequencedSteps.{seated_stage}
 use Rattle.ix_atomic.specs.declared.sequenced.rule.Stage.TheVariants.{Reading}
 use Rattle.ix_atomic.proofs.DataWords.{length-with_word}
 use Rattle.ix_atomic.proofs.Encodes.{Encodes-length}

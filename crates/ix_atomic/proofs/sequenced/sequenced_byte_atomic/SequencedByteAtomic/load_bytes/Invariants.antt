@@ -1,6 +1,6 @@
 use Rattle.std.proofs.Common.{◌≡◌, ◌*◌, take, length}
 use Rattle.ix_atomic.specs.History.{data_words}
-use Rattle.ix_atomic.specs.SequencedSteps.{seated_stage}
+use Rattle.ix_atomic.specs.inner.SequencedSteps.{seated_stage}
 use Rattle.ix_atomic.specs.declared.sequenced.rule.Stage.TheVariants.{Reading}
 use Rattle.ix_atomic.proofs.sequenced.sequenced_byte_atomic.SequencedByteAtomic.load_bytes.Given as goal
 

@@ -1,7 +1,7 @@
 use Rattle.std.proofs.Common.{rules, arith, ◌≡◌, ◌+◌, ◌∷◌, ℕ, suc, List, [], length, sym, ap, ◌∙◌, subst}
 use Rattle.atomic_table.specs.Table.{opening}
-use Rattle.ix_atomic.specs.SequencedRule.{SequencedRule, Encodes}
-use Rattle.ix_atomic.specs.SequencedSteps.{view_new}
+use Rattle.ix_atomic.specs.inner.SequencedRule.{SequencedRule, Encodes}
+use Rattle.ix_atomic.specs.inner.SequencedSteps.{view_new}
 use Rattle.ix_atomic.specs.Words.{word_count, words_of}
 use Rattle.ix_atomic.proofs.Beginnings.{AreBelow}
 use Rattle.ix_atomic.proofs.DataWords.{length-words_of}

@@ -1,7 +1,7 @@
 use Rattle.std.proofs.Common.{rules, arith, ◌≡◌, ◌<◌, ◌⊎◌, sym, ap, ◌∙◌, subst, inl, inr}
 use Rattle.ix_atomic.specs.History.{LoadsTwice, IsOdd, IsEven}
-use Rattle.ix_atomic.specs.SequencedRule.{Encodes, parity}
-use Rattle.ix_atomic.specs.SequencedSteps.{reader_of}
+use Rattle.ix_atomic.specs.inner.SequencedRule.{Encodes, parity}
+use Rattle.ix_atomic.specs.inner.SequencedSteps.{reader_of}
 use Rattle.ix_atomic.proofs.Encodes.{Encodes-length}
 use Rattle.ix_atomic.proofs.SequencedKeeps.{load_version}
 use Rattle.ix_atomic.proofs.SequencedCalls.{Read, whole_read}

@@ -1,5 +1,5 @@
 use Rattle.std.proofs.Common.{rules, arith, ◌*◌, ◌<◌, ap, ◌∙◌}
-use Rattle.ix_atomic.specs.SequencedRule.{Encodes}
+use Rattle.ix_atomic.specs.inner.SequencedRule.{Encodes}
 use Rattle.ix_atomic.proofs.Encodes.{Encodes-length}
 use Rattle.ix_atomic.proofs.SequencedKeeps as step
 use Rattle.ix_atomic.proofs.SequencedCalls.{store_more}

@@ -1,6 +1,6 @@
 use Rattle.std.proofs.Common.{◌≡◌, ◌*◌, take}
 use Rattle.ix_atomic.specs.History.{data_words}
-use Rattle.ix_atomic.specs.SequencedSteps.{seated_stage}
+use Rattle.ix_atomic.specs.inner.SequencedSteps.{seated_stage}
 use Rattle.ix_atomic.specs.declared.sequenced.rule.Stage.TheVariants.{Writing}
 use Rattle.ix_atomic.proofs.sequenced.sequenced_byte_atomic.SequencedByteAtomic.store_bytes.Given as goal
 

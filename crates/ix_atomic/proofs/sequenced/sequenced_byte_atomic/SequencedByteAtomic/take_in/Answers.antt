@@ -1,5 +1,5 @@
 use Rattle.std.proofs.Common.{rules, ap, ◌∙◌}
-use Rattle.ix_atomic.specs.SequencedRule.{parity}
+use Rattle.ix_atomic.specs.inner.SequencedRule.{parity}
 use Rattle.ix_atomic.proofs.SequencedKeeps.{merge, load_version}
 use Rattle.ix_atomic.proofs.sequenced.sequenced_byte_atomic.SequencedByteAtomic.take_in.Goals as goal
 

@@ -1,8 +1,8 @@
 use Rattle.std.proofs.Common.{rules, arith, true≢false, ◌≡◌, [], ◌∷◌, ◌++◌, length, sym, ap, ◌∙◌, append_assoc, subst, inr}
 use Rattle.ix_atomic.specs.History.{IsEven, LoadsTwice, all_words}
 use Rattle.ix_atomic.specs.Writers.{Writer, Writes, AreOwn, as_reader}
-use Rattle.ix_atomic.specs.SequencedRule.{Encodes, parity}
-use Rattle.ix_atomic.specs.SequencedSteps.{writer_of, view_end, ViewClaims}
+use Rattle.ix_atomic.specs.inner.SequencedRule.{Encodes, parity}
+use Rattle.ix_atomic.specs.inner.SequencedSteps.{writer_of, view_end, ViewClaims}
 use Rattle.ix_atomic.proofs.Encodes.{Encodes-length, Encodes-one_value}
 use Rattle.ix_atomic.proofs.SequencedKeeps as step
 use Rattle.ix_atomic.proofs.SequencedCalls.{below_last, two_loads, whole_write}

@@ -26,8 +26,8 @@ use Rattle.core.proofs.alloc.Calls.{Takes, at_takes, Takes-goes, Takes-gives, An
 use Rattle.std_alloc.proofs.VecSteps.Shapes.{head, arm_body}
 use Rattle.std_alloc.proofs.ResultValues.{ok_of, err_of}
 use Rattle.std_alloc.proofs.RcSteps.{Good, first_Good}
-use Rattle.ix_cells.specs.RawMemory.{places_own}
-use Rattle.ix_cells.specs.RawRows.{IsVacantRow, IsGrantFor}
+use Rattle.ix_cells.specs.inner.RawMemory.{places_own}
+use Rattle.ix_cells.specs.inner.RawRows.{IsVacantRow, IsGrantFor}
 use Rattle.ix_cells.specs.contracts.cells.raw_row.RowGrant as grant
 use Rattle.ix_cells.specs.contracts.cells.raw_row.RowGrant.allocate as f
 use Rattle.ix_cells.proofs.RawSteps.{P, τ, s, E, Owner, Start, Mark, bytes_none, mark_made, start_made, three_val, three_made}

@@ -15,8 +15,8 @@ use mir.Val.{has_ty, WT}
 use denote.RawPtr.{ptr_val}
 use Rattle.std.proofs.lemmas.List.{length-replicate}
 use Rattle.core.proofs.alloc.Calls.{Gives, at_gives, Gives-goes, Gives-Gives, Goes-blank}
-use Rattle.ix_cells.specs.RawMemory.{row_owns, grant_owns}
-use Rattle.ix_cells.specs.RawRows.{IsVacantRow, IsGrantFor}
+use Rattle.ix_cells.specs.inner.RawMemory.{row_owns, grant_owns}
+use Rattle.ix_cells.specs.inner.RawRows.{IsVacantRow, IsGrantFor}
 use Rattle.ix_cells.specs.contracts.cells.raw_row.RowGrant as grant
 use Rattle.ix_cells.specs.contracts.cells.raw_row.RowGrant.deallocate as f
 use Rattle.ix_cells.proofs.RawSteps.{P, τ, s, Place, E, Owner, Start, bytes_none, room_in}

@@ -9,7 +9,7 @@ use Rattle.ix_cells.proofs.RawNames.{take_at, give_at, env, usize, RefOf, yes, n
 use Rattle.ix_cells.proofs.RawNames.{in_a_block, shr_vals, plain, types_at, nothing, heard, Stays, stay_dropped, walk_of}
 use Rattle.ix_cells.proofs.RawNames.{Goes-dropped, after, word, word-Good}
 use Rattle.ix_cells.specs.Places.{IsHeldAt}
-use Rattle.ix_cells.specs.RawMemory.{place_shares, row_shares}
+use Rattle.ix_cells.specs.inner.RawMemory.{place_shares, row_shares}
 use Rattle.ix_cells.specs.contracts.cells.raw_row.RowOwner.get as f
 use Rattle.ix_cells.proofs.Places.{held_item, held_within}
 use Rattle.ix_cells.proofs.RawSteps.{P, inst, s, Place, Owner, Start, offset_fits, place_seen}

@@ -16,8 +16,8 @@ use seplogic.Ra.Ura.{Ura}
 use types.Logic.{Logic}
 use denote.RattleType.{RattleType}
 use Rattle.ix_cells.specs.Places.{IsHeldAt}
-use Rattle.ix_cells.specs.RawMemory.{place_owns, places_own, row_owns}
-use Rattle.ix_cells.specs.RawRows.{with_places}
+use Rattle.ix_cells.specs.inner.RawMemory.{place_owns, places_own, row_owns}
+use Rattle.ix_cells.specs.inner.RawRows.{with_places}
 use Rattle.ix_cells.specs.contracts.cells.raw_row.RowOwner.get_mut as f
 use Rattle.ix_cells.proofs.Places.{held_item, held_within}
 use Rattle.ix_cells.proofs.RawSteps.{P, inst, s, Place, Owner, Start, Mark, offset_fits, others}

@@ -10,8 +10,8 @@ use Rattle.ix_cells.proofs.RawNames.{take_at, give_at, env, usize, yes, no, layo
 use Rattle.ix_cells.proofs.RawNames.{plain, types_at, nothing, heard, opens, closes, Stays, stay_dropped, stay_ref, walk_of}
 use Rattle.ix_cells.proofs.RawNames.{Goes-dropped, Goes-ref, after, word, word-Good, as_raw, Good}
 use Rattle.ix_cells.specs.Places.{IsHeldAt}
-use Rattle.ix_cells.specs.RawMemory.{place_owns, places_own, row_owns}
-use Rattle.ix_cells.specs.RawRows.{with_places}
+use Rattle.ix_cells.specs.inner.RawMemory.{place_owns, places_own, row_owns}
+use Rattle.ix_cells.specs.inner.RawRows.{with_places}
 use Rattle.ix_cells.specs.contracts.cells.raw_row.RowOwner.read as f
 use Rattle.ix_cells.proofs.Places.{held_item, held_within}
 use Rattle.ix_cells.proofs.RawSteps.{P, τ, inst, s, Place, Owner, Start, E, offset_fits, others}

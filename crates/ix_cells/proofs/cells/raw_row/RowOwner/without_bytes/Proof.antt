@@ -8,8 +8,8 @@ use Rattle.ix_cells.proofs.RawNames.{heard, Stays, stay_dropped, walk_of, Goes-d
 use denote.Struct.Tuple.{Tuple}
 use Rattle.std.proofs.lemmas.List.{length-replicate}
 use Rattle.std_alloc.proofs.Pairs.{pair_val, pair_of}
-use Rattle.ix_cells.specs.RawMemory.{places_own}
-use Rattle.ix_cells.specs.RawRows.{IsVacantRow}
+use Rattle.ix_cells.specs.inner.RawMemory.{places_own}
+use Rattle.ix_cells.specs.inner.RawRows.{IsVacantRow}
 use Rattle.ix_cells.specs.contracts.cells.raw_row.RowOwner.without_bytes as f
 use Rattle.ix_cells.proofs.RawSteps.{P, inst, s, Owner, Start, Mark, bytes_none, mark_made, start_made, bare_places}
 use Rattle.ix_cells.proofs.cells.raw_row.RowOwner.without_bytes.Statement.{statement}

@@ -10,8 +10,8 @@ use Rattle.ix_cells.proofs.RawNames.{usize, yes, no, layout, param_laws, owns, P
 use Rattle.ix_cells.proofs.RawNames.{nothing, heard, opens, closes, Stays, stay_dropped, stay_ref, walk_of, Goes-dropped}
 use Rattle.ix_cells.proofs.RawNames.{Goes-ref, after, word, word-Good, as_written, one, lawful}
 use Rattle.ix_cells.specs.Places.{IsEmptyAt}
-use Rattle.ix_cells.specs.RawMemory.{place_owns, places_own, row_owns}
-use Rattle.ix_cells.specs.RawRows.{with_places}
+use Rattle.ix_cells.specs.inner.RawMemory.{place_owns, places_own, row_owns}
+use Rattle.ix_cells.specs.inner.RawRows.{with_places}
 use Rattle.ix_cells.specs.contracts.cells.raw_row.RowOwner.write as f
 use Rattle.ix_cells.proofs.RawSteps.{P, τ, inst, s, Place, Owner, Start, E, offset_fits, others, place_out, place_in, item_in}
 use Rattle.ix_cells.proofs.cells.raw_row.RowPtr.TheLaws.{lowers as start_lowers}

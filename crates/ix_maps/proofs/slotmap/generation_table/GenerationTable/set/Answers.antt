@@ -1,5 +1,5 @@
 use Rattle.std.proofs.Common.{ℕ, List, set, sym, ap, ◌∙◌, subst}
-use Rattle.ix_maps.specs.GenerationTable.{numbers_in, HasEachPlace}
+use Rattle.ix_maps.specs.inner.GenerationTable.{numbers_in, HasEachPlace}
 use Rattle.ix_maps.proofs.GenerationTables.{numbers_in-set, numbers_in-within, HasEachPlace-set}
 use Rattle.ix_maps.proofs.slotmap.generation_table.GenerationTable.set.Goals as goal
 

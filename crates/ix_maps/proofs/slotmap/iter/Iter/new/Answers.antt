@@ -1,5 +1,5 @@
 use Rattle.std.proofs.Common.{sym, subst}
-use Rattle.ix_maps.specs.GenerationTable.{AreEntriesOf}
+use Rattle.ix_maps.specs.inner.GenerationTable.{AreEntriesOf}
 use Rattle.ix_maps.proofs.MapEntries.{AreEntriesOf-map_entries}
 use Rattle.ix_maps.proofs.slotmap.iter.Iter.new.Goals as goal
 

@@ -1,6 +1,6 @@
 use Rattle.std.proofs.Common.{◌≡◌, length}
 use Rattle.ix_maps.specs.Generations.{held_entries}
-use Rattle.ix_maps.specs.GenerationTable.{AreEntriesOf}
+use Rattle.ix_maps.specs.inner.GenerationTable.{AreEntriesOf}
 use Rattle.ix_maps.proofs.slotmap.iter.IterIterator.next.Given as goal
 
 -- only retired places were passed

@@ -1,5 +1,5 @@
 use Rattle.std.proofs.Common.{subst}
-use Rattle.ix_maps.specs.FreeList.{IsLinkWithin}
+use Rattle.ix_maps.specs.inner.FreeList.{IsLinkWithin}
 use Rattle.ix_maps.proofs.SlotTables.{IsLinkTable-shown, key_within, IsLinkWithin-shown, IsEmptyAt-free}
 use Rattle.ix_maps.proofs.SlotSteps.{Shows-slot_fill}
 use Rattle.ix_maps.proofs.slottable.meta_slot_table.MetaSlotTable.fill.Goals as goal

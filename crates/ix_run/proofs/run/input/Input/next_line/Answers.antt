@@ -1,6 +1,6 @@
 use Rattle.std.proofs.Common.{◌++◌, ◌∙◌, ◌∷◌, [], refl, sym, ap, arith, append_assoc, append-nil}
 use Rattle.std.proofs.lemmas.Result.{err_from_is_err_and}
-use Rattle.ix_run.specs.Input.{lines_from, lines_to_come, last_line, line_at}
+use Rattle.ix_run.specs.inner.Input.{lines_from, lines_to_come, last_line, line_at}
 use Rattle.ix_run.proofs.Faults.{IsDeviceFault-Write}
 use Rattle.ix_run.proofs.Input.{lines_from-append, lines_from-line_feed, lines_from-last_line}
 use Rattle.ix_run.proofs.KnownBytes.{Consumes-nil, Appends-nil, Consumes-append, Consumes-Consumes_nil}

@@ -1,7 +1,7 @@
 use Rattle.std.proofs.Common.{ℕ, List, ◌≡◌, ◌≤◌, ◌++◌, []}
 use Rattle.std.specs.Io.KnownBytes.{Consumes}
-use Rattle.ix_run.specs.Input.{lines_from, lines_to_come}
-use Rattle.ix_run.specs.Writing.{Writes}
+use Rattle.ix_run.specs.inner.Input.{lines_from, lines_to_come}
+use Rattle.ix_run.specs.inner.Writing.{Writes}
 use Rattle.ix_run.proofs.run.input.Input.next_line.Given as goal
 
 -- the lines to come at the start are those that continue the current line now

@@ -1,5 +1,5 @@
 use Rattle.std.proofs.Common.{Some, ◌∙◌, sym, ap, option_map}
-use Rattle.ix_run.specs.Tables.{constant_rows, flat_with}
+use Rattle.ix_run.specs.inner.Tables.{constant_rows, flat_with}
 use Rattle.ix_run.proofs.Tables.{completed, command_completed}
 use Rattle.ix_run.specs.declared.run.readers.flats.TheConstants.{COMMANDS}
 use Rattle.ix_run.proofs.run.readers.flats.read_flat_command.Goals as goal

@@ -7,7 +7,7 @@ use Rattle.ix_maps.specs.Generations.{SlotKey}
 use Rattle.ix_commands.specs.declared.command.SlotCommand.{SlotCommand}
 use Rattle.ix_run.specs.Words.{is_space, words_after, numbers_in, key_of, key_and_numbers, key_command_of}
 use Rattle.ix_run.specs.Forms.{slot_key_forms}
-use Rattle.ix_run.specs.Tables.{constant_rows, numbers_taken, slot_key_named}
+use Rattle.ix_run.specs.inner.Tables.{constant_rows, numbers_taken, slot_key_named}
 use Rattle.ix_run.specs.declared.run.tables.Takes.{Takes}
 use Rattle.ix_run.specs.declared.run.readers.slot_maps.KeyName.{KeyName}
 use Rattle.ix_run.specs.declared.run.readers.slot_maps.TheConstants.{KEY_NAMES}

@@ -1,5 +1,5 @@
 use Rattle.std.proofs.Common.{Some, ◌∙◌, sym, ap, option_map}
-use Rattle.ix_run.specs.Tables.{constant_rows, slot_named}
+use Rattle.ix_run.specs.inner.Tables.{constant_rows, slot_named}
 use Rattle.ix_run.proofs.Tables.{completed, command_completed}
 use Rattle.ix_run.specs.declared.run.readers.slot_maps.TheConstants.{PLAIN_NAMES}
 use Rattle.ix_run.proofs.run.readers.slot_maps.read_plain_command.Goals as goal

@@ -1,7 +1,7 @@
 use Rattle.std.proofs.Common.{ℕ, List, Option, Some, ◌∙◌, refl, sym, ap, option_map, option_copied}
 use Rattle.ix_run.specs.Forms.{text_plain}
 use Rattle.ix_run.specs.Words.{words_after, numbers_in}
-use Rattle.ix_run.specs.Tables.{constant_rows, bytes_taken, text_named}
+use Rattle.ix_run.specs.inner.Tables.{constant_rows, bytes_taken, text_named}
 use Rattle.ix_run.specs.declared.run.tables.Takes.{Takes}
 use Rattle.ix_run.specs.declared.run.readers.strings.TextName.{TextName}
 use Rattle.ix_run.specs.declared.run.readers.strings.TheConstants.{NAMES}

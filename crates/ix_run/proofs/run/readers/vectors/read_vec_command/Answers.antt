@@ -1,7 +1,7 @@
 use Rattle.std.proofs.Common.{ℕ, List, Option, Some, ◌∙◌, refl, sym, ap, option_map, option_copied}
 use Rattle.ix_run.specs.Forms.{vec_plain}
 use Rattle.ix_run.specs.Words.{words_after, numbers_in}
-use Rattle.ix_run.specs.Tables.{constant_rows, items_taken, vec_named}
+use Rattle.ix_run.specs.inner.Tables.{constant_rows, items_taken, vec_named}
 use Rattle.ix_run.specs.declared.run.tables.Takes.{Takes}
 use Rattle.ix_run.specs.declared.run.readers.vectors.VecName.{VecName}
 use Rattle.ix_run.specs.declared.run.readers.vectors.TheConstants.{NAMES}

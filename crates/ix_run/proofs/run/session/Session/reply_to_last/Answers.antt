@@ -1,5 +1,5 @@
 use Rattle.std.proofs.Common.{ℕ, List, ◌∷◌, []}
-use Rattle.ix_run.specs.Input.{current_line}
+use Rattle.ix_run.specs.inner.Input.{current_line}
 use Rattle.ix_run.specs.Lines.{LimitedLine}
 use Rattle.ix_run.proofs.Input.{last_line-cons}
 use Rattle.ix_run.proofs.Progress.{AdvanceResult-at}

@@ -1,6 +1,6 @@
 use Rattle.std.proofs.Common.{ℕ, ◌≡◌, List, ◌∷◌, ◌++◌, ◌∙◌, [], refl, sym, ap, append-nil}
 use Rattle.std.proofs.lemmas.Result.{err_from_is_err_and}
-use Rattle.ix_run.specs.Input.{current_line, last_line, lines_to_come}
+use Rattle.ix_run.specs.inner.Input.{current_line, last_line, lines_to_come}
 use Rattle.ix_run.specs.Lines.{LimitedLine}
 use Rattle.ix_run.proofs.KnownBytes.{Consumes-nil, Appends-nil, Consumes-append}
 use Rattle.ix_run.proofs.Progress.{Advances-line, DriveResult-part, DriveResult-unread, DriveResult-last}

@@ -1,7 +1,7 @@
 use Rattle.std.proofs.Common.{ℕ, List, ◌≡◌, ◌++◌, false}
 use Rattle.std.specs.Io.KnownBytes.{Consumes}
-use Rattle.ix_run.specs.Input.{lines_to_come}
-use Rattle.ix_run.specs.Progress.{Advances}
+use Rattle.ix_run.specs.inner.Input.{lines_to_come}
+use Rattle.ix_run.specs.inner.Progress.{Advances}
 use Rattle.ix_run.proofs.run.session.Session.reply_to_lines.Given as goal
 
 abbrev pub invariant-loop-self : goal.invariant-loop-self

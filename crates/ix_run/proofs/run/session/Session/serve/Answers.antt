@@ -1,6 +1,6 @@
 use Rattle.std.proofs.Common.{ℕ, ◌≡◌, List, ◌++◌, [], refl, append-nil, codes}
 use Rattle.std.proofs.lemmas.Result.{err_from_is_err_and}
-use Rattle.ix_run.specs.Input.{lines_to_come}
+use Rattle.ix_run.specs.inner.Input.{lines_to_come}
 use Rattle.ix_run.specs.Lines.{with_line_feed}
 use Rattle.ix_run.specs.Script.{replies_to_lines}
 use Rattle.ix_run.proofs.Pieces.{not_false}

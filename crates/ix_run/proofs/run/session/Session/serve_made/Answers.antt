@@ -1,5 +1,5 @@
 use Rattle.std.proofs.Common.{ℕ, List, ◌++◌, codes, sym, ap}
-use Rattle.ix_run.specs.Input.{lines_to_come}
+use Rattle.ix_run.specs.inner.Input.{lines_to_come}
 use Rattle.ix_run.specs.Lines.{with_line_feed}
 use Rattle.ix_run.specs.Script.{container_replies, replies_to_lines}
 use Rattle.ix_run.proofs.Progress.{FinishResult-StopResult, FinishResult-same}

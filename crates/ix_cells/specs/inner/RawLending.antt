@@ -1,7 +1,7 @@
 -- What a row in raw memory is once a `&mut` to one of its items ends.
 use Rattle.std.specs.Prelude.{ℕ, slice_set, Some}
 use Rattle.std.specs.Borrow.{Fml, RattleType, MutBor, Lends}
-use Rattle.ix_cells.specs.RawRows.{with_places}
+use Rattle.ix_cells.specs.inner.RawRows.{with_places}
 use Rattle.ix_cells.specs.declared.cells.raw_row.RowOwner.{RowOwner}
 use Rattle.ix_cells.specs.contracts.cells.raw_row.RowOwner as owner
 

@@ -1,6 +1,6 @@
 -- What a fault tells of the reader, the writer and the replies that were not written.
-use Rattle.std.specs.Prelude.{ℕ, ◌≡◌, List, ◌++◌, codes}
-use Rattle.ix_run.specs.Lines.{with_line_feed}
+use Rattle.std.specs.Prelude.{ℕ, List}
+use Rattle.ix_run.specs.Outcome.{BeginsWithReady}
 use Rattle.ix_run.specs.declared.run.fault.ScriptFault.{ScriptFault}
 use Rattle.ix_run.specs.declared.run.fault.ScriptFault.TheVariants.{Read, Write, OutOfMemory}
 
@@ -9,9 +9,6 @@ abbrev pub IsDeviceFault : ScriptFault → Type 0
 IsDeviceFault Read = Unit {0}
 IsDeviceFault Write = Unit {0}
 IsDeviceFault OutOfMemory = ⊥
-
-abbrev pub BeginsWithReady : List ℕ → Type 0
-BeginsWithReady replies = (rest : List ℕ) × (replies ≡ with_line_feed (codes "ready") ++ rest)
 
 -- the replies that were not written: if there was no memory, `ready` and what follows it
 abbrev pub LeftUnwritten : ScriptFault → List ℕ → Type 0

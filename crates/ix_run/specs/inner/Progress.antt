@@ -2,8 +2,8 @@
 -- what is to come, bytes or lines, to the replies.
 use Rattle.std.specs.Prelude.{ℕ, ◌≡◌, List, [], ◌++◌, Bool, true, false, Option, Result, Ok, Err}
 use Rattle.std.specs.Io.KnownBytes.{Appends, Consumes, IsAtEnd}
-use Rattle.ix_run.specs.Faults.{IsDeviceFault, LeftUnwritten}
-use Rattle.ix_run.specs.Writing.{Writes, WritesPart}
+use Rattle.ix_run.specs.inner.Faults.{IsDeviceFault, LeftUnwritten}
+use Rattle.ix_run.specs.inner.Writing.{Writes, WritesPart}
 use Rattle.ix_run.specs.declared.run.fault.ScriptFault.{ScriptFault}
 use Rattle.ix_run.specs.declared.run.fault.ScriptFault.TheVariants.{Read, Write, OutOfMemory}
 

@@ -1,9 +1,9 @@
 -- An input that is read in pieces and taken line by line.
 use Rattle.std.specs.Prelude.{ℕ, ◌≡◌, ◌<◌, ◌≤◌, List, [], ◌∷◌, ◌++◌, nat_eq, if◌then◌else◌, length, take, Option, None, Some, Bool, true, false, Result, Ok, Err}
 use Rattle.std.specs.Io.KnownBytes.{Consumes, IsAtEnd, Keeps}
-use Rattle.ix_run.specs.Faults.{IsDeviceFault}
+use Rattle.ix_run.specs.inner.Faults.{IsDeviceFault}
 use Rattle.ix_run.specs.Lines.{LimitedLine, limited_line, limited_line_append, line_feed, IsOneLine}
-use Rattle.ix_run.specs.Writing.{Writes, WritesPart}
+use Rattle.ix_run.specs.inner.Writing.{Writes, WritesPart}
 use Rattle.ix_run.specs.declared.run.fault.ScriptFault.{ScriptFault}
 use Rattle.ix_run.specs.declared.run.fault.ScriptFault.TheVariants as fault
 

@@ -1,0 +1,4 @@
+-- What no public contract cites: what the code behind it means.
+pub mod Ring
+pub mod FreeList
+pub mod GenerationTable

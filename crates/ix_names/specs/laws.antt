@@ -1,0 +1,2 @@
+-- Laws of definitions that contracts cite.
+pub mod SampleRulesLaws

@@ -1,0 +1,6 @@
+-- What no public contract cites: what the code behind it means.
+pub mod Faults
+pub mod Input
+pub mod Progress
+pub mod Tables
+pub mod Writing
