@@ -3,8 +3,8 @@ ghost use Rattle.std.specs.Prelude.{◌≡◌, ◌<◌};
 
 use crate::foo::Foo;
 use ix_atomic::{AtomicCopy, MaybeTorn};
-use ix_expect::Findings;
 use ix_string::StaticString;
+use ix_test_support::Findings;
 use std::fmt::Debug;
 use std::test::Fail;
 

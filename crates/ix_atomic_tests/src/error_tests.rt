@@ -1,7 +1,7 @@
 //! The errors of sequenced cells: their texts, and which of them are equal.
 use ix_atomic::TryWriteError::{Busy, VersionsUsedUp};
 use ix_atomic::{Interfered, TryWriteError, Unfinished};
-use ix_expect::Findings;
+use ix_test_support::Findings;
 use std::error::Error;
 use std::fmt::InlineText;
 use std::test::Fail;

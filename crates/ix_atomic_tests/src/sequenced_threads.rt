@@ -3,8 +3,8 @@ ghost use Rattle.std.specs.Prelude.{◌≡◌, ◌≤◌};
 
 use crate::readings::Readings;
 use ix_atomic::{ReaderSeat, SequencedByteAtomic, WriterSeat};
-use ix_expect::Findings;
 use ix_string::{StaticString, String};
+use ix_test_support::Findings;
 use std::alloc::Global;
 use std::fmt::InlineText;
 use std::test::Fail;

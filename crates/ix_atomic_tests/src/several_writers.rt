@@ -4,7 +4,7 @@ ghost use Rattle.std.specs.Prelude.{◌≡◌};
 use crate::readings::Readings;
 use crate::sequenced_threads::{Blocks, READS, TURNS, WRITES, block_order};
 use ix_atomic::{AtomicCopy, ReaderSeat, SequencedByteAtomic, TryWriteError, WriterSeat};
-use ix_expect::Findings;
+use ix_test_support::Findings;
 use std::alloc::Global;
 use std::sync::atomic::{AtomicBool, Ordering};
 use std::test::Fail;

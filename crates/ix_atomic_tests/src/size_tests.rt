@@ -4,7 +4,7 @@ ghost use Rattle.std.specs.Prelude.{◌≤◌};
 use crate::cell_tests::{check_fixed, check_made};
 use crate::word_tests::check_sequenced;
 use ix_atomic::RelocatableByteAtomic;
-use ix_expect::Findings;
+use ix_test_support::Findings;
 use std::alloc::Global;
 use std::array;
 use std::test::Fail;

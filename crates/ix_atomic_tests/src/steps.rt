@@ -4,7 +4,7 @@ use ix_atomic::byte_atomic::steps::{
     Act, Step, VersionedStep, VersionsUsedUp, next_versions, plain_read_law, replay,
     replay_versioned, versioned_read_law,
 };
-use ix_expect::Findings;
+use ix_test_support::Findings;
 use std::fmt::InlineText;
 use std::test::Fail;
 

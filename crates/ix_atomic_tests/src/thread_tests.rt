@@ -1,6 +1,6 @@
 //! Threads that write to one cell and read from it at once.
 use ix_atomic::{FixedSizeByteAtomic, RelocatableByteAtomic};
-use ix_expect::Findings;
+use ix_test_support::Findings;
 use std::test::Fail;
 use std::thread;
 use std::thread::Threads;

@@ -1,7 +1,7 @@
 //! Bytes of several values.
 use ix_atomic::MaybeTorn;
-use ix_expect::Findings;
 use ix_string::StaticString;
+use ix_test_support::Findings;
 use std::test::Fail;
 
 /// Checks the text that a torn read of these bytes gives, if it gives one.

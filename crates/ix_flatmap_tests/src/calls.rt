@@ -3,8 +3,8 @@ ghost use Rattle.ix_cells.specs.Cloning.{AreEqualClones};
 
 use crate::keys::Key;
 use ix_cells::Table;
-use ix_expect::Findings;
 use ix_maps::{CallbackProgression, FlatMapError, Link, MetaFlatMap, Pair};
+use ix_test_support::Findings;
 use std::alloc::AllocError;
 use std::fmt::{Debug, InlineText, Write};
 use std::mem;

@@ -4,8 +4,8 @@ use crate::noted_calls::Call::{
 };
 use crate::noted_calls::{AllNotes, Call, NotedKey, returned_by};
 use ix_cells::{RelocatableContainer, Table};
-use ix_expect::{Findings, Noted};
 use ix_maps::{FixedSizeFlatMap, FlatMap, Link, MetaFlatMap, Pair, UninitFlatMap};
+use ix_test_support::{Findings, Noted};
 use std::alloc::{AllocError, Global};
 use std::test::Fail;
 

@@ -2,12 +2,12 @@
 use crate::calls::check_calls;
 use crate::rows::EVERY_CALL;
 use ix_cells::{InitError, RelocatableContainer, Table};
-use ix_expect::Findings;
 use ix_maps::FlatMapError::{IsFull, KeyAlreadyExists};
 use ix_maps::{
     CallbackProgression, FixedSizeFlatMap, FlatMap, FlatMapError, Link, MetaFlatMap, Pair,
     RelocatableFlatMap, UninitFlatMap,
 };
+use ix_test_support::Findings;
 use std::alloc::{AllocError, Global};
 use std::fmt::{Debug, Display, InlineText};
 use std::hash::{DefaultHasher, Hash, Hasher};

@@ -5,8 +5,8 @@ ghost use Rattle.std.specs.Ordering.{on};
 ghost use Rattle.std.specs.Prelude.{nat_eq};
 
 use ix_cells::Table;
-use ix_expect::{Noted, Notes};
 use ix_maps::{CallbackProgression, Link, MetaFlatMap, Pair};
+use ix_test_support::{Noted, Notes};
 use std::cell::Cell;
 
 /// The notes of the keys, those of the values, and the number of comparisons of keys.

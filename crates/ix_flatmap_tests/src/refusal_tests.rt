@@ -1,10 +1,10 @@
 //! Clones that find no memory: `get` returns the error, and the map is unchanged.
 use crate::refusal_tests::Call::{Clone as Cloned, Keep, Release};
 use ix_cells::{RelocatableContainer, Table};
-use ix_expect::Findings;
 use ix_maps::{
     CallbackProgression, FixedSizeFlatMap, FlatMap, Link, MetaFlatMap, Pair, UninitFlatMap,
 };
+use ix_test_support::Findings;
 use linked_list_allocator::LocalHeap;
 use std::alloc::{AllocError, Global};
 use std::marker::Model;

@@ -10,9 +10,9 @@ use crate::rows::{
 };
 use bumpalo::Bump;
 use ix_cells::RelocatableContainer;
-use ix_expect::Findings;
 use ix_maps::{FixedSizeFlatMap, FlatMap, UninitFlatMap};
 use ix_string::StaticString;
+use ix_test_support::Findings;
 use linked_list_allocator::LocalHeap;
 use std::alloc::{AllocError, Allocator};
 use std::fmt::Debug;

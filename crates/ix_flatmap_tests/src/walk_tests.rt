@@ -4,8 +4,8 @@ ghost use Rattle.std.specs.Prelude.{◌≤◌};
 
 use crate::slow_map::SlowMap;
 use ix_cells::Table;
-use ix_expect::Findings;
 use ix_maps::{CallbackProgression, FixedSizeFlatMap, FlatMap, Link, MetaFlatMap, Pair};
+use ix_test_support::Findings;
 use std::alloc::{AllocError, Global};
 use std::mem;
 use std::test::Fail;

@@ -1,6 +1,6 @@
 //! Closures are called once where there is a value for them, and not at all where there is none.
-use ix_expect::Findings;
 use ix_names::RelocatableOption;
+use ix_test_support::Findings;
 use std::cell::Cell;
 use std::test::Fail;
 

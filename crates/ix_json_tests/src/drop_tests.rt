@@ -1,6 +1,6 @@
 //! When the value of an option is dropped, and when it is cloned.
-use ix_expect::{Findings, Noted, Notes};
 use ix_names::RelocatableOption;
+use ix_test_support::{Findings, Noted, Notes};
 use std::alloc::AllocError;
 use std::test::Fail;
 

@@ -1,6 +1,6 @@
 //! Each function of options once, with a value and without one.
-use ix_expect::Findings;
 use ix_names::RelocatableOption;
+use ix_test_support::Findings;
 use std::alloc::{AllocError, Global};
 use std::hash::{DefaultHasher, Hash, Hasher};
 use std::test::Fail;

@@ -1,10 +1,10 @@
 //! How JSON is read: rows of a text, and the value or the fault.
 use crate::forms::Empty;
 use ix_cells::{StaticVec, Vector};
-use ix_expect::Findings;
 use ix_names::JsonFault::{BadByte, InvalidContent, TooLong, WrongKind};
 use ix_names::{GroupName, JsonFault, JsonForm, RelocatableOption};
 use ix_string::{StaticString, String};
+use ix_test_support::Findings;
 use serde_json::Value;
 use std::alloc::Global;
 use std::fmt::Debug;

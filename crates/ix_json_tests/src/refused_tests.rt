@@ -1,9 +1,9 @@
 //! What `to_value` returns if an allocation fails: `rt try --test --fail-alloc N` brings it about in these tests, and the
 //! script `.ci/refusals` in a program that makes the same call.
 use ix_cells::StaticVec;
-use ix_expect::Findings;
 use ix_names::{GroupName, JsonFault, JsonForm, RelocatableOption};
 use ix_string::StaticString;
+use ix_test_support::Findings;
 use std::alloc::Global;
 use std::fmt::Debug;
 use std::test::Fail;

@@ -1,7 +1,7 @@
 //! Printed texts, and copies of faults.
-use ix_expect::Findings;
 use ix_names::JsonFault::{BadByte, InvalidContent, OutOfMemory, TooLong, WrongKind};
 use ix_names::{JsonFault, RelocatableOption};
+use ix_test_support::Findings;
 use std::fmt::{Debug, InlineText};
 use std::test::Fail;
 

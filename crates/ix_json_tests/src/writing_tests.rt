@@ -1,9 +1,9 @@
 //! Values as JSON and back.
 use crate::forms::{Counted, Empty};
 use ix_cells::{StaticVec, Vector, VectorModificationError};
-use ix_expect::Findings;
 use ix_names::{GroupName, JsonFault, JsonForm, RelocatableOption, Semantic, TrailingSlashRules};
 use ix_string::StaticString;
+use ix_test_support::Findings;
 use serde_json::Value;
 use std::alloc::{AllocError, Global};
 use std::cell::Cell;

@@ -1,8 +1,8 @@
 //! Calls of semantic strings as values, so that a test under any rules is a table: calls, what each returns, and what it
 //! leaves.
 use crate::calls::Start::{Then, With};
-use ix_expect::Findings;
 use ix_names::{Rules, Semantic, SemanticStringError};
+use ix_test_support::Findings;
 
 /// One call, by the name of the function that it calls.
 #[derive(Drop)]

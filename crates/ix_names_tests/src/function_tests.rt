@@ -1,10 +1,10 @@
 //! Functions that no table has: sizes, copies, what is made and inserted unchecked, and the functions of the sample rules.
 use crate::own_rules::{EvenLengthRules, NonEmptyRules};
-use ix_expect::Findings;
 use ix_names::{
     GroupName, GroupNameRules, Rules, Semantic, SemanticStringError, TrailingSlashRules,
 };
 use ix_string::{StaticString, String};
+use ix_test_support::Findings;
 use std::test::Fail;
 
 /// What a string that holds `text` returns, and what is made of it unchecked.

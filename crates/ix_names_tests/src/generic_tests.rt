@@ -6,8 +6,8 @@ ghost use Rattle.ix_string.specs.Escape.{escaped_text};
 ghost use Rattle.ix_names.specs.Rules.{means_the_same, compare_meanings};
 
 use crate::own_rules::NonEmptyRules;
-use ix_expect::Findings;
 use ix_names::{GroupNameRules, Rules, Semantic, TrailingSlashRules};
+use ix_test_support::Findings;
 use std::alloc::{AllocError, Global};
 use std::cmp::Ordering;
 use std::hash::{DefaultHasher, Hash, Hasher};

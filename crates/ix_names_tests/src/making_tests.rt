@@ -1,8 +1,8 @@
 //! How semantic strings are made, and what is refused.
-use ix_expect::Findings;
 use ix_names::SemanticStringError::{ExceedsMaximumLength, InvalidContent};
 use ix_names::{GroupName, Rules, Semantic, SemanticStringError, TrailingSlashRules};
 use ix_string::String;
+use ix_test_support::Findings;
 use std::test::Fail;
 
 /// Compares what a conversion returns: the bytes, or the error.

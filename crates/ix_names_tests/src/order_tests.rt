@@ -1,6 +1,6 @@
 //! Equality, order and hash by the normal form.
-use ix_expect::{Findings, fed_by};
 use ix_names::{Semantic, TrailingSlashRules};
+use ix_test_support::{Findings, fed_by};
 use std::cmp::Ordering;
 use std::test::Fail;
 

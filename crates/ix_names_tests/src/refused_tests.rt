@@ -1,7 +1,7 @@
 //! What `to_text` returns if an allocation fails: `rt try --test --fail-alloc N` brings it about in these tests, and the
 //! script `.ci/refusals` in a program that makes the same call.
-use ix_expect::Findings;
 use ix_names::GroupName;
+use ix_test_support::Findings;
 use std::alloc::AllocError;
 use std::test::Fail;
 

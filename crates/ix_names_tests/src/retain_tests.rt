@@ -2,8 +2,8 @@
 ghost use Rattle.std.specs.Prelude.{◌<◌};
 
 use crate::own_rules::{EvenLengthRules, NonEmptyRules};
-use ix_expect::Findings;
 use ix_names::{GroupNameRules, Rules, Semantic, SemanticStringError, TrailingSlashRules};
+use ix_test_support::Findings;
 use std::cell::Cell;
 use std::test::Fail;
 

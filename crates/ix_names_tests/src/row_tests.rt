@@ -5,8 +5,8 @@ use crate::rows::{
     CHANGED_NAMES, EVEN_LENGTHS, NAMES, NO_ROOM, NO_SINGLE_BYTE, REFUSED_BYTES, SINGLE_BYTES,
     SLASHES,
 };
-use ix_expect::Findings;
 use ix_names::{GroupName, Semantic, SemanticStringError, TrailingSlashRules};
+use ix_test_support::Findings;
 use std::cell::Cell;
 use std::test::Fail;
 

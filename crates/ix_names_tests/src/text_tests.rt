@@ -1,9 +1,9 @@
 //! Printed texts, texts in the machine's memory, and errors.
 use crate::own_rules::EvenLengthRules;
-use ix_expect::Findings;
 use ix_names::SemanticStringError::{ExceedsMaximumLength, InvalidContent};
 use ix_names::{GroupName, Rules, Semantic, SemanticStringError, TrailingSlashRules};
 use ix_string::StringModificationError;
+use ix_test_support::Findings;
 use std::alloc::{AllocError, Global};
 use std::fmt::{Debug, Display, InlineText};
 use std::test::Fail;

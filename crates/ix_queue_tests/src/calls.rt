@@ -1,8 +1,8 @@
 //! Calls of queues as values, so that a test of any kind of queue is a table: calls, and their results.
 use crate::replacing::replace_front;
 use ix_cells::{RelocatableContainer, Table};
-use ix_expect::Findings;
 use ix_maps::{MetaQueue, Queue, RelocatableQueue};
+use ix_test_support::Findings;
 use std::alloc::Allocator;
 use std::fmt::Debug;
 use std::mem;

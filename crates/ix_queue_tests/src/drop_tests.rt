@@ -1,8 +1,8 @@
 //! When items are dropped: each one once, the front item first.
 use crate::drop_tests::Call::{Clear, Pop, Push, PushWithOverflow, Write};
 use ix_cells::{RelocatableContainer, Table};
-use ix_expect::{Findings, Noted, Notes};
 use ix_maps::{FixedSizeQueue, MetaQueue, Queue, RelocatableQueue};
+use ix_test_support::{Findings, Noted, Notes};
 use std::alloc::{AllocError, Global};
 use std::test::Fail;
 

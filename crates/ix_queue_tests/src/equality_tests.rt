@@ -4,8 +4,8 @@ use crate::calls::outcome_of;
 use crate::equality_tests::Side::{One, Other};
 use crate::turning::{TURNS, Turn};
 use ix_cells::{RelocatableContainer, Table};
-use ix_expect::Findings;
 use ix_maps::{FixedSizeQueue, MetaQueue, Queue, RelocatableQueue};
+use ix_test_support::Findings;
 use std::alloc::AllocError;
 use std::test::Fail;
 

@@ -6,8 +6,8 @@ use crate::iter_tests::Step::{Back, Left, Next};
 use crate::own_table::CountedPuts;
 use crate::turning::TURNS;
 use ix_cells::{InlineTable, RelocatableContainer, Table};
-use ix_expect::{Findings, Noted, Notes};
 use ix_maps::{FixedSizeQueue, MetaQueue, Queue, RelocatableQueue};
+use ix_test_support::{Findings, Noted, Notes};
 use std::alloc::{AllocError, Global};
 use std::test::Fail;
 

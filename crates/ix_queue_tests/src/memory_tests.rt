@@ -1,8 +1,8 @@
 //! Queues for which there is not enough memory, at each of their allocations: nothing stays allocated.
 use bumpalo::Bump;
 use ix_cells::{InitError, RelocatableContainer, Table};
-use ix_expect::{Findings, check_sizes};
 use ix_maps::{MetaQueue, Queue, RelocatableQueue, UninitQueue};
+use ix_test_support::{Findings, check_sizes};
 use linked_list_allocator::LocalHeap;
 use std::alloc::{Allocator, Global};
 use std::test::Fail;

@@ -3,8 +3,8 @@ use crate::calls::Call::{Clear, Get, Len, Pop, Push, PushWithOverflow, Write};
 use crate::calls::Outcome::{Bool, Done, Item, Number};
 use crate::calls::{Row, check_fixed, check_in, check_made};
 use crate::turning::TURNS;
-use ix_expect::Findings;
 use ix_maps::FixedSizeQueue;
+use ix_test_support::Findings;
 use std::alloc::{AllocError, Global};
 use std::test::Fail;
 

@@ -1,7 +1,7 @@
 //! Calls of slot maps as values, so that an example is a list of calls and their results.
 use ix_cells::Table;
-use ix_expect::Findings;
 use ix_maps::{Link, MetaSlotMap, SlotMap, SlotMapKey};
+use ix_test_support::Findings;
 use std::alloc::Allocator;
 use std::fmt::Debug;
 use std::mem;

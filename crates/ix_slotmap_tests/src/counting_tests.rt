@@ -3,8 +3,8 @@ use crate::calls::Call::{Get, Insert, InsertAt, Len, NextFreeKey, Remove};
 use crate::calls::Outcome::{Key, Number, Value};
 use crate::calls::{Call, Line, Outcome, key_of, numbers_of, outcome_of};
 use ix_cells::{Table, Touches};
-use ix_expect::Findings;
 use ix_maps::{Link, MetaSlotMap, SlotMap};
+use ix_test_support::Findings;
 use std::alloc::{AllocError, Global};
 use std::test::Fail;
 

@@ -3,8 +3,8 @@ use crate::calls::{Numbers, key_of};
 use crate::drop_tests::Call::{Insert, InsertAt, Remove};
 use crate::rows::LAST;
 use ix_cells::{RelocatableContainer, Table};
-use ix_expect::{Findings, Noted, Notes};
 use ix_maps::{FixedSizeSlotMap, Link, MetaSlotMap, SlotMap, UninitSlotMap};
+use ix_test_support::{Findings, Noted, Notes};
 use std::alloc::{AllocError, Global};
 use std::test::Fail;
 

@@ -1,7 +1,7 @@
 //! Keys by their traits, and the texts of maps.
 use ix_cells::Table;
-use ix_expect::Findings;
 use ix_maps::{FixedSizeSlotMap, Link, MetaSlotMap, SlotMap, SlotMapKey};
+use ix_test_support::Findings;
 use std::alloc::AllocError;
 use std::cmp::Ordering;
 use std::fmt::{Debug, InlineText};

@@ -1,8 +1,8 @@
 //! Maps for which there is not enough memory, at each of the six allocations: nothing stays allocated.
 use crate::calls::numbers_of;
 use ix_cells::{InitError, RelocatableContainer, Table};
-use ix_expect::{Findings, check_sizes};
 use ix_maps::{Link, MetaSlotMap, SlotMap, UninitSlotMap};
+use ix_test_support::{Findings, check_sizes};
 use linked_list_allocator::LocalHeap;
 use std::alloc::{AllocError, Global};
 use std::test::Fail;

@@ -7,8 +7,8 @@ use crate::rows::{
 };
 use bumpalo::Bump;
 use ix_cells::RelocatableContainer;
-use ix_expect::Findings;
 use ix_maps::{FixedSizeSlotMap, RelocatableSlotMap, SlotMap, UninitSlotMap};
+use ix_test_support::Findings;
 use linked_list_allocator::LocalHeap;
 use std::alloc::Allocator;
 use std::fmt::Debug;

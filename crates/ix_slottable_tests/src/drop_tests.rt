@@ -1,8 +1,8 @@
 //! When values are dropped: each one once, and by the drop of a map that of the least key first.
 use crate::drop_tests::Call::{Insert, InsertAt, Remove, Write};
 use ix_cells::{RelocatableContainer, Table};
-use ix_expect::{Findings, Noted, Notes};
 use ix_maps::{FixedSizeSlotTable, Link, MetaSlotTable, SlotTable, SlotTableKey, UninitSlotTable};
+use ix_test_support::{Findings, Noted, Notes};
 use std::alloc::{AllocError, Global};
 use std::test::Fail;
 

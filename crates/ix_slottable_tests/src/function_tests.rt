@@ -3,11 +3,11 @@ use crate::calls::{check_calls, check_made};
 use crate::inserting::{insert_and_get, insert_at_next};
 use crate::rows::EVERY_CALL;
 use ix_cells::{HeapTable, InitError, InlineTable, RelocatableContainer, Table, Touches};
-use ix_expect::Findings;
 use ix_maps::{
     FixedSizeSlotTable, Link, MetaSlotTable, RelocatableSlotTable, SlotTable, SlotTableKey,
     UninitSlotTable,
 };
+use ix_test_support::Findings;
 use std::alloc::{AllocError, Global};
 use std::cmp::Ordering;
 use std::fmt::{Debug, InlineText};

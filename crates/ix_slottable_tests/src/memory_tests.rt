@@ -1,7 +1,7 @@
 //! Maps for which there is not enough memory, at each of the four allocations: nothing stays allocated.
 use ix_cells::{InitError, RelocatableContainer, Table};
-use ix_expect::{Findings, check_sizes};
 use ix_maps::{Link, MetaSlotTable, SlotTable, UninitSlotTable};
+use ix_test_support::{Findings, check_sizes};
 use linked_list_allocator::LocalHeap;
 use std::alloc::Global;
 use std::test::Fail;

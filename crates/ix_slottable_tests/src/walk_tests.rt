@@ -4,8 +4,8 @@ ghost use Rattle.std.specs.Prelude.{◌≤◌};
 
 use crate::slow_map::SlowMap;
 use ix_cells::{RelocatableContainer, Table};
-use ix_expect::Findings;
 use ix_maps::{FixedSizeSlotTable, Link, MetaSlotTable, SlotTable, SlotTableKey, UninitSlotTable};
+use ix_test_support::Findings;
 use std::alloc::{AllocError, Global};
 use std::test::Fail;
 

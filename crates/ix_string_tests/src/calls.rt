@@ -1,8 +1,8 @@
 //! Calls of strings as values, so that a test of any kind is a table: calls, what each returns, and what it leaves.
 use crate::calls::Start::{Then, With};
 use crate::strings::refill;
-use ix_expect::Findings;
 use ix_string::{StaticString, String, StringModificationError};
+use ix_test_support::Findings;
 use std::cmp::Ordering;
 
 /// One call, by the name of the function that it calls.

@@ -1,8 +1,8 @@
 //! Conversions into fixed strings, and the length of a text that ends with a zero.
 use crate::strings::holding;
-use ix_expect::Findings;
 use ix_string::StringModificationError::{InsertWouldExceedCapacity, InvalidCharacter};
 use ix_string::{StaticString, String, StringModificationError, strnlen};
+use ix_test_support::Findings;
 use std::str::FromStr;
 use std::test::Fail;
 

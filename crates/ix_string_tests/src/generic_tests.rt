@@ -8,8 +8,8 @@ ghost use Rattle.ix_string.specs.Escape.{escaped_text};
 
 use crate::strings::holding;
 use ix_cells::RelocatableContainer;
-use ix_expect::Findings;
 use ix_string::{PolymorphicString, StaticString, String, UninitString};
+use ix_test_support::Findings;
 use std::alloc::{AllocError, Global};
 use std::cmp::Ordering;
 use std::hash::{DefaultHasher, Hash, Hasher};

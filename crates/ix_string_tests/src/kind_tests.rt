@@ -8,8 +8,8 @@ use crate::rows::{
 use crate::strings::refill;
 use bumpalo::Bump;
 use ix_cells::RelocatableContainer;
-use ix_expect::Findings;
 use ix_string::{PolymorphicString, StaticString, String, UninitString};
+use ix_test_support::Findings;
 use linked_list_allocator::LocalHeap;
 use std::alloc::{AllocError, Allocator};
 use std::cell::Cell;

@@ -1,8 +1,8 @@
 //! Memory that is refused to each call that makes a string: nothing stays allocated.
 use crate::strings::filled;
 use ix_cells::RelocatableContainer;
-use ix_expect::Findings;
 use ix_string::{PolymorphicString, String, UninitString};
+use ix_test_support::Findings;
 use linked_list_allocator::LocalHeap;
 use std::alloc::{AllocError, Global};
 use std::test::Fail;

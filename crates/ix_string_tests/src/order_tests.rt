@@ -1,8 +1,8 @@
 //! Equality, order and hash of strings agree, whatever the capacities.
 use crate::strings::{holding, refill};
 use ix_cells::RelocatableContainer;
-use ix_expect::{Findings, fed_by};
 use ix_string::{PolymorphicString, StaticString, String, UninitString};
+use ix_test_support::{Findings, fed_by};
 use std::alloc::{AllocError, Global};
 use std::cmp::Ordering;
 use std::test::Fail;

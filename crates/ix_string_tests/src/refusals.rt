@@ -6,9 +6,9 @@ use crate::calls::Call::{
 use crate::calls::Returned::{Bool, Byte, Changed, Number};
 use crate::calls::Start::{Then, With};
 use crate::calls::{Returned, Row, check_row};
-use ix_expect::Findings;
 use ix_string::StringModificationError::{InsertWouldExceedCapacity, InvalidCharacter};
 use ix_string::{String, StringModificationError};
+use ix_test_support::Findings;
 
 const INVALID: Returned = Changed(Err(InvalidCharacter));
 

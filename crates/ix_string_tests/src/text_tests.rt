@@ -1,10 +1,10 @@
 //! Printed texts.
 use ix_cells::RelocatableContainer;
-use ix_expect::Findings;
 use ix_string::{
     PolymorphicString, StaticString, String, StringModificationError, UninitString,
     as_escaped_string, escape_byte,
 };
+use ix_test_support::Findings;
 use std::alloc::{AllocError, Global};
 use std::test::Fail;
 

@@ -1,12 +1,12 @@
 //! Lines of each container that are just a command, and others that just are none.
 use crate::reading_tests::check_reading;
-use ix_expect::Findings;
 use ix_maps::SlotMapKey;
 use ix_run::run::{
     FlatCommand, MAX_LINE_LEN, MAX_NUMBERS, QueueCommand, SlotCommand, TableCommand, TextCommand,
     VecCommand, read_flat_command, read_queue_command, read_slot_command, read_table_command,
     read_text_command, read_vec_command,
 };
+use ix_test_support::Findings;
 use std::test::Fail;
 
 const QUEUE_LINES: &[(&str, QueueCommand<u64>)] = &[

@@ -1,6 +1,6 @@
 //! Scripts of each container: every command, at each kind of storage.
 use crate::script_tests::check_output;
-use ix_expect::Findings;
+use ix_test_support::Findings;
 use std::alloc::{AllocError, Global};
 use std::test::Fail;
 

@@ -1,5 +1,5 @@
 //! Findings themselves, by plain asserts: a test that finds something unexpected fails with the text of the first finding.
-use ix_expect::Findings;
+use ix_test_support::Findings;
 use std::process::{Abort, ExitCode, Termination};
 
 #[test]

@@ -1,9 +1,9 @@
 //! The ring against the plain slow queue: every short list of commands at each small capacity.
 use crate::slow_queue::{SlowQueue, run_slow_command};
 use ix_cells::Table;
-use ix_expect::Findings;
 use ix_maps::{FixedSizeQueue, MetaQueue};
 use ix_run::run::{QueueCommand, Runs};
+use ix_test_support::Findings;
 use std::test::Fail;
 
 /// The number of lists of six commands out of three.

@@ -1,6 +1,6 @@
 //! Numbers and headers that are just read, and others that just are not.
-use ix_expect::Findings;
 use ix_run::run::{Container, FixedCapacity, Storage, read_header, read_number};
+use ix_test_support::Findings;
 use std::fmt::Debug;
 use std::test::Fail;
 

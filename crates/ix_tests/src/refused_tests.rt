@@ -1,7 +1,7 @@
 //! What a script does if there is no memory for its container: `rt try --test --fail-alloc N` brings it about in these tests,
 //! and the script `.ci/refusals` in a program that runs such scripts.
-use ix_expect::Findings;
 use ix_run::{ScriptFault, script};
+use ix_test_support::Findings;
 use std::alloc::Global;
 use std::test::Fail;
 

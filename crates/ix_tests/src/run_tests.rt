@@ -1,7 +1,6 @@
 //! Lists of commands, run on queues, vectors, slot tables and flat maps of every kind.
 use bumpalo::Bump;
 use ix_cells::{PolymorphicVec, RelocatableContainer, StaticVec, Table, UninitVec, Vector};
-use ix_expect::Findings;
 use ix_maps::{
     FixedSizeFlatMap, FixedSizeQueue, FixedSizeSlotTable, FlatMap, Link, MetaFlatMap, MetaQueue,
     MetaSlotTable, Pair, Queue, SlotTable, UninitFlatMap, UninitQueue, UninitSlotTable,
@@ -11,6 +10,7 @@ use ix_run::run::{
     FlatCommand, QueueCommand, Reply, TableCommand, VecCommand, run_flat, run_queue, run_table,
     run_vec,
 };
+use ix_test_support::Findings;
 use std::alloc::{AllocError, Global};
 use std::fmt::Debug;
 use std::test::Fail;

@@ -1,11 +1,11 @@
 //! Whole scripts: worked examples, bad input, and devices that fail.
 ghost use Rattle.std.specs.Prelude.{◌≤◌};
 
-use ix_expect::Findings;
-use ix_expect::devices::{
+use ix_run::{ScriptFault, exit_status, fault_line, script};
+use ix_test_support::Findings;
+use ix_test_support::devices::{
     Asker, Exchange, Faults, Listener, PoorReader, PoorWriter, first_lines, line_ends,
 };
-use ix_run::{ScriptFault, exit_status, fault_line, script};
 use std::alloc::{AllocError, Global};
 use std::cmp::min;
 use std::test::Fail;

@@ -2,9 +2,9 @@
 use crate::run_tests::expect_replies;
 use bumpalo::Bump;
 use ix_cells::{RelocatableContainer, Table};
-use ix_expect::Findings;
 use ix_maps::{FixedSizeSlotMap, Link, MetaSlotMap, SlotMap, SlotMapKey, UninitSlotMap};
 use ix_run::run::{Reply, SlotCommand, run_slot};
+use ix_test_support::Findings;
 use std::alloc::Global;
 use std::test::Fail;
 

@@ -1,9 +1,9 @@
 //! Runs of commands on strings: each command, at each kind of string.
 use bumpalo::Bump;
 use ix_cells::RelocatableContainer;
-use ix_expect::Findings;
 use ix_run::run::{Reply, ReplyError, TextCommand, run_text};
 use ix_string::{PolymorphicString, StaticString, String, UninitString};
+use ix_test_support::Findings;
 use std::alloc::{Allocator, Global};
 use std::test::Fail;
 

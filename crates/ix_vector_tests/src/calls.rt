@@ -3,7 +3,7 @@ ghost use Rattle.ix_cells.specs.Cloning.{AreEqualClones};
 
 use ix_cells::VectorModificationError::{self, OutOfBounds, OutOfMemory};
 use ix_cells::{PolymorphicVec, RelocatableContainer, UninitVec, Vector};
-use ix_expect::Findings;
+use ix_test_support::Findings;
 use std::alloc::{AllocError, Allocator, Global};
 use std::cell::Cell;
 use std::fmt::Debug;

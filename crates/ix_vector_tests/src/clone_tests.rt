@@ -3,7 +3,7 @@ use crate::noted_calls::NotedCall::{Extend, ExtendUnchecked, Push, Resize, Trunc
 use crate::noted_calls::{NotedCall, Outcome, outcome_of};
 use ix_cells::VectorModificationError::InsertWouldExceedCapacity;
 use ix_cells::{PolymorphicVec, RelocatableContainer, StaticVec, UninitVec, Vector};
-use ix_expect::{Findings, Noted, Notes};
+use ix_test_support::{Findings, Noted, Notes};
 use std::alloc::{AllocError, Global};
 use std::test::Fail;
 

@@ -5,7 +5,7 @@ use crate::noted_calls::NotedCall::{
 use crate::noted_calls::{NotedRow, check_noted_kinds};
 use ix_cells::VectorModificationError::{InsertWouldExceedCapacity, OutOfBounds};
 use ix_cells::{PolymorphicVec, StaticVec, Vector};
-use ix_expect::{Findings, Noted, Notes};
+use ix_test_support::{Findings, Noted, Notes};
 use std::alloc::Global;
 use std::test::Fail;
 

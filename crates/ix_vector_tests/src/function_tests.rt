@@ -12,7 +12,7 @@ use ix_cells::{
     HeapTable, InitError, InlineTable, MAX_FIXED_CAPACITY, PolymorphicVec, RelocatableContainer,
     RelocatableVec, StaticVec, Table, UninitVec, Vector,
 };
-use ix_expect::Findings;
+use ix_test_support::Findings;
 use std::alloc::{AllocError, Global};
 use std::cell::Cell;
 use std::test::Fail;

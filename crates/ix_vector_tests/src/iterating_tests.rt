@@ -2,7 +2,7 @@
 use crate::iterating_tests::End::{Back, Front};
 use ix_cells::VectorModificationError::InsertWouldExceedCapacity;
 use ix_cells::{PolymorphicVec, RelocatableContainer, StaticVec, UninitVec, Vector};
-use ix_expect::{Findings, Noted, Notes};
+use ix_test_support::{Findings, Noted, Notes};
 use std::alloc::{AllocError, Global};
 use std::test::Fail;
 

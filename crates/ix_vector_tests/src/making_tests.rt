@@ -3,7 +3,7 @@ use crate::items::ballast;
 use ix_cells::{
     HeapTable, PolymorphicVec, RawSlots, RelocatableContainer, Table, UninitVec, Vector,
 };
-use ix_expect::Findings;
+use ix_test_support::Findings;
 use linked_list_allocator::LocalHeap;
 use std::alloc::{AllocError, Allocator, Global};
 use std::cell::Cell;

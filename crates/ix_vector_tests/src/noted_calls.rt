@@ -1,7 +1,7 @@
 //! Calls of vectors of noted items as values, so that a test is a table of calls and of the items that each drops.
 use ix_cells::VectorModificationError::{self, OutOfBounds, OutOfMemory};
 use ix_cells::{PolymorphicVec, RelocatableContainer, StaticVec, UninitVec, Vector};
-use ix_expect::{Findings, Noted, Notes, names_of};
+use ix_test_support::{Findings, Noted, Notes, names_of};
 use std::alloc::{AllocError, Global};
 
 /// One call, named like its function. A new item is given by its name, and the last number of a call that clones is how

@@ -1,7 +1,7 @@
 //! Printed vectors and errors, and what users of `expect` and `assert_eq!` need of them.
 use bumpalo::Bump;
 use ix_cells::{InitError, PolymorphicVec, RelocatableContainer, StaticVec, UninitVec, Vector};
-use ix_expect::Findings;
+use ix_test_support::Findings;
 use std::alloc::{AllocError, Global};
 use std::fmt::{Debug, Display};
 use std::test::Fail;

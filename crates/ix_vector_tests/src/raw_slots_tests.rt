@@ -1,7 +1,7 @@
 //! Rows of places in raw memory: a worked example, each function once, and rows that no memory has room for.
 use bumpalo::Bump;
 use ix_cells::RawSlots;
-use ix_expect::{Findings, Noted, Notes};
+use ix_test_support::{Findings, Noted, Notes};
 use linked_list_allocator::LocalHeap;
 use std::alloc::{AllocError, Allocator, Global};
 use std::test::Fail;

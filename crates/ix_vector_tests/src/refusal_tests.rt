@@ -5,7 +5,7 @@ use crate::noted_calls::NotedCall::{Extend, ExtendUnchecked, Push, Resize};
 use crate::noted_calls::{NotedRow, check_noted_kinds};
 use ix_cells::VectorModificationError::{self, OutOfBounds, OutOfMemory};
 use ix_cells::{PolymorphicVec, RelocatableContainer, StaticVec, UninitVec, Vector};
-use ix_expect::{Findings, Noted, Notes};
+use ix_test_support::{Findings, Noted, Notes};
 use linked_list_allocator::LocalHeap;
 use std::alloc::{AllocError, Global};
 use std::cell::Cell;

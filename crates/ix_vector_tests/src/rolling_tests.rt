@@ -2,7 +2,7 @@
 use crate::rolling::{push_over, replace_at};
 use bumpalo::Bump;
 use ix_cells::{PolymorphicVec, RelocatableContainer, StaticVec, UninitVec, Vector};
-use ix_expect::Findings;
+use ix_test_support::Findings;
 use linked_list_allocator::LocalHeap;
 use std::alloc::{AllocError, Allocator};
 use std::test::Fail;

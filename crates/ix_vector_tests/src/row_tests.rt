@@ -9,7 +9,7 @@ use ix_cells::VectorModificationError::{InsertWouldExceedCapacity, OutOfBounds, 
 use ix_cells::{
     PolymorphicVec, RelocatableContainer, StaticVec, UninitVec, Vector, VectorModificationError,
 };
-use ix_expect::Findings;
+use ix_test_support::Findings;
 use linked_list_allocator::LocalHeap;
 use std::alloc::{AllocError, Allocator, Global};
 use std::test::Fail;

@@ -8,7 +8,7 @@ use ix_cells::VectorModificationError::{InsertWouldExceedCapacity, OutOfBounds};
 use ix_cells::{
     HeapTable, PolymorphicVec, RelocatableContainer, StaticVec, Table, UninitVec, Vector,
 };
-use ix_expect::Findings;
+use ix_test_support::Findings;
 use std::alloc::{AllocError, Global};
 use std::cell::Cell;
 use std::test::Fail;

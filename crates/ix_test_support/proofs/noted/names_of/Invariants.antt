@@ -1,6 +1,6 @@
 use Rattle.std.proofs.Common.{◌≡◌, ◌+◌, ◌*◌, ◌%◌, ◌^◌, drop}
 use Rattle.std.specs.Prelude.{fold}
-use Rattle.ix_expect.proofs.noted.names_of.Given as goal
+use Rattle.ix_test_support.proofs.noted.names_of.Given as goal
 
 abbrev pub invariant-loop-item : goal.invariant-loop-item
 invariant-loop-item l =
