@@ -318,7 +318,8 @@ fn write_beside_reads<R: Threads + Sync>(
     reader: &mut Reader,
     other: &mut Reader,
 ) -> ([Tries; 3], (bool, bool))
-    requires writers { (first.old.cell ≡ cell.now) × (second.old.cell ≡ cell.now) × (third.old.cell ≡ cell.now) }
+    requires writers { (first.old.cell ≡ cell.now) × (second.old.cell ≡ cell.now)
+        × (third.old.cell ≡ cell.now) }
     requires readers { (reader.old.cell ≡ cell.now) × (other.old.cell ≡ cell.now) }
     ensures first { first.new.cell ≡ first.old.cell }
     ensures second { second.new.cell ≡ second.old.cell }
@@ -329,9 +330,11 @@ fn write_beside_reads<R: Threads + Sync>(
     thread::join_mut(
         rt,
         &mut ||
-            requires { (first.now.cell ≡ cell.now) × (second.now.cell ≡ cell.now) × (third.now.cell ≡ cell.now) }
+            requires { (first.now.cell ≡ cell.now) × (second.now.cell ≡ cell.now)
+                × (third.now.cell ≡ cell.now) }
             ensures { (first.exit.now.cell ≡ first.entry.now.cell)
-                × (second.exit.now.cell ≡ second.entry.now.cell) × (third.exit.now.cell ≡ third.entry.now.cell) }
+                × (second.exit.now.cell ≡ second.entry.now.cell)
+                × (third.exit.now.cell ≡ third.entry.now.cell) }
         { three_write(rt, cell, first, second, third) },
         &mut || two_read(rt, cell, reader, other),
     )

@@ -168,8 +168,10 @@ impl Workload {
         let (by_two, by_third) = thread::join_mut(
             rt,
             &mut ||
-                requires { (SIZE ≤ 256) × (first.now.cell ≡ cell.now) × (second.now.cell ≡ cell.now) }
-                ensures { (first.exit.now.cell ≡ first.entry.now.cell) × (second.exit.now.cell ≡ second.entry.now.cell) }
+                requires { (SIZE ≤ 256) × (first.now.cell ≡ cell.now)
+                    × (second.now.cell ≡ cell.now) }
+                ensures { (first.exit.now.cell ≡ first.entry.now.cell)
+                    × (second.exit.now.cell ≡ second.entry.now.cell) }
             { self.write_twice(rt, cell, first, second) },
             &mut ||
                 requires { (SIZE ≤ 256) × (third.now.cell ≡ cell.now) }
@@ -275,7 +277,8 @@ impl Workload {
         let (by_two, by_third) = thread::join_mut(
             rt,
             &mut ||
-                requires { (SIZE ≤ 256) × (first.now.cell ≡ cell.now) × (second.now.cell ≡ cell.now) }
+                requires { (SIZE ≤ 256) × (first.now.cell ≡ cell.now)
+                    × (second.now.cell ≡ cell.now) }
             { self.read_twice(rt, cell, first, second) },
             &mut ||
                 requires { (SIZE ≤ 256) × (third.now.cell ≡ cell.now) }
@@ -318,7 +321,8 @@ impl Workload {
         third_reader: &mut Reader<SIZE>,
     ) -> (WriteCounts, ReadCounts)
         requires size { SIZE ≤ 256 }
-        requires writers { (first.old.cell ≡ cell.now) × (second.old.cell ≡ cell.now) × (third.old.cell ≡ cell.now) }
+        requires writers { (first.old.cell ≡ cell.now) × (second.old.cell ≡ cell.now)
+            × (third.old.cell ≡ cell.now) }
         requires readers { (reader.old.cell ≡ cell.now)
             × (second_reader.old.cell ≡ cell.now) × (third_reader.old.cell ≡ cell.now) }
         ensures first { first.new.cell ≡ first.old.cell }
@@ -331,7 +335,8 @@ impl Workload {
                 requires { (SIZE ≤ 256) × (first.now.cell ≡ cell.now)
                     × (second.now.cell ≡ cell.now) × (third.now.cell ≡ cell.now) }
                 ensures { (first.exit.now.cell ≡ first.entry.now.cell)
-                    × (second.exit.now.cell ≡ second.entry.now.cell) × (third.exit.now.cell ≡ third.entry.now.cell) }
+                    × (second.exit.now.cell ≡ second.entry.now.cell)
+                    × (third.exit.now.cell ≡ third.entry.now.cell) }
             { self.write_by_all(rt, cell, first, second, third) },
             &mut ||
                 requires { (SIZE ≤ 256) × (reader.now.cell ≡ cell.now)

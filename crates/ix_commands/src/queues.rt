@@ -55,7 +55,8 @@ pub fn run_queue<T: Copy, S: Table<T>>(
     queue: &mut MetaQueue<T, S>,
     commands: &[QueueCommand<T>],
 ) -> Result<Vec<Reply<usize, T>>, AllocError>
-    ensures value { IfOk result (λ replies. replies.items ≡ run_replies queue_reply queue_after queue.old commands.now) }
+    ensures value { IfOk result
+        (λ replies. replies.items ≡ run_replies queue_reply queue_after queue.old commands.now) }
     ensures queue { OnOk result (queue.new ≡ run_state queue_after queue.old commands.now) }
     ensures refused { OnErr result (queue.new ≡ queue.old) }
 {

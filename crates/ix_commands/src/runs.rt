@@ -32,8 +32,10 @@ pub fn run_all<C: Copy, T: Runs<C>>(
     container: &mut T,
     commands: &[C],
 ) -> Result<Vec<T::Reply>, AllocError>
-    ensures value { IfOk result (λ replies. replies.items ≡ run_replies T.reply T.after (T.model container.old) commands.now) }
-    ensures model { OnOk result (T.model container.new ≡ run_state T.after (T.model container.old) commands.now) }
+    ensures value { IfOk result (λ replies. replies.items
+        ≡ run_replies T.reply T.after (T.model container.old) commands.now) }
+    ensures model { OnOk result
+        (T.model container.new ≡ run_state T.after (T.model container.old) commands.now) }
     ensures refused { OnErr result (container.new ≡ container.old) }
 {
     let mut replies = Vec::with_capacity(alloc, commands.len())?;

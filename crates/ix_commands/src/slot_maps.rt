@@ -59,7 +59,8 @@ pub fn run_slot<T: Copy, S: Table<Option<T>>, L: Table<Link>, G: Table<u32>>(
     map: &mut MetaSlotMap<T, S, L, G>,
     commands: &[SlotCommand<T>],
 ) -> Result<Vec<Reply<SlotMapKey, T>>, AllocError>
-    ensures value { IfOk result (λ replies. replies.items ≡ run_replies slot_reply slot_after map.old commands.now) }
+    ensures value { IfOk result
+        (λ replies. replies.items ≡ run_replies slot_reply slot_after map.old commands.now) }
     ensures map { OnOk result (map.new ≡ run_state slot_after map.old commands.now) }
     ensures refused { OnErr result (map.new ≡ map.old) }
     ensures dead { DeadStaysDead map.old commands.now }
@@ -72,7 +73,8 @@ pub fn run_slot<T: Copy, S: Table<Option<T>>, L: Table<Link>, G: Table<u32>>(
 /// A key that is dead before any list of commands is dead after it, and has no value then. This function does nothing: its
 /// contract is the law.
 pub fn dead_law<T>()
-    ensures { (map : SlotMapState T) (commands : List (SlotCommand T)) → IsMapFormed map → DeadStaysDead map commands }
+    ensures { (map : SlotMapState T) (commands : List (SlotCommand T)) → IsMapFormed map
+        → DeadStaysDead map commands }
 {}
 
 /// Overwrites the value of `key` and returns `true`, or returns `false` if `key` is not held.
@@ -82,7 +84,8 @@ fn overwrite<T: Copy, S: Table<Option<T>>, L: Table<Link>, G: Table<u32>>(
     value: T,
 ) -> bool
     ensures value { result ≡ is_some (map_value map.old key) }
-    ensures map { map.new ≡ if is_some (map_value map.old key) then map_set map.old key value else map.old }
+    ensures map { map.new
+        ≡ if is_some (map_value map.old key) then map_set map.old key value else map.old }
 {
     match map.get_mut(key) {
         Some(held) => {

@@ -57,7 +57,8 @@ pub fn run_table<T: Copy, S: Table<T>, L: Table<Link>>(
     map: &mut MetaSlotTable<T, S, L>,
     commands: &[TableCommand<T>],
 ) -> Result<Vec<Reply<usize, T>>, AllocError>
-    ensures value { IfOk result (λ replies. replies.items ≡ run_replies table_reply table_after map.old commands.now) }
+    ensures value { IfOk result
+        (λ replies. replies.items ≡ run_replies table_reply table_after map.old commands.now) }
     ensures map { OnOk result (map.new ≡ run_state table_after map.old commands.now) }
     ensures refused { OnErr result (map.new ≡ map.old) }
 {
@@ -82,7 +83,8 @@ fn overwrite<T: Copy, S: Table<T>, L: Table<Link>>(
     value: T,
 ) -> bool
     ensures value { result ≡ is_some (value_at map.old key) }
-    ensures map { map.new ≡ if is_some (value_at map.old key) then slot_set map.old key value else map.old }
+    ensures map { map.new
+        ≡ if is_some (value_at map.old key) then slot_set map.old key value else map.old }
 {
     match map.get_mut(SlotTableKey::new(key)) {
         Some(held) => {

@@ -72,7 +72,8 @@ pub fn run_text<S: String>(
 ) -> Result<Vec<Reply<usize, u8>>, AllocError>
     ensures value { IfOk result (λ replies.
         replies.items ≡ run_replies text_reply text_after (S.bounded string.old) commands.now) }
-    ensures string { OnOk result (S.bounded string.new ≡ run_state text_after (S.bounded string.old) commands.now) }
+    ensures string { OnOk result
+        (S.bounded string.new ≡ run_state text_after (S.bounded string.old) commands.now) }
     ensures refused { OnErr result (string.new ≡ string.old) }
 {
     run_all(alloc, string, commands)
@@ -97,7 +98,8 @@ fn reply_of_result(outcome: Result<(), StringModificationError>) -> Reply<usize,
 /// Inserts the bytes at `index`, unless it is past the end.
 fn insert_within<S: String>(string: &mut S, index: usize, bytes: &[u8]) -> Reply<usize, u8>
     ensures value { result ≡ text_insert_reply (S.bounded string.old) index bytes.now }
-    ensures string { S.bounded string.new ≡ text_insert_after (S.bounded string.old) index bytes.now }
+    ensures string { S.bounded string.new
+        ≡ text_insert_after (S.bounded string.old) index bytes.now }
 {
     if index > string.len() {
         return Reply::Error(ReplyError::IndexPastEnd);
@@ -108,7 +110,8 @@ fn insert_within<S: String>(string: &mut S, index: usize, bytes: &[u8]) -> Reply
 /// Removes the `n` bytes from `index` on, if there are as many.
 fn remove_range<S: String>(string: &mut S, index: usize, n: usize) -> bool
     ensures value { result ≡ nat_le (index + n) (length (S.bounded string.old).items) }
-    ensures string { S.bounded string.new ≡ (if nat_le (index + n) (length (S.bounded string.old).items)
+    ensures string { S.bounded string.new
+        ≡ (if nat_le (index + n) (length (S.bounded string.old).items)
         then text_remove_range (S.bounded string.old) index n else S.bounded string.old) }
 {
     string.remove_range(index, n)

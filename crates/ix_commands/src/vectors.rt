@@ -61,8 +61,10 @@ pub fn run_vec<T: Copy, V: Vector<T>>(
     vector: &mut V,
     commands: &[VecCommand<'_, T>],
 ) -> Result<Vec<Reply<usize, T>>, AllocError>
-    ensures value { IfOk result (λ replies. replies.items ≡ run_replies vec_reply vec_after (V.bounded vector.old) commands.now) }
-    ensures vector { OnOk result (V.bounded vector.new ≡ run_state vec_after (V.bounded vector.old) commands.now) }
+    ensures value { IfOk result (λ replies. replies.items
+        ≡ run_replies vec_reply vec_after (V.bounded vector.old) commands.now) }
+    ensures vector { OnOk result
+        (V.bounded vector.new ≡ run_state vec_after (V.bounded vector.old) commands.now) }
     ensures refused { OnErr result (vector.new ≡ vector.old) }
 {
     run_all(alloc, vector, commands)
@@ -86,7 +88,8 @@ fn extend_by_copies<T: Copy, V: Vector<T>>(
     items: &[T],
 ) -> Result<(), VectorModificationError>
     ensures value { result ≡ vec_extend_result (V.bounded vector.old) (length items.now) }
-    ensures vector { OnOk result (V.bounded vector.new ≡ vec_extend (V.bounded vector.old) items.now) }
+    ensures vector { OnOk result
+        (V.bounded vector.new ≡ vec_extend (V.bounded vector.old) items.now) }
     ensures refused { OnErr result (vector.new ≡ vector.old) }
 {
     if items.len() > vector.capacity() - vector.len() {
@@ -121,7 +124,8 @@ fn item_at<T: Copy, V: Vector<T>>(vector: &V, index: usize) -> Option<T>
 /// Overwrites the item at `index` and returns `true`, or returns `false` if `index` is out of bounds.
 fn overwrite<T: Copy, V: Vector<T>>(vector: &mut V, index: usize, item: T) -> bool
     ensures value { result ≡ nat_lt index (length (V.bounded vector.old).items) }
-    ensures vector { V.bounded vector.new ≡ with_items (V.bounded vector.old) (set (V.bounded vector.old).items index item) }
+    ensures vector { V.bounded vector.new
+        ≡ with_items (V.bounded vector.old) (set (V.bounded vector.old).items index item) }
 {
     if index < vector.len() {
         let items = vector.as_mut_slice();

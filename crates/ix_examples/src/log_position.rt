@@ -22,9 +22,11 @@ pub fn publish(
     requires { seat.old.cell ≡ position.now }
     ensures cell { seat.new.cell ≡ seat.old.cell }
     ensures own { AreOwn seat.new }
-    ensures published { IfOk result (λ _. (values : List ℕ) → HasWritten seat.old values → HasWritten seat.new (values ++ value ∷ [])) }
+    ensures published { IfOk result (λ _. (values : List ℕ) → HasWritten seat.old values
+        → HasWritten seat.new (values ++ value ∷ [])) }
     ensures refused { IfErr result (λ error. Refuses seat.old seat.new error) }
-    ensures not_published { IfErr result (λ _. (values : List ℕ) → HasWritten seat.old values → HasWritten seat.new values) }
+    ensures not_published { IfErr result
+        (λ _. (values : List ℕ) → HasWritten seat.old values → HasWritten seat.new values) }
 {
     position.try_write(seat, value)
 }
@@ -36,8 +38,10 @@ pub fn take_back(position: &Position, seat: &mut WriterSeat<u64>, other: WriterS
     requires other { (other.cell ≡ position.now) × AreOwn other }
     ensures cell { seat.new.cell ≡ seat.old.cell }
     ensures own { AreOwn seat.new }
-    ensures seat { (values : List ℕ) → HasWritten seat.old values → StandAt seat.new.known seat.old.places values }
-    ensures other { (values : List ℕ) → HasWritten other values → StandAt seat.new.known other.places values }
+    ensures seat { (values : List ℕ) → HasWritten seat.old values
+        → StandAt seat.new.known seat.old.places values }
+    ensures other { (values : List ℕ) → HasWritten other values
+        → StandAt seat.new.known other.places values }
     ensures places { seat.new.places ≡ places_merge seat.old.places other.places }
     ensures once { AreApart seat.old.places other.places }
     ensures order { IsRising seat.old.places × IsRising other.places }

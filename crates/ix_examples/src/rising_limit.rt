@@ -18,10 +18,13 @@ pub fn raise_limit(limit: &Limit, writer: &mut WriterSeat<u64>, last: &mut u64, 
     ensures own { AreOwn writer.old → AreOwn writer.new }
     ensures last { last.new ≡ cond result value last.old }
     ensures count { length writer.new.places ≡ length writer.old.places + cond result 1 0 }
-    ensures raised { result ≡ true → (limits : List ℕ) → HasSet writer.old limits → GrewTo last.old limits
+    ensures raised { result ≡ true → (limits : List ℕ) → HasSet writer.old limits
+        → GrewTo last.old limits
         → HasSet writer.new (limits ++ value ∷ []) × GrewTo last.new (limits ++ value ∷ []) }
-    ensures refused { result ≡ false → (value < last.old) ⊎ ((error : TryWriteError) × Refuses writer.old writer.new error) }
-    ensures not_raised { result ≡ false → (last.new ≡ last.old) × ((limits : List ℕ) → HasSet writer.old limits → HasSet writer.new limits) }
+    ensures refused { result ≡ false → (value < last.old)
+        ⊎ ((error : TryWriteError) × Refuses writer.old writer.new error) }
+    ensures not_raised { result ≡ false → (last.new ≡ last.old)
+        × ((limits : List ℕ) → HasSet writer.old limits → HasSet writer.new limits) }
 {
     if value < *last {
         return false;
@@ -48,9 +51,13 @@ pub fn take_back(
     requires raises { length writer.old.places ≡ raises }
     requires reader { reader.cell ≡ limit.now }
     ensures cell { writer.new.cell ≡ writer.old.cell }
-    ensures all { result ≡ true → (limits : List ℕ) → HasSet writer.old limits → writer.new.known ≡ limits }
-    ensures never_lower { result ≡ true → (limits : List ℕ) → HasSet writer.old limits → IsNonDecreasing limits
-        → (earlier later first second : ℕ) → earlier ≤ later → value_at reader.known earlier ≡ Some first → value_at reader.known later ≡ Some second → first ≤ second }
+    ensures all { result ≡ true → (limits : List ℕ) → HasSet writer.old limits
+        → writer.new.known ≡ limits }
+    ensures never_lower { result ≡ true → (limits : List ℕ) → HasSet writer.old limits
+        → IsNonDecreasing limits
+        → (earlier later first second : ℕ) → earlier ≤ later
+        → value_at reader.known earlier ≡ Some first → value_at reader.known later ≡ Some second
+        → first ≤ second }
 {
     limit.merge_reader(writer, reader);
     let Ok(mut newest) = limit.reader(alloc, writer) else {

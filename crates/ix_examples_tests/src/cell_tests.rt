@@ -100,7 +100,8 @@ fn raise_beside_reader<R: Threads>(
     writer: &mut WriterSeat<u64>,
     reader: &mut ReaderSeat<u64>,
 ) -> (u64, bool)
-    requires writer { (writer.old.cell ≡ limit.now) × AreOwn writer.old × (length writer.old.places ≡ 0) }
+    requires writer { (writer.old.cell ≡ limit.now) × AreOwn writer.old
+        × (length writer.old.places ≡ 0) }
     requires reader { reader.old.cell ≡ limit.now }
     ensures writer { (writer.new.cell ≡ writer.old.cell) × AreOwn writer.new }
     ensures raises { length writer.new.places ≡ result.0 }

@@ -9,8 +9,11 @@ use std::mem;
 /// Appends `item`. If the vector is full, removes the first item before and returns it. A vector of capacity 0 drops
 /// `item`.
 pub fn push_over<T: Drop, V: Vector<T>>(vector: &mut V, item: T) -> Option<T>
-    ensures value { result ≡ (if has_room (V.bounded vector.old) then None else slice_get (V.bounded vector.old).items 0) }
-    ensures vector { V.bounded vector.new ≡ bounded_push (if has_room (V.bounded vector.old) then V.bounded vector.old else vec_remove (V.bounded vector.old) 0) item }
+    ensures value { result ≡ (if has_room (V.bounded vector.old) then None else slice_get
+        (V.bounded vector.old).items 0) }
+    ensures vector { V.bounded vector.new ≡ bounded_push (if has_room
+        (V.bounded vector.old) then V.bounded vector.old else vec_remove
+        (V.bounded vector.old) 0) item }
 {
     if vector.len() < vector.capacity() {
         vector.push_unchecked(item);

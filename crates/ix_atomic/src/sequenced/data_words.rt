@@ -22,7 +22,8 @@ pub(crate) fn word_at(bytes: &[u8], index: usize) -> u64
 pub(crate) fn set_word_at(bytes: &mut [u8], index: usize, word: u64)
     requires { 8 * index < length bytes.old }
     ensures bytes { bytes.new ≡ take (8 * index) bytes.old
-        ++ (bytes_of_word (min 8 (length bytes.old - 8 * index)) word ++ drop (8 * index + 8) bytes.old) }
+        ++ (bytes_of_word (min 8 (length bytes.old - 8 * index)) word
+        ++ drop (8 * index + 8) bytes.old) }
 {
     let start = 8 * index;
     let end = start + (bytes.len() - start).min(8);

@@ -64,7 +64,8 @@ impl<T: AtomicCopy, const SIZE: usize> SequencedByteAtomic<T, SIZE> {
     pub fn new(alloc: Global, value: T) -> Result<(Self, WriterSeat<T>, ReaderSeat<T>), AllocError>
         requires { SIZE ≡ T.SIZE }
         ensures writer { IfOk result (λ made.
-            (made.1.cell ≡ made.0) × (made.1.known ≡ value ∷ []) × (made.1.seen ≡ []) × (made.1.places ≡ [])) }
+            (made.1.cell ≡ made.0) × (made.1.known ≡ value ∷ []) × (made.1.seen ≡ [])
+            × (made.1.places ≡ [])) }
         ensures own { IfOk result (λ made. AreOwn made.1) }
         ensures reader { IfOk result (λ made.
             (made.2.cell ≡ made.0) × (made.2.known ≡ value ∷ []) × (made.2.seen ≡ [])) }
@@ -101,7 +102,8 @@ impl<T: AtomicCopy, const SIZE: usize> SequencedByteAtomic<T, SIZE> {
         ensures refused { IfErr result (λ error. Refuses seat.old seat.new error) }
         ensures no_place { IfErr result (λ _. seat.new.places ≡ seat.old.places) }
         ensures own { AreOwn seat.new }
-        ensures touches { IfOk result (λ _. seat.new.touched ≡ seat.old.touched ++ 0 ∷ all_words SIZE) }
+        ensures touches { IfOk result
+            (λ _. seat.new.touched ≡ seat.old.touched ++ 0 ∷ all_words SIZE) }
     {
         let shared = &self.table.shared;
         let mut bytes = [0u8; SIZE];
@@ -132,9 +134,11 @@ impl<T: AtomicCopy, const SIZE: usize> SequencedByteAtomic<T, SIZE> {
     /// [`Interfered`] with both versions, unless they are equal and even. The cell does not change.
     pub fn try_read(&self, seat: &mut ReaderSeat<T>) -> Result<T, Interfered>
         requires { seat.old.cell ≡ self.now }
-        ensures value { IfOk result (λ value. (version : ℕ) × LoadsTwice seat.old seat.new version version
+        ensures value { IfOk result
+            (λ value. (version : ℕ) × LoadsTwice seat.old seat.new version version
             × IsEven version × (value_at seat.new.known version ≡ Some value)) }
-        ensures interfered { IfErr result (λ error. LoadsTwice seat.old seat.new error.first error.last
+        ensures interfered { IfErr result
+            (λ error. LoadsTwice seat.old seat.new error.first error.last
             × (IsOdd error.first ⊎ (error.first < error.last))) }
         ensures touches { seat.new.touched ≡ seat.old.touched ++ all_words SIZE }
     {
@@ -169,7 +173,8 @@ impl<T: AtomicCopy, const SIZE: usize> SequencedByteAtomic<T, SIZE> {
     /// [`Interfered`] with both versions, unless they are equal and even. The cell does not change.
     pub fn read_own(&self, seat: &mut WriterSeat<T>) -> Result<T, Interfered>
         requires { seat.old.cell ≡ self.now }
-        ensures value { IfOk result (λ value. (version : ℕ) × LoadsTwice (as_reader seat.old) (as_reader seat.new) version version
+        ensures value { IfOk result (λ value. (version : ℕ)
+            × LoadsTwice (as_reader seat.old) (as_reader seat.new) version version
             × IsEven version × (value_at seat.new.known version ≡ Some value)) }
         ensures interfered { IfErr result (λ error.
             LoadsTwice (as_reader seat.old) (as_reader seat.new) error.first error.last
@@ -208,7 +213,8 @@ impl<T: AtomicCopy, const SIZE: usize> SequencedByteAtomic<T, SIZE> {
         seat: &mut WriterSeat<T>,
     ) -> Result<WriterSeat<T>, AllocError>
         requires { seat.old.cell ≡ self.now }
-        ensures writer { IfOk result (λ writer. (writer.cell ≡ seat.old.cell) × (writer.known ≡ seat.old.known)
+        ensures writer { IfOk result
+            (λ writer. (writer.cell ≡ seat.old.cell) × (writer.known ≡ seat.old.known)
             × (writer.seen ≡ []) × (writer.places ≡ [])) }
         ensures own { IfOk result AreOwn }
         ensures seat { seat.new ≡ seat.old }
@@ -229,7 +235,8 @@ impl<T: AtomicCopy, const SIZE: usize> SequencedByteAtomic<T, SIZE> {
         ensures places { seat.new.places ≡ places_merge seat.old.places other.places }
         ensures own { AreOwn seat.new }
         ensures apart { AreApart seat.old.places other.places }
-        ensures seen { (version : ℕ) × (seat.new.seen ≡ (seat.old.seen ++ other.seen) ++ version ∷ [])
+        ensures seen { (version : ℕ)
+            × (seat.new.seen ≡ (seat.old.seen ++ other.seen) ++ version ∷ [])
             × (length seat.new.known ≡ version / 2 + 1) }
         ensures touches { seat.new.touched ≡ (seat.old.touched ++ other.touched) ++ 0 ∷ [] }
     {
@@ -245,7 +252,8 @@ impl<T: AtomicCopy, const SIZE: usize> SequencedByteAtomic<T, SIZE> {
         ensures known { Begins seat.old.known seat.new.known × Begins reader.known seat.new.known }
         ensures places { seat.new.places ≡ seat.old.places }
         ensures own { AreOwn seat.new }
-        ensures seen { (version : ℕ) × (seat.new.seen ≡ (seat.old.seen ++ reader.seen) ++ version ∷ [])
+        ensures seen { (version : ℕ)
+            × (seat.new.seen ≡ (seat.old.seen ++ reader.seen) ++ version ∷ [])
             × (length seat.new.known ≡ version / 2 + 1) }
         ensures touches { seat.new.touched ≡ (seat.old.touched ++ reader.touched) ++ 0 ∷ [] }
     {
@@ -260,7 +268,8 @@ impl<T: AtomicCopy, const SIZE: usize> SequencedByteAtomic<T, SIZE> {
     /// [`Unfinished`] if a write is in progress: the version is odd. The cell is deallocated then too.
     pub fn close(self, seat: WriterSeat<T>) -> Result<T, Unfinished>
         requires { seat.cell ≡ self }
-        ensures value { IfOk result (λ value. (history : List T) × Begins seat.known history × (last_value history ≡ Some value)) }
+        ensures value { IfOk result (λ value. (history : List T) × Begins seat.known history
+            × (last_value history ≡ Some value)) }
     {
         let SequencedByteAtomic { table } = self;
         let WriterSeat { seat } = seat;
@@ -286,10 +295,12 @@ impl<T: AtomicCopy, const SIZE: usize> SequencedByteAtomic<T, SIZE> {
         requires cell { seat.old.table_id ≡ self.now }
         requires between_calls { parity seat.old.me.0.stage ≡ 0 }
         ensures value { IfOk result (λ value. (version : ℕ)
-            × LoadsTwice (reader_of seat.old.table_id seat.old.me.0) (reader_of seat.new.table_id seat.new.me.0) version version
+            × LoadsTwice (reader_of seat.old.table_id seat.old.me.0)
+            (reader_of seat.new.table_id seat.new.me.0) version version
             × IsEven version × (value_at seat.new.me.0.known version ≡ Some value)) }
         ensures interfered { IfErr result (λ error.
-            LoadsTwice (reader_of seat.old.table_id seat.old.me.0) (reader_of seat.new.table_id seat.new.me.0) error.first error.last
+            LoadsTwice (reader_of seat.old.table_id seat.old.me.0)
+            (reader_of seat.new.table_id seat.new.me.0) error.first error.last
             × (IsOdd error.first ⊎ (error.first < error.last))) }
         ensures places { seat.new.me.0.places ≡ seat.old.me.0.places }
         ensures own { AreOwn (writer_of seat.new.table_id seat.new.me.0) }
@@ -317,7 +328,8 @@ impl<T: AtomicCopy, const SIZE: usize> SequencedByteAtomic<T, SIZE> {
         requires holds_nothing { other.me.1 ≡ [] }
         requires between_calls { (parity seat.old.me.0.stage ≡ 0) × (parity other.me.0.stage ≡ 0) }
         ensures place { (seat.new.table_id ≡ seat.old.table_id) × (seat.new.me.1 ≡ seat.old.me.1) }
-        ensures loads { (version : ℕ) × ViewLoads (Encodes T.is_value T.encoding) (view_merged seat.old.me.0 other.me.0) seat.new.me.0 version }
+        ensures loads { (version : ℕ) × ViewLoads (Encodes T.is_value T.encoding)
+            (view_merged seat.old.me.0 other.me.0) seat.new.me.0 version }
     {
         let shared = &self.table.shared;
         shared.join_seat::<Merge>(seat, other);
@@ -330,7 +342,8 @@ impl<T: AtomicCopy, const SIZE: usize> SequencedByteAtomic<T, SIZE> {
         requires bytes { (value : T) × Encodes T.is_value T.encoding value bytes.now }
         requires writing { seat.old.me.0.stage ≡ Writing [] }
         ensures place { (seat.new.table_id ≡ seat.old.table_id) × (seat.new.id ≡ seat.old.id) }
-        ensures seat { seat.new.me ≡ seated_stage (data_words (word_count SIZE)) (Writing bytes.now) seat.old.me }
+        ensures seat { seat.new.me
+            ≡ seated_stage (data_words (word_count SIZE)) (Writing bytes.now) seat.old.me }
     {
         let shared = &self.table.shared;
         for i in 0..SIZE.div_ceil(8) {
@@ -343,7 +356,8 @@ impl<T: AtomicCopy, const SIZE: usize> SequencedByteAtomic<T, SIZE> {
         requires cell { seat.old.table_id ≡ self.now }
         requires reading { seat.old.me.0.stage ≡ Reading first [] }
         ensures place { (seat.new.table_id ≡ seat.old.table_id) × (seat.new.id ≡ seat.old.id) }
-        ensures seat { seat.new.me ≡ seated_stage (data_words (word_count SIZE)) (Reading first bytes.new) seat.old.me }
+        ensures seat { seat.new.me
+            ≡ seated_stage (data_words (word_count SIZE)) (Reading first bytes.new) seat.old.me }
         ensures length { length bytes.new ≡ SIZE }
     {
         let shared = &self.table.shared;

@@ -71,7 +71,8 @@ impl<T: Drop, A: Allocator> PolymorphicVec<T, A> {
         requires { F.IsAlwaysCallable f }
         ensures capacity { IfOk result (λ vector. vector.capacity ≡ capacity) }
         ensures full { IfOk result (λ vector. IsFull vector) }
-        ensures items { IfOk result (λ vector. (last : F) × ResultsFrom F.step 0 f vector.items last) }
+        ensures items { IfOk result
+            (λ vector. (last : F) × ResultsFrom F.step 0 f vector.items last) }
         ensures memory { capacity ≡ 0 → IsOk result }
     {
         let mut vector = PolymorphicVec::new(alloc, capacity)?;
@@ -191,7 +192,8 @@ impl<'a, T: Drop, A: Allocator> IntoIterator for &'a mut PolymorphicVec<T, A> {
     ghost into_iter_gives = { λ vector it. YieldsMutRefsTo vector.now.items it };
 
     fn into_iter(self) -> slice::IterMut<'a, T>
-        ensures* writes_back { sem 𝓛 (polymorphic_vec_lends_iter T.row A.row A.Allocator self.entry result) }
+        ensures* writes_back { sem 𝓛
+            (polymorphic_vec_lends_iter T.row A.row A.Allocator self.entry result) }
         ensures into_iter_gives { YieldsMutRefsTo self.old.items result }
     {
         self.iter_mut()

@@ -98,7 +98,8 @@ impl<T: Default + Drop, const CAPACITY: usize> StaticVec<T, CAPACITY> {
         iter: U,
     ) -> Result<Self, VectorModificationError>
         requires capacity { CAPACITY ≤ MAX_FIXED_CAPACITY }
-        requires iter { IsFiniteIterable U.into_iter_gives U.IntoIter.can_next U.IntoIter.remaining iter }
+        requires iter { IsFiniteIterable U.into_iter_gives
+            U.IntoIter.can_next U.IntoIter.remaining iter }
         ensures value { IsOkUnless result InsertWouldExceedCapacity }
         ensures vector { IfOk result (λ vector.
             AreItemsOf U.into_iter_gives U.IntoIter.next_gives iter vector) }
@@ -248,7 +249,8 @@ impl<'a, T: Default + Drop, const CAPACITY: usize> IntoIterator for &'a mut Stat
     ghost into_iter_gives = { λ vector it. YieldsMutRefsTo vector.now it };
 
     fn into_iter(self) -> slice::IterMut<'a, T>
-        ensures* writes_back { sem 𝓛 (static_vec_lends_iter T.row CAPACITY.row T.Default self.entry result) }
+        ensures* writes_back { sem 𝓛
+            (static_vec_lends_iter T.row CAPACITY.row T.Default self.entry result) }
         ensures into_iter_gives { YieldsMutRefsTo self.old result }
     {
         self.iter_mut()

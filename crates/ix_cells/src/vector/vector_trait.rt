@@ -94,7 +94,8 @@ pub trait Vector<T: Drop> {
     /// Appends `item` to a vector that is not full. O(1).
     fn push_unchecked(&mut self, item: T)
         requires { length (bounded self.old).items < (bounded self.old).capacity }
-        ensures { bounded self.new ≡ with_items (bounded self.old) ((bounded self.old).items ++ item ∷ []) };
+        ensures { bounded self.new
+            ≡ with_items (bounded self.old) ((bounded self.old).items ++ item ∷ []) };
 
     /// Removes the last item and returns it, or `None` if the vector is empty. O(1).
     fn pop(&mut self) -> Option<T>
@@ -203,7 +204,8 @@ pub trait Vector<T: Drop> {
         requires clones { AreEqualClones T.is_clone }
         ensures full { LacksRoomFor (length other.now) (bounded self.old)
             → result ≡ Err InsertWouldExceedCapacity }
-        ensures fits { HasRoomFor (length other.now) (bounded self.old) → IsOkUnless result OutOfMemory }
+        ensures fits { HasRoomFor (length other.now) (bounded self.old)
+            → IsOkUnless result OutOfMemory }
         ensures vector { OnOk result (bounded self.new ≡ vec_extend (bounded self.old) other.now) }
         ensures refused { OnErr result (bounded self.new ≡ bounded self.old) }
         ensures memory { HasRoomFor (length other.now) (bounded self.old)
@@ -226,7 +228,8 @@ pub trait Vector<T: Drop> {
         &mut self,
         iter: U,
     ) -> Result<(), VectorModificationError>
-        requires { IsFiniteIterable U.into_iter_gives U.IntoIter.can_next U.IntoIter.remaining iter }
+        requires { IsFiniteIterable U.into_iter_gives
+            U.IntoIter.can_next U.IntoIter.remaining iter }
         ensures value { IsOkUnless result InsertWouldExceedCapacity }
         ensures vector { OnOk result (ExtendsByItemsOf U.into_iter_gives U.IntoIter.next_gives iter
             (bounded self.old) (bounded self.new)) }
@@ -320,7 +323,8 @@ pub trait Vector<T: Drop> {
 #[inline]
 fn move_last_to<T>(items: &mut [T], index: usize)
     requires { index < length items.old }
-    ensures { (front : List T) (last : T) → items.old ≡ front ++ last ∷ [] → items.new ≡ take index front ++ last ∷ drop index front }
+    ensures { (front : List T) (last : T) → items.old ≡ front ++ last ∷ []
+        → items.new ≡ take index front ++ last ∷ drop index front }
 {
     items[index..].rotate_right(1);
 }

@@ -122,14 +122,16 @@ impl<K: Eq + Drop, V: Drop, S: Table<Pair<K, V>>, L: Table<Link>> MetaFlatMap<K,
     /// Returns a mutable reference to the value of `key`, or `None` if the map has no equal key.
     #[inline]
     pub fn get_mut_ref(&mut self, key: &K) -> Option<&mut V>
-        ensures* writes_back { sem 𝓛 (LendsIf (the_row K.row V.row S.row L.row K.PartialEq S.Table L.Table)
+        ensures* writes_back { sem 𝓛
+            (LendsIf (the_row K.row V.row S.row L.row K.PartialEq S.Table L.Table)
             V.row self.entry result (flat_set K.eq self.old key.now) self.old) }
         ensures value { option_copied_mut result ≡ flat_value K.eq self.old key.now }
         // Whatever value is written, the key has it, and any other key keeps its own.
         ensures holds { (written : V) → IsSome (flat_value K.eq self.old key.now)
             → flat_value K.eq (flat_set K.eq self.old key.now written) key.now ≡ Some written }
         ensures kept { (written : V) (other : K) → K.eq other key.now ≡ false
-            → flat_value K.eq (flat_set K.eq self.old key.now written) other ≡ flat_value K.eq self.old other }
+            → flat_value K.eq (flat_set K.eq self.old key.now written) other
+            ≡ flat_value K.eq self.old other }
     {
         match self.place(key) {
             Some(place) => Some(self.value_mut(place)),
@@ -260,7 +262,8 @@ impl<K: Eq + Drop, V: Drop, S: Table<Pair<K, V>>, L: Table<Link>> MetaFlatMap<K,
     /// Returns the place of the key that equals `key`, and the pair there.
     #[inline]
     fn find(&self, key: &K) -> Option<(SlotTableKey, &Pair<K, V>)>
-        ensures value { option_map (λ entry. (entry.0, entry.1.now)) result ≡ flat_entry K.eq self.now key.now }
+        ensures value { option_map (λ entry. (entry.0, entry.1.now)) result
+            ≡ flat_entry K.eq self.now key.now }
         ensures distinct { HasDistinctKeys K.eq self.now }
     {
         for place in 0..self.pairs.capacity() {
@@ -290,9 +293,11 @@ impl<K: Eq + Drop, V: Drop, S: Table<Pair<K, V>>, L: Table<Link>> MetaFlatMap<K,
     #[inline]
     fn value_mut(&mut self, place: SlotTableKey) -> &mut V
         requires { IsHeld self.old place }
-        ensures* writes_back { sem 𝓛 (Lends (the_row K.row V.row S.row L.row K.PartialEq S.Table L.Table)
+        ensures* writes_back { sem 𝓛
+            (Lends (the_row K.row V.row S.row L.row K.PartialEq S.Table L.Table)
             V.row self.entry result (pair_set self.old place)) }
-        ensures value { option_map (λ pair. pair.value) (value_at self.old place) ≡ Some result.now }
+        ensures value { option_map (λ pair. pair.value) (value_at self.old place)
+            ≡ Some result.now }
     {
         &mut held_mut(&mut self.pairs, place).value
     }

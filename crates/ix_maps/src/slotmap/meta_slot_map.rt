@@ -85,7 +85,8 @@ impl<T, S: Table<Option<T>>, L: Table<Link>, G: Table<u32>> MetaSlotMap<T, S, L,
     #[inline]
     pub fn len(&self) -> usize
         ensures value { result ≡ map_len self.now }
-        ensures rest { map_len self.now + retired_count self.now + length self.now.slots.free ≡ length self.now.slots.values }
+        ensures rest { map_len self.now + retired_count self.now + length self.now.slots.free
+            ≡ length self.now.slots.values }
         // These hold of every map, whatever calls were made.
         ensures formed { IsMapFormed self.now }
         ensures dead { DeadAreNotHeld self.now }
@@ -150,7 +151,8 @@ impl<T, S: Table<Option<T>>, L: Table<Link>, G: Table<u32>> MetaSlotMap<T, S, L,
     /// Returns a mutable reference to the value of `key`, or `None` if `key` is not held.
     #[inline]
     pub fn get_mut(&mut self, key: SlotMapKey) -> Option<&mut T>
-        ensures* writes_back { sem 𝓛 (LendsIf (the_row T.row S.row L.row G.row S.Table L.Table G.Table)
+        ensures* writes_back { sem 𝓛
+            (LendsIf (the_row T.row S.row L.row G.row S.Table L.Table G.Table)
             T.row self.entry result (map_set self.old key) self.old) }
         ensures value { option_copied_mut result ≡ map_value self.old key }
         // Whatever is written, a dead key stays dead.
@@ -315,7 +317,8 @@ impl<T, S: Table<Option<T>>, L: Table<Link>, G: Table<u32>> MetaSlotMap<T, S, L,
     #[inline]
     fn has_generation(&self, key: SlotMapKey, touches: &mut Touches) -> bool
         ensures within { IsTrue result → key.index < length self.now.slots.values }
-        ensures value { IsTrue result ↔ ((key.index < length self.now.slots.values) × (generation_at self.now key.index ≡ key.generation)) }
+        ensures value { IsTrue result ↔ ((key.index < length self.now.slots.values)
+            × (generation_at self.now key.index ≡ key.generation)) }
         ensures touches { touches.new ≤ touches.old + 1 }
         ensures counts_on { touches.old ≤ touches.new }
     {
@@ -350,7 +353,8 @@ impl<T, S: Table<Option<T>>, L: Table<Link>, G: Table<u32>> MetaSlotMap<T, S, L,
         requires within { index < length self.old.slots.values }
         requires generation { generation_at self.old index ≡ greatest_generation }
         ensures value { result ≡ place_value self.old index }
-        ensures map { self.new ≡ if is_some (place_value self.old index) then map_retire self.old index else self.old }
+        ensures map { self.new
+            ≡ if is_some (place_value self.old index) then map_retire self.old index else self.old }
         ensures touches { touches.new ≤ touches.old + 4 }
         ensures counts_on { touches.old ≤ touches.new }
     {
@@ -371,7 +375,8 @@ impl<T, S: Table<Option<T>>, L: Table<Link>, G: Table<u32>> MetaSlotMap<T, S, L,
     #[inline]
     fn value_mut(&mut self, index: usize) -> &mut T
         requires { IsSome (place_value self.old index) }
-        ensures* writes_back { sem 𝓛 (Lends (the_row T.row S.row L.row G.row S.Table L.Table G.Table)
+        ensures* writes_back { sem 𝓛
+            (Lends (the_row T.row S.row L.row G.row S.Table L.Table G.Table)
             T.row self.entry result (map_set_at self.old index)) }
         ensures value { place_value self.old index ≡ Some result.now }
     {

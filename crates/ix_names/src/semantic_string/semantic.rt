@@ -106,7 +106,8 @@ impl<R: Rules<CAPACITY>, const CAPACITY: usize> Semantic<R, CAPACITY> {
     ///
     /// Returns the errors of [`Semantic::new`].
     pub fn from_c_str(bytes: &[u8]) -> Result<Self, SemanticStringError>
-        ensures { SemanticResult CAPACITY R.rules (before_nul bytes.now) (before_nul bytes.now) result }
+        ensures { SemanticResult CAPACITY R.rules (before_nul bytes.now)
+            (before_nul bytes.now) result }
     {
         Semantic::new(&bytes[..strnlen(bytes, bytes.len())])
     }

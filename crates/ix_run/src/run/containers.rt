@@ -69,7 +69,8 @@ impl Session {
     ) -> Result<(), ScriptFault>
         requires capacity { N ≤ MAX_FIXED_CAPACITY }
         requires end { is_at_end ≡ true → self.old.input.rest ≡ [] }
-        ensures { FinishResult is_at_end (R.remaining reader.old) (W.contents writer.old) self.old.replies
+        ensures { FinishResult is_at_end (R.remaining reader.old)
+            (W.contents writer.old) self.old.replies
             (λ more. replies_from_ready (C.container maker) N (lines_to_come self.old.input more))
             (R.remaining reader.new) (W.contents writer.new) result }
     {
@@ -90,8 +91,10 @@ impl Session {
         writer: &mut W,
     ) -> Result<(), ScriptFault>
         requires { is_at_end ≡ true → self.old.input.rest ≡ [] }
-        ensures { FinishResult is_at_end (R.remaining reader.old) (W.contents writer.old) self.old.replies
-            (λ more. replies_from_ready (C.container maker) (fixed_capacity capacity) (lines_to_come self.old.input more))
+        ensures { FinishResult is_at_end (R.remaining reader.old)
+            (W.contents writer.old) self.old.replies
+            (λ more. replies_from_ready (C.container maker) (fixed_capacity capacity)
+            (lines_to_come self.old.input more))
             (R.remaining reader.new) (W.contents writer.new) result }
     {
         match capacity {
@@ -130,8 +133,10 @@ impl Session {
         writer: &mut W,
     ) -> Result<(), ScriptFault>
         requires { is_at_end ≡ true → self.old.input.rest ≡ [] }
-        ensures { FinishResult is_at_end (R.remaining reader.old) (W.contents writer.old) self.old.replies
-            (λ more. replies_from_ready (C.container maker) (capacity_of storage) (lines_to_come self.old.input more))
+        ensures { FinishResult is_at_end (R.remaining reader.old)
+            (W.contents writer.old) self.old.replies
+            (λ more. replies_from_ready (C.container maker) (capacity_of storage)
+            (lines_to_come self.old.input more))
             (R.remaining reader.new) (W.contents writer.new) result }
     {
         match storage {
@@ -160,7 +165,8 @@ impl Session {
         writer: &mut W,
     ) -> Result<(), ScriptFault>
         requires { is_at_end ≡ true → self.old.input.rest ≡ [] }
-        ensures { FinishResult is_at_end (R.remaining reader.old) (W.contents writer.old) self.old.replies
+        ensures { FinishResult is_at_end (R.remaining reader.old)
+            (W.contents writer.old) self.old.replies
             (λ more. replies_from_header header (lines_to_come self.old.input more))
             (R.remaining reader.new) (W.contents writer.new) result }
     {
@@ -204,7 +210,8 @@ impl Session {
         writer: &mut W,
     ) -> Result<(), ScriptFault>
         requires { is_at_end ≡ true → self.old.input.rest ≡ [] }
-        ensures { FinishResult is_at_end (R.remaining reader.old) (W.contents writer.old) self.old.replies
+        ensures { FinishResult is_at_end (R.remaining reader.old)
+            (W.contents writer.old) self.old.replies
             (λ more. replies_from_header header (lines_to_come self.old.input more))
             (R.remaining reader.new) (W.contents writer.new) result }
     {

@@ -40,7 +40,8 @@ fn append_keys<S: Table<Pair<u64, u64>>, L: Table<Link>, W: Write>(
     writer: &mut W,
     map: &MetaFlatMap<u64, u64, S, L>,
 ) -> Result<(), ScriptFault>
-    ensures { WriteResult (W.contents writer.old) pending.old (items_text decimal (flat_keys map.now))
+    ensures { WriteResult (W.contents writer.old) pending.old
+        (items_text decimal (flat_keys map.now))
         (W.contents writer.new) pending.new result }
 {
     if map.is_empty() {

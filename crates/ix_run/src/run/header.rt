@@ -139,7 +139,8 @@ fn started(container: Container, rest: Option<&[u8]>) -> Option<Container>
 
 /// Returns a slot map with the generation of its places at first, if the words say it.
 fn starting_at(word: &[u8], rest: Option<&[u8]>) -> Option<Container>
-    ensures { (start : Option ℕ) → result ≡ started (container.Slot start) (word.now ∷ words_after (option_copied rest.entry)) }
+    ensures { (start : Option ℕ) → result
+        ≡ started (container.Slot start) (word.now ∷ words_after (option_copied rest.entry)) }
 {
     if !is_word(word, b"at") {
         return None;

@@ -149,7 +149,8 @@ impl Input {
     fn fill<R: Read>(&mut self, reader: &mut R) -> Result<bool, ScriptFault>
         requires in_place { self.old.in_place ≡ [] }
         requires rest { self.old.rest ≡ [] }
-        ensures { FillResult (R.remaining reader.old) self.old (R.remaining reader.new) self.new result }
+        ensures { FillResult (R.remaining reader.old) self.old
+            (R.remaining reader.new) self.new result }
     {
         if self.reads_left == 0 {
             return Err(ScriptFault::Read);

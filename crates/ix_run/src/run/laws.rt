@@ -36,11 +36,14 @@ pub fn line_law()
 pub fn reply_law()
     ensures reply { (reply : Reply ℕ ℕ) → HasU64s reply → IsOneLine (reply_text reply) }
     ensures items { (items : List ℕ) → All IsU64 items → IsOneLine (items_text decimal items) }
-    ensures entries { (entries : List (ℕ × ℕ)) → All (λ entry. IsU64 entry.0 × IsU64 entry.1) entries
+    ensures entries { (entries : List (ℕ × ℕ))
+        → All (λ entry. IsU64 entry.0 × IsU64 entry.1) entries
         → IsOneLine (items_text entry_text entries) }
     ensures text { (text : Bounded ℕ) → IsOneLine (text_shown text) }
-    ensures slot_reply { (reply : Reply SlotKey ℕ) → HasU64sAnd IsKey reply → IsOneLine (slot_reply_text reply) }
-    ensures key_entries { (entries : List (SlotKey × ℕ)) → All (λ entry. IsKey entry.0 × IsU64 entry.1) entries
+    ensures slot_reply { (reply : Reply SlotKey ℕ) → HasU64sAnd IsKey reply
+        → IsOneLine (slot_reply_text reply) }
+    ensures key_entries { (entries : List (SlotKey × ℕ))
+        → All (λ entry. IsKey entry.0 × IsU64 entry.1) entries
         → IsOneLine (items_text key_entry_text entries) }
 {}
 
@@ -48,16 +51,22 @@ pub fn reply_law()
 /// of the replies that a container of that capacity gives to the commands, one after the other.
 pub fn script_law()
     ensures queue { (storage : Storage)
-        → IsRun queue_forms queue_reply queue_after container.Queue storage (bounded_new (capacity_of storage)) }
+        → IsRun queue_forms queue_reply queue_after container.Queue storage
+        (bounded_new (capacity_of storage)) }
     ensures vec { (storage : Storage)
-        → IsRun vec_forms vec_reply vec_after container.Vec storage (bounded_new (capacity_of storage)) }
+        → IsRun vec_forms vec_reply vec_after container.Vec storage
+        (bounded_new (capacity_of storage)) }
     ensures table { (storage : Storage)
-        → IsRun table_forms table_reply table_after container.Table storage (slot_new (capacity_of storage)) }
+        → IsRun table_forms table_reply table_after container.Table storage
+        (slot_new (capacity_of storage)) }
     ensures flat { (storage : Storage)
-        → IsRun flat_forms (flat_reply nat_eq) (flat_after nat_eq) container.Flat storage (slot_new (capacity_of storage)) }
+        → IsRun flat_forms (flat_reply nat_eq) (flat_after nat_eq) container.Flat storage
+        (slot_new (capacity_of storage)) }
     ensures text { (storage : Storage)
-        → IsRun text_forms text_reply text_after container.Text storage (bounded_new (capacity_of storage)) }
+        → IsRun text_forms text_reply text_after container.Text storage
+        (bounded_new (capacity_of storage)) }
     ensures slot { (storage : Storage) (start : Option ℕ)
-        → IsRunBy slot_command_of slot_reply_text slot_reply slot_after (container.Slot start) storage
+        → IsRunBy slot_command_of slot_reply_text slot_reply slot_after
+        (container.Slot start) storage
         (map_new (capacity_of storage) (first_generation start)) }
 {}

@@ -88,7 +88,8 @@ impl PartialLine {
     #[inline]
     pub fn append_range(&mut self, bytes: &[u8], start: usize, end: usize)
         requires { (start ≤ end) × (end ≤ length bytes.now) }
-        ensures { self.new ≡ limited_line_append self.old (take (end - start) (drop start bytes.now)) }
+        ensures { self.new
+            ≡ limited_line_append self.old (take (end - start) (drop start bytes.now)) }
     {
         self.append(&bytes[start..end]);
     }

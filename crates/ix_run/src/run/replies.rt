@@ -158,7 +158,8 @@ pub fn append_items<L: Listing, W: Write>(
     writer: &mut W,
     list: &L,
 ) -> Result<(), ScriptFault>
-    ensures { WriteResult (W.contents writer.old) replies.old (items_text decimal (L.items list.now))
+    ensures { WriteResult (W.contents writer.old) replies.old
+        (items_text decimal (L.items list.now))
         (W.contents writer.new) replies.new result }
 {
     let len = list.item_count();

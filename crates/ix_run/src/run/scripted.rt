@@ -30,7 +30,8 @@ pub trait Scripted {
     ) -> Result<(), ScriptFault>
         requires length { IfSome line (λ bytes. length bytes.now ≤ MAX_LINE_LEN) }
         requires more { is_done_at (state self.old) ≡ false }
-        ensures { AdvanceResult (W.contents writer.old) pending.old (λ lines. replies (state self.old) (option_copied line.entry ∷ lines))
+        ensures { AdvanceResult (W.contents writer.old) pending.old
+            (λ lines. replies (state self.old) (option_copied line.entry ∷ lines))
             (W.contents writer.new) pending.new (λ lines. replies (state self.new) lines) result };
 
     /// Returns `true` if it takes no more lines.

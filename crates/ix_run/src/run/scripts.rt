@@ -70,7 +70,8 @@ pub fn script<R: Read, W: Write>(
     ensures err { OnErr result
         (WritesPartOfReplies (R.remaining reader.old) (W.contents writer.old)
         (R.remaining reader.new) (W.contents writer.new)) }
-    ensures out_of_memory { result ≡ Err OutOfMemory → WritesRepliesBeforeReady (R.remaining reader.old) (W.contents writer.old)
+    ensures out_of_memory { result ≡ Err OutOfMemory
+        → WritesRepliesBeforeReady (R.remaining reader.old) (W.contents writer.old)
         (R.remaining reader.new) (W.contents writer.new) }
 {
     run_script(alloc, reader, writer)

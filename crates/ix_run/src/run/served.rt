@@ -34,7 +34,8 @@ pub trait Served {
     /// Runs the command that the line spells, and returns the reply, or `None` if it spells none.
     fn run_line(&mut self, line: &[u8]) -> Option<Reply<Self::Key, u64>>
         requires { length line.now ≤ MAX_LINE_LEN }
-        ensures value { option_map (reply_text_by Self.Key.text) result ≡ reply (model self.old) line.now }
+        ensures value { option_map (reply_text_by Self.Key.text) result
+            ≡ reply (model self.old) line.now }
         ensures model { model self.new ≡ after (model self.old) line.now };
 
     /// Appends what `show` prints, without a line feed.
@@ -53,7 +54,8 @@ impl<C: Served> Serving<C> {
     /// Appends the line that shows the container.
     #[tactic(auto, using(crate::proofs::Writing::WriteResult_append, crate::proofs::Writing::WritesPart_append))]
     fn show<W: Write>(&self, pending: &mut ReplyBuffer, writer: &mut W) -> Result<(), ScriptFault>
-        ensures { WriteResult (W.contents writer.old) pending.old (with_line_feed (C.shown (C.model self.now.container)))
+        ensures { WriteResult (W.contents writer.old) pending.old
+            (with_line_feed (C.shown (C.model self.now.container)))
             (W.contents writer.new) pending.new result }
     {
         self.container.show(pending, writer)?;
@@ -70,9 +72,11 @@ impl<C: Served> Serving<C> {
     ) -> Result<(), ScriptFault>
         requires { IfSome line (λ bytes. length bytes.now ≤ MAX_LINE_LEN) }
         ensures model { C.model self.new.container
-            ≡ line_after C.reply C.after C.shown (C.model self.old.container) (option_copied line.entry) }
+            ≡ line_after C.reply C.after C.shown (C.model self.old.container)
+            (option_copied line.entry) }
         ensures reply { WriteResult (W.contents writer.old) pending.old
-            (with_line_feed (line_reply C.reply C.after C.shown (C.model self.old.container) (option_copied line.entry)))
+            (with_line_feed (line_reply C.reply C.after C.shown (C.model self.old.container)
+            (option_copied line.entry)))
             (W.contents writer.new) pending.new result }
     {
         let Some(line) = line else {

@@ -43,7 +43,8 @@ impl Session {
         ensures input { self.new.input ≡ self.old.input }
         ensures reply { AdvanceResult (W.contents writer.old) self.old.replies
             (λ lines. C.replies (C.state container.old) (current_line self.old.input ∷ lines))
-            (W.contents writer.new) self.new.replies (λ lines. C.replies (C.state container.new) lines) result }
+            (W.contents writer.new) self.new.replies
+            (λ lines. C.replies (C.state container.new) lines) result }
     {
         container.reply_to(self.input.line(), &mut self.replies, writer)
     }
@@ -57,8 +58,10 @@ impl Session {
         requires { C.is_done_at (C.state container.old) ≡ false }
         ensures input { self.new.input ≡ self.old.input }
         ensures reply { AdvanceResult (W.contents writer.old) self.old.replies
-            (λ (none : Unit {0}). C.replies (C.state container.old) (last_line (current_line self.old.input)))
-            (W.contents writer.new) self.new.replies (λ (none : Unit {0}). C.replies (C.state container.new) []) result }
+            (λ (none : Unit {0}). C.replies (C.state container.old)
+            (last_line (current_line self.old.input)))
+            (W.contents writer.new) self.new.replies
+            (λ (none : Unit {0}). C.replies (C.state container.new) []) result }
     {
         if self.input.is_line_empty() {
             return Ok(());
@@ -75,11 +78,13 @@ impl Session {
         writer: &mut W,
     ) -> Result<bool, ScriptFault>
         requires { C.is_done_at (C.state container.old) ≡ false }
-        ensures replies { DriveResult (R.remaining reader.old) (W.contents writer.old) self.old.replies
+        ensures replies { DriveResult (R.remaining reader.old)
+            (W.contents writer.old) self.old.replies
             (λ more. C.replies (C.state container.old) (lines_to_come self.old.input more))
             (R.remaining reader.new) (W.contents writer.new) self.new.replies
             (λ more. C.replies (C.state container.new) (lines_to_come self.new.input more)) result }
-        ensures done { IfOk result (λ at_end. at_end ≡ false → C.is_done_at (C.state container.new) ≡ true) }
+        ensures done { IfOk result
+            (λ at_end. at_end ≡ false → C.is_done_at (C.state container.new) ≡ true) }
         ensures rest { IfOk result (λ at_end. at_end ≡ true → self.new.input.rest ≡ []) }
     {
         while self.input.next_line(reader, &mut self.replies, writer)? {
@@ -94,7 +99,8 @@ impl Session {
 
     /// Writes all replies, and flushes the writer.
     pub fn finish<W: Write>(&mut self, writer: &mut W) -> Result<(), ScriptFault>
-        ensures { WriteResult (W.contents writer.old) self.old.replies [] (W.contents writer.new) [] result }
+        ensures { WriteResult (W.contents writer.old) self.old.replies []
+            (W.contents writer.new) [] result }
     {
         self.replies.write_to(writer)?;
         match writer.flush() {
@@ -105,7 +111,8 @@ impl Session {
 
     /// Writes the replies so far, and stops since there is no memory for the container.
     pub fn stop_without_memory<W: Write>(&mut self, writer: &mut W) -> Result<(), ScriptFault>
-        ensures { StopResult (W.contents writer.old) self.old.replies (W.contents writer.new) result }
+        ensures { StopResult (W.contents writer.old) self.old.replies
+            (W.contents writer.new) result }
     {
         self.replies.write_to(writer)?;
         Err(ScriptFault::OutOfMemory)
@@ -121,9 +128,11 @@ impl Session {
         writer: &mut W,
     ) -> Result<(), ScriptFault>
         requires { is_at_end ≡ true → self.old.input.rest ≡ [] }
-        ensures { FinishResult is_at_end (R.remaining reader.old) (W.contents writer.old) self.old.replies
+        ensures { FinishResult is_at_end (R.remaining reader.old)
+            (W.contents writer.old) self.old.replies
             (λ more. with_line_feed (codes "ready")
-            ++ replies_to_lines C.reply C.after C.shown (C.model container) (lines_to_come self.old.input more))
+            ++ replies_to_lines C.reply C.after C.shown (C.model container)
+            (lines_to_come self.old.input more))
             (R.remaining reader.new) (W.contents writer.new) result }
     {
         self.replies.append(writer, b"ready\n")?;
@@ -145,8 +154,10 @@ impl Session {
     ) -> Result<(), ScriptFault>
         requires { is_at_end ≡ true → self.old.input.rest ≡ [] }
         ensures { (container : Container) (capacity : ℕ)
-            → IfSome made (λ made. IsEmptyContainer C.reply C.after C.shown (C.model made) container capacity)
-            → FinishResult is_at_end (R.remaining reader.old) (W.contents writer.old) self.old.replies
+            → IfSome made
+            (λ made. IsEmptyContainer C.reply C.after C.shown (C.model made) container capacity)
+            → FinishResult is_at_end (R.remaining reader.old)
+            (W.contents writer.old) self.old.replies
             (λ more. replies_from_ready container capacity (lines_to_come self.old.input more))
             (R.remaining reader.new) (W.contents writer.new) result }
     {

@@ -45,7 +45,8 @@ fn append_key_entries<S: Table<Option<u64>>, L: Table<Link>, G: Table<u32>, W: W
     writer: &mut W,
     map: &MetaSlotMap<u64, S, L, G>,
 ) -> Result<(), ScriptFault>
-    ensures { WriteResult (W.contents writer.old) pending.old (items_text key_entry_text (map_entries map.now))
+    ensures { WriteResult (W.contents writer.old) pending.old
+        (items_text key_entry_text (map_entries map.now))
         (W.contents writer.new) pending.new result }
 {
     if map.is_empty() {

@@ -43,7 +43,8 @@ fn append_entries<S: Table<u64>, L: Table<Link>, W: Write>(
     writer: &mut W,
     map: &MetaSlotTable<u64, S, L>,
 ) -> Result<(), ScriptFault>
-    ensures { WriteResult (W.contents writer.old) pending.old (items_text entry_text (entries map.now))
+    ensures { WriteResult (W.contents writer.old) pending.old
+        (items_text entry_text (entries map.now))
         (W.contents writer.new) pending.new result }
 {
     if map.is_empty() {

@@ -57,7 +57,8 @@ pub(crate) fn read_by_table<C: Copy>(
     line: &[u8],
 ) -> Option<(C, (u64, u64))>
     requires names { lookup (bytes_eq []) (rows table.now) ≡ None }
-    ensures { result ≡ command_of (forms_by (λ command n m. (command, (n, m))) (rows table.now)) line.now }
+    ensures { result
+        ≡ command_of (forms_by (λ command n m. (command, (n, m))) (rows table.now)) line.now }
 {
     let (name, rest) = split_word(line);
     let (takes, command) = value_named(table, name)?;
@@ -92,7 +93,8 @@ pub(crate) fn read_bytes<'a>(
 ) -> Option<(u64, u64, u8, &'a [u8])>
     requires room { len_after (option_copied rest) ≤ 2 * length buffer.now }
     ensures { option_map {U = ℕ × (ℕ × (ℕ × List ℕ))} (λ r. (r.0, (r.1, (r.2, r.3.now)))) result
-        ≡ option_and_then {U = ℕ × (ℕ × (ℕ × List ℕ))} (bytes_taken takes (λ n m byte bytes. (n, (m, (byte, bytes)))))
+        ≡ option_and_then {U = ℕ × (ℕ × (ℕ × List ℕ))}
+        (bytes_taken takes (λ n m byte bytes. (n, (m, (byte, bytes)))))
         (numbers_in (words_after (option_copied rest.entry))) }
 {
     match takes {

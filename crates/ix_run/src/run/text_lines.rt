@@ -105,7 +105,8 @@ fn append_quoted<W: Write>(
     writer: &mut W,
     bytes: &[u8],
 ) -> Result<(), ScriptFault>
-    ensures { WriteResult (W.contents writer.old) pending.old (codes "\"" ++ (escaped_text bytes.now ++ codes "\""))
+    ensures { WriteResult (W.contents writer.old) pending.old
+        (codes "\"" ++ (escaped_text bytes.now ++ codes "\""))
         (W.contents writer.new) pending.new result }
 {
     pending.append(writer, b"\"")?;

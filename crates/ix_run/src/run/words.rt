@@ -26,7 +26,8 @@ fn word_len(bytes: &[u8], separator: u8) -> usize
 #[tactic(auto, using(crate::proofs::Words::first_word))]
 #[inline]
 pub(crate) fn split_word(bytes: &[u8]) -> (&[u8], Option<&[u8]>)
-    ensures words { slice_split is_space bytes.now ≡ result.0.now ∷ words_after (option_copied result.1) }
+    ensures words { slice_split is_space bytes.now
+        ≡ result.0.now ∷ words_after (option_copied result.1) }
     ensures len { length result.0.now + len_after (option_copied result.1) ≡ length bytes.now }
 {
     let (word, rest) = bytes.split_at(word_len(bytes, b' '));
@@ -51,7 +52,8 @@ pub(crate) fn is_word(word: &[u8], other: &[u8]) -> bool
 /// Returns the command, if no word is left.
 #[inline]
 pub(crate) fn alone<C: Copy>(rest: Option<&[u8]>, command: C) -> Option<C>
-    ensures { result ≡ option_and_then (alone command) (numbers_in (words_after (option_copied rest.entry))) }
+    ensures { result
+        ≡ option_and_then (alone command) (numbers_in (words_after (option_copied rest.entry))) }
 {
     match rest {
         Some(_) => None,
@@ -63,7 +65,8 @@ pub(crate) fn alone<C: Copy>(rest: Option<&[u8]>, command: C) -> Option<C>
 #[tactic(auto, using(crate::proofs::Words::number_of_last))]
 #[inline]
 pub(crate) fn one_number(rest: Option<&[u8]>) -> Option<u64>
-    ensures { result ≡ option_and_then (one (λ n. n)) (numbers_in (words_after (option_copied rest.entry))) }
+    ensures { result
+        ≡ option_and_then (one (λ n. n)) (numbers_in (words_after (option_copied rest.entry))) }
 {
     number_in(rest?)
 }
@@ -72,7 +75,8 @@ pub(crate) fn one_number(rest: Option<&[u8]>) -> Option<u64>
 #[tactic(auto, using(crate::proofs::Words::two_after_number))]
 #[inline]
 pub(crate) fn two_numbers(rest: Option<&[u8]>) -> Option<(u64, u64)>
-    ensures { result ≡ option_and_then (two (λ n m. (n, m))) (numbers_in (words_after (option_copied rest.entry))) }
+    ensures { result ≡ option_and_then (two (λ n m. (n, m)))
+        (numbers_in (words_after (option_copied rest.entry))) }
 {
     let (word, rest) = split_word(rest?);
     let first = number_in(word)?;
@@ -113,7 +117,8 @@ fn byte_in(word: &[u8]) -> Option<u8>
 #[tactic(auto, using(crate::proofs::Words::byte_of_last))]
 #[inline]
 pub(crate) fn one_byte(rest: Option<&[u8]>) -> Option<u8>
-    ensures { result ≡ option_and_then (one_byte (λ b. b)) (numbers_in (words_after (option_copied rest.entry))) }
+    ensures { result ≡ option_and_then (one_byte (λ b. b))
+        (numbers_in (words_after (option_copied rest.entry))) }
 {
     byte_in(rest?)
 }
@@ -122,7 +127,8 @@ pub(crate) fn one_byte(rest: Option<&[u8]>) -> Option<u8>
 #[tactic(auto, using(crate::proofs::Words::byte_after_number))]
 #[inline]
 pub(crate) fn number_and_byte(rest: Option<&[u8]>) -> Option<(u64, u8)>
-    ensures { result ≡ option_and_then (number_byte (λ n b. (n, b))) (numbers_in (words_after (option_copied rest.entry))) }
+    ensures { result ≡ option_and_then (number_byte (λ n b. (n, b)))
+        (numbers_in (words_after (option_copied rest.entry))) }
 {
     let (word, rest) = split_word(rest?);
     let number = number_in(word)?;
@@ -151,7 +157,8 @@ pub(crate) fn key_in(word: &[u8]) -> Option<SlotMapKey>
 pub(crate) fn bytes_of_words<'a>(rest: Option<&[u8]>, buffer: &'a mut [u8]) -> Option<&'a [u8]>
     requires room { len_after (option_copied rest) ≤ 2 * length buffer.now }
     ensures { option_copied result
-        ≡ option_and_then (many_bytes (λ bs. bs)) (numbers_in (words_after (option_copied rest.entry))) }
+        ≡ option_and_then (many_bytes (λ bs. bs))
+        (numbers_in (words_after (option_copied rest.entry))) }
 {
     let mut left = rest;
     let mut count = 0;

@@ -99,7 +99,8 @@ fn versions_are_right(steps: &[VersionedStep]) -> bool
 /// place in rising order, then the version 2 * k again, the bytes are the value of the write whose end made that version,
 /// or the first value at version 0. That is item k of a list: the first value, then the written ones in their order.
 pub fn versioned_read_law()
-    ensures { (first : List ℕ) (steps : List VersionedStep) (values : List (List ℕ)) (reader k : ℕ) (bytes : List ℕ)
+    ensures { (first : List ℕ) (steps : List VersionedStep) (values : List (List ℕ)) (reader k : ℕ)
+        (bytes : List ℕ)
         → IsLegalVersioned first steps → AreWrites (length first) steps values
         → IsVersionedRead (length first) steps reader (2 * k) bytes (2 * k)
         → slice_get (first ∷ values) k ≡ Some bytes }

@@ -21,7 +21,8 @@ impl<R: Rules<CAPACITY>, const CAPACITY: usize> Semantic<R, CAPACITY> {
     #[inline]
     pub fn insert(&mut self, idx: usize, byte: u8) -> Result<(), SemanticStringError>
         requires { idx ≤ length self.old }
-        ensures value { SemanticResult CAPACITY R.rules (insert_slice self.old idx (byte ∷ [])) tt result }
+        ensures value { SemanticResult CAPACITY R.rules
+            (insert_slice self.old idx (byte ∷ [])) tt result }
         ensures string { OnOk result (self.new ≡ insert_slice self.old idx (byte ∷ [])) }
         ensures refused { OnErr result (self.new ≡ self.old) }
     {
@@ -36,7 +37,8 @@ impl<R: Rules<CAPACITY>, const CAPACITY: usize> Semantic<R, CAPACITY> {
     /// text.
     pub fn insert_bytes(&mut self, idx: usize, bytes: &[u8]) -> Result<(), SemanticStringError>
         requires { idx ≤ length self.old }
-        ensures value { SemanticResult CAPACITY R.rules (insert_slice self.old idx bytes.now) tt result }
+        ensures value { SemanticResult CAPACITY R.rules
+            (insert_slice self.old idx bytes.now) tt result }
         ensures string { OnOk result (self.new ≡ insert_slice self.old idx bytes.now) }
         ensures refused { OnErr result (self.new ≡ self.old) }
     {
@@ -103,7 +105,8 @@ impl<R: Rules<CAPACITY>, const CAPACITY: usize> Semantic<R, CAPACITY> {
     ///
     /// Returns [`SemanticStringError::InvalidContent`] if the rules do not accept the other bytes.
     pub fn remove(&mut self, idx: usize) -> Result<Option<u8>, SemanticStringError>
-        ensures value { SemanticResult CAPACITY R.rules (remove self.old idx) (slice_get self.old idx) result }
+        ensures value { SemanticResult CAPACITY R.rules (remove self.old idx)
+            (slice_get self.old idx) result }
         ensures string { OnOk result (self.new ≡ remove self.old idx) }
         ensures refused { OnErr result (self.new ≡ self.old) }
     {
@@ -123,7 +126,8 @@ impl<R: Rules<CAPACITY>, const CAPACITY: usize> Semantic<R, CAPACITY> {
     ///
     /// Returns [`SemanticStringError::InvalidContent`] if the rules do not accept the other bytes.
     pub fn remove_range(&mut self, idx: usize, n: usize) -> Result<(), SemanticStringError>
-        ensures value { SemanticResult CAPACITY R.rules (text_without_range self.old idx n) tt result }
+        ensures value { SemanticResult CAPACITY R.rules
+            (text_without_range self.old idx n) tt result }
         ensures string { OnOk result (self.new ≡ text_without_range self.old idx n) }
         ensures refused { OnErr result (self.new ≡ self.old) }
     {
@@ -175,8 +179,10 @@ impl<R: Rules<CAPACITY>, const CAPACITY: usize> Semantic<R, CAPACITY> {
     pub fn strip_suffix(&mut self, bytes: &[u8]) -> Result<bool, SemanticStringError>
         ensures absent { ¬ EndsWith self.old bytes.now → result ≡ Ok false }
         ensures present { EndsWith self.old bytes.now
-            → SemanticResult CAPACITY R.rules (take (length self.old - length bytes.now) self.old) true result }
-        ensures string { result ≡ Ok true → self.new ≡ take (length self.old - length bytes.now) self.old }
+            → SemanticResult CAPACITY R.rules
+            (take (length self.old - length bytes.now) self.old) true result }
+        ensures string { result ≡ Ok true
+            → self.new ≡ take (length self.old - length bytes.now) self.old }
         ensures refused { ¬ (result ≡ Ok true) → self.new ≡ self.old }
     {
         if !self.text.strip_suffix(bytes) {
