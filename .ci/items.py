@@ -13,7 +13,11 @@ GENERICS = re.compile(r"^<(?:[^<>]|<(?:[^<>]|<[^<>]*>)*>)*>\s*")
 REEXPORT = re.compile(r"(#\[doc\(hidden\)\]\n)?^pub use (?:\w+::)+(?:\{([^}]*)\}|(\w+));", re.M)
 IMPORT = re.compile(r"ghost use Rattle\.(ix_\w+)\.specs\.((?!declared|contracts)[\w.]+)\.\{([^}]*)\};")
 
-Item = collections.namedtuple("Item", "kind name is_public docs head first last members")
+ALIAS = re.compile(r"pub type (\w+).*? = (\w+)<")
+TEXT = re.compile(r"=> (?:\{\s*)?(?:f\.write_str\()?\"([^\"\n]*)\"|f\.write_str\(\"([^\"\n]*)\"\)")
+
+# ghosts: of an impl of a trait, what it pins, as lines by name.
+Item = collections.namedtuple("Item", "kind name is_public docs head first last members ghosts")
 
 
 def text_of(path):
@@ -65,7 +69,8 @@ def items_of(lines, indent="", first=0, end=None):
             if kind == "trait":
                 head += ghost_members(lines[after:last])
             members = items_of(lines, indent + "    ", after, last) if kind in ("trait", "impl") else []
-            items.append(Item(kind, name_of(kind, rest, head), bool(is_public), docs, head, i, last, members))
+            ghosts = pinned(lines[after:last]) if kind == "impl" else {}
+            items.append(Item(kind, name_of(kind, rest, head), bool(is_public), docs, head, i, last, members, ghosts))
             docs, i = [], last
         elif line.strip() and not line.strip().startswith("#["):
             docs = []
@@ -109,9 +114,28 @@ def ghost_members(lines):
     return members
 
 
+def pinned(lines):
+    """Returns the types and the ghost members that an impl sets, by name, each with its lines."""
+    found, i = {}, 0
+    while i < len(lines):
+        match = re.match(r"    (?:ghost|type) (?!use\b)(\w+) = ", lines[i])
+        if match:
+            last = next(j for j in range(i, len(lines)) if lines[j].endswith(";"))
+            found[match.group(1)] = lines[i : last + 1]
+            i = last
+        i += 1
+    return found
+
+
+def printed_texts(lines, item):
+    """Returns the texts that an impl of `Display` prints as they stand there, one after the other."""
+    body = "\n".join(lines[item.first : item.last + 1])
+    return [one or other for one, other in TEXT.findall(body)]
+
+
 def base_of(name):
     """Returns the type that an impl is for, without its parameters."""
-    words = re.findall(r"[\w:]+", name.partition(" for ")[2] or name)
+    words = re.findall(r"[\w:]+", re.sub(r"'\w+|&|\bmut\b", " ", name.partition(" for ")[2] or name))
     return words[0].rpartition("::")[2] if words else name
 
 

@@ -11,4 +11,5 @@ pub mod RawSharing
 pub mod RawSteps
 pub mod Refilling
 pub mod Rows
+pub mod Shifts
 mod WorkedVectors

@@ -12,7 +12,7 @@ mod counted;
 mod heap_table;
 mod inline_table;
 mod places;
-mod raw_row;
+pub(crate) mod raw_row;
 mod raw_slots;
 mod relocatable_container;
 pub(crate) mod row;

@@ -48,7 +48,7 @@ pub enum ReplyError {
     KeyAlreadyExists,
     /// The flat map has no room.
     IsFull,
-    /// An index is past the end of a string, which was not called.
+    /// The index is greater than the string's length. The string is not asked.
     IndexPastEnd,
 }
 

@@ -4,6 +4,7 @@
 pub mod arena;
 pub mod configuration;
 pub mod directory;
+pub mod groups;
 pub mod iteration;
 pub mod json_message;
 pub mod log_position;

@@ -7,6 +7,7 @@ use ix_examples::configuration::{Limit, limit_or, set_limit};
 use ix_examples::directory::{
     Directory, change_port, port_of as published_port, publish, withdraw,
 };
+use ix_examples::groups::{Groups, register as register_group, withdraw as withdraw_group};
 use ix_examples::iteration::{append, stored_inline};
 use ix_examples::json_message::{Samples, from_json, send, to_json};
 use ix_examples::message::{Message, MessageError};
@@ -119,6 +120,46 @@ fn errors_of_three_containers(rt: HostRuntime) {
     assert_eq!(rt; found.name.as_str(), "ping");
     assert_eq!(rt; found.ports.as_slice(), [80, 443].as_slice());
     assert_eq!(rt; services.len(), 1);
+}
+
+/// Groups that are refused, each by its name or by the map, and the texts of the errors.
+const REFUSED_GROUPS: &[(u8, &[u8], &str)] = &[
+    (11, b"1wheel", "SemanticStringError::InvalidContent"),
+    (11, b"", "SemanticStringError::InvalidContent"),
+    (11, b"tab\there\xff", "SemanticStringError::InvalidContent"),
+    (
+        11,
+        b"a-name-of-more-than-31-characters",
+        "SemanticStringError::ExceedsMaximumLength",
+    ),
+    (10, b"", "SemanticStringError::InvalidContent"),
+    (10, b"wheel", "FlatMapError::KeyAlreadyExists"),
+    (11, b"wheel", "FlatMapError::IsFull"),
+];
+
+#[test]
+fn groups_by_number(rt: HostRuntime) {
+    let mut groups = Groups::new(rt.alloc(), 3).expect(&rt, "there is memory");
+    assert!(rt; register_group(&mut groups, 10, b"staff").is_ok());
+    assert!(rt; register_group(&mut groups, 12, b"admins").is_ok());
+    assert!(rt; register_group(&mut groups, 14, b"dev-2").is_ok());
+    for (number, name, text) in REFUSED_GROUPS {
+        let refused = register_group(&mut groups, *number, name);
+        let error = refused.err().expect(&rt, "it is refused");
+        let found = InlineText::<80>::of(format_args!("{error}"));
+        assert_eq!(rt; found.as_str(), *text);
+    }
+    let withdrawn = withdraw_group(&mut groups, 12).expect(&rt, "it was registered");
+    assert!(rt; withdrawn.eq_str("admins"));
+    assert!(rt; withdraw_group(&mut groups, 12).is_none());
+    assert!(rt; register_group(&mut groups, 15, b"guests").is_ok());
+    let mut found = groups.iter();
+    for (number, text) in [(10, "staff"), (15, "guests"), (14, "dev-2")] {
+        let (held, name) = found.next().expect(&rt, "it is there");
+        assert_eq!(rt; *held, number);
+        assert!(rt; name.eq_str(text));
+    }
+    assert!(rt; found.next().is_none());
 }
 
 /// Reads the limit in two threads.

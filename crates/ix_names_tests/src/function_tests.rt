@@ -150,3 +150,38 @@ fn normal_forms_of_the_sample_rules() -> Result<(), Fail> {
     }
     findings.verdict()
 }
+
+/// Texts, and whether they are known to be their own normal forms: by the rules of trailing slashes, and by rules that do not
+/// say which are.
+const NORMAL: &[(&[u8], bool, bool)] = &[
+    (b"/", true, false),
+    (b"//", false, false),
+    (b"a", true, false),
+    (b"a/", false, false),
+    (b"/a", true, false),
+    (b"/a//", false, false),
+    (b"//a", true, false),
+    (b"a/b", true, false),
+];
+
+/// Returns what `is_normal_form` of the rules returns.
+fn is_known_normal<R: Rules<CAPACITY>, const CAPACITY: usize>(bytes: &[u8]) -> Option<bool> {
+    match Semantic::<R, CAPACITY>::new(bytes) {
+        Ok(string) => Some(R::is_normal_form(string.as_string())),
+        Err(_) => None,
+    }
+}
+
+#[test]
+fn texts_known_to_be_normal_forms() -> Result<(), Fail> {
+    let findings = Findings::new();
+    for (row, (bytes, paths, others)) in NORMAL.iter().enumerate() {
+        let found = is_known_normal::<TrailingSlashRules, 255>(bytes);
+        findings.expect_same_at(found, Some(*paths), row, "trailing slashes");
+        let found = is_known_normal::<NonEmptyRules, 255>(bytes);
+        findings.expect_same_at(found, Some(*others), row, "rules that do not say");
+    }
+    let found = is_known_normal::<GroupNameRules, 31>(b"ab-1");
+    findings.expect_same(found, Some(true), "group names");
+    findings.verdict()
+}

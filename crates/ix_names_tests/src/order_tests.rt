@@ -1,5 +1,5 @@
 //! Equality, order and hash by the normal form.
-use ix_names::{Semantic, TrailingSlashRules};
+use ix_names::{GroupName, Semantic, TrailingSlashRules};
 use ix_test_support::{Findings, fed_by};
 use std::cmp::Ordering;
 use std::test::Fail;
@@ -58,6 +58,46 @@ fn by_the_normal_form() -> Result<(), Fail> {
                 check_text(&findings, &path, *place, row);
             }
             Err(_) => findings.miss(text),
+        }
+    }
+    findings.verdict()
+}
+
+/// Names of different bytes, in their order, of lengths at which they are compared in different ways.
+const NAMES: &[&[u8]] = &[
+    b"a",
+    b"abcdefg",
+    b"abcdefgh",
+    b"abcdefghi",
+    b"abcdefghijklmnop",
+    b"abcdefghijklmnopqrstuvwxyz-0123",
+    b"abcdefghijklmnopqrstuvwxyz-0124",
+    b"abcdefghijklmnoq",
+    b"b",
+    b"bbcdefghijklmnopqrstuvwxyz-0124",
+];
+
+/// Compares the name of the row with each.
+fn check_name(findings: &Findings, left: &GroupName, row: usize) {
+    for (other, bytes) in NAMES.iter().enumerate() {
+        match GroupName::new(bytes) {
+            Ok(right) => {
+                findings.expect_same_at(*left == right, row == other, row, "equal names");
+                findings.expect_same_at(left.cmp(&right), row.cmp(&other), row, "their order");
+                findings.expect_same_at(left.eq_bytes(bytes), row == other, row, "equal bytes");
+            }
+            Err(_) => findings.miss("a name"),
+        }
+    }
+}
+
+#[test]
+fn names_by_their_bytes() -> Result<(), Fail> {
+    let findings = Findings::new();
+    for (row, bytes) in NAMES.iter().enumerate() {
+        match GroupName::new(bytes) {
+            Ok(name) => check_name(&findings, &name, row),
+            Err(_) => findings.miss("a name"),
         }
     }
     findings.verdict()

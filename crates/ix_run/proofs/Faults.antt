@@ -15,3 +15,6 @@ LeftUnwritten-device OutOfMemory replies device = absurd device
 
 pub LeftUnwritten-Write : (x : ScriptFault) (replies : List ℕ) → x ≡ Write → LeftUnwritten x replies
 LeftUnwritten-Write x replies is = LeftUnwritten-device x replies (IsDeviceFault-Write x is)
+
+pub IsDeviceFault-Read : (x : ScriptFault) → x ≡ Read → IsDeviceFault x
+IsDeviceFault-Read x is = rw is tt

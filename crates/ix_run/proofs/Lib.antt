@@ -6,8 +6,8 @@ pub mod KnownBytes
 pub mod Laws
 pub mod Lines
 pub mod Listings
+pub mod NextLine
 pub mod Numbers
-pub mod Opening
 pub mod Pieces
 pub mod Plain
 pub mod Progress

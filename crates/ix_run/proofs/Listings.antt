@@ -1,5 +1,5 @@
 -- Items that are shown one after the other.
-use Rattle.std.proofs.Common.{ℕ, ◌≡◌, ◌+◌, suc, List, [], ◌∷◌, ◌++◌, Option, Some, None, Bool, true, false, length, cond, codes, refl, sym, ap, ◌∙◌, arith, append_assoc, append-nil}
+use Rattle.std.proofs.Common.{ℕ, ◌≡◌, ◌+◌, suc, List, [], ◌∷◌, ◌++◌, Option, Some, None, Bool, true, false, length, cond, codes, refl, sym, ap, ◌∙◌, arith, append_assoc}
 use Rattle.std.specs.Prelude.{is_some, if◌then◌else◌}
 use Rattle.std.specs.List.{count_by}
 use Rattle.std.proofs.lemmas.List.Recursion.{is_count_by}
@@ -9,8 +9,8 @@ use Rattle.ix_maps.specs.SlotState.{entries_from}
 use Rattle.ix_maps.specs.Generations.{SlotMapState, held_entries, map_entries, map_len}
 use Rattle.ix_run.specs.ReplyTexts.{items_text, more_items_text, items_left_text, next_text}
 use Rattle.ix_run.specs.inner.Writing.{Writes, WritesPart}
-use Rattle.ix_run.proofs.KnownBytes.{Appends-nil}
-use Rattle.ix_run.proofs.Writing.{Writes-append, WritesPart-Writes, WritesPart_append}
+use Rattle.ix_run.specs.declared.run.reply_writer.ReplyWriter.{ReplyWriter}
+use Rattle.ix_run.proofs.Writing.{Writes-nil, Writes-append, WritesPart-Writes, WritesPart_append, WritesPart-same}
 
 module _ {T : Type 0} where
   length-entries_from : (key key' : ℕ) (places : List (Option T)) → length (entries_from key places) ≡ length (entries_from key' places)
@@ -60,32 +60,33 @@ module _ {X : Type 0} (text : X → List ℕ) where
   items_left_text-more [] = refl
   items_left_text-more (x ∷ items) = append_assoc (codes " ") (text x) (more_items_text text items)
 
-  -- the text of the items is written or pending, but for that of the items that are left
-  abbrev pub WritesUpTo : List X → Option (List ℕ) → List ℕ → Bool → List X → Option (List ℕ) → List ℕ → Type 0
-  WritesUpTo items contents pending is_first left contents' pending' =
-      (so_far : List ℕ) × (items_text text items ≡ so_far ++ items_left_text text is_first left) × Writes contents pending so_far contents' pending'
-
-  -- all items are left at first
-  pub WritesUpTo-first : (items left : List X) (c : Option (List ℕ)) (o : List ℕ) → items ≡ left → (length items ≡ 0 → ⊥) → WritesUpTo items c o true left c o
-  WritesUpTo-first items left c o same some = ([], items_left_text-first items some ∙ ap (items_left_text text true) same, ([], Appends-nil c, append-nil o))
-
   items_text-next : (items left rest : List X) (x : X) (is_first : Bool) (so_far : List ℕ) → left ≡ x ∷ rest → items_text text items ≡ so_far ++ items_left_text text is_first left
       → items_text text items ≡ (so_far ++ next_text is_first (text x)) ++ more_items_text text rest
   items_text-next items left rest x is_first so_far step whole =
       whole ∙ ap (λ l. so_far ++ items_left_text text is_first l) step ∙ sym (append_assoc so_far (next_text is_first (text x)) (more_items_text text rest))
 
+module _ {X W : Type 0} (text : X → List ℕ) (contents : W → Option (List ℕ)) where
+  -- the text of the items is written or pending, but for that of the items that are left
+  abbrev pub WritesUpTo : List X → ReplyWriter W → Bool → List X → ReplyWriter W → Type 0
+  WritesUpTo items old is_first left new =
+      (so_far : List ℕ) × (items_text text items ≡ so_far ++ items_left_text text is_first left) × Writes contents old so_far new
+
+  -- all items are left at first
+  pub WritesUpTo-first : (items left : List X) (a : ReplyWriter W) → items ≡ left → (length items ≡ 0 → ⊥) → WritesUpTo items a true left a
+  WritesUpTo-first items left a same some = ([], items_left_text-first text items some ∙ ap (items_left_text text true) same, Writes-nil contents a)
+
   -- one more item is written or pending
-  pub WritesUpTo-next : (items left rest : List X) (x : X) (is_first : Bool) (c d e : Option (List ℕ)) (o p q : List ℕ) → left ≡ x ∷ rest
-      → WritesUpTo items c o is_first left d p → Writes d p (next_text is_first (text x)) e q → WritesUpTo items c o false rest e q
-  WritesUpTo-next items left rest x is_first c d e o p q step (so_far, whole, before) now =
+  pub WritesUpTo-next : (items left rest : List X) (x : X) (is_first : Bool) (a b c : ReplyWriter W) → left ≡ x ∷ rest → WritesUpTo items a is_first left b
+      → Writes contents b (next_text is_first (text x)) c → WritesUpTo items a false rest c
+  WritesUpTo-next items left rest x is_first a b c step (so_far, whole, before) now =
       let word = next_text is_first (text x) in
-      let shown = items_text-next items left rest x is_first so_far step whole in
-      (so_far ++ word, shown ∙ ap (λ l. (so_far ++ word) ++ l) (sym (items_left_text-more rest)), Writes-append c d e o p q so_far word before now)
+      let shown = items_text-next text items left rest x is_first so_far step whole in
+      (so_far ++ word, shown ∙ ap (λ l. (so_far ++ word) ++ l) (sym (items_left_text-more text rest)), Writes-append contents a b c so_far word before now)
 
   -- the writer fails at the next item
-  pub WritesUpTo-part : (items left rest : List X) (x : X) (is_first : Bool) (c d e : Option (List ℕ)) (o p : List ℕ) → left ≡ x ∷ rest
-      → WritesUpTo items c o is_first left d p → WritesPart d p (next_text is_first (text x)) e → WritesPart c o (items_text text items) e
-  WritesUpTo-part items left rest x is_first c d e o p step (so_far, whole, before) now =
+  pub WritesUpTo-part : (items left rest : List X) (x : X) (is_first : Bool) (a b c : ReplyWriter W) → left ≡ x ∷ rest → WritesUpTo items a is_first left b
+      → WritesPart contents b (next_text is_first (text x)) c → WritesPart contents a (items_text text items) c
+  WritesUpTo-part items left rest x is_first a b c step (so_far, whole, before) now =
       let word = next_text is_first (text x) in
-      rw (items_text-next items left rest x is_first so_far step whole)
-      (WritesPart_append c e o (so_far ++ word) (more_items_text text rest) (WritesPart-Writes c d e o p so_far word before now))
+      WritesPart-same contents a c ((so_far ++ word) ++ more_items_text text rest) (items_text text items) (items_text-next text items left rest x is_first so_far step whole)
+      (WritesPart_append contents a c (so_far ++ word) (more_items_text text rest) (WritesPart-Writes contents a b c so_far word before now))

@@ -1,71 +1,82 @@
 -- Bytes that are appended to pending ones.
-use Rattle.std.proofs.Common.{ℕ, List, [], ◌++◌, Option, Result, Ok, Err, refl, sym, ap, ◌∙◌, append_assoc, append-nil}
+use Rattle.std.proofs.Common.{ℕ, ◌≡◌, List, [], ◌++◌, Option, Result, Ok, Err, refl, sym, ap, ◌∙◌, append_assoc, append-nil}
 use Rattle.std.specs.Io.KnownBytes.{Appends, Keeps}
-use Rattle.ix_run.specs.inner.Writing.{Writes, WritesPart, WriteResult}
+use Rattle.ix_run.specs.inner.Writing.{AppendsPart, Writes, WritesPart, WriteResult}
 use Rattle.ix_run.specs.declared.run.fault.ScriptFault.{ScriptFault}
+use Rattle.ix_run.specs.declared.run.reply_writer.ReplyWriter.{ReplyWriter}
 use Rattle.ix_run.proofs.KnownBytes.{Appends-nil, Appends-append, Appends-Keeps}
 
-pub Writes_pending : (c : Option (List ℕ)) (pending bytes : List ℕ) → Writes c pending bytes c (pending ++ bytes)
-Writes_pending c pending bytes = ([], Appends-nil c, refl)
+module _ {W : Type 0} (contents : W → Option (List ℕ)) where
+  pub Writes-nil : (a : ReplyWriter W) → Writes contents a [] a
+  Writes-nil a = ([], Appends-nil (contents a.writer.now), append-nil a.pending, refl)
 
-pub Writes-append : (c d e : Option (List ℕ)) (o p q xs ys : List ℕ) → Writes c o xs d p → Writes d p ys e q → Writes c o (xs ++ ys) e q
-Writes-append c d e o p q xs ys (m, a, r) (n, b, s) = (
-  m ++ n,
-  Appends-append c d e m n a b,
-  sym (append_assoc o xs ys) ∙ ap (λ l. l ++ ys) r ∙ append_assoc m p ys ∙ ap (λ l. m ++ l) s ∙ sym (append_assoc m n q),
-)
+  pub Writes-append : (a b c : ReplyWriter W) (xs ys : List ℕ) → Writes contents a xs b → Writes contents b ys c → Writes contents a (xs ++ ys) c
+  Writes-append a b c xs ys (m, v, r, same) (n, w, s, same') = (
+    m ++ n,
+    Appends-append _ _ _ m n v w,
+    sym (append_assoc a.pending xs ys) ∙ ap (λ l. l ++ ys) r ∙ append_assoc m b.pending ys ∙ ap (λ l. m ++ l) s ∙ sym (append_assoc m n c.pending),
+    same' ∙ same,
+  )
 
-pub WritesPart-Writes : (c d e : Option (List ℕ)) (o p xs ys : List ℕ) → Writes c o xs d p → WritesPart d p ys e → WritesPart c o (xs ++ ys) e
-WritesPart-Writes c d e o p xs ys (m, a, r) (n, rest, b, s) = (
-  m ++ n,
-  rest,
-  Appends-append c d e m n a b,
-  sym (append_assoc o xs ys) ∙ ap (λ l. l ++ ys) r ∙ append_assoc m p ys ∙ ap (λ l. m ++ l) s ∙ sym (append_assoc m n rest),
-)
+  abbrev pub WritesPart-Writes : (a b c : ReplyWriter W) (xs ys : List ℕ) → Writes contents a xs b → WritesPart contents b ys c → WritesPart contents a (xs ++ ys) c
+  WritesPart-Writes a b c xs ys (m, v, r, same) (n, rest, w, s, same') = (
+    m ++ n,
+    rest,
+    Appends-append _ _ _ m n v w,
+    sym (append_assoc a.pending xs ys) ∙ ap (λ l. l ++ ys) r ∙ append_assoc m b.pending ys ∙ ap (λ l. m ++ l) s ∙ sym (append_assoc m n rest),
+    same' ∙ same,
+  )
 
--- what was written, even if the writer fails later
-pub WritesPart-from_Writes : (c d : Option (List ℕ)) (o p xs : List ℕ) → Writes c o xs d p → WritesPart c o xs d
-WritesPart-from_Writes c d o p xs (m, a, r) = (m, p, a, r)
+  -- a first part of some bytes is one of more bytes
+  pub WritesPart_append : (a b : ReplyWriter W) (xs ys : List ℕ) → WritesPart contents a xs b → WritesPart contents a (xs ++ ys) b
+  WritesPart_append a b xs ys (m, rest, v, r, same) = (m, rest ++ ys, v, sym (append_assoc a.pending xs ys) ∙ ap (λ l. l ++ ys) r ∙ append_assoc m rest ys, same)
 
-pub WritesPart_append : (c d : Option (List ℕ)) (o xs ys : List ℕ) → WritesPart c o xs d → WritesPart c o (xs ++ ys) d
-WritesPart_append c d o xs ys (m, rest, a, r) = (m, rest ++ ys, a, sym (append_assoc o xs ys) ∙ ap (λ l. l ++ ys) r ∙ append_assoc m rest ys)
+  -- all bytes are a first part of them
+  pub WritesPart-whole : (a b : ReplyWriter W) (xs : List ℕ) → Writes contents a xs b → WritesPart contents a xs b
+  WritesPart-whole a b xs (m, v, r, same) = (m, b.pending, v, r, same)
 
--- bytes, and then further bytes
-pub WriteResult_append : (c d e : Option (List ℕ)) (o p q xs ys : List ℕ) (r : Result (Unit {0}) ScriptFault) → Writes c o xs d p → WriteResult d p ys e q r → WriteResult c o (xs ++ ys) e q r
-WriteResult_append c d e o p q xs ys (Ok u) a b = Writes-append c d e o p q xs ys a b
-WriteResult_append c d e o p q xs ys (Err f) a b = (b.0, WritesPart-Writes c d e o p xs ys a b.1)
+  abbrev pub WritesPart-same : (a b : ReplyWriter W) (xs ys : List ℕ) → ys ≡ xs → WritesPart contents a xs b → WritesPart contents a ys b
+  WritesPart-same a b xs ys e (m, rest, v, r, same) = (m, rest, v, ap (λ l. a.pending ++ l) e ∙ r, same)
 
--- bytes are put behind the pending ones
-pub Writes_put : (c d : Option (List ℕ)) (o p bytes : List ℕ) → Writes c o [] d p → Writes c o bytes d (p ++ bytes)
-Writes_put c d o p bytes w = Writes-append c d d o p (p ++ bytes) [] bytes w (Writes_pending d p bytes)
+  -- bytes, and then further bytes
+  pub WriteResult_append : (a b c : ReplyWriter W) (xs ys : List ℕ) (r : Result (Unit {0}) ScriptFault) → Writes contents a xs b → WriteResult contents b ys c r → WriteResult contents a (xs ++ ys) c r
+  WriteResult_append a b c xs ys (Ok u) v w = Writes-append a b c xs ys v w
+  WriteResult_append a b c xs ys (Err f) v w = (w.0, WritesPart-Writes a b c xs ys v w.1)
 
-pub WritesPart_after_nil : (c d : Option (List ℕ)) (o bytes : List ℕ) → WritesPart c o [] d → WritesPart c o bytes d
-WritesPart_after_nil c d o bytes b = WritesPart_append c d o [] bytes b
+  -- bytes are appended, and then pending ones are written
+  pub Writes-Writes_nil : (a b c : ReplyWriter W) (xs : List ℕ) → Writes contents a xs b → Writes contents b [] c → Writes contents a xs c
+  Writes-Writes_nil a b c xs (m, v, r, same) (n, w, s, same') =
+      (m ++ n, Appends-append _ _ _ m n v w, r ∙ ap (λ l. m ++ l) (sym (append-nil b.pending) ∙ s) ∙ sym (append_assoc m n c.pending), same' ∙ same)
 
--- bytes that are written at once
-pub Writes-Appends : (c d : Option (List ℕ)) (bytes : List ℕ) → Appends c d bytes → Writes c [] bytes d []
-Writes-Appends c d bytes a = (bytes, a, sym (append-nil bytes))
+  pub Writes-WritesPart_nil : (a b c : ReplyWriter W) (xs : List ℕ) → Writes contents a xs b → WritesPart contents b [] c → WritesPart contents a xs c
+  Writes-WritesPart_nil a b c xs (m, v, r, same) (n, rest, w, s, same') =
+      (m ++ n, rest, Appends-append _ _ _ m n v w, r ∙ ap (λ l. m ++ l) (sym (append-nil b.pending) ∙ s) ∙ sym (append_assoc m n rest), same' ∙ same)
 
--- the pending bytes are written
-pub Writes_nil : (c d : Option (List ℕ)) (pending : List ℕ) → Writes c [] pending d [] → Writes c pending [] d []
-Writes_nil c d pending (m, a, r) = (m, a, append-nil pending ∙ r)
+  -- bytes are put behind the pending ones
+  pub Writes_put : (a b c : ReplyWriter W) (bytes : List ℕ) → Writes contents a [] b → c.writer ≡ b.writer → c.pending ≡ b.pending ++ bytes → Writes contents a bytes c
+  Writes_put a b c bytes (m, v, r, same) kept put = (
+    m,
+    rw kept v,
+    ap (λ l. l ++ bytes) (sym (append-nil a.pending) ∙ r) ∙ append_assoc m b.pending bytes ∙ ap (λ l. m ++ l) (sym put),
+    rw kept same,
+  )
 
-pub WritesPart_nil : (c d : Option (List ℕ)) (pending : List ℕ) → WritesPart c [] pending d → WritesPart c pending [] d
-WritesPart_nil c d pending (m, rest, a, r) = (m, rest, a, append-nil pending ∙ r)
+  pub WritesPart_after_nil : (a b : ReplyWriter W) (bytes : List ℕ) → WritesPart contents a [] b → WritesPart contents a bytes b
+  WritesPart_after_nil a b bytes part = WritesPart_append a b [] bytes part
 
--- a flush that fails
-pub WritesPart-Keeps : (c d e : Option (List ℕ)) (o xs : List ℕ) → Writes c o xs d [] → Keeps d e → WritesPart c o xs e
-WritesPart-Keeps c d e o xs (m, a, r) k = (m, [], Appends-Keeps c d e m a k, r)
+  -- the pending bytes are written at once
+  pub Writes-Appends : (a b : ReplyWriter W) → Appends (contents a.writer.now) (contents b.writer.now) a.pending → b.pending ≡ [] → b.writer.ghost_name ≡ a.writer.ghost_name → Writes contents a [] b
+  Writes-Appends a b v none same = (a.pending, v, ap (λ l. a.pending ++ l) (sym none), same)
 
--- a flush that succeeds
-pub Writes-Keeps : (c d e : Option (List ℕ)) (o p xs : List ℕ) → Writes c o xs d p → Keeps d e → Writes c o xs e p
-Writes-Keeps c d e o p xs (m, a, r) k = (m, Appends-Keeps c d e m a k, r)
+  pub WritesPart-AppendsPart : (a b : ReplyWriter W) → AppendsPart (contents a.writer.now) (contents b.writer.now) a.pending → b.writer.ghost_name ≡ a.writer.ghost_name → WritesPart contents a [] b
+  WritesPart-AppendsPart a b (m, rest, v, r) same = (m, rest, v, append-nil a.pending ∙ r, same)
 
--- bytes are appended, and then all pending ones are written
-pub Writes-Writes_nil : (c d e : Option (List ℕ)) (o p q xs : List ℕ) → Writes c o xs d p → Writes d p [] e q → Writes c o xs e q
-Writes-Writes_nil c d e o p q xs (m, a, r) (n, b, s) =
-    (m ++ n, Appends-append c d e m n a b, r ∙ ap (λ l. m ++ l) (sym (append-nil p) ∙ s) ∙ sym (append_assoc m n q))
+  -- a flush that succeeds
+  pub Writes-Keeps : (a b c : ReplyWriter W) (xs : List ℕ) → Writes contents a xs b → Keeps (contents b.writer.now) (contents c.writer.now) → c.pending ≡ b.pending
+      → c.writer.ghost_name ≡ b.writer.ghost_name → Writes contents a xs c
+  Writes-Keeps a b c xs (m, v, r, same) k kept same' = (m, Appends-Keeps _ _ _ m v k, r ∙ ap (λ l. m ++ l) (sym kept), same' ∙ same)
 
-pub Writes-WritesPart_nil : (c d e : Option (List ℕ)) (o p xs : List ℕ) → Writes c o xs d p → WritesPart d p [] e → WritesPart c o xs e
-Writes-WritesPart_nil c d e o p xs (m, a, r) (n, rest, b, s) =
-    (m ++ n, rest, Appends-append c d e m n a b, r ∙ ap (λ l. m ++ l) (sym (append-nil p) ∙ s) ∙ sym (append_assoc m n rest))
+  -- a flush that fails
+  pub WritesPart-Keeps : (a b c : ReplyWriter W) (xs : List ℕ) → Writes contents a xs b → Keeps (contents b.writer.now) (contents c.writer.now) → c.writer.ghost_name ≡ b.writer.ghost_name
+      → WritesPart contents a xs c
+  WritesPart-Keeps a b c xs (m, v, r, same) k same' = (m, b.pending, Appends-Keeps _ _ _ m v k, r, same' ∙ same)

@@ -1,6 +1,7 @@
 -- What no public contract cites: what the code behind it means.
 pub mod Faults
 pub mod Input
+pub mod NextLine
 pub mod Progress
 pub mod Tables
 pub mod Writing

@@ -1,18 +1,31 @@
 -- Lemmas on a row in which a gap is opened or closed.
-use Rattle.std.proofs.Common.{ℕ, ◌≡◌, ◌+◌, ◌≤◌, List, ◌++◌, length, take, drop, append_assoc, arith}
-use Rattle.std.proofs.lemmas.List.{take-take, drop-take, drop-drop, drop_at, take_at, take-append-le}
+use Rattle.std.proofs.Common.{ℕ, ◌≡◌, ◌+◌, ◌≤◌, ◌∙◌, List, ◌++◌, length, take, drop, ap, sym, append_assoc, arith}
+use Rattle.std.proofs.lemmas.List.{take-take, drop-take, drop-drop, drop_at, take_at, take-append-le, take-append-drop}
 use Rattle.std.proofs.Math.Seq.{paste}
 use borrow.Rule.Slice.PartMut.{put_mid}
 use Rattle.std.proofs.lemmas.Grind.{common_steps}
 
 module _ {T : Type 0} where
-  -- m items from index j on are moved down to index i
-  pub paste-closed : (row : List T) (i j m len last : ℕ) → len ≡ j + m → last ≡ i + m → i ≤ j
-      → paste row i (drop j row) m ≡ (take i (take len row) ++ drop j (take len row)) ++ drop last row
-  paste-closed row i j m len last whole end le =
+  parted : (xs ys zs ws : List T) → xs ++ ((ys ++ zs) ++ ws) ≡ (xs ++ ys) ++ (zs ++ ws)
+  parted xs ys zs ws = grind (arith, common_steps)
+
+  -- of the k items from index i on, the m after the first n are moved down to the front
+  pub put_mid-closed : (row : List T) (i n m k len last : ℕ) → k ≡ n + m → len ≡ i + k → last ≡ i + m
+      → put_mid i k row (paste (take k (drop i row)) 0 (drop n (take k (drop i row))) m)
+      ≡ (take i (take len row) ++ drop (i + n) (take len row)) ++ drop last row
+  put_mid-closed row i n m k len last part whole end =
       let front : take i (take len row) ≡ take i row = take-take i len row (omega arith) in
-      let back : drop j (take len row) ≡ take m (drop j row) = rw whole (drop-take j m row) in
-      rw (front, back, end)
+      let far : len ≡ (i + n) + m = omega arith in
+      let back : drop (i + n) (take len row) ≡ take m (drop (i + n) row) = rw far (drop-take (i + n) m row) in
+      let kept : drop n (take k (drop i row)) ≡ take m (drop (i + n) row) = rw part (drop-take n m (drop i row) ∙ ap (take m) (drop-drop n i row)) in
+      let once : take m (take m (drop (i + n) row)) ≡ take m (drop (i + n) row) = take-take m m (drop (i + n) row) (omega arith) in
+      let other : k ≡ m + n = omega arith in
+      let cut : drop m (take k (drop i row)) ≡ take n (drop m (drop i row)) = rw other (drop-take m n (drop i row)) in
+      let past : drop k (drop i row) ≡ drop n (drop m (drop i row)) = rw other (sym (drop-drop n m (drop i row))) in
+      let rest : take n (drop m (drop i row)) ++ drop n (drop m (drop i row)) ≡ drop last row =
+      take-append-drop n (drop m (drop i row)) ∙ drop-drop m i row ∙ ap (λ k. drop k row) (sym end) in
+      let none : 0 + m ≡ m = omega arith in
+      rw (front, back, kept, once, none, cut, past, parted (take i row) (take m (drop (i + n) row)) (take n (drop m (drop i row))) (drop n (drop m (drop i row))), rest)
 
   -- the part from index e on, where m items were overwritten
   drop-paste_at : (row : List T) (e m : ℕ) (ys : List T) → e ≤ length row → drop e (paste row e ys m) ≡ take m ys ++ drop (e + m) row

@@ -31,4 +31,6 @@ mod rolling_tests;
 #[cfg(test)]
 mod row_tests;
 #[cfg(test)]
+mod shift_tests;
+#[cfg(test)]
 mod small_tests;

@@ -1,5 +1,5 @@
 //! The cell, its calls, and the walks over its words.
-ghost use Rattle.std.specs.Prelude.{◌≡◌, ℕ, ◌+◌, ◌/◌, ◌<◌, ◌⊎◌, [], ◌∷◌, ◌++◌, List, length, Some, IsOk, IfOk, IfErr};
+ghost use Rattle.std.specs.Prelude.{◌≡◌, ℕ, ◌+◌, ◌/◌, ◌<◌, ◌⊎◌, [], ◌∷◌, ◌++◌, List, length, Some, Ok, IsOk, IfOk, IfErr};
 ghost use Rattle.ix_atomic.specs.Words.{word_count};
 ghost use Rattle.ix_atomic.specs.History.{Begins, Loads, LoadsTwice, value_at, last_value, IsEven, IsOdd, data_words, all_words};
 ghost use Rattle.ix_atomic.specs.Writers.{Writes, Refuses, AreOwn, AreApart, as_reader, places_merge};
@@ -313,10 +313,7 @@ impl<T: AtomicCopy, const SIZE: usize> SequencedByteAtomic<T, SIZE> {
         self.load_bytes(seat, first, &mut bytes);
         let last = shared.load::<LoadVersion>(seat, 0);
         if first == last && first % 2 == 0 {
-            match T::decode(&bytes) {
-                Some(value) => Ok(value),
-                None => unreachable!(),
-            }
+            value_read(&bytes)
         } else {
             Err(Interfered { first, last })
         }
@@ -364,5 +361,20 @@ impl<T: AtomicCopy, const SIZE: usize> SequencedByteAtomic<T, SIZE> {
         for i in 0..SIZE.div_ceil(8) {
             set_word_at(bytes, i, shared.load::<LoadWord>(seat, i + 1));
         }
+    }
+}
+
+/// Returns the value whose encoding is `bytes`, as a read does.
+// Out of line and with no error, so that the value is copied as a whole: beside an error LLVM cuts it where the error's
+// numbers begin, and a load of the whole then waits for the stores of the parts.
+#[inline(never)]
+fn value_read<T: AtomicCopy>(bytes: &[u8]) -> Result<T, Interfered>
+    requires len { length bytes.now ≡ T.SIZE }
+    requires bytes { (value : T) × Encodes T.is_value T.encoding value bytes.now }
+    ensures { (value : T) → Encodes T.is_value T.encoding value bytes.now → result ≡ Ok value }
+{
+    match T::decode(bytes) {
+        Some(value) => Ok(value),
+        None => unreachable!(),
     }
 }

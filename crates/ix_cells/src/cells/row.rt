@@ -59,7 +59,7 @@ pub(crate) fn put_defaults<T: Default + Drop, const CAP: usize>(
 
 /// Overwrites the places from `start` on with clones of the items. If cloning fails, drops the clones already made and
 /// leaves defaults there.
-#[inline]
+#[inline(always)]
 pub(crate) fn put_clones<T: Default + Clone + Drop, const CAP: usize>(
     row: &mut ArrayVec<T, CAP>,
     start: usize,
@@ -88,7 +88,7 @@ fn fill_with_defaults<T: Default + Drop>(places: &mut [T])
 
 /// Overwrites the places with clones of the items. If cloning fails, drops the clones already made and leaves defaults
 /// there.
-#[inline]
+#[inline(always)]
 fn fill_with_clones<T: Default + Clone + Drop>(
     places: &mut [T],
     items: &[T],

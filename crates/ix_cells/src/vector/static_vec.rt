@@ -114,7 +114,7 @@ impl<T: Default + Drop, const CAPACITY: usize> StaticVec<T, CAPACITY> {
 
 impl<T: Default + Clone, const CAPACITY: usize> StaticVec<T, CAPACITY> {
     /// Appends clones of the items. If cloning fails, drops the clones already made.
-    #[inline]
+    #[inline(always)]
     fn append_clones(&mut self, items: &[T]) -> Result<(), AllocError>
         requires { length self.old + length items.now ≤ CAPACITY }
         ensures vector { OnOk result (AppendsClones T.is_clone self.old self.new items.now) }
@@ -180,6 +180,7 @@ impl<T: Default + Drop, const CAPACITY: usize> Vector<T> for StaticVec<T, CAPACI
     }
 
     /// O(`other.len()`) clones.
+    #[inline(always)]
     fn extend_from_slice_unchecked(&mut self, other: &[T]) -> Result<(), AllocError>
     where
         T: Clone,

@@ -10,6 +10,7 @@ ghost use Rattle.ix_cells.specs.Iterating.{YieldsRefsTo, YieldsMutRefsTo, vec_le
 ghost use Rattle.ix_cells.specs.VectorSteps.{HasRoomFor, LacksRoomFor, vec_push_result, vec_insert, vec_insert_result, vec_remove, vec_pop, vec_last, vec_truncate, vec_extend, vec_resize, vec_resize_result};
 ghost use Rattle.ix_cells.specs.declared.vector.modification_error.VectorModificationError.TheVariants.{InsertWouldExceedCapacity, OutOfMemory};
 
+use crate::cells::raw_row::{first_to_end, last_to_front};
 use crate::vector::VectorModificationError;
 use std::alloc::AllocError;
 use std::slice;
@@ -146,7 +147,7 @@ pub trait Vector<T: Drop> {
         ensures refused { length (bounded self.old).items ≤ index → self.new ≡ self.old }
     {
         if index < self.len() {
-            move_to_end(self.as_mut_slice(), index, index + 1);
+            move_to_end(self.as_mut_slice(), index);
             return self.pop();
         }
         None
@@ -198,6 +199,8 @@ pub trait Vector<T: Drop> {
     ///
     /// Returns [`VectorModificationError::InsertWouldExceedCapacity`] without cloning if there is no room for all of them,
     /// and [`VectorModificationError::OutOfMemory`] if cloning an item fails; the clones already made are dropped.
+    // Always inlined, as what it calls in fixed vectors: LLVM copies blocks where it sees that the two slices lie apart.
+    #[inline(always)]
     final fn extend_from_slice(&mut self, other: &[T]) -> Result<(), VectorModificationError>
     where
         T: Clone,
@@ -326,15 +329,15 @@ fn move_last_to<T>(items: &mut [T], index: usize)
     ensures { (front : List T) (last : T) → items.old ≡ front ++ last ∷ []
         → items.new ≡ take index front ++ last ∷ drop index front }
 {
-    items[index..].rotate_right(1);
+    last_to_front(&mut items[index..]);
 }
 
-/// Moves the items `start..end` to the end.
+/// Moves the item at `index` to the end, shifting all later items to the left.
 #[inline]
-fn move_to_end<T>(items: &mut [T], start: usize, end: usize)
-    requires order { start ≤ end }
-    requires bounds { end ≤ length items.old }
-    ensures { items.new ≡ remove_range items.old start end ++ slice_range items.old start end }
+fn move_to_end<T>(items: &mut [T], index: usize)
+    requires { index < length items.old }
+    ensures { items.new ≡ remove_range items.old index (index + 1)
+        ++ slice_range items.old index (index + 1) }
 {
-    items[start..].rotate_left(end - start);
+    first_to_end(&mut items[index..]);
 }

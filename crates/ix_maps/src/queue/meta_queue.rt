@@ -313,12 +313,12 @@ impl<T, S: Table<T>> MetaQueue<T, S> {
         self.table.put(place, value);
         self.len = len + 1;
     }
-}
 
-/// Drops the items, the front item first.
-impl<T: Drop, S: Table<T>> Drop for MetaQueue<T, S> {
-    fn drop(mut self) {
-        self.clear();
+    /// Consumes an empty queue.
+    #[inline]
+    fn end(self)
+        requires { self.items ≡ [] }
+    {
         let MetaQueue {
             table,
             start: _,
@@ -326,6 +326,27 @@ impl<T: Drop, S: Table<T>> Drop for MetaQueue<T, S> {
             of: _,
         } = self;
         table.end();
+    }
+
+    /// Consumes a queue and drops its items, the front item first.
+    fn drop_items(mut self)
+    where
+        T: Drop,
+    {
+        self.clear();
+        self.end();
+    }
+}
+
+/// Drops the items, the front item first.
+impl<T: Drop, S: Table<T>> Drop for MetaQueue<T, S> {
+    fn drop(self) {
+        // A queue whose items are taken out is moved first, with all of its places, so an empty one ends without that.
+        if self.is_empty() {
+            self.end();
+        } else {
+            self.drop_items();
+        }
     }
 }
 

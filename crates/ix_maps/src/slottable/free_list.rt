@@ -148,8 +148,7 @@ pub(crate) fn link_all<L: Table<Link>>(links: &mut Counted<L>, len: usize) -> us
     if len == 0 { NO_KEY } else { 0 }
 }
 
-/// Takes every value and every link out of their tables, and drops the values, that of the least key first.
-/// O(capacity).
+/// Empties both tables, and drops the values in rising order of their keys. O(capacity).
 pub(crate) fn drop_all<T: Drop, S: Table<T>, L: Table<Link>>(
     values: &mut Counted<S>,
     links: &mut Counted<L>,

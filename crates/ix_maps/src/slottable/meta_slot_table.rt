@@ -207,8 +207,8 @@ impl<T, S: Table<T>, L: Table<Link>> MetaSlotTable<T, S, L> {
         self.insert_at_counted(key, value, &mut Touches::new())
     }
 
-    /// Removes the value at `key` and returns it, or `None` if `key` is free or out of range. A key whose value is
-    /// removed is the first free key.
+    /// Removes the value at `key` and returns it, or `None` if `key` is free or out of range. The key becomes the
+    /// first free key.
     #[inline]
     pub fn remove(&mut self, key: SlotTableKey) -> Option<T>
         ensures { SlotRemove self.old key self.new result }
@@ -357,7 +357,7 @@ impl<T, S: Table<T>, L: Table<Link>> MetaSlotTable<T, S, L> {
         ensures entries { entries_from result (drop result self.now.values)
             ≡ entries_from start (drop start self.now.values) }
     {
-        // Each key is below this number, so that the next one fits.
+        // Names the capacity, by which the check knows that `key + 1` does not overflow.
         let _capacity = self.capacity();
         let mut touches = Touches::new();
         let mut key = start;
@@ -420,7 +420,7 @@ impl<T, S: Table<T>, L: Table<Link>> MetaSlotTable<T, S, L> {
         ensures touches { touches.new ≤ touches.old + 5 }
         ensures counts_on { touches.old ≤ touches.new }
     {
-        // First the link, which was looked at just now.
+        // The link first: the caller has just read it.
         insert_first(&mut self.links, key, self.first, touches);
         let value = self.values.take(key, touches);
         self.first = key;

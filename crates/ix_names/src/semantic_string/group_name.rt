@@ -43,6 +43,12 @@ impl Rules<31> for GroupNameRules {
         *text
     }
 
+    /// Returns `true`.
+    #[inline]
+    fn is_normal_form(_text: &StaticString<31>) -> bool {
+        true
+    }
+
     ghost normal_accepted = { λ _ accepted. accepted };
 
     ghost normal_twice = { λ _ _. refl };

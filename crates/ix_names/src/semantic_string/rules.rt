@@ -1,5 +1,5 @@
 //! The trait of rules.
-ghost use Rattle.std.specs.Prelude.{ℕ, ◌≡◌, List};
+ghost use Rattle.std.specs.Prelude.{ℕ, ◌≡◌, List, IsTrue};
 ghost use Rattle.ix_names.specs.Rules.{TextRules, IsAccepted};
 
 use ix_string::StaticString;
@@ -28,6 +28,16 @@ pub trait Rules<const CAPACITY: usize> {
     fn normalize(text: &StaticString<CAPACITY>) -> StaticString<CAPACITY>
         requires { IsAccepted CAPACITY rules text.now }
         ensures { result ≡ rules.normal_form text.now };
+
+    /// Returns `true` if the accepted text is known to be its own normal form: comparing and hashing it then make none.
+    /// `false` says nothing, and is what this returns if rules do not say otherwise.
+    #[inline]
+    fn is_normal_form(_text: &StaticString<CAPACITY>) -> bool
+        requires { IsAccepted CAPACITY rules _text.now }
+        ensures { IsTrue result → rules.normal_form _text.now ≡ _text.now }
+    {
+        false
+    }
 
     /// A normal form is accepted.
     ghost normal_accepted: { (text : List ℕ) → IsAccepted CAPACITY rules text

@@ -39,6 +39,12 @@ impl Rules<255> for TrailingSlashRules {
         normal
     }
 
+    /// Returns `true` if the text does not end with a slash, or is one byte.
+    #[inline]
+    fn is_normal_form(text: &StaticString<255>) -> bool {
+        meaning_len(text.as_bytes()) == text.len()
+    }
+
     ghost normal_accepted = { λ text accepted. record {
       fits = without_trailing_slashes-fits text 255 accepted.fits;
       text = IsText-without_trailing_slashes text accepted.text;

@@ -1,9 +1,7 @@
--- An input that is read in pieces and taken line by line.
-use Rattle.std.specs.Prelude.{ℕ, ◌≡◌, ◌<◌, ◌≤◌, List, [], ◌∷◌, ◌++◌, nat_eq, if◌then◌else◌, length, take, Option, None, Some, Bool, true, false, Result, Ok, Err}
+-- A buffer of an input that is read in pieces and taken line by line.
+use Rattle.std.specs.Prelude.{ℕ, ◌≡◌, ◌<◌, ◌≤◌, ◌+◌, List, [], ◌∷◌, ◌++◌, nat_eq, if◌then◌else◌, length, take, Option, None, Some, Bool, true, false, Result, Ok, Err}
 use Rattle.std.specs.Io.KnownBytes.{Consumes, IsAtEnd, Keeps}
-use Rattle.ix_run.specs.inner.Faults.{IsDeviceFault}
 use Rattle.ix_run.specs.Lines.{LimitedLine, limited_line, limited_line_append, line_feed, IsOneLine}
-use Rattle.ix_run.specs.inner.Writing.{Writes, WritesPart}
 use Rattle.ix_run.specs.declared.run.fault.ScriptFault.{ScriptFault}
 use Rattle.ix_run.specs.declared.run.fault.ScriptFault.TheVariants as fault
 
@@ -58,30 +56,14 @@ TakesLine unread unread' false =
     × (unread'.rest ≡ [])
     × (unread'.in_place ≡ [])
     × (unread'.joined ≡ limited_line_append unread.joined unread.rest)
-    × (unread'.fuel ≤ unread.fuel)
+    × (unread'.fuel + length unread.rest ≡ unread.fuel)
 
--- on Ok true the input is at its end; on Ok false some bytes were read, if any
+-- what was read, if anything, follows the current line; on Ok true the input is at its end
 abbrev pub FillResult : Option (List ℕ) → Unread → Option (List ℕ) → Unread → Result Bool ScriptFault → Type 0
-FillResult input unread input' unread' (Ok true) =
-    Consumes input input' [] × IsAtEnd input' × (unread'.rest ≡ []) × (unread'.in_place ≡ []) × (unread'.joined ≡ unread.joined)
-FillResult input unread input' unread' (Ok false) =
-    Consumes input input' unread'.rest × (unread'.in_place ≡ []) × (unread'.joined ≡ unread.joined) × (unread'.fuel < unread.fuel)
-FillResult input unread input' unread' (Err e) = (e ≡ fault.Read) × Keeps input input'
-
--- on Ok true the current line is the next one; on Ok false it is the last one, if it is not empty; on Err a device failed
-abbrev pub NextLine : Option (List ℕ) → Option (List ℕ) → List ℕ → Unread → Option (List ℕ) → Option (List ℕ) → List ℕ → Unread → Result Bool ScriptFault → Type 0
-NextLine input contents pending unread input' contents' pending' unread' (Ok true) =
-    (read : List ℕ)
-    × Consumes input input' read
-    × Writes contents pending [] contents' pending'
-    × ((more : List ℕ) → lines_to_come unread (read ++ more) ≡ current_line unread' ∷ lines_to_come unread' more)
+FillResult input unread input' unread' (Ok ended) =
+    Consumes input input' unread'.rest
+    × (ended ≡ true → IsAtEnd input')
+    × (unread'.in_place ≡ [])
+    × (unread'.joined ≡ unread.joined)
     × (unread'.fuel < unread.fuel)
-NextLine input contents pending unread input' contents' pending' unread' (Ok false) =
-    (read : List ℕ)
-    × Consumes input input' read
-    × IsAtEnd input'
-    × Writes contents pending [] contents' pending'
-    × (lines_to_come unread read ≡ last_line (current_line unread'))
-    × (unread'.rest ≡ [])
-NextLine input contents pending unread input' contents' pending' unread' (Err e) =
-    (read : List ℕ) × Consumes input input' read × WritesPart contents pending [] contents' × IsDeviceFault e
+FillResult input unread input' unread' (Err e) = (e ≡ fault.Read) × Keeps input input'

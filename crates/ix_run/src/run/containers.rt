@@ -1,23 +1,25 @@
 //! The container that a header asks for.
-ghost use Rattle.std.specs.Prelude.{◌≡◌, ◌≤◌, [], true, IfSome};
+ghost use Rattle.std.specs.Prelude.{◌≤◌, IfSome};
 ghost use Rattle.ix_cells.specs.declared.cells.table.TheConstants.{MAX_FIXED_CAPACITY};
 ghost use Rattle.ix_run.specs.Headers.{capacity_of, fixed_capacity};
 ghost use Rattle.ix_run.specs.inner.Input.{lines_to_come};
-ghost use Rattle.ix_run.specs.inner.Progress.{FinishResult};
+ghost use Rattle.ix_run.specs.inner.Progress.{ReplyResult};
 ghost use Rattle.ix_run.specs.Script.{IsEmptyContainer, replies_from_ready, replies_from_header};
 ghost use Rattle.ix_run.specs.declared.run.header.Container.{Container};
 
 use crate::run::flat_lines::FlatMaps;
+use crate::run::line_reader::LineReader;
 use crate::run::queue_lines::Queues;
+use crate::run::reply_writer::ReplyWriter;
 use crate::run::served::Served;
-use crate::run::session::Session;
+use crate::run::serving::serve_made;
 use crate::run::slot_lines::SlotMaps;
 use crate::run::table_lines::SlotTables;
 use crate::run::text_lines::Strings;
 use crate::run::vec_lines::Vectors;
 use crate::run::{Container, FixedCapacity, Header, ScriptFault, Storage};
 use bumpalo::Bump;
-use std::alloc::Global;
+use std::alloc::{Allocator, Global};
 use std::io::{Read, Write};
 
 /// A container that headers name.
@@ -36,186 +38,128 @@ pub trait MakesInline<const N: usize>: Named {
             (Self.Inline.model result) (Self.container self) N };
 }
 
-/// A container in the machine's memory.
-pub trait MakesOnHeap: Named {
-    type OnHeap: Served + Drop;
+/// A container that is stored in memory of `A`.
+pub trait MakesIn<A: Allocator>: Named {
+    type Made: Served + Drop;
 
     /// Returns an empty container, or `None` if there is no memory.
-    fn on_heap(self, alloc: Global, capacity: usize) -> Option<Self::OnHeap>
+    fn make(self, alloc: A, capacity: usize) -> Option<Self::Made>
         ensures { IfSome result (λ made.
-            IsEmptyContainer Self.OnHeap.reply Self.OnHeap.after Self.OnHeap.shown
-            (Self.OnHeap.model made) (Self.container self) capacity) };
+            IsEmptyContainer Self.Made.reply Self.Made.after Self.Made.shown
+            (Self.Made.model made) (Self.container self) capacity) };
 }
 
-/// A container in an arena.
-pub trait MakesInArena<'a>: Named {
-    type InArena: Served + Drop;
-
-    /// Returns an empty container, or `None` if there is no memory.
-    fn in_arena(self, arena: &'a Bump<Global>, capacity: usize) -> Option<Self::InArena>
-        ensures { IfSome result (λ made.
-            IsEmptyContainer Self.InArena.reply Self.InArena.after Self.InArena.shown
-            (Self.InArena.model made) (Self.container self) capacity) };
+/// Makes a container that is stored inline, and replies to the lines that come.
+fn serve_inline<const N: usize, C: MakesInline<N>, R: Read, W: Write>(
+    maker: C,
+    lines: &mut LineReader<'_, R>,
+    replies: &mut ReplyWriter<'_, W>,
+) -> Result<(), ScriptFault>
+    requires capacity { N ≤ MAX_FIXED_CAPACITY }
+    ensures { ReplyResult R.remaining W.contents (lines.old, replies.old)
+        (λ more. replies_from_ready (C.container maker) N (lines_to_come lines.old.buffer more))
+        (lines.new, replies.new) result }
+{
+    serve_made(Some(maker.inline()), lines, replies)
 }
 
-impl Session {
-    /// Makes a container that is stored inline, and replies to the lines that come.
-    fn serve_inline<const N: usize, C: MakesInline<N>, R: Read, W: Write>(
-        &mut self,
-        maker: C,
-        is_at_end: bool,
-        reader: &mut R,
-        writer: &mut W,
-    ) -> Result<(), ScriptFault>
-        requires capacity { N ≤ MAX_FIXED_CAPACITY }
-        requires end { is_at_end ≡ true → self.old.input.rest ≡ [] }
-        ensures { FinishResult is_at_end (R.remaining reader.old)
-            (W.contents writer.old) self.old.replies
-            (λ more. replies_from_ready (C.container maker) N (lines_to_come self.old.input more))
-            (R.remaining reader.new) (W.contents writer.new) result }
-    {
-        self.serve_made(Some(maker.inline()), is_at_end, reader, writer)
+/// Makes a container of a capacity that headers name for the fixed kinds, and replies to the lines that come.
+fn serve_fixed<
+    C: MakesInline<0> + MakesInline<1> + MakesInline<3> + MakesInline<8>,
+    R: Read,
+    W: Write,
+>(
+    maker: C,
+    capacity: FixedCapacity,
+    lines: &mut LineReader<'_, R>,
+    replies: &mut ReplyWriter<'_, W>,
+) -> Result<(), ScriptFault>
+    ensures { ReplyResult R.remaining W.contents (lines.old, replies.old)
+        (λ more. replies_from_ready (C.container maker) (fixed_capacity capacity)
+        (lines_to_come lines.old.buffer more))
+        (lines.new, replies.new) result }
+{
+    match capacity {
+        FixedCapacity::Zero => serve_inline::<0, C, R, W>(maker, lines, replies),
+        FixedCapacity::One => serve_inline::<1, C, R, W>(maker, lines, replies),
+        FixedCapacity::Three => serve_inline::<3, C, R, W>(maker, lines, replies),
+        FixedCapacity::Eight => serve_inline::<8, C, R, W>(maker, lines, replies),
     }
+}
 
-    /// Makes a container of a capacity that headers name for the fixed kinds, and replies to the lines that come.
-    fn serve_fixed<
-        C: MakesInline<0> + MakesInline<1> + MakesInline<3> + MakesInline<8>,
-        R: Read,
-        W: Write,
-    >(
-        &mut self,
-        maker: C,
-        capacity: FixedCapacity,
-        is_at_end: bool,
-        reader: &mut R,
-        writer: &mut W,
-    ) -> Result<(), ScriptFault>
-        requires { is_at_end ≡ true → self.old.input.rest ≡ [] }
-        ensures { FinishResult is_at_end (R.remaining reader.old)
-            (W.contents writer.old) self.old.replies
-            (λ more. replies_from_ready (C.container maker) (fixed_capacity capacity)
-            (lines_to_come self.old.input more))
-            (R.remaining reader.new) (W.contents writer.new) result }
-    {
-        match capacity {
-            FixedCapacity::Zero => self.serve_inline::<0, C, R, W>(
-                maker, is_at_end, reader, writer,
-            ),
-            FixedCapacity::One => self.serve_inline::<1, C, R, W>(maker, is_at_end, reader, writer),
-            FixedCapacity::Three => self.serve_inline::<3, C, R, W>(
-                maker, is_at_end, reader, writer,
-            ),
-            FixedCapacity::Eight => self.serve_inline::<8, C, R, W>(
-                maker, is_at_end, reader, writer,
-            ),
-        }
+/// Makes a container in the storage, and replies to the lines that come.
+fn serve_storage<
+    'a,
+    C: MakesInline<0>
+        + MakesInline<1>
+        + MakesInline<3>
+        + MakesInline<8>
+        + MakesIn<Global>
+        + MakesIn<&'a Bump<Global>>,
+    R: Read,
+    W: Write,
+>(
+    arena: &'a Bump<Global>,
+    alloc: Global,
+    maker: C,
+    storage: Storage,
+    lines: &mut LineReader<'_, R>,
+    replies: &mut ReplyWriter<'_, W>,
+) -> Result<(), ScriptFault>
+    ensures { ReplyResult R.remaining W.contents (lines.old, replies.old)
+        (λ more. replies_from_ready (C.container maker) (capacity_of storage)
+        (lines_to_come lines.old.buffer more))
+        (lines.new, replies.new) result }
+{
+    match storage {
+        Storage::Fixed(capacity) => serve_fixed(maker, capacity, lines, replies),
+        Storage::Heap(capacity) => serve_made(maker.make(alloc, capacity), lines, replies),
+        Storage::Arena(capacity) => serve_made(maker.make(arena, capacity), lines, replies),
     }
+}
 
-    /// Makes a container in the storage, and replies to the lines that come.
-    fn serve_storage<
-        'a,
-        C: MakesInline<0>
-            + MakesInline<1>
-            + MakesInline<3>
-            + MakesInline<8>
-            + MakesOnHeap
-            + MakesInArena<'a>,
-        R: Read,
-        W: Write,
-    >(
-        &mut self,
-        arena: &'a Bump<Global>,
-        alloc: Global,
-        maker: C,
-        storage: Storage,
-        is_at_end: bool,
-        reader: &mut R,
-        writer: &mut W,
-    ) -> Result<(), ScriptFault>
-        requires { is_at_end ≡ true → self.old.input.rest ≡ [] }
-        ensures { FinishResult is_at_end (R.remaining reader.old)
-            (W.contents writer.old) self.old.replies
-            (λ more. replies_from_ready (C.container maker) (capacity_of storage)
-            (lines_to_come self.old.input more))
-            (R.remaining reader.new) (W.contents writer.new) result }
-    {
-        match storage {
-            Storage::Fixed(capacity) => {
-                self.serve_fixed::<C, R, W>(maker, capacity, is_at_end, reader, writer)
-            }
-            Storage::Heap(capacity) => {
-                let made = maker.on_heap(alloc, capacity);
-                self.serve_made(made, is_at_end, reader, writer)
-            }
-            Storage::Arena(capacity) => {
-                let made = maker.in_arena(arena, capacity);
-                self.serve_made(made, is_at_end, reader, writer)
-            }
-        }
+/// Makes the container that the header asks for, and replies to the lines that come.
+fn serve_header_in<'a, R: Read, W: Write>(
+    arena: &'a Bump<Global>,
+    alloc: Global,
+    header: Header,
+    lines: &mut LineReader<'_, R>,
+    replies: &mut ReplyWriter<'_, W>,
+) -> Result<(), ScriptFault>
+    ensures { ReplyResult R.remaining W.contents (lines.old, replies.old)
+        (λ more. replies_from_header header (lines_to_come lines.old.buffer more))
+        (lines.new, replies.new) result }
+{
+    let storage = header.storage;
+    match header.container {
+        Container::Queue => serve_storage(arena, alloc, Queues, storage, lines, replies),
+        Container::Vec => serve_storage(arena, alloc, Vectors, storage, lines, replies),
+        Container::Table => serve_storage(arena, alloc, SlotTables, storage, lines, replies),
+        Container::Slot(start) => serve_storage(
+            arena,
+            alloc,
+            SlotMaps { start },
+            storage,
+            lines,
+            replies,
+        ),
+        Container::Flat => serve_storage(arena, alloc, FlatMaps, storage, lines, replies),
+        Container::Text => serve_storage(arena, alloc, Strings, storage, lines, replies),
     }
+}
 
-    /// Makes the container that the header asks for, and replies to the lines that come.
-    fn serve_header_in<'a, R: Read, W: Write>(
-        &mut self,
-        arena: &'a Bump<Global>,
-        alloc: Global,
-        header: Header,
-        is_at_end: bool,
-        reader: &mut R,
-        writer: &mut W,
-    ) -> Result<(), ScriptFault>
-        requires { is_at_end ≡ true → self.old.input.rest ≡ [] }
-        ensures { FinishResult is_at_end (R.remaining reader.old)
-            (W.contents writer.old) self.old.replies
-            (λ more. replies_from_header header (lines_to_come self.old.input more))
-            (R.remaining reader.new) (W.contents writer.new) result }
-    {
-        let storage = header.storage;
-        match header.container {
-            Container::Queue => self.serve_storage(
-                arena, alloc, Queues, storage, is_at_end, reader, writer,
-            ),
-            Container::Vec => self.serve_storage(
-                arena, alloc, Vectors, storage, is_at_end, reader, writer,
-            ),
-            Container::Table => self.serve_storage(
-                arena, alloc, SlotTables, storage, is_at_end, reader, writer,
-            ),
-            Container::Slot(start) => self.serve_storage(
-                arena,
-                alloc,
-                SlotMaps { start },
-                storage,
-                is_at_end,
-                reader,
-                writer,
-            ),
-            Container::Flat => self.serve_storage(
-                arena, alloc, FlatMaps, storage, is_at_end, reader, writer,
-            ),
-            Container::Text => self.serve_storage(
-                arena, alloc, Strings, storage, is_at_end, reader, writer,
-            ),
-        }
-    }
-
-    /// Makes the container that the header asks for, and replies to the lines that come. An arena is made in any case; it
-    /// allocates nothing for itself.
-    pub fn serve_header<R: Read, W: Write>(
-        &mut self,
-        alloc: Global,
-        header: Header,
-        is_at_end: bool,
-        reader: &mut R,
-        writer: &mut W,
-    ) -> Result<(), ScriptFault>
-        requires { is_at_end ≡ true → self.old.input.rest ≡ [] }
-        ensures { FinishResult is_at_end (R.remaining reader.old)
-            (W.contents writer.old) self.old.replies
-            (λ more. replies_from_header header (lines_to_come self.old.input more))
-            (R.remaining reader.new) (W.contents writer.new) result }
-    {
-        let arena = Bump::new(alloc);
-        self.serve_header_in(&arena, alloc, header, is_at_end, reader, writer)
-    }
+/// Makes the container that the header asks for, and replies to the lines that come. An arena is made in any case; it
+/// allocates nothing for itself.
+pub fn serve_header<R: Read, W: Write>(
+    alloc: Global,
+    header: Header,
+    lines: &mut LineReader<'_, R>,
+    replies: &mut ReplyWriter<'_, W>,
+) -> Result<(), ScriptFault>
+    ensures { ReplyResult R.remaining W.contents (lines.old, replies.old)
+        (λ more. replies_from_header header (lines_to_come lines.old.buffer more))
+        (lines.new, replies.new) result }
+{
+    let arena = Bump::new(alloc);
+    serve_header_in(&arena, alloc, header, lines, replies)
 }

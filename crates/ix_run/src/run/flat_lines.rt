@@ -1,12 +1,12 @@
 //! Lines of a script for a flat map.
-ghost use Rattle.std.specs.Prelude.{◌≡◌, decimal};
+ghost use Rattle.std.specs.Prelude.{decimal};
 ghost use Rattle.ix_maps.specs.FlatState.{flat_keys};
 ghost use Rattle.ix_run.specs.ReplyTexts.{items_text};
 ghost use Rattle.ix_run.specs.inner.Writing.{WriteResult};
 
-use crate::run::containers::{MakesInArena, MakesInline, MakesOnHeap, Named};
+use crate::run::containers::{MakesIn, MakesInline, Named};
 use crate::run::replies::ListedNumber;
-use crate::run::reply_buffer::ReplyBuffer;
+use crate::run::reply_writer::ReplyWriter;
 use crate::run::served::Served;
 use crate::run::{Reply, Runs, ScriptFault, read_flat_command};
 use bumpalo::Bump;
@@ -17,35 +17,16 @@ use ix_maps::{
 use std::alloc::Global;
 use std::io::Write;
 
-/// Returns the reply with its key as a `usize`.
-#[inline]
-fn with_usize_key(reply: Reply<u64, u64>) -> Reply<usize, u64>
-    ensures { result ≡ reply }
-{
-    match reply {
-        Reply::Done => Reply::Done,
-        Reply::Bool(is_so) => Reply::Bool(is_so),
-        Reply::Number(number) => Reply::Number(number),
-        Reply::None => Reply::None,
-        Reply::Key(key) => Reply::Key(key as usize),
-        Reply::Value(value) => Reply::Value(value),
-        Reply::Entry(key, value) => Reply::Entry(key as usize, value),
-        Reply::Error(error) => Reply::Error(error),
-    }
-}
-
 /// Appends the keys, separated by single spaces, or a dash if there are none.
 fn append_keys<S: Table<Pair<u64, u64>>, L: Table<Link>, W: Write>(
-    pending: &mut ReplyBuffer,
-    writer: &mut W,
+    replies: &mut ReplyWriter<'_, W>,
     map: &MetaFlatMap<u64, u64, S, L>,
 ) -> Result<(), ScriptFault>
-    ensures { WriteResult (W.contents writer.old) pending.old
-        (items_text decimal (flat_keys map.now))
-        (W.contents writer.new) pending.new result }
+    ensures { WriteResult W.contents replies.old (items_text decimal (flat_keys map.now))
+        replies.new result }
 {
     if map.is_empty() {
-        return pending.append(writer, b"-");
+        return replies.append(b"-");
     }
     let mut is_first = true;
     for key in map.keys() {
@@ -53,7 +34,7 @@ fn append_keys<S: Table<Pair<u64, u64>>, L: Table<Link>, W: Write>(
             is_first,
             number: *key,
         };
-        pending.append_piece(writer, listed)?;
+        replies.append_piece(listed)?;
         is_first = false;
     }
     Ok(())
@@ -67,7 +48,7 @@ impl<S: Table<Pair<u64, u64>>, L: Table<Link>> Served for MetaFlatMap<u64, u64, 
     ghost use Rattle.ix_run.specs.Forms.{flat_forms};
     ghost use Rattle.ix_run.specs.Script.{spelled_reply, spelled_after, flat_shown};
 
-    type Key = usize;
+    type Key = u64;
 
     ghost Model = { SlotState (Pair ℕ ℕ) };
 
@@ -80,13 +61,13 @@ impl<S: Table<Pair<u64, u64>>, L: Table<Link>> Served for MetaFlatMap<u64, u64, 
     ghost shown = { flat_shown };
 
     #[inline]
-    fn run_line(&mut self, line: &[u8]) -> Option<Reply<usize, u64>> {
+    fn run_line(&mut self, line: &[u8]) -> Option<Reply<u64, u64>> {
         let command = read_flat_command(line)?;
-        Some(with_usize_key(self.run_command(command)))
+        Some(self.run_command(command))
     }
 
-    fn show<W: Write>(&self, pending: &mut ReplyBuffer, writer: &mut W) -> Result<(), ScriptFault> {
-        append_keys(pending, writer, self)
+    fn show<W: Write>(&self, replies: &mut ReplyWriter<'_, W>) -> Result<(), ScriptFault> {
+        append_keys(replies, self)
     }
 }
 
@@ -108,18 +89,18 @@ impl<const N: usize> MakesInline<N> for FlatMaps {
     }
 }
 
-impl MakesOnHeap for FlatMaps {
-    type OnHeap = FlatMap<u64, u64>;
+impl MakesIn<Global> for FlatMaps {
+    type Made = FlatMap<u64, u64>;
 
-    fn on_heap(self, alloc: Global, capacity: usize) -> Option<FlatMap<u64, u64>> {
+    fn make(self, alloc: Global, capacity: usize) -> Option<FlatMap<u64, u64>> {
         FlatMap::new(alloc, capacity).ok()
     }
 }
 
-impl<'a> MakesInArena<'a> for FlatMaps {
-    type InArena = RelocatableFlatMap<u64, u64, &'a Bump<Global>>;
+impl<'a> MakesIn<&'a Bump<Global>> for FlatMaps {
+    type Made = RelocatableFlatMap<u64, u64, &'a Bump<Global>>;
 
-    fn in_arena(
+    fn make(
         self,
         arena: &'a Bump<Global>,
         capacity: usize,

@@ -1,6 +1,7 @@
 //! Numbers in order, which `show` prints.
 ghost use Rattle.std.specs.Prelude.{ℕ, ◌≡◌, ◌<◌, List, Some, length, slice_get};
 
+/// Numbers that `show` prints by their index.
 pub trait Listing {
     ghost items: { Self → List ℕ };
 

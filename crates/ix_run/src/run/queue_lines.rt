@@ -1,8 +1,8 @@
 //! Lines of a script for a queue.
-use crate::run::containers::{MakesInArena, MakesInline, MakesOnHeap, Named};
+use crate::run::containers::{MakesIn, MakesInline, Named};
 use crate::run::listing::Listing;
 use crate::run::replies::append_items;
-use crate::run::reply_buffer::ReplyBuffer;
+use crate::run::reply_writer::ReplyWriter;
 use crate::run::served::Served;
 use crate::run::{Reply, Runs, ScriptFault, read_queue_command};
 use bumpalo::Bump;
@@ -50,8 +50,8 @@ impl<S: Table<u64>> Served for MetaQueue<u64, S> {
         Some(self.run_command(command))
     }
 
-    fn show<W: Write>(&self, pending: &mut ReplyBuffer, writer: &mut W) -> Result<(), ScriptFault> {
-        append_items(pending, writer, self)
+    fn show<W: Write>(&self, replies: &mut ReplyWriter<'_, W>) -> Result<(), ScriptFault> {
+        append_items(replies, self)
     }
 }
 
@@ -73,18 +73,18 @@ impl<const N: usize> MakesInline<N> for Queues {
     }
 }
 
-impl MakesOnHeap for Queues {
-    type OnHeap = Queue<u64>;
+impl MakesIn<Global> for Queues {
+    type Made = Queue<u64>;
 
-    fn on_heap(self, alloc: Global, capacity: usize) -> Option<Queue<u64>> {
+    fn make(self, alloc: Global, capacity: usize) -> Option<Queue<u64>> {
         Queue::new(alloc, capacity).ok()
     }
 }
 
-impl<'a> MakesInArena<'a> for Queues {
-    type InArena = RelocatableQueue<u64, &'a Bump<Global>>;
+impl<'a> MakesIn<&'a Bump<Global>> for Queues {
+    type Made = RelocatableQueue<u64, &'a Bump<Global>>;
 
-    fn in_arena(
+    fn make(
         self,
         arena: &'a Bump<Global>,
         capacity: usize,

@@ -7,6 +7,7 @@ ghost use Rattle.ix_run.specs.declared.run.limits.TheConstants.{BUFFER_LEN, MAX_
 
 use crate::run::listing::Listing;
 use crate::run::reply_buffer::{Piece, ReplyBuffer};
+use crate::run::reply_writer::ReplyWriter;
 use crate::run::{Reply, ReplyError, ScriptFault};
 use ix_maps::SlotMapKey;
 use std::io::Write;
@@ -47,13 +48,23 @@ pub trait ReplyKey: Copy {
         ensures len { length replies.new ≤ length replies.old + MAX_KEY_LEN };
 }
 
-/// A number.
+/// A place.
 impl ReplyKey for usize {
     ghost text = { λ number. decimal number };
 
     #[inline(always)]
     fn put_into(self, replies: &mut ReplyBuffer) {
         replies.put_number(self as u64);
+    }
+}
+
+/// A key of a flat map.
+impl ReplyKey for u64 {
+    ghost text = { λ number. decimal number };
+
+    #[inline(always)]
+    fn put_into(self, replies: &mut ReplyBuffer) {
+        replies.put_number(self);
     }
 }
 
@@ -154,34 +165,26 @@ impl Piece for ListedNumber {
 
 /// Appends the items separated by single spaces, or a dash if there are none.
 pub fn append_items<L: Listing, W: Write>(
-    replies: &mut ReplyBuffer,
-    writer: &mut W,
+    replies: &mut ReplyWriter<'_, W>,
     list: &L,
 ) -> Result<(), ScriptFault>
-    ensures { WriteResult (W.contents writer.old) replies.old
-        (items_text decimal (L.items list.now))
-        (W.contents writer.new) replies.new result }
+    ensures { WriteResult W.contents replies.old (items_text decimal (L.items list.now))
+        replies.new result }
 {
     let len = list.item_count();
     if len == 0 {
-        return replies.append(writer, b"-");
+        return replies.append(b"-");
     }
-    replies.append_piece(
-        writer,
-        ListedNumber {
-            is_first: true,
-            number: list.item(0),
-        },
-    )?;
+    replies.append_piece(ListedNumber {
+        is_first: true,
+        number: list.item(0),
+    })?;
     for i in 1..len {
         let number = list.item(i);
-        replies.append_piece(
-            writer,
-            ListedNumber {
-                is_first: false,
-                number,
-            },
-        )?;
+        replies.append_piece(ListedNumber {
+            is_first: false,
+            number,
+        })?;
     }
     Ok(())
 }

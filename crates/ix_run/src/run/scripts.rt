@@ -1,32 +1,36 @@
 //! Scripts: input bytes to reply bytes.
-ghost use Rattle.std.specs.Prelude.{◌≡◌, [], false, Err, OnOk, OnErr};
+ghost use Rattle.std.specs.Prelude.{◌≡◌, [], Err, OnOk, OnErr};
 ghost use Rattle.ix_run.specs.Outcome.{WritesReplies, WritesPartOfReplies, WritesRepliesBeforeReady};
-ghost use Rattle.ix_run.specs.inner.Progress.{FinishResult};
+ghost use Rattle.ix_run.specs.inner.Progress.{ReplyResult};
 ghost use Rattle.ix_run.specs.Script.{replies_to};
 ghost use Rattle.ix_run.specs.declared.run.fault.ScriptFault.TheVariants.{OutOfMemory};
 
 use crate::run::ScriptFault;
-use crate::run::opening::Opening;
-use crate::run::session::Session;
+use crate::run::containers::serve_header;
+use crate::run::line_reader::LineReader;
+use crate::run::reply_writer::ReplyWriter;
+use crate::run::serving::next_header;
 use std::alloc::Global;
 use std::io::{Read, Write};
 
 /// Runs a script. The replies to the lines before the header are question marks.
 fn run_script<R: Read, W: Write>(
     alloc: Global,
-    reader: &mut R,
-    writer: &mut W,
+    lines: &mut LineReader<'_, R>,
+    replies: &mut ReplyWriter<'_, W>,
 ) -> Result<(), ScriptFault>
-    ensures { FinishResult false (R.remaining reader.old) (W.contents writer.old) [] replies_to
-        (R.remaining reader.new) (W.contents writer.new) result }
+    requires rest { lines.old.buffer.rest ≡ [] }
+    ensures replies { ReplyResult R.remaining W.contents (lines.old, replies.old) replies_to
+        (lines.new, replies.new) result }
+    ensures written { OnOk result (replies.new.pending ≡ []) }
+    ensures same_reader { lines.new.reader.ghost_name ≡ lines.old.reader.ghost_name }
+    ensures same_writer { replies.new.writer.ghost_name ≡ replies.old.writer.ghost_name }
 {
-    let mut session = Session::new();
-    let mut opening = Opening::new();
-    let is_at_end = session.reply_to_lines(&mut opening, reader, writer)?;
-    match opening.header {
-        Some(header) => session.serve_header(alloc, header, is_at_end, reader, writer),
-        None => session.finish(writer),
-    }
+    let Some(header) = next_header(lines, replies)? else {
+        return replies.flush();
+    };
+    serve_header(alloc, header, lines, replies)?;
+    replies.flush()
 }
 
 /// Runs a script: reads commands, one a line, and writes one line of reply to each.
@@ -58,7 +62,6 @@ fn run_script<R: Read, W: Write>(
 /// [`ScriptFault::Write`] if a write or the flush fails or a write takes no byte, and [`ScriptFault::OutOfMemory`] if there
 /// is no memory for the container. The replies to a first part of the input, or a first part of these, are written then;
 /// without memory they are all those before `ready`.
-#[tactic(auto, using(crate::proofs::Progress::WritesReplies_of_FinishResult, crate::proofs::Progress::WritesPartOfReplies_of_FinishResult, crate::proofs::Progress::WritesRepliesBeforeReady_of_FinishResult))]
 pub fn script<R: Read, W: Write>(
     alloc: Global,
     reader: &mut R,
@@ -74,5 +77,7 @@ pub fn script<R: Read, W: Write>(
         → WritesRepliesBeforeReady (R.remaining reader.old) (W.contents writer.old)
         (R.remaining reader.new) (W.contents writer.new) }
 {
-    run_script(alloc, reader, writer)
+    let mut lines = LineReader::new(reader);
+    let mut replies = ReplyWriter::new(writer);
+    run_script(alloc, &mut lines, &mut replies)
 }

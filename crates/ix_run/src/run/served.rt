@@ -7,8 +7,7 @@ ghost use Rattle.ix_run.specs.inner.Writing.{WriteResult};
 ghost use Rattle.ix_run.specs.declared.run.limits.TheConstants.{MAX_LINE_LEN};
 
 use crate::run::replies::ReplyKey;
-use crate::run::reply_buffer::ReplyBuffer;
-use crate::run::scripted::Scripted;
+use crate::run::reply_writer::ReplyWriter;
 use crate::run::{Reply, ScriptFault};
 use std::io::Write;
 
@@ -39,83 +38,46 @@ pub trait Served {
         ensures model { model self.new ≡ after (model self.old) line.now };
 
     /// Appends what `show` prints, without a line feed.
-    fn show<W: Write>(&self, pending: &mut ReplyBuffer, writer: &mut W) -> Result<(), ScriptFault>
-        ensures { WriteResult (W.contents writer.old) pending.old (shown (model self.now))
-            (W.contents writer.new) pending.new result };
+    fn show<W: Write>(&self, replies: &mut ReplyWriter<'_, W>) -> Result<(), ScriptFault>
+        ensures { WriteResult W.contents replies.old (shown (model self.now)) replies.new result };
 }
 
-/// A container that replies to lines.
-#[derive(Drop)]
-pub struct Serving<C> {
-    pub container: C,
+/// Appends the line that shows the container.
+#[tactic(auto, using(crate::proofs::Writing::WriteResult_append, crate::proofs::Writing::WritesPart_append))]
+fn show_line<C: Served, W: Write>(
+    container: &C,
+    replies: &mut ReplyWriter<'_, W>,
+) -> Result<(), ScriptFault>
+    ensures { WriteResult W.contents replies.old
+        (with_line_feed (C.shown (C.model container.now))) replies.new result }
+{
+    container.show(replies)?;
+    replies.append(b"\n")
 }
 
-impl<C: Served> Serving<C> {
-    /// Appends the line that shows the container.
-    #[tactic(auto, using(crate::proofs::Writing::WriteResult_append, crate::proofs::Writing::WritesPart_append))]
-    fn show<W: Write>(&self, pending: &mut ReplyBuffer, writer: &mut W) -> Result<(), ScriptFault>
-        ensures { WriteResult (W.contents writer.old) pending.old
-            (with_line_feed (C.shown (C.model self.now.container)))
-            (W.contents writer.new) pending.new result }
-    {
-        self.container.show(pending, writer)?;
-        pending.append(writer, b"\n")
+/// Does what a line asks, and appends the reply. The line is `None` if it is too long.
+#[inline(always)]
+pub fn answer<C: Served, W: Write>(
+    container: &mut C,
+    line: Option<&[u8]>,
+    replies: &mut ReplyWriter<'_, W>,
+) -> Result<(), ScriptFault>
+    requires { IfSome line (λ bytes. length bytes.now ≤ MAX_LINE_LEN) }
+    ensures model { C.model container.new
+        ≡ line_after C.reply C.after C.shown (C.model container.old) (option_copied line.entry) }
+    ensures reply { WriteResult W.contents replies.old
+        (with_line_feed (line_reply C.reply C.after C.shown (C.model container.old)
+        (option_copied line.entry)))
+        replies.new result }
+{
+    let Some(line) = line else {
+        return replies.append(b"?\n");
+    };
+    if line == b"show".as_slice() {
+        return show_line(container, replies);
     }
-
-    /// Does what a line asks, and appends the reply.
-    #[inline(always)]
-    fn answer<W: Write>(
-        &mut self,
-        line: Option<&[u8]>,
-        pending: &mut ReplyBuffer,
-        writer: &mut W,
-    ) -> Result<(), ScriptFault>
-        requires { IfSome line (λ bytes. length bytes.now ≤ MAX_LINE_LEN) }
-        ensures model { C.model self.new.container
-            ≡ line_after C.reply C.after C.shown (C.model self.old.container)
-            (option_copied line.entry) }
-        ensures reply { WriteResult (W.contents writer.old) pending.old
-            (with_line_feed (line_reply C.reply C.after C.shown (C.model self.old.container)
-            (option_copied line.entry)))
-            (W.contents writer.new) pending.new result }
-    {
-        let Some(line) = line else {
-            return pending.append(writer, b"?\n");
-        };
-        if line == b"show".as_slice() {
-            return self.show(pending, writer);
-        }
-        match self.container.run_line(line) {
-            Some(reply) => pending.append_piece(writer, reply),
-            None => pending.append(writer, b"?\n"),
-        }
-    }
-}
-
-impl<C: Served> Scripted for Serving<C> {
-    ghost use Rattle.std.specs.Prelude.{false};
-    ghost use Rattle.ix_run.specs.Script.{replies_to_lines};
-
-    ghost State = { C.Model };
-
-    ghost state = { λ serving. C.model serving.container };
-
-    ghost replies = { replies_to_lines C.reply C.after C.shown };
-
-    ghost is_done_at = { λ model. false };
-
-    #[inline]
-    fn reply_to<W: Write>(
-        &mut self,
-        line: Option<&[u8]>,
-        pending: &mut ReplyBuffer,
-        writer: &mut W,
-    ) -> Result<(), ScriptFault> {
-        self.answer(line, pending, writer)
-    }
-
-    #[inline]
-    fn is_done(&self) -> bool {
-        false
+    match container.run_line(line) {
+        Some(reply) => replies.append_piece(reply),
+        None => replies.append(b"?\n"),
     }
 }

@@ -5,9 +5,10 @@ ghost use Rattle.ix_run.specs.Headers.{first_generation};
 ghost use Rattle.ix_run.specs.ReplyTexts.{items_text, key_entry_text, next_text};
 ghost use Rattle.ix_run.specs.inner.Writing.{WriteResult};
 
-use crate::run::containers::{MakesInArena, MakesInline, MakesOnHeap, Named};
+use crate::run::containers::{MakesIn, MakesInline, Named};
 use crate::run::replies::ReplyKey;
 use crate::run::reply_buffer::{Piece, ReplyBuffer};
+use crate::run::reply_writer::ReplyWriter;
 use crate::run::served::Served;
 use crate::run::{Reply, Runs, ScriptFault, read_slot_command};
 use bumpalo::Bump;
@@ -41,16 +42,14 @@ impl Piece for ListedKeyEntry {
 
 /// Appends the keys with their values, separated by single spaces, or a dash if there are none.
 fn append_key_entries<S: Table<Option<u64>>, L: Table<Link>, G: Table<u32>, W: Write>(
-    pending: &mut ReplyBuffer,
-    writer: &mut W,
+    replies: &mut ReplyWriter<'_, W>,
     map: &MetaSlotMap<u64, S, L, G>,
 ) -> Result<(), ScriptFault>
-    ensures { WriteResult (W.contents writer.old) pending.old
-        (items_text key_entry_text (map_entries map.now))
-        (W.contents writer.new) pending.new result }
+    ensures { WriteResult W.contents replies.old (items_text key_entry_text (map_entries map.now))
+        replies.new result }
 {
     if map.is_empty() {
-        return pending.append(writer, b"-");
+        return replies.append(b"-");
     }
     let mut is_first = true;
     for (key, value) in map.iter() {
@@ -59,7 +58,7 @@ fn append_key_entries<S: Table<Option<u64>>, L: Table<Link>, G: Table<u32>, W: W
             key,
             value: *value,
         };
-        pending.append_piece(writer, entry)?;
+        replies.append_piece(entry)?;
         is_first = false;
     }
     Ok(())
@@ -88,8 +87,8 @@ impl<S: Table<Option<u64>>, L: Table<Link>, G: Table<u32>> Served for MetaSlotMa
         Some(self.run_command(command))
     }
 
-    fn show<W: Write>(&self, pending: &mut ReplyBuffer, writer: &mut W) -> Result<(), ScriptFault> {
-        append_key_entries(pending, writer, self)
+    fn show<W: Write>(&self, replies: &mut ReplyWriter<'_, W>) -> Result<(), ScriptFault> {
+        append_key_entries(replies, self)
     }
 }
 
@@ -122,18 +121,18 @@ impl<const N: usize> MakesInline<N> for SlotMaps {
     }
 }
 
-impl MakesOnHeap for SlotMaps {
-    type OnHeap = SlotMap<u64>;
+impl MakesIn<Global> for SlotMaps {
+    type Made = SlotMap<u64>;
 
-    fn on_heap(self, alloc: Global, capacity: usize) -> Option<SlotMap<u64>> {
+    fn make(self, alloc: Global, capacity: usize) -> Option<SlotMap<u64>> {
         SlotMap::starting_at(alloc, capacity, self.generation()).ok()
     }
 }
 
-impl<'a> MakesInArena<'a> for SlotMaps {
-    type InArena = RelocatableSlotMap<u64, &'a Bump<Global>>;
+impl<'a> MakesIn<&'a Bump<Global>> for SlotMaps {
+    type Made = RelocatableSlotMap<u64, &'a Bump<Global>>;
 
-    fn in_arena(
+    fn make(
         self,
         arena: &'a Bump<Global>,
         capacity: usize,

@@ -4,8 +4,9 @@ ghost use Rattle.ix_maps.specs.SlotState.{entries};
 ghost use Rattle.ix_run.specs.ReplyTexts.{items_text, entry_text, next_text};
 ghost use Rattle.ix_run.specs.inner.Writing.{WriteResult};
 
-use crate::run::containers::{MakesInArena, MakesInline, MakesOnHeap, Named};
+use crate::run::containers::{MakesIn, MakesInline, Named};
 use crate::run::reply_buffer::{Piece, ReplyBuffer};
+use crate::run::reply_writer::ReplyWriter;
 use crate::run::served::Served;
 use crate::run::{Reply, Runs, ScriptFault, read_table_command};
 use bumpalo::Bump;
@@ -39,16 +40,14 @@ impl Piece for ListedEntry {
 
 /// Appends the keys with their values, separated by single spaces, or a dash if there are none.
 fn append_entries<S: Table<u64>, L: Table<Link>, W: Write>(
-    pending: &mut ReplyBuffer,
-    writer: &mut W,
+    replies: &mut ReplyWriter<'_, W>,
     map: &MetaSlotTable<u64, S, L>,
 ) -> Result<(), ScriptFault>
-    ensures { WriteResult (W.contents writer.old) pending.old
-        (items_text entry_text (entries map.now))
-        (W.contents writer.new) pending.new result }
+    ensures { WriteResult W.contents replies.old (items_text entry_text (entries map.now))
+        replies.new result }
 {
     if map.is_empty() {
-        return pending.append(writer, b"-");
+        return replies.append(b"-");
     }
     let mut is_first = true;
     for (key, value) in map.iter() {
@@ -57,7 +56,7 @@ fn append_entries<S: Table<u64>, L: Table<Link>, W: Write>(
             key: key.value() as u64,
             value: *value,
         };
-        pending.append_piece(writer, entry)?;
+        replies.append_piece(entry)?;
         is_first = false;
     }
     Ok(())
@@ -88,8 +87,8 @@ impl<S: Table<u64>, L: Table<Link>> Served for MetaSlotTable<u64, S, L> {
         Some(self.run_command(command))
     }
 
-    fn show<W: Write>(&self, pending: &mut ReplyBuffer, writer: &mut W) -> Result<(), ScriptFault> {
-        append_entries(pending, writer, self)
+    fn show<W: Write>(&self, replies: &mut ReplyWriter<'_, W>) -> Result<(), ScriptFault> {
+        append_entries(replies, self)
     }
 }
 
@@ -111,18 +110,18 @@ impl<const N: usize> MakesInline<N> for SlotTables {
     }
 }
 
-impl MakesOnHeap for SlotTables {
-    type OnHeap = SlotTable<u64>;
+impl MakesIn<Global> for SlotTables {
+    type Made = SlotTable<u64>;
 
-    fn on_heap(self, alloc: Global, capacity: usize) -> Option<SlotTable<u64>> {
+    fn make(self, alloc: Global, capacity: usize) -> Option<SlotTable<u64>> {
         SlotTable::new(alloc, capacity).ok()
     }
 }
 
-impl<'a> MakesInArena<'a> for SlotTables {
-    type InArena = RelocatableSlotTable<u64, &'a Bump<Global>>;
+impl<'a> MakesIn<&'a Bump<Global>> for SlotTables {
+    type Made = RelocatableSlotTable<u64, &'a Bump<Global>>;
 
-    fn in_arena(
+    fn make(
         self,
         arena: &'a Bump<Global>,
         capacity: usize,

@@ -3,9 +3,10 @@ ghost use Rattle.std.specs.Prelude.{◌≡◌, ◌≤◌, ◌+◌, ◌++◌, cod
 ghost use Rattle.ix_string.specs.Escape.{escaped_byte, escaped_text};
 ghost use Rattle.ix_run.specs.inner.Writing.{WriteResult, WritesPart};
 
-use crate::run::containers::{MakesInArena, MakesInline, MakesOnHeap, Named};
+use crate::run::containers::{MakesIn, MakesInline, Named};
 use crate::run::limits::MAX_NUMBERS;
 use crate::run::reply_buffer::{Piece, ReplyBuffer};
+use crate::run::reply_writer::ReplyWriter;
 use crate::run::served::Served;
 use crate::run::{Reply, Runs, ScriptFault, read_text_command};
 use bumpalo::Bump;
@@ -71,15 +72,14 @@ impl Piece for ShownByte {
 
 /// Appends bytes that are printed escaped.
 fn append_escaped_bytes<W: Write>(
-    pending: &mut ReplyBuffer,
-    writer: &mut W,
+    replies: &mut ReplyWriter<'_, W>,
     bytes: &[u8],
 ) -> Result<(), ScriptFault>
-    ensures { WriteResult (W.contents writer.old) pending.old (escaped_text bytes.now)
-        (W.contents writer.new) pending.new result }
+    ensures { WriteResult W.contents replies.old (escaped_text bytes.now)
+        replies.new result }
 {
     for byte in bytes {
-        pending.append_piece(writer, ShownByte(*byte))?;
+        replies.append_piece(ShownByte(*byte))?;
     }
     Ok(())
 }
@@ -87,30 +87,27 @@ fn append_escaped_bytes<W: Write>(
 /// Appends bytes that are printed escaped, and a double quote.
 #[tactic(auto, using(crate::proofs::Writing::WriteResult_append, crate::proofs::Writing::WritesPart_append))]
 fn append_escaped_then_quote<W: Write>(
-    pending: &mut ReplyBuffer,
-    writer: &mut W,
+    replies: &mut ReplyWriter<'_, W>,
     bytes: &[u8],
 ) -> Result<(), ScriptFault>
-    ensures { WriteResult (W.contents writer.old) pending.old (escaped_text bytes.now ++ codes "\"")
-        (W.contents writer.new) pending.new result }
+    ensures { WriteResult W.contents replies.old (escaped_text bytes.now ++ codes "\"")
+        replies.new result }
 {
-    append_escaped_bytes(pending, writer, bytes)?;
-    pending.append(writer, b"\"")
+    append_escaped_bytes(replies, bytes)?;
+    replies.append(b"\"")
 }
 
 /// Appends bytes that are printed escaped, between double quotes.
 #[tactic(auto, using(crate::proofs::Writing::WriteResult_append, crate::proofs::Writing::WritesPart_append))]
 fn append_quoted<W: Write>(
-    pending: &mut ReplyBuffer,
-    writer: &mut W,
+    replies: &mut ReplyWriter<'_, W>,
     bytes: &[u8],
 ) -> Result<(), ScriptFault>
-    ensures { WriteResult (W.contents writer.old) pending.old
-        (codes "\"" ++ (escaped_text bytes.now ++ codes "\""))
-        (W.contents writer.new) pending.new result }
+    ensures { WriteResult W.contents replies.old
+        (codes "\"" ++ (escaped_text bytes.now ++ codes "\"")) replies.new result }
 {
-    pending.append(writer, b"\"")?;
-    append_escaped_then_quote(pending, writer, bytes)
+    replies.append(b"\"")?;
+    append_escaped_then_quote(replies, bytes)
 }
 
 impl<S: String> Served for TextLines<S> {
@@ -138,8 +135,8 @@ impl<S: String> Served for TextLines<S> {
         Some(with_u64_value(self.string.run_command(command)))
     }
 
-    fn show<W: Write>(&self, pending: &mut ReplyBuffer, writer: &mut W) -> Result<(), ScriptFault> {
-        append_quoted(pending, writer, self.string.as_bytes())
+    fn show<W: Write>(&self, replies: &mut ReplyWriter<'_, W>) -> Result<(), ScriptFault> {
+        append_quoted(replies, self.string.as_bytes())
     }
 }
 
@@ -161,18 +158,18 @@ impl<const N: usize> MakesInline<N> for Strings {
     }
 }
 
-impl MakesOnHeap for Strings {
-    type OnHeap = TextLines<PolymorphicString>;
+impl MakesIn<Global> for Strings {
+    type Made = TextLines<PolymorphicString>;
 
-    fn on_heap(self, alloc: Global, capacity: usize) -> Option<TextLines<PolymorphicString>> {
+    fn make(self, alloc: Global, capacity: usize) -> Option<TextLines<PolymorphicString>> {
         Some(TextLines::new(PolymorphicString::new(alloc, capacity).ok()?))
     }
 }
 
-impl<'a> MakesInArena<'a> for Strings {
-    type InArena = TextLines<RelocatableString<&'a Bump<Global>>>;
+impl<'a> MakesIn<&'a Bump<Global>> for Strings {
+    type Made = TextLines<RelocatableString<&'a Bump<Global>>>;
 
-    fn in_arena(
+    fn make(
         self,
         arena: &'a Bump<Global>,
         capacity: usize,

@@ -1,11 +1,11 @@
 //! Lines of a script for a vector.
 ghost use Rattle.std.specs.Prelude.{◌≡◌};
 
-use crate::run::containers::{MakesInArena, MakesInline, MakesOnHeap, Named};
+use crate::run::containers::{MakesIn, MakesInline, Named};
 use crate::run::limits::MAX_NUMBERS;
 use crate::run::listing::Listing;
 use crate::run::replies::append_items;
-use crate::run::reply_buffer::ReplyBuffer;
+use crate::run::reply_writer::ReplyWriter;
 use crate::run::served::Served;
 use crate::run::{Reply, Runs, ScriptFault, read_vec_command};
 use bumpalo::Bump;
@@ -72,8 +72,8 @@ impl<V: Vector<u64>> Served for VecLines<V> {
         Some(self.vector.run_command(command))
     }
 
-    fn show<W: Write>(&self, pending: &mut ReplyBuffer, writer: &mut W) -> Result<(), ScriptFault> {
-        append_items(pending, writer, self)
+    fn show<W: Write>(&self, replies: &mut ReplyWriter<'_, W>) -> Result<(), ScriptFault> {
+        append_items(replies, self)
     }
 }
 
@@ -95,18 +95,18 @@ impl<const N: usize> MakesInline<N> for Vectors {
     }
 }
 
-impl MakesOnHeap for Vectors {
-    type OnHeap = VecLines<PolymorphicVec<u64>>;
+impl MakesIn<Global> for Vectors {
+    type Made = VecLines<PolymorphicVec<u64>>;
 
-    fn on_heap(self, alloc: Global, capacity: usize) -> Option<VecLines<PolymorphicVec<u64>>> {
+    fn make(self, alloc: Global, capacity: usize) -> Option<VecLines<PolymorphicVec<u64>>> {
         Some(VecLines::new(PolymorphicVec::new(alloc, capacity).ok()?))
     }
 }
 
-impl<'a> MakesInArena<'a> for Vectors {
-    type InArena = VecLines<RelocatableVec<u64, &'a Bump<Global>>>;
+impl<'a> MakesIn<&'a Bump<Global>> for Vectors {
+    type Made = VecLines<RelocatableVec<u64, &'a Bump<Global>>>;
 
-    fn in_arena(
+    fn make(
         self,
         arena: &'a Bump<Global>,
         capacity: usize,

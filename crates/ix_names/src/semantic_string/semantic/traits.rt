@@ -1,6 +1,7 @@
 //! How semantic strings are converted, compared, hashed and printed.
-ghost use Rattle.std.specs.Prelude.{◌≡◌, [], ◌∷◌, Some};
+ghost use Rattle.std.specs.Prelude.{◌≡◌, ◌==◌, [], ◌∷◌, Some, IsTrue};
 ghost use Rattle.std.specs.Cmp.{partial_order_from_own_ties};
+ghost use Rattle.std.specs.Cmp.Lexicographic.{pointwise};
 ghost use Rattle.std.specs.Cmp.Rules.{comparing, hashing};
 ghost use Rattle.std.specs.Ordering.{as_partial_cmp};
 ghost use Rattle.std.proofs.Common.{rules};
@@ -9,6 +10,7 @@ ghost use Rattle.ix_names.specs.Rules.{means_the_same, compare_meanings};
 ghost use Rattle.ix_names.specs.SemanticSteps.{SemanticResult};
 
 use crate::semantic_string::{Rules, Semantic, SemanticStringError};
+use ix_string::String;
 use std::cmp::Ordering;
 use std::fmt;
 use std::hash::{Hash, Hasher};
@@ -24,6 +26,34 @@ impl<R: Rules<CAPACITY>, const CAPACITY: usize> TryFrom<&str> for Semantic<R, CA
     }
 }
 
+/// Returns `true` if both strings have the same bytes.
+#[inline]
+fn have_same_bytes<R: Rules<CAPACITY>, const CAPACITY: usize>(
+    left: &Semantic<R, CAPACITY>,
+    right: &Semantic<R, CAPACITY>,
+) -> bool
+    ensures { result ≡ pointwise ◌==◌ left.now right.now }
+{
+    // std compares texts of at most 32 bytes as four numbers, without a call, and longer ones slower than bytes.
+    if CAPACITY <= 32 {
+        left.text.as_str() == right.text.as_str()
+    } else {
+        left.text == right.text
+    }
+}
+
+/// Returns `true` if both strings are known to be their own normal forms.
+#[inline]
+fn are_normal_forms<R: Rules<CAPACITY>, const CAPACITY: usize>(
+    left: &Semantic<R, CAPACITY>,
+    right: &Semantic<R, CAPACITY>,
+) -> bool
+    ensures left { IsTrue result → R.rules.normal_form left.now ≡ left.now }
+    ensures right { IsTrue result → R.rules.normal_form right.now ≡ right.now }
+{
+    R::is_normal_form(&left.text) && R::is_normal_form(&right.text)
+}
+
 /// Strings are equal if their normal forms have the same bytes.
 impl<R: Rules<CAPACITY>, const CAPACITY: usize> PartialEq for Semantic<R, CAPACITY> {
     ghost eq = { means_the_same R.rules };
@@ -31,6 +61,12 @@ impl<R: Rules<CAPACITY>, const CAPACITY: usize> PartialEq for Semantic<R, CAPACI
     ghost laws = { Prim.search (comparing, rules) };
 
     fn eq(&self, other: &Self) -> bool {
+        if have_same_bytes(self, other) {
+            return true;
+        }
+        if are_normal_forms(self, other) {
+            return false;
+        }
         R::normalize(&self.text) == R::normalize(&other.text)
     }
 }
@@ -50,6 +86,9 @@ impl<R: Rules<CAPACITY>, const CAPACITY: usize> Ord for Semantic<R, CAPACITY> {
     ghost matches_eq = { Prim.search (comparing, rules) };
 
     fn cmp(&self, other: &Self) -> Ordering {
+        if are_normal_forms(self, other) {
+            return self.text.cmp(&other.text);
+        }
         R::normalize(&self.text).cmp(&R::normalize(&other.text))
     }
 }
@@ -71,8 +110,12 @@ impl<R: Rules<CAPACITY>, const CAPACITY: usize> Hash for Semantic<R, CAPACITY> {
     ghost respects_eq = { Prim.search (hashing, rules) };
 
     fn hash<H: Hasher>(&self, state: &mut H) {
-        let normal = R::normalize(&self.text);
-        state.write(normal.as_bytes_const());
+        if R::is_normal_form(&self.text) {
+            state.write(self.as_bytes());
+        } else {
+            let normal = R::normalize(&self.text);
+            state.write(normal.as_bytes_const());
+        }
     }
 }
 
@@ -85,7 +128,7 @@ impl<R: Rules<CAPACITY>, const CAPACITY: usize> fmt::Display for Semantic<R, CAP
     }
 }
 
-/// Prints the string inside.
+/// Prints the struct with the string inside, as `Semantic { text: StaticString<31> { len: 4, data: "ab-1" } }`.
 impl<R: Rules<CAPACITY>, const CAPACITY: usize> fmt::Debug for Semantic<R, CAPACITY> {
     fn fmt<W: fmt::Write>(&self, f: &mut fmt::Formatter<W>) -> fmt::Result {
         f.debug_struct("Semantic")

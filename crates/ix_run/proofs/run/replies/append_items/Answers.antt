@@ -11,7 +11,7 @@ returns-in_err-append_piece g c =
     let items = g.L.Listing.items c.args.list.now in
     rw (p.1, p.2, items_text-slice_get decimal items _ c.item.ensures) (
       c.in_err-append_piece.ensures.0,
-      WritesPart_append _ _ _ (decimal c.item.result) (more_items_text decimal (drop 1 items)) c.in_err-append_piece.ensures.1,
+      WritesPart_append g.W.Write.contents c.args.replies.now c.append_piece.new.self (decimal c.item.result) (more_items_text decimal (drop 1 items)) c.in_err-append_piece.ensures.1,
     )
 
 pub loop-i-init : goal.loop-i-init
@@ -28,7 +28,7 @@ returns-in_err-append_piece-2 g c =
     let whole = at.1 ∙ ap (λ l. at.0 ++ l) (more_items_text-drop decimal items i _ c.item-number.ensures) ∙ sym (append_assoc at.0 word rest) in
     rw (p.1, p.2, whole) (
       c.in_err-append_piece-2.ensures.0,
-      WritesPart_append _ _ _ (at.0 ++ word) rest (WritesPart-Writes _ _ _ _ _ at.0 word at.2 c.in_err-append_piece-2.ensures.1),
+      WritesPart_append g.W.Write.contents c.args.replies.now c.append_piece-in-loop-i.new.self (at.0 ++ word) rest (WritesPart-Writes g.W.Write.contents c.args.replies.now c.loop-i.replies c.append_piece-in-loop-i.new.self at.0 word at.2 c.in_err-append_piece-2.ensures.1),
     )
 
 pub loop-i-preserved : goal.loop-i-preserved
@@ -38,4 +38,4 @@ loop-i-preserved g c =
     let at = c.loop-i.invariant in
     let word = codes " " ++ decimal c.item-number.result in
     let whole = at.1 ∙ ap (λ l. at.0 ++ l) (more_items_text-drop decimal items i _ c.item-number.ensures) ∙ sym (append_assoc at.0 word (more_items_text decimal (drop (i + 1) items))) in
-    (at.0 ++ word, whole, Writes-append _ _ _ _ _ _ at.0 word at.2 c.in_ok-append_piece-2.ensures)
+    (at.0 ++ word, whole, Writes-append g.W.Write.contents c.args.replies.now c.loop-i.replies c.append_piece-in-loop-i.new.self at.0 word at.2 c.in_ok-append_piece-2.ensures)

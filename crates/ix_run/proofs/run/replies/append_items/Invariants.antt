@@ -7,4 +7,4 @@ abbrev pub invariant-loop-i : goal.invariant-loop-i
 invariant-loop-i g l =
     (so_far : List ℕ)
     × (items_text decimal (g.L.Listing.items l.list) ≡ so_far ++ more_items_text decimal (drop l.i (g.L.Listing.items l.list)))
-    × Writes (g.W.Write.contents l.fn.writer) l.fn.replies so_far (g.W.Write.contents l.writer) l.replies
+    × Writes g.W.Write.contents l.fn.replies so_far l.replies

@@ -1,46 +1,52 @@
-use Rattle.std.proofs.Common.{ℕ, List, ◌≡◌, ◌∙◌, [], Some, None, false, is_some, Option, Ok, subst, refl, sym, ap}
+use Rattle.std.proofs.Common.{ℕ, List, ◌≡◌, None, Some, Err, Ok, refl}
 use Rattle.std.proofs.lemmas.Result.{err_from_is_err_and}
-use Rattle.ix_run.specs.inner.Input.{lines_to_come}
-use Rattle.ix_run.specs.inner.Progress.{DriveResult}
-use Rattle.ix_run.specs.declared.run.header.Header.{Header}
-use Rattle.ix_run.specs.Script.{opening_replies, replies_to}
-use Rattle.ix_run.proofs.KnownBytes.{Appends-nil}
+use Rattle.ix_run.specs.inner.Progress.{Session, Drives, ReplyResult, opening}
+use Rattle.ix_run.specs.Script.{replies_to}
 use Rattle.ix_run.proofs.Lines.{replies_to-lines_from}
-use Rattle.ix_run.proofs.Pieces.{not_false}
-use Rattle.ix_run.proofs.Progress.{FinishResult-DriveResult_err, FinishResult-DriveResult, FinishResult-then, FinishResult-same}
+use Rattle.ix_run.proofs.Progress.{ReplyResult-finish, ReplyResult-same, ReplyResult-then}
 use Rattle.ix_run.proofs.run.scripts.run_script.Goals as goal
 
-pub returns-in_err-is_at_end : goal.returns-in_err-is_at_end
-returns-in_err-is_at_end g c =
+pub returns-in_err-header-clause-replies : goal.returns-in_err-header-clause-replies
+returns-in_err-header-clause-replies g c =
     let p = err_from_is_err_and c.from_residual.result c.from_residual.ensures.1 in
-    let from : List ℕ → List ℕ = λ m. opening_replies c.new-opening.result.header (lines_to_come c.new-session.result.input m) in
-    let same : (m : List ℕ) → replies_to m ≡ from m = λ m. rw (c.new-opening.ensures, c.new-session.ensures.rest) (replies_to-lines_from m) in
-    let lines = rw c.new-session.ensures.replies at c.in_err-is_at_end.ensures.replies in
-    rw (p.1, p.2) (FinishResult-DriveResult_err _ _ _ _ _ [] [] [] [] replies_to from from _ ([], Appends-nil _, refl) lines same)
+    let was : Session g.row.R.Denot g.row.W.Denot = (c.args.lines.now, c.args.replies.now) in
+    let now : Session g.row.R.Denot g.row.W.Denot = (c.next_header.new.lines, c.next_header.new.replies) in
+    let same : (more : List ℕ) → replies_to more ≡ opening None was.0 more = λ more. rw c.requires.rest (replies_to-lines_from more) in
+    rw (p.1, p.2) (ReplyResult-same g.R.Read.remaining g.W.Write.contents was now (opening None was.0) replies_to (Err _) same c.in_err-header.ensures)
 
-pub returns-in-Some : goal.returns-in-Some
-returns-in-Some g c =
-    let from : List ℕ → List ℕ = λ m. opening_replies c.new-opening.result.header (lines_to_come c.new-session.result.input m) in
-    let then : List ℕ → List ℕ = λ m. opening_replies (Some c.in-Some.header) (lines_to_come c.reply_to_lines.new.self.input m) in
-    let same : (m : List ℕ) → replies_to m ≡ from m = λ m. rw (c.new-opening.ensures, c.new-session.ensures.rest) (replies_to-lines_from m) in
-    let Lines : List ℕ → Option Header → Type 0 = λ p header.
-    DriveResult (g.R.Read.remaining c.args.reader.now) (g.W.Write.contents c.args.writer.now) p from (g.R.Read.remaining c.reply_to_lines.new.reader)
-    (g.W.Write.contents c.reply_to_lines.new.writer) c.reply_to_lines.new.self.replies (λ m. opening_replies header (lines_to_come c.reply_to_lines.new.self.input m))
-    (Ok c.in_ok-is_at_end.is_at_end) in
-    let lines = subst (λ h. Lines [] h) c.in-Some.is (subst (λ p. Lines p c.reply_to_lines.new.container.header) c.new-session.ensures.replies c.in_ok-is_at_end.ensures.replies) in
-    FinishResult-same false (g.R.Read.remaining c.args.reader.now) (g.R.Read.remaining c.serve_header.new.reader) (g.W.Write.contents c.args.writer.now) (g.W.Write.contents c.serve_header.new.writer) []
-    from replies_to c.serve_header.result same (FinishResult-then c.in_ok-is_at_end.is_at_end _ _ _ _ _ _ [] c.reply_to_lines.new.self.replies from then _ lines c.serve_header.ensures)
+pub returns-in_default-clause-replies : goal.returns-in_default-clause-replies
+returns-in_default-clause-replies g c =
+    let was : Session g.row.R.Denot g.row.W.Denot = (c.args.lines.now, c.args.replies.now) in
+    let then : Session g.row.R.Denot g.row.W.Denot = (c.next_header.new.lines, c.next_header.new.replies) in
+    let now : Session g.row.R.Denot g.row.W.Denot = (c.next_header.new.lines, c.flush.new.self) in
+    let same : (more : List ℕ) → replies_to more ≡ opening None was.0 more = λ more. rw c.requires.rest (replies_to-lines_from more) in
+    let done : ReplyResult g.R.Read.remaining g.W.Write.contents was (opening None was.0) then (Ok tt) = rw c.in_default.is at c.in_ok-header.ensures in
+    ReplyResult-finish g.R.Read.remaining g.W.Write.contents was then now replies_to _ (ReplyResult-same g.R.Read.remaining g.W.Write.contents was then (opening None was.0) replies_to (Ok tt) same done) refl
+    c.flush.ensures.written
 
-pub returns-in-None : goal.returns-in-None
-returns-in-None g c =
-    let from : List ℕ → List ℕ = λ m. opening_replies c.new-opening.result.header (lines_to_come c.new-session.result.input m) in
-    let then : List ℕ → List ℕ = λ m. opening_replies None (lines_to_come c.reply_to_lines.new.self.input m) in
-    let same : (m : List ℕ) → replies_to m ≡ from m = λ m. rw (c.new-opening.ensures, c.new-session.ensures.rest) (replies_to-lines_from m) in
-    let ended = not_false c.in_ok-is_at_end.is_at_end (λ e. let wrong = sym (c.in_ok-is_at_end.ensures.done e) ∙ ap is_some c.in-None.is in cc) in
-    let Lines : List ℕ → Option Header → Type 0 = λ p header.
-    DriveResult (g.R.Read.remaining c.args.reader.now) (g.W.Write.contents c.args.writer.now) p from (g.R.Read.remaining c.reply_to_lines.new.reader)
-    (g.W.Write.contents c.reply_to_lines.new.writer) c.reply_to_lines.new.self.replies (λ m. opening_replies header (lines_to_come c.reply_to_lines.new.self.input m))
-    (Ok c.in_ok-is_at_end.is_at_end) in
-    let lines = rw ended at (subst (λ h. Lines [] h) c.in-None.is (subst (λ p. Lines p c.reply_to_lines.new.container.header) c.new-session.ensures.replies c.in_ok-is_at_end.ensures.replies)) in
-    let none : then [] ≡ [] = rw (c.in_ok-is_at_end.ensures.rest ended) refl in
-    FinishResult-DriveResult _ _ _ _ _ _ [] [] c.reply_to_lines.new.self.replies [] replies_to from then _ ([], Appends-nil _, refl) lines none c.finish.ensures same
+pub returns-in_err-serve_header-clause-replies : goal.returns-in_err-serve_header-clause-replies
+returns-in_err-serve_header-clause-replies g c =
+    let p = err_from_is_err_and c.from_residual-in_err-serve_header.result c.from_residual-in_err-serve_header.ensures.1 in
+    let was : Session g.row.R.Denot g.row.W.Denot = (c.args.lines.now, c.args.replies.now) in
+    let then : Session g.row.R.Denot g.row.W.Denot = (c.next_header.new.lines, c.next_header.new.replies) in
+    let now : Session g.row.R.Denot g.row.W.Denot = (c.serve_header.new.lines, c.serve_header.new.replies) in
+    let same : (more : List ℕ) → replies_to more ≡ opening None was.0 more = λ more. rw c.requires.rest (replies_to-lines_from more) in
+    let found : List ℕ → List ℕ = opening (Some c.in-Some.header) then.0 in
+    let driven : Drives g.R.Read.remaining g.W.Write.contents was (opening None was.0) then found = rw c.in-Some.is at c.in_ok-header.ensures in
+    rw (p.1, p.2) (
+    ReplyResult-same g.R.Read.remaining g.W.Write.contents was now (opening None was.0) replies_to (Err _) same
+    (ReplyResult-then g.R.Read.remaining g.W.Write.contents was then now (opening None was.0) found (Err _) driven c.in_err-serve_header.ensures)
+    )
+
+pub returns-clause-replies : goal.returns-clause-replies
+returns-clause-replies g c =
+    let was : Session g.row.R.Denot g.row.W.Denot = (c.args.lines.now, c.args.replies.now) in
+    let then : Session g.row.R.Denot g.row.W.Denot = (c.next_header.new.lines, c.next_header.new.replies) in
+    let served : Session g.row.R.Denot g.row.W.Denot = (c.serve_header.new.lines, c.serve_header.new.replies) in
+    let now : Session g.row.R.Denot g.row.W.Denot = (c.serve_header.new.lines, c.flush-2.new.self) in
+    let same : (more : List ℕ) → replies_to more ≡ opening None was.0 more = λ more. rw c.requires.rest (replies_to-lines_from more) in
+    let found : List ℕ → List ℕ = opening (Some c.in-Some.header) then.0 in
+    let driven : Drives g.R.Read.remaining g.W.Write.contents was (opening None was.0) then found = rw c.in-Some.is at c.in_ok-header.ensures in
+    let all = ReplyResult-then g.R.Read.remaining g.W.Write.contents was then served (opening None was.0) found (Ok tt) driven c.in_ok-serve_header.ensures in
+    ReplyResult-finish g.R.Read.remaining g.W.Write.contents was served now replies_to _ (ReplyResult-same g.R.Read.remaining g.W.Write.contents was served (opening None was.0) replies_to (Ok tt) same all) refl
+    c.flush-2.ensures.written

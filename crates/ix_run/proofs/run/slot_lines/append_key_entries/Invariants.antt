@@ -5,4 +5,4 @@ use Rattle.ix_run.proofs.run.slot_lines.append_key_entries.Given as goal
 
 abbrev pub invariant-loop-key : goal.invariant-loop-key
 invariant-loop-key g l =
-    WritesUpTo key_entry_text (map_entries l.map) (g.W.Write.contents l.fn.writer) l.fn.pending l.is_first l.key-iterator (g.W.Write.contents l.writer) l.pending
+    WritesUpTo key_entry_text g.W.Write.contents (map_entries l.map) l.fn.replies l.is_first l.key-iterator l.replies

@@ -5,4 +5,4 @@ use Rattle.ix_run.proofs.run.table_lines.append_entries.Given as goal
 
 abbrev pub invariant-loop-key : goal.invariant-loop-key
 invariant-loop-key g l =
-    WritesUpTo entry_text (entries l.map) (g.W.Write.contents l.fn.writer) l.fn.pending l.is_first l.key-iterator (g.W.Write.contents l.writer) l.pending
+    WritesUpTo entry_text g.W.Write.contents (entries l.map) l.fn.replies l.is_first l.key-iterator l.replies

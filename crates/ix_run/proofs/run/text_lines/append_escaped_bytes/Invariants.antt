@@ -7,4 +7,4 @@ abbrev pub invariant-loop-byte : goal.invariant-loop-byte
 invariant-loop-byte g l =
     (so_far : List ℕ)
     × (escaped_text l.bytes ≡ so_far ++ escaped_text (drop l.byte-index l.bytes))
-    × Writes (g.W.Write.contents l.fn.writer) l.fn.pending so_far (g.W.Write.contents l.writer) l.pending
+    × Writes g.W.Write.contents l.fn.replies so_far l.replies

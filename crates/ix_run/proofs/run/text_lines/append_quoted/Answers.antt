@@ -8,9 +8,9 @@ pub returns-in_err-append : goal.returns-in_err-append
 returns-in_err-append g c =
     let p = err_from_is_err_and c.from_residual.result c.from_residual.ensures.1 in
     let rest = escaped_text c.args.bytes.now ++ codes "\"" in
-    rw (p.1, p.2) (c.in_err-append.ensures.0, WritesPart_append _ _ _ (codes "\"") rest c.in_err-append.ensures.1)
+    rw (p.1, p.2) (c.in_err-append.ensures.0, WritesPart_append g.W.Write.contents c.args.replies.now c.append.new.self (codes "\"") rest c.in_err-append.ensures.1)
 
 pub returns : goal.returns
 returns g c =
     let rest = escaped_text c.args.bytes.now ++ codes "\"" in
-    WriteResult_append _ _ _ _ _ _ (codes "\"") rest _ c.in_ok-append.ensures c.append_escaped_then_quote.ensures
+    WriteResult_append g.W.Write.contents c.args.replies.now c.append.new.self c.append_escaped_then_quote.new.replies (codes "\"") rest _ c.in_ok-append.ensures c.append_escaped_then_quote.ensures

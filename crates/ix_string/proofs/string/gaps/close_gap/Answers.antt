@@ -1,11 +1,15 @@
-use Rattle.std.proofs.Common.{◌≡◌, ◌+◌, ◌-◌, arith}
-use Rattle.ix_string.proofs.Gaps.{paste-closed}
+use Rattle.std.proofs.Common.{◌≡◌, ◌-◌, length, take, drop, arith}
+use Rattle.std.proofs.lemmas.Grind.{common_steps}
+use Rattle.ix_string.proofs.Gaps.{put_mid-closed}
 use Rattle.ix_string.proofs.string.gaps.close_gap.Goals as goal
 
 pub returns : goal.returns
 returns c =
     let range = c.requires.range in
-    let j = c.args.idx + c.args.n in
-    let m = c.args.len - j in
-    let last : c.args.len - c.args.n ≡ c.args.idx + m = omega arith in
-    rw (c.copy_within.ensures.after, last) (paste-closed c.args.row.now c.args.idx j m c.args.len (c.args.idx + m) (omega arith) (omega arith) (omega arith))
+    let room = c.requires.room in
+    let row = c.args.row.now in
+    let i = c.args.idx in
+    let n = c.args.n in
+    let k = c.args.len - i in
+    let long : length (take k (drop i row)) ≡ k = grind (arith, common_steps) in
+    rw (c.copy_within.ensures.after, long) (put_mid-closed row i n (k - n) k c.args.len (c.args.len - n) (omega arith) (omega arith) (omega arith))
