@@ -165,23 +165,26 @@ const NORMAL: &[(&[u8], bool, bool)] = &[
 ];
 
 /// Returns what `is_normal_form` of the rules returns.
-fn is_known_normal<R: Rules<CAPACITY>, const CAPACITY: usize>(bytes: &[u8]) -> Option<bool> {
-    match Semantic::<R, CAPACITY>::new(bytes) {
-        Ok(string) => Some(R::is_normal_form(string.as_string())),
-        Err(_) => None,
-    }
+fn is_known_normal<R: Rules<CAPACITY>, const CAPACITY: usize>(string: &Semantic<R, CAPACITY>) -> bool {
+    R::is_normal_form(string.as_string())
 }
 
 #[test]
 fn texts_known_to_be_normal_forms() -> Result<(), Fail> {
     let findings = Findings::new();
     for (row, (bytes, paths, others)) in NORMAL.iter().enumerate() {
-        let found = is_known_normal::<TrailingSlashRules, 255>(bytes);
-        findings.expect_same_at(found, Some(*paths), row, "trailing slashes");
-        let found = is_known_normal::<NonEmptyRules, 255>(bytes);
-        findings.expect_same_at(found, Some(*others), row, "rules that do not say");
+        match Semantic::<TrailingSlashRules, 255>::new(bytes) {
+            Ok(path) => findings.expect_same_at(is_known_normal(&path), *paths, row, "trailing slashes"),
+            Err(_) => findings.miss("a path"),
+        }
+        match Semantic::<NonEmptyRules, 255>::new(bytes) {
+            Ok(text) => findings.expect_same_at(is_known_normal(&text), *others, row, "rules that do not say"),
+            Err(_) => findings.miss("a text"),
+        }
     }
-    let found = is_known_normal::<GroupNameRules, 31>(b"ab-1");
-    findings.expect_same(found, Some(true), "group names");
+    match GroupName::new(b"ab-1") {
+        Ok(name) => findings.expect(is_known_normal(&name), "group names"),
+        Err(_) => findings.miss("a name"),
+    }
     findings.verdict()
 }
