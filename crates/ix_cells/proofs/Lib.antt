@@ -1,6 +1,7 @@
 pub mod Calls
 pub mod Counts
 pub mod Fronts
+pub mod FullArrays
 pub mod Lists
 pub mod Loans
 pub mod Places
@@ -10,6 +11,5 @@ pub mod RawSending
 pub mod RawSharing
 pub mod RawSteps
 pub mod Refilling
-pub mod Rows
 pub mod Shifts
 mod WorkedVectors

@@ -28,7 +28,7 @@ use denote.Triple.Clauses.{Lasts, lasts}
 use denote.Triple.Walked.{Stays, stay_dropped}
 use Rattle.arrayvec.specs.contracts.array_vec.ArrayVec.{the_row}
 use Rattle.ix_cells.proofs.Refilling.{refill-same_length}
-use Rattle.ix_cells.specs.contracts.cells.row.all_mut as all_mut
+use Rattle.ix_cells.specs.contracts.cells.full_array.all_mut as all_mut
 
 module _ (X : RattleType) (cap : ℕ) where
   abbrev pub args : Args

@@ -1,5 +1,5 @@
 -- What no public contract cites: what the code behind it means.
+pub mod FullArrays
 pub mod RawLending
 pub mod RawMemory
 pub mod RawRows
-pub mod Rows

@@ -9,13 +9,13 @@
 //! ```
 
 mod counted;
+pub(crate) mod full_array;
 mod heap_table;
+mod held_item;
 mod inline_table;
-mod places;
 pub(crate) mod raw_row;
 mod raw_slots;
 mod relocatable_container;
-pub(crate) mod row;
 mod table;
 mod uninit;
 

@@ -57,7 +57,8 @@ impl JsonForm for Temperature {
 
     ghost tree = { λ temperature. u64_tree temperature.millikelvin };
 
-    ghost read = { λ tree. result_map_both (λ n. record { millikelvin = n }) (λ fault. fault) (u64_read tree) };
+    ghost read = { λ tree. result_map_both (λ n. record { millikelvin = n }) (λ fault. fault)
+        (u64_read tree) };
 
     ghost is_infallible = { λ _. Unit {0} };
 

@@ -11,23 +11,17 @@
 //! ```
 
 mod callback_progression;
-mod fixed_size_flat_map;
-mod flat_map;
 mod flat_map_error;
 mod iter;
 mod keys;
+mod kinds;
 mod meta_flat_map;
 mod pair;
-mod relocatable_flat_map;
-mod uninit_flat_map;
 
 pub use callback_progression::CallbackProgression;
-pub use fixed_size_flat_map::FixedSizeFlatMap;
-pub use flat_map::FlatMap;
 pub use flat_map_error::FlatMapError;
 pub use iter::Iter;
 pub use keys::Keys;
+pub use kinds::{FixedSizeFlatMap, FlatMap, FlatMapFamily, RelocatableFlatMap, UninitFlatMap};
 pub use meta_flat_map::MetaFlatMap;
 pub use pair::Pair;
-pub use relocatable_flat_map::RelocatableFlatMap;
-pub use uninit_flat_map::{FlatMapFamily, UninitFlatMap};

@@ -9,14 +9,10 @@
 //! queue.pop();                      // Some(1)
 //! ```
 
-mod fixed_size_queue;
-mod heap_queue;
 mod iter;
+mod kinds;
 mod meta_queue;
-mod uninit_queue;
 
-pub use fixed_size_queue::FixedSizeQueue;
-pub use heap_queue::{Queue, RelocatableQueue};
 pub use iter::{IntoIter, Iter};
+pub use kinds::{FixedSizeQueue, Queue, QueueFamily, RelocatableQueue, UninitQueue};
 pub use meta_queue::MetaQueue;
-pub use uninit_queue::{QueueFamily, UninitQueue};

@@ -13,20 +13,14 @@
 //! }
 //! ```
 
-mod fixed_size_slot_map;
 mod generation_table;
 mod iter;
+mod kinds;
 mod meta_slot_map;
-mod relocatable_slot_map;
-mod slot_map;
 mod slot_map_key;
-mod uninit_slot_map;
 
-pub use fixed_size_slot_map::FixedSizeSlotMap;
 pub(crate) use generation_table::GenerationTable;
 pub use iter::Iter;
+pub use kinds::{FixedSizeSlotMap, RelocatableSlotMap, SlotMap, UninitSlotMap};
 pub use meta_slot_map::MetaSlotMap;
-pub use relocatable_slot_map::RelocatableSlotMap;
-pub use slot_map::SlotMap;
 pub use slot_map_key::SlotMapKey;
-pub use uninit_slot_map::UninitSlotMap;

@@ -10,23 +10,19 @@
 //! }
 //! ```
 
-mod fixed_size_slot_table;
 mod free_list;
 mod held;
 mod iter;
+mod kinds;
 mod link;
 mod meta_slot_table;
-mod relocatable_slot_table;
-mod slot_table;
 mod slot_table_key;
-mod uninit_slot_table;
 
-pub use fixed_size_slot_table::FixedSizeSlotTable;
 pub(crate) use held::held_mut;
 pub use iter::Iter;
+pub use kinds::{
+    FixedSizeSlotTable, RelocatableSlotTable, SlotTable, SlotTableFamily, UninitSlotTable,
+};
 pub use link::Link;
 pub use meta_slot_table::MetaSlotTable;
-pub use relocatable_slot_table::RelocatableSlotTable;
-pub use slot_table::SlotTable;
 pub use slot_table_key::SlotTableKey;
-pub use uninit_slot_table::{SlotTableFamily, UninitSlotTable};

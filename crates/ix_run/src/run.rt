@@ -15,7 +15,6 @@ mod laws;
 mod limits;
 mod line_buffer;
 mod line_reader;
-mod listing;
 mod partial_line;
 mod queue_lines;
 mod readers;
@@ -27,10 +26,9 @@ mod scripts;
 mod served;
 mod serving;
 mod slot_lines;
-mod spelling;
+mod string_lines;
 mod table_lines;
 mod tables;
-mod text_lines;
 mod vec_lines;
 mod words;
 
@@ -40,7 +38,7 @@ pub use ix_commands::{
     FlatCommand, QueueCommand, Reply, ReplyError, Runs, SlotCommand, TableCommand, TextCommand,
     VecCommand, dead_law, run_all, run_flat, run_queue, run_slot, run_table, run_text, run_vec,
 };
-pub use laws::{line_law, reply_law, script_law};
+pub use laws::{line_law, reply_law, script_law, spelling_law};
 pub use limits::{MAX_CAPACITY, MAX_LINE_LEN, MAX_NUMBERS};
 pub use readers::{
     read_flat_command, read_queue_command, read_slot_command, read_table_command,
@@ -48,4 +46,3 @@ pub use readers::{
 };
 pub use reading::read_number;
 pub use scripts::script;
-pub use spelling::spelling_law;

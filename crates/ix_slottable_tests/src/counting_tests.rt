@@ -30,7 +30,8 @@ struct Counting<S, C> {
 impl<T, S: Table<T>, C: Tally + Drop> Table<T> for Counting<S, C> {
     ghost places = { λ counting. S.places counting.table };
 
-    ghost with_item = { λ counting i x. record counting { table = S.with_item counting.table i x } };
+    ghost with_item = { λ counting i x.
+        record counting { table = S.with_item counting.table i x } };
 
     ghost places_with_item = { λ counting i x. S.places_with_item counting.table i x };
 

@@ -40,16 +40,16 @@ drop-padded_text capacity count text n counted =
     let fewer : (capacity - length text) - n ≡ capacity - (count + n) = omega arith in
     ap (λ (k : ℕ). drop (k + n) (padded_text capacity text)) (sym counted) ∙ behind ∙ left ∙ ap (λ (k : ℕ). replicate k 0) fewer
 
--- from n cells after the text on, there are zeros
-pub drop-IsPadded : (capacity count : ℕ) (cells : List ℕ) (n : ℕ) → IsPadded capacity count cells → drop (count + n) cells ≡ replicate (capacity - (count + n)) 0
-drop-IsPadded capacity count cells n is =
+-- from n bytes after the text on, there are zeros
+pub drop-IsPadded : (capacity count : ℕ) (bytes : List ℕ) (n : ℕ) → IsPadded capacity count bytes → drop (count + n) bytes ≡ replicate (capacity - (count + n)) 0
+drop-IsPadded capacity count bytes n is =
     let within = is.within in
-    let counted : length (take count cells) ≡ count = grind (arith, common_steps, is.whole) in
-    ap (drop (count + n)) is.zeros ∙ drop-padded_text capacity count (take count cells) n counted
+    let counted : length (take count bytes) ≡ count = grind (arith, common_steps, is.whole) in
+    ap (drop (count + n)) is.zeros ∙ drop-padded_text capacity count (take count bytes) n counted
 
-pub IsPadded-from_text : (capacity count : ℕ) (text cells : List ℕ) → cells ≡ text ++ replicate (capacity - count) 0 → length text ≡ count → count ≤ capacity → IsText text → IsPadded capacity count cells
-IsPadded-from_text capacity count text cells parts counted within is =
-    let front : take count cells ≡ text = rw parts (take_at text (replicate (capacity - count) 0) count counted) in
+pub IsPadded-from_text : (capacity count : ℕ) (text bytes : List ℕ) → bytes ≡ text ++ replicate (capacity - count) 0 → length text ≡ count → count ≤ capacity → IsText text → IsPadded capacity count bytes
+IsPadded-from_text capacity count text bytes parts counted within is =
+    let front : take count bytes ≡ text = rw parts (take_at text (replicate (capacity - count) 0) count counted) in
     record {
       within = within;
       whole = grind (arith, common_steps);
@@ -58,11 +58,11 @@ IsPadded-from_text capacity count text cells parts counted within is =
     }
 
 -- a shorter text, and zeros where the last n bytes of the longer one were
-pub IsPadded-shortened : (capacity count n : ℕ) (cells text row : List ℕ) → IsPadded capacity count cells → n ≤ count → length text ≡ count - n → IsText text
-    → row ≡ text ++ (replicate n 0 ++ drop count cells) → IsPadded capacity (count - n) row
-IsPadded-shortened capacity count n cells text row was le shorter is parts =
+pub IsPadded-shortened : (capacity count n : ℕ) (bytes text row : List ℕ) → IsPadded capacity count bytes → n ≤ count → length text ≡ count - n → IsText text
+    → row ≡ text ++ (replicate n 0 ++ drop count bytes) → IsPadded capacity (count - n) row
+IsPadded-shortened capacity count n bytes text row was le shorter is parts =
     let within = was.within in
-    let zeros : drop count cells ≡ replicate (capacity - count) 0 = simp unary_clauses at (drop-IsPadded capacity count cells 0 was) in
+    let zeros : drop count bytes ≡ replicate (capacity - count) 0 = simp unary_clauses at (drop-IsPadded capacity count bytes 0 was) in
     let sum : n + (capacity - count) ≡ capacity - (count - n) = omega arith in
     let more : replicate {A = ℕ} n 0 ++ replicate {A = ℕ} (capacity - count) 0 ≡ replicate (capacity - (count - n)) 0 = replicate-append-replicate n (capacity - count) 0 ∙ ap (λ (k : ℕ). replicate {A = ℕ} k 0) sum in
     IsPadded-from_text capacity (count - n) text row (rw (parts, zeros, more)) shorter (omega arith) is

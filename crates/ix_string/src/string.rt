@@ -10,25 +10,21 @@
 mod escape;
 mod gaps;
 mod heap_string;
-mod heap_string_kind;
+mod kinds;
 mod modification_error;
 mod nul;
-mod polymorphic_string;
-mod relocatable_string;
 mod retaining;
 mod static_string;
 mod static_traits;
 mod string_trait;
-mod uninit_string;
 mod vector_text;
 
 pub use escape::{EscapedByte, as_escaped_string, escape_byte};
 pub use heap_string::HeapString;
-pub use heap_string_kind::{HeapStringKind, Polymorphic, Relocatable};
+pub use kinds::{
+    HeapStringKind, Polymorphic, PolymorphicString, Relocatable, RelocatableString, StringFamily, UninitString,
+};
 pub use modification_error::StringModificationError;
 pub use nul::strnlen;
-pub use polymorphic_string::PolymorphicString;
-pub use relocatable_string::RelocatableString;
 pub use static_string::StaticString;
 pub use string_trait::String;
-pub use uninit_string::{StringFamily, UninitString};

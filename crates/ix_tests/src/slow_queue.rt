@@ -29,7 +29,8 @@ impl<T> Model for SlowQueue<T> {
       capacity = queue.capacity;
     } };
 
-    ghost invariant = { λ queue. (length queue.items.items ≤ queue.capacity) × (queue.capacity ≤ 8) };
+    ghost invariant = { λ queue. (length queue.items.items ≤ queue.capacity)
+        × (queue.capacity ≤ 8) };
 }
 
 impl<T: Default + Drop> SlowQueue<T> {

@@ -39,5 +39,6 @@ impl<const CAPACITY: usize> AtomicCopy for StaticString<CAPACITY> {
 
     ghost encoding_len = { λ text is. padded_text-len CAPACITY text is.1 };
 
-    ghost one_value = { λ v w v_is w_is same. padded_text-one_value CAPACITY v w v_is.0 w_is.0 same };
+    ghost one_value = { λ v w v_is w_is same.
+        padded_text-one_value CAPACITY v w v_is.0 w_is.0 same };
 }

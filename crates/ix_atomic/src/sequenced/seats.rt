@@ -22,7 +22,8 @@ impl<T> Model for ReaderSeat<T> {
 
     ghost view = { λ reader. reader_of reader.seat.table_id reader.seat.me.0 };
 
-    ghost invariant = { λ reader. (reader.seat.me.1 ≡ []) × (parity reader.seat.me.0.stage ≡ 0) × (reader.seat.me.0.places ≡ []) };
+    ghost invariant = { λ reader. (reader.seat.me.1 ≡ []) × (parity reader.seat.me.0.stage ≡ 0)
+        × (reader.seat.me.0.places ≡ []) };
 }
 
 /// Lets its holder write to one cell, and read from it. A cell may have any number of them, made by

@@ -1,8 +1,8 @@
 //! A table that is stored inline.
 ghost use Rattle.std.specs.Prelude.{◌≡◌, ◌≤◌, Some, None, slice_set, replicate, refl};
 
-use crate::cells::places::{item, item_mut};
-use crate::cells::row::{place, place_mut, put, replace};
+use crate::cells::full_array::{place, place_mut, put, replace};
+use crate::cells::held_item::{item, item_mut};
 use crate::cells::{MAX_FIXED_CAPACITY, Table};
 use arrayvec::ArrayVec;
 use std::marker::Model;
@@ -15,7 +15,7 @@ use std::marker::Model;
 /// ```
 // The places are an `ArrayVec` that is always full: it is made of an array in one fill, and lends slices of its places.
 pub struct InlineTable<T, const CAP: usize> {
-    row: ArrayVec<Option<T>, CAP>,
+    places: ArrayVec<Option<T>, CAP>,
 }
 
 impl<T, const CAP: usize> Model for InlineTable<T, CAP> {
@@ -23,9 +23,9 @@ impl<T, const CAP: usize> Model for InlineTable<T, CAP> {
 
     ghost Value = { List (Option T) };
 
-    ghost view = { λ table. table.row.items };
+    ghost view = { λ table. table.places.items };
 
-    ghost invariant = { λ table. length table.row.items ≡ CAP };
+    ghost invariant = { λ table. length table.places.items ≡ CAP };
 }
 
 impl<T: Drop, const CAP: usize> InlineTable<T, CAP> {
@@ -35,7 +35,7 @@ impl<T: Drop, const CAP: usize> InlineTable<T, CAP> {
         ensures { result ≡ replicate CAP None }
     {
         InlineTable {
-            row: ArrayVec::from(vacant()),
+            places: ArrayVec::from(vacant()),
         }
     }
 }
@@ -49,18 +49,18 @@ impl<T: Drop, const CAP: usize> Table<T> for InlineTable<T, CAP> {
 
     #[inline]
     fn len(&self) -> usize {
-        let _row = &self.row;
+        let _places = &self.places;
         CAP
     }
 
     #[inline]
     fn put(&mut self, i: usize, item: T) {
-        put(&mut self.row, i, Some(item));
+        put(&mut self.places, i, Some(item));
     }
 
     #[inline]
     fn take(&mut self, i: usize) -> T {
-        match replace(&mut self.row, i, None) {
+        match replace(&mut self.places, i, None) {
             Some(item) => item,
             None => unreachable!(),
         }
@@ -68,16 +68,16 @@ impl<T: Drop, const CAP: usize> Table<T> for InlineTable<T, CAP> {
 
     #[inline]
     fn get(&self, i: usize) -> &T {
-        item(place(&self.row, i))
+        item(place(&self.places, i))
     }
 
     #[inline]
     fn get_mut(&mut self, i: usize) -> &mut T {
-        item_mut(place_mut(&mut self.row, i))
+        item_mut(place_mut(&mut self.places, i))
     }
 
     fn end(self) {
-        let InlineTable { row: _ } = self;
+        let InlineTable { places: _ } = self;
     }
 }
 

@@ -69,7 +69,8 @@ pub struct RowGrant<T, A: Allocator> {
 }
 
 impl<T, A: Allocator> Model for RowGrant<T, A> {
-    ghost also_owns = { λ grant. grant_owns T.row (A.dealloc_token grant.alloc) grant.start grant.len };
+    ghost also_owns = { λ grant. grant_owns T.row
+        (A.dealloc_token grant.alloc) grant.start grant.len };
 
     ghost also_shares = { λ _ _ _. ftrue };
 }

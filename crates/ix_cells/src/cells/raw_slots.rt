@@ -39,7 +39,8 @@ impl<T, A: Allocator> Model for RawSlots<T, A> {
 
     ghost view = { λ slots. slots.row.places };
 
-    ghost invariant = { λ slots. AreParts slots.ptr slots.row slots.grant slots.held.items (vec_allocator slots.held) };
+    ghost invariant = { λ slots. AreParts slots.ptr slots.row slots.grant slots.held.items
+        (vec_allocator slots.held) };
 }
 
 impl<T, A: Allocator> RawSlots<T, A> {

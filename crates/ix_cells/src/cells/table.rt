@@ -51,5 +51,6 @@ pub trait Table<T>: Sized {
         requires { IsVacant (places self) };
 
     /// Another item in a place changes that place alone.
-    ghost places_with_item: { (s : Self) (i : ℕ) (x : T) → places (with_item s i x) ≡ slice_set (places s) i (Some x) };
+    ghost places_with_item: { (s : Self) (i : ℕ) (x : T)
+        → places (with_item s i x) ≡ slice_set (places s) i (Some x) };
 }

@@ -40,7 +40,8 @@ impl<T, A: Allocator> Model for PolymorphicVec<T, A> {
 
     ghost coded = { bounded_code T.code };
 
-    ghost view = { λ vector. record { items = vector.items.items; capacity = vec_capacity vector.items } };
+    ghost view = { λ vector. record { items = vector.items.items;
+        capacity = vec_capacity vector.items } };
 
     ghost invariant = { λ vector. length vector.items.items ≤ vec_capacity vector.items };
 }
@@ -133,7 +134,8 @@ impl<T: Drop, A: Allocator> Vector<T> for PolymorphicVec<T, A> {
         self.items.pop()
     }
 
-    ghost bounded_with_slice = { λ vector xs same. ap (with_items vector) (Prim.search (arith, common_steps)) };
+    ghost bounded_with_slice = { λ vector xs same. ap (with_items vector)
+        (Prim.search (arith, common_steps)) };
 }
 
 /// Drops the items, the last one first.

@@ -11,7 +11,7 @@ ghost use Rattle.std.proofs.Common.{arith, ap};
 ghost use Rattle.std.proofs.lemmas.Grind.{common_steps};
 
 use crate::cells::MAX_FIXED_CAPACITY;
-use crate::cells::row::{front_mut, put, put_clones, put_defaults, replace};
+use crate::cells::full_array::{front_mut, put, put_clones, put_defaults, replace};
 use crate::vector::{Vector, VectorModificationError};
 use arrayvec::ArrayVec;
 use std::alloc::AllocError;
@@ -33,24 +33,24 @@ use std::{fmt, slice};
 /// ```
 ///
 /// This is `StaticVec` of iceoryx2-bb-container.
-// The row is an `ArrayVec` that is always full: the first `len` places hold the items, the others hold defaults.
+// The `ArrayVec` is always full: its first `len` places hold the items, the others hold defaults.
 pub struct StaticVec<T: Default, const CAPACITY: usize> {
-    row: ArrayVec<T, CAPACITY>,
+    places: ArrayVec<T, CAPACITY>,
     len: usize,
 }
 
 impl<T: Default, const CAPACITY: usize> Model for StaticVec<T, CAPACITY> {
     ghost use Rattle.std.specs.Prelude.{List, take};
     ghost use Rattle.std.specs.Coded.{coded_list};
-    ghost use Rattle.ix_cells.specs.inner.Rows.{IsFront};
+    ghost use Rattle.ix_cells.specs.inner.FullArrays.{IsFront};
 
     ghost Value = { List T };
 
     ghost coded = { coded_list T.code };
 
-    ghost view = { λ vector. take vector.len vector.row.items };
+    ghost view = { λ vector. take vector.len vector.places.items };
 
-    ghost invariant = { λ vector. IsFront CAPACITY vector.row.items vector.len };
+    ghost invariant = { λ vector. IsFront CAPACITY vector.places.items vector.len };
 }
 
 impl<T: Default, const CAPACITY: usize> StaticVec<T, CAPACITY> {
@@ -66,7 +66,7 @@ impl<T: Default, const CAPACITY: usize> StaticVec<T, CAPACITY> {
         ensures { result ≡ [] }
     {
         StaticVec {
-            row: ArrayVec::from(<[T; CAPACITY]>::default()),
+            places: ArrayVec::from(<[T; CAPACITY]>::default()),
             len: 0,
         }
     }
@@ -76,7 +76,7 @@ impl<T: Default, const CAPACITY: usize> StaticVec<T, CAPACITY> {
         ensures value { result.now ≡ self.now }
         ensures within { length result.now ≤ CAPACITY }
     {
-        &self.row.as_slice()[..self.len]
+        &self.places.as_slice()[..self.len]
     }
 
     /// Returns the maximum number of items. O(1).
@@ -122,7 +122,7 @@ impl<T: Default + Clone, const CAPACITY: usize> StaticVec<T, CAPACITY> {
         ensures memory { AreInfallible T.is_infallible items.now → IsOk result }
     {
         let len = self.len;
-        put_clones(&mut self.row, len, items)?;
+        put_clones(&mut self.places, len, items)?;
         self.len = len + items.len();
         Ok(())
     }
@@ -140,7 +140,7 @@ impl<T: Default + Drop, const CAPACITY: usize> Vector<T> for StaticVec<T, CAPACI
 
     #[inline]
     fn as_mut_slice(&mut self) -> &mut [T] {
-        front_mut(&mut self.row, self.len)
+        front_mut(&mut self.places, self.len)
     }
 
     #[inline]
@@ -156,7 +156,7 @@ impl<T: Default + Drop, const CAPACITY: usize> Vector<T> for StaticVec<T, CAPACI
     #[inline]
     fn push_unchecked(&mut self, item: T) {
         let len = self.len;
-        put(&mut self.row, len, item);
+        put(&mut self.places, len, item);
         self.len = len + 1;
     }
 
@@ -166,7 +166,7 @@ impl<T: Default + Drop, const CAPACITY: usize> Vector<T> for StaticVec<T, CAPACI
             return None;
         }
         let last = self.len - 1;
-        let item = replace(&mut self.row, last, T::default());
+        let item = replace(&mut self.places, last, T::default());
         self.len = last;
         Some(item)
     }
@@ -174,7 +174,7 @@ impl<T: Default + Drop, const CAPACITY: usize> Vector<T> for StaticVec<T, CAPACI
     /// O(`len - n`).
     fn truncate(&mut self, n: usize) {
         if n < self.len {
-            put_defaults(&mut self.row, n, self.len);
+            put_defaults(&mut self.places, n, self.len);
             self.len = n;
         }
     }
@@ -188,14 +188,16 @@ impl<T: Default + Drop, const CAPACITY: usize> Vector<T> for StaticVec<T, CAPACI
         self.append_clones(other)
     }
 
-    ghost bounded_with_slice = { λ vector xs same. ap (λ items. record { items = items; capacity = CAPACITY }) (Prim.search (arith, common_steps)) };
+    ghost bounded_with_slice = { λ vector xs same. ap
+        (λ items. record { items = items; capacity = CAPACITY })
+        (Prim.search (arith, common_steps)) };
 }
 
 /// Drops the items, the last one first.
 impl<T: Default + Drop, const CAPACITY: usize> Drop for StaticVec<T, CAPACITY> {
     fn drop(mut self) {
         self.clear();
-        let StaticVec { row: _, len: _ } = self;
+        let StaticVec { places: _, len: _ } = self;
     }
 }
 
@@ -217,9 +219,9 @@ impl<T: Default + Drop, const CAPACITY: usize> IntoIterator for StaticVec<T, CAP
         × YieldsInReverse (YieldsLast {A = T} (λ rest. rest)) (λ rest. rest) };
 
     fn into_iter(self) -> StaticVecIntoIter<T, CAPACITY> {
-        let StaticVec { mut row, len } = self;
-        row.truncate(len);
-        row.into_iter()
+        let StaticVec { mut places, len } = self;
+        places.truncate(len);
+        places.into_iter()
     }
 }
 
@@ -263,7 +265,8 @@ impl<T: Default + Clone, const CAPACITY: usize> TryFrom<&[T]> for StaticVec<T, C
 
     ghost use Rattle.ix_cells.specs.Conversions.{StaticVecFromSlice};
 
-    ghost try_from_gives = { λ items result. StaticVecFromSlice CAPACITY T.is_clone T.is_infallible items.now result };
+    ghost try_from_gives = { λ items result.
+        StaticVecFromSlice CAPACITY T.is_clone T.is_infallible items.now result };
 
     /// Creates a vector that holds clones of the items.
     ///

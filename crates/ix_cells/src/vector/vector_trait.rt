@@ -318,7 +318,8 @@ pub trait Vector<T: Drop> {
     }
 
     /// Overwriting all items changes nothing else.
-    ghost bounded_with_slice: { (vector : Self) (xs : List T) → length xs ≡ length (bounded vector).items
+    ghost bounded_with_slice: { (vector : Self) (xs : List T)
+        → length xs ≡ length (bounded vector).items
         → bounded (with_slice vector xs) ≡ with_items (bounded vector) xs };
 }
 

@@ -57,7 +57,8 @@ impl<T, S: Table<Option<T>>, L: Table<Link>, G: Table<u32>> Model for MetaSlotMa
 
     ghost view = { λ map. record { slots = map.slots; generations = map.generations } };
 
-    ghost invariant = { λ map. HasGenerations (record { slots = map.slots; generations = map.generations }) map.retired };
+    ghost invariant = { λ map. HasGenerations
+        (record { slots = map.slots; generations = map.generations }) map.retired };
 }
 
 impl<T, S: Table<Option<T>>, L: Table<Link>, G: Table<u32>> MetaSlotMap<T, S, L, G> {
@@ -228,7 +229,7 @@ impl<T, S: Table<Option<T>>, L: Table<Link>, G: Table<u32>> MetaSlotMap<T, S, L,
         T: Drop,
         ensures step { MapInsert self.old value self.new result }
         ensures touches { touches.new ≤ touches.old + 20 }
-        ensures counts_on { touches.old ≤ touches.new }
+        ensures rises { touches.old ≤ touches.new }
     {
         let place = self.slots.insert_counted(Some(value), touches)?;
         Some(self.key_of(place, touches))
@@ -246,7 +247,7 @@ impl<T, S: Table<Option<T>>, L: Table<Link>, G: Table<u32>> MetaSlotMap<T, S, L,
         T: Drop,
         ensures step { MapInsertAt self.old index value self.new result }
         ensures touches { touches.new ≤ touches.old + 20 }
-        ensures counts_on { touches.old ≤ touches.new }
+        ensures rises { touches.old ≤ touches.new }
     {
         if index >= self.capacity() {
             return None;
@@ -270,7 +271,7 @@ impl<T, S: Table<Option<T>>, L: Table<Link>, G: Table<u32>> MetaSlotMap<T, S, L,
     pub fn remove_counted(&mut self, key: SlotMapKey, touches: &mut Touches) -> Option<T>
         ensures step { MapRemove self.old key self.new result }
         ensures touches { touches.new ≤ touches.old + 20 }
-        ensures counts_on { touches.old ≤ touches.new }
+        ensures rises { touches.old ≤ touches.new }
     {
         if !self.has_generation(key, touches) {
             return None;
@@ -320,7 +321,7 @@ impl<T, S: Table<Option<T>>, L: Table<Link>, G: Table<u32>> MetaSlotMap<T, S, L,
         ensures value { IsTrue result ↔ ((key.index < length self.now.slots.values)
             × (generation_at self.now key.index ≡ key.generation)) }
         ensures touches { touches.new ≤ touches.old + 1 }
-        ensures counts_on { touches.old ≤ touches.new }
+        ensures rises { touches.old ≤ touches.new }
     {
         let index = key.index();
         index < self.capacity() && self.generations.get(index, touches) == key.generation()
@@ -335,7 +336,7 @@ impl<T, S: Table<Option<T>>, L: Table<Link>, G: Table<u32>> MetaSlotMap<T, S, L,
         requires generation { generation ≡ generation_at self.old index + 1 }
         ensures map { self.new ≡ map_replace self.old index value }
         ensures touches { touches.new ≤ touches.old + 6 }
-        ensures counts_on { touches.old ≤ touches.new }
+        ensures rises { touches.old ≤ touches.new }
     {
         self.generations.set(index, generation, touches);
         if let Some(content) = self
@@ -356,7 +357,7 @@ impl<T, S: Table<Option<T>>, L: Table<Link>, G: Table<u32>> MetaSlotMap<T, S, L,
         ensures map { self.new
             ≡ if is_some (place_value self.old index) then map_retire self.old index else self.old }
         ensures touches { touches.new ≤ touches.old + 4 }
-        ensures counts_on { touches.old ≤ touches.new }
+        ensures rises { touches.old ≤ touches.new }
     {
         // Each place is retired once, so that their number fits.
         let _capacity = self.capacity();

@@ -29,7 +29,7 @@ fn set_next<L: Table<Link>>(links: &mut Counted<L>, key: usize, to: usize, touch
     requires key { IsKeyOrNone key (L.places links.old) }
     ensures links { L.places links.new ≡ links_set_next (L.places links.old) key to }
     ensures touches { touches.new ≤ touches.old + 2 }
-    ensures counts_on { touches.old ≤ touches.new }
+    ensures rises { touches.old ≤ touches.new }
 {
     if key != NO_KEY {
         links.get_mut(key, touches).next = to;
@@ -48,7 +48,7 @@ fn set_previous<L: Table<Link>>(
     requires key { IsKeyOrNone key (L.places links.old) }
     ensures links { L.places links.new ≡ links_set_previous (L.places links.old) key to }
     ensures touches { touches.new ≤ touches.old + 2 }
-    ensures counts_on { touches.old ≤ touches.new }
+    ensures rises { touches.old ≤ touches.new }
 {
     if key != NO_KEY {
         links.get_mut(key, touches).previous = to;
@@ -68,7 +68,7 @@ pub(crate) fn remove<L: Table<Link>>(
     requires link { IsLinkWithin (Some link) (L.places links.old) }
     ensures links { L.places links.new ≡ links_remove (L.places links.old) key link }
     ensures touches { touches.new ≤ touches.old + 6 }
-    ensures counts_on { touches.old ≤ touches.new }
+    ensures rises { touches.old ≤ touches.new }
 {
     set_link(links, key, Link::HELD, touches);
     set_next(links, link.previous, link.next, touches);
@@ -88,7 +88,7 @@ pub(crate) fn remove_first<L: Table<Link>>(
     requires next { IsKeyOrNone next (L.places links.old) }
     ensures links { L.places links.new ≡ links_remove_first (L.places links.old) key next }
     ensures touches { touches.new ≤ touches.old + 4 }
-    ensures counts_on { touches.old ≤ touches.new }
+    ensures rises { touches.old ≤ touches.new }
 {
     set_link(links, key, Link::HELD, touches);
     set_previous(links, next, NO_KEY, touches);
@@ -107,7 +107,7 @@ pub(crate) fn insert_first<L: Table<Link>>(
     requires first { IsKeyOrNone first (L.places links.old) }
     ensures links { L.places links.new ≡ links_insert_first (L.places links.old) key first }
     ensures touches { touches.new ≤ touches.old + 4 }
-    ensures counts_on { touches.old ≤ touches.new }
+    ensures rises { touches.old ≤ touches.new }
 {
     let link = Link {
         is_free: true,

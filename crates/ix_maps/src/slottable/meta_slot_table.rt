@@ -221,7 +221,7 @@ impl<T, S: Table<T>, L: Table<Link>> MetaSlotTable<T, S, L> {
     pub fn contains_counted(&self, key: SlotTableKey, touches: &mut Touches) -> bool
         ensures value { IsTrue result ↔ IsHeld self.now key }
         ensures touches { touches.new ≤ touches.old + 2 }
-        ensures counts_on { touches.old ≤ touches.new }
+        ensures rises { touches.old ≤ touches.new }
     {
         let key = key.value();
         key < self.capacity() && !self.is_free(key, touches)
@@ -232,7 +232,7 @@ impl<T, S: Table<T>, L: Table<Link>> MetaSlotTable<T, S, L> {
     pub fn get_counted(&self, key: SlotTableKey, touches: &mut Touches) -> Option<&T>
         ensures value { option_copied result ≡ value_at self.now key }
         ensures touches { touches.new ≤ touches.old + 3 }
-        ensures counts_on { touches.old ≤ touches.new }
+        ensures rises { touches.old ≤ touches.new }
     {
         let key = key.value();
         if key >= self.capacity() {
@@ -252,7 +252,7 @@ impl<T, S: Table<T>, L: Table<Link>> MetaSlotTable<T, S, L> {
             T.row self.entry result (slot_set self.old key) self.old) }
         ensures value { option_copied_mut result ≡ value_at self.old key }
         ensures touches { touches.new ≤ touches.old + 4 }
-        ensures counts_on { touches.old ≤ touches.new }
+        ensures rises { touches.old ≤ touches.new }
     {
         if self.contains_counted(key, touches) {
             Some(self.value_mut(key.value(), touches))
@@ -268,7 +268,7 @@ impl<T, S: Table<T>, L: Table<Link>> MetaSlotTable<T, S, L> {
         T: Drop,
         ensures step { SlotInsert self.old value self.new result }
         ensures touches { touches.new ≤ touches.old + 16 }
-        ensures counts_on { touches.old ≤ touches.new }
+        ensures rises { touches.old ≤ touches.new }
     {
         if self.first == NO_KEY {
             return None;
@@ -285,7 +285,7 @@ impl<T, S: Table<T>, L: Table<Link>> MetaSlotTable<T, S, L> {
         T: Drop,
         ensures step { SlotInsertAt self.old key value self.new result }
         ensures touches { touches.new ≤ touches.old + 16 }
-        ensures counts_on { touches.old ≤ touches.new }
+        ensures rises { touches.old ≤ touches.new }
     {
         let key = key.value();
         if key >= self.capacity() {
@@ -304,7 +304,7 @@ impl<T, S: Table<T>, L: Table<Link>> MetaSlotTable<T, S, L> {
     pub fn remove_counted(&mut self, key: SlotTableKey, touches: &mut Touches) -> Option<T>
         ensures step { SlotRemove self.old key self.new result }
         ensures touches { touches.new ≤ touches.old + 16 }
-        ensures counts_on { touches.old ≤ touches.new }
+        ensures rises { touches.old ≤ touches.new }
     {
         let key = key.value();
         if key >= self.capacity() {
@@ -373,7 +373,7 @@ impl<T, S: Table<T>, L: Table<Link>> MetaSlotTable<T, S, L> {
         requires { IsFree self.old key }
         ensures map { self.new ≡ slot_fill self.old key value }
         ensures touches { touches.new ≤ touches.old + 8 }
-        ensures counts_on { touches.old ≤ touches.new }
+        ensures rises { touches.old ≤ touches.new }
     {
         let link = *self.links.get(key, touches);
         remove(&mut self.links, key, link, touches);
@@ -389,7 +389,7 @@ impl<T, S: Table<T>, L: Table<Link>> MetaSlotTable<T, S, L> {
         requires { self.old.free ≢ [] }
         ensures map { self.new ≡ slot_insert self.old value }
         ensures touches { touches.new ≤ touches.old + 8 }
-        ensures counts_on { touches.old ≤ touches.new }
+        ensures rises { touches.old ≤ touches.new }
     {
         let key = self.first;
         let next = self.links.get(key, touches).next;
@@ -418,7 +418,7 @@ impl<T, S: Table<T>, L: Table<Link>> MetaSlotTable<T, S, L> {
         ensures value { value_at self.old key ≡ Some result }
         ensures map { self.new ≡ slot_vacate self.old key }
         ensures touches { touches.new ≤ touches.old + 5 }
-        ensures counts_on { touches.old ≤ touches.new }
+        ensures rises { touches.old ≤ touches.new }
     {
         // The link first: the caller has just read it.
         insert_first(&mut self.links, key, self.first, touches);

@@ -15,7 +15,7 @@ use crate::run::served::Served;
 use crate::run::serving::serve_made;
 use crate::run::slot_lines::SlotMaps;
 use crate::run::table_lines::SlotTables;
-use crate::run::text_lines::Strings;
+use crate::run::string_lines::Strings;
 use crate::run::vec_lines::Vectors;
 use crate::run::{Container, FixedCapacity, Header, ScriptFault, Storage};
 use bumpalo::Bump;

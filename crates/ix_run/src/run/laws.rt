@@ -1,5 +1,5 @@
 //! What the definitions of scripts mean, in their users' words. These functions do nothing: their contracts are the laws.
-ghost use Rattle.std.specs.Prelude.{ℕ, ◌≡◌, ◌≢◌, ◌++◌, ◌∷◌, ◌⊎◌, List, [], Option, All, decimal, nat_eq};
+ghost use Rattle.std.specs.Prelude.{ℕ, ◌≡◌, ◌≢◌, ◌<◌, ◌^◌, ◌++◌, ◌∷◌, ◌⊎◌, List, [], Option, Some, None, All, Contains, decimal, nat_eq};
 ghost use Rattle.ix_cells.specs.Bounded.{Bounded, bounded_new};
 ghost use Rattle.ix_maps.specs.SlotState.{slot_new};
 ghost use Rattle.ix_maps.specs.Generations.{SlotKey, map_new};
@@ -10,12 +10,13 @@ ghost use Rattle.ix_commands.specs.SlotRun.{slot_reply, slot_after};
 ghost use Rattle.ix_commands.specs.FlatRun.{flat_reply, flat_after};
 ghost use Rattle.ix_commands.specs.TextRun.{text_reply, text_after};
 ghost use Rattle.ix_commands.specs.declared.reply.Reply.{Reply};
-ghost use Rattle.ix_run.specs.Forms.{queue_forms, vec_forms, table_forms, slot_command_of, flat_forms, text_forms};
+ghost use Rattle.ix_run.specs.Forms.{queue_forms, vec_forms, table_forms, slot_forms, slot_key_forms, slot_command_of, flat_forms, text_forms};
 ghost use Rattle.ix_run.specs.Headers.{capacity_of, first_generation};
 ghost use Rattle.ix_run.specs.Laws.{HasU64s, HasU64sAnd, IsKey, IsRun, IsRunBy, IsU64};
 ghost use Rattle.ix_run.specs.Lines.{IsOneLine, with_line_feed, text_of_lines, lines_of};
 ghost use Rattle.ix_run.specs.ReplyTexts.{reply_text, slot_reply_text, items_text, entry_text, key_entry_text};
 ghost use Rattle.ix_run.specs.Script.{text_shown};
+ghost use Rattle.ix_run.specs.Words.{Form, KeyForm, HasNames, words_text, command_of, key_words_text, key_command_of};
 ghost use Rattle.ix_run.specs.declared.run.header.Container.TheVariants as container;
 ghost use Rattle.ix_run.specs.declared.run.header.Storage.{Storage};
 
@@ -69,4 +70,35 @@ pub fn script_law()
         → IsRunBy slot_command_of slot_reply_text slot_reply slot_after
         (container.Slot start) storage
         (map_new (capacity_of storage) (first_generation start)) }
+{}
+
+/// A line spells at most one command. By any table of forms, the commands of lines are the texts of a name and numbers; and
+/// what is made of the text of a name and numbers is what that form makes of the numbers. The same is true of tables of forms
+/// with a key, and no line is a command by a table of either sort.
+pub fn spelling_law<C>()
+    ensures text { (forms : List (Form C)) (line : List ℕ) (command : C)
+        → command_of forms line ≡ Some command
+        → (form : Form C) × (numbers : List ℕ) × Contains forms form × All (λ n. n < 2 ^ 64) numbers
+        × (form.1 numbers ≡ Some command) × (line ≡ words_text form.0 numbers) }
+    ensures each { (forms : List (Form C)) (form : Form C) (numbers : List ℕ) → HasNames forms
+        → Contains forms form
+        → All (λ n. n < 2 ^ 64) numbers
+        → command_of forms (words_text form.0 numbers) ≡ form.1 numbers }
+    ensures names { HasNames queue_forms × HasNames vec_forms × HasNames table_forms
+        × HasNames flat_forms
+        × HasNames text_forms }
+    ensures key_text { (forms : List (KeyForm C)) (line : List ℕ) (command : C)
+        → key_command_of forms line ≡ Some command
+        → (form : KeyForm C) × (key : SlotKey) × (numbers : List ℕ) × Contains forms form
+        × IsKey key
+        × All (λ n. n < 2 ^ 64) numbers × (form.1 key numbers ≡ Some command)
+        × (line ≡ key_words_text form.0 key numbers) }
+    ensures key_each { (forms : List (KeyForm C)) (form : KeyForm C) (key : SlotKey)
+        (numbers : List ℕ) → HasNames forms
+        → Contains forms form → IsKey key → All (λ n. n < 2 ^ 64) numbers
+        → key_command_of forms (key_words_text form.0 key numbers) ≡ form.1 key numbers }
+    ensures either { (forms : List (Form C)) (key_forms : List (KeyForm C)) (line : List ℕ)
+        (command : C)
+        → command_of forms line ≡ Some command → key_command_of key_forms line ≡ None }
+    ensures slot_names { HasNames slot_forms × HasNames slot_key_forms }
 {}

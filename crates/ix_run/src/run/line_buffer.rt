@@ -63,8 +63,10 @@ impl Model for LineBuffer {
       fuel = buffer.reads_left * (BUFFER_LEN + 1) + (buffer.rest_end - buffer.rest_start);
     } };
 
-    ghost invariant = { λ buffer. (length buffer.piece ≡ BUFFER_LEN) × (buffer.line_start ≤ buffer.line_end)
-        × (buffer.line_end ≤ BUFFER_LEN) × (buffer.rest_start ≤ buffer.rest_end) × (buffer.rest_end ≤ BUFFER_LEN) };
+    ghost invariant = { λ buffer. (length buffer.piece ≡ BUFFER_LEN)
+        × (buffer.line_start ≤ buffer.line_end)
+        × (buffer.line_end ≤ BUFFER_LEN) × (buffer.rest_start ≤ buffer.rest_end)
+            × (buffer.rest_end ≤ BUFFER_LEN) };
 }
 
 impl LineBuffer {

@@ -22,7 +22,8 @@ impl Model for PartialLine {
 
     ghost view = { λ line. buffered_line line.bytes line.len };
 
-    ghost invariant = { λ line. (length line.bytes ≡ MAX_LINE_LEN) × (line.len ≤ MAX_LINE_LEN + 1) };
+    ghost invariant = { λ line. (length line.bytes ≡ MAX_LINE_LEN)
+        × (line.len ≤ MAX_LINE_LEN + 1) };
 }
 
 impl PartialLine {

@@ -1,7 +1,6 @@
 //! Lines of a script for a queue.
 use crate::run::containers::{MakesIn, MakesInline, Named};
-use crate::run::listing::Listing;
-use crate::run::replies::append_items;
+use crate::run::replies::{Listing, append_items};
 use crate::run::reply_writer::ReplyWriter;
 use crate::run::served::Served;
 use crate::run::{Reply, Runs, ScriptFault, read_queue_command};

@@ -1,11 +1,10 @@
 //! The texts of replies.
-ghost use Rattle.std.specs.Prelude.{ℕ, ◌≡◌, ◌≤◌, ◌+◌, ◌++◌, List, length, codes, decimal};
+ghost use Rattle.std.specs.Prelude.{ℕ, ◌≡◌, ◌<◌, ◌≤◌, ◌+◌, ◌++◌, List, Some, length, slice_get, codes, decimal};
 ghost use Rattle.ix_run.specs.Lines.{with_line_feed};
 ghost use Rattle.ix_run.specs.ReplyTexts.{error_name, reply_text_by, items_text, next_text};
 ghost use Rattle.ix_run.specs.inner.Writing.{WriteResult};
 ghost use Rattle.ix_run.specs.declared.run.limits.TheConstants.{BUFFER_LEN, MAX_KEY_LEN, MAX_REPLY_LEN};
 
-use crate::run::listing::Listing;
 use crate::run::reply_buffer::{Piece, ReplyBuffer};
 use crate::run::reply_writer::ReplyWriter;
 use crate::run::{Reply, ReplyError, ScriptFault};
@@ -143,6 +142,20 @@ impl<K: ReplyKey> Piece for Reply<K, u64> {
             Reply::Error(error) => put_error(replies, error),
         }
     }
+}
+
+/// Numbers that `show` prints by their index.
+pub trait Listing {
+    ghost items: { Self → List ℕ };
+
+    /// Returns the number of items.
+    fn item_count(&self) -> usize
+        ensures { result ≡ length (items self.now) };
+
+    /// Returns the item at `index`, which is less than their number.
+    fn item(&self, index: usize) -> u64
+        requires { index < length (items self.now) }
+        ensures { slice_get (items self.now) index ≡ Some result };
 }
 
 /// A number of a list, after a space unless it is the first.

@@ -28,7 +28,8 @@ struct ListedKeyEntry {
 }
 
 impl Piece for ListedKeyEntry {
-    ghost text = { λ listed. next_text listed.is_first (key_entry_text (listed.key, listed.value)) };
+    ghost text = { λ listed. next_text listed.is_first
+        (key_entry_text (listed.key, listed.value)) };
 
     fn put_into(self, replies: &mut ReplyBuffer) {
         if !self.is_first {

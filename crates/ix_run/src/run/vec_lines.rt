@@ -3,8 +3,7 @@ ghost use Rattle.std.specs.Prelude.{◌≡◌};
 
 use crate::run::containers::{MakesIn, MakesInline, Named};
 use crate::run::limits::MAX_NUMBERS;
-use crate::run::listing::Listing;
-use crate::run::replies::append_items;
+use crate::run::replies::{Listing, append_items};
 use crate::run::reply_writer::ReplyWriter;
 use crate::run::served::Served;
 use crate::run::{Reply, Runs, ScriptFault, read_vec_command};

@@ -24,7 +24,8 @@ impl Model for EscapedByte {
 
     ghost view = { λ escaped. take escaped.len escaped.bytes };
 
-    ghost invariant = { λ escaped. (length escaped.bytes ≡ 4) × (escaped.len ≤ 4) × IsText (take escaped.len escaped.bytes) };
+    ghost invariant = { λ escaped. (length escaped.bytes ≡ 4) × (escaped.len ≤ 4)
+        × IsText (take escaped.len escaped.bytes) };
 }
 
 impl EscapedByte {

@@ -13,7 +13,7 @@ ghost use Rattle.ix_string.specs.Escape.{escaped_text};
 
 use crate::string::String;
 use crate::string::escape::Escaped;
-use crate::string::heap_string_kind::HeapStringKind;
+use crate::string::HeapStringKind;
 use crate::string::vector_text::{insert_into, remove_from, retain_in};
 use ix_cells::{PolymorphicVec, Vector};
 use std::alloc::{Allocator, Global};
@@ -144,9 +144,11 @@ impl<K, A: Allocator> Ord for HeapString<K, A> {
 }
 
 impl<K, A: Allocator> PartialOrd for HeapString<K, A> {
-    ghost partial_cmp = { as_partial_cmp (λ string other. slice_cmp nat_cmp string.items other.items) };
+    ghost partial_cmp = { as_partial_cmp
+        (λ string other. slice_cmp nat_cmp string.items other.items) };
 
-    ghost laws = { partial_order_from_own_ties (Prim.search (comparing, rules)) (Prim.search (comparing, rules)) };
+    ghost laws = { partial_order_from_own_ties (Prim.search (comparing, rules))
+        (Prim.search (comparing, rules)) };
 
     fn partial_cmp(&self, other: &Self) -> Option<Ordering> {
         Some(self.cmp(other))

@@ -24,7 +24,7 @@ use std::marker::Model;
 /// This is `StaticString` of iceoryx2-bb-container.
 #[derive(Clone, Copy)]
 pub struct StaticString<const CAPACITY: usize> {
-    cells: [u8; CAPACITY],
+    bytes: [u8; CAPACITY],
     count: usize,
 }
 
@@ -35,15 +35,15 @@ impl<const CAPACITY: usize> Model for StaticString<CAPACITY> {
 
     ghost Value = { List ℕ };
 
-    ghost view = { λ string. take string.count string.cells };
+    ghost view = { λ string. take string.count string.bytes };
 
-    ghost invariant = { λ string. IsPadded CAPACITY string.count string.cells };
+    ghost invariant = { λ string. IsPadded CAPACITY string.count string.bytes };
 
-    ghost inverse = { λ text. record { cells = padded_text CAPACITY text; count = length text } };
+    ghost inverse = { λ text. record { bytes = padded_text CAPACITY text; count = length text } };
 
     ghost inverse_ok = { λ string is i. record {
-      cells = sym is.zeros i;
-      count = length-take-le string.count string.cells (omega (arith, is.within, is.whole)) i;
+      bytes = sym is.zeros i;
+      count = length-take-le string.count string.bytes (omega (arith, is.within, is.whole)) i;
     } };
 }
 
@@ -53,7 +53,7 @@ impl<const CAPACITY: usize> StaticString<CAPACITY> {
         ensures { result ≡ [] }
     {
         StaticString {
-            cells: [0; CAPACITY],
+            bytes: [0; CAPACITY],
             count: 0,
         }
     }
@@ -146,7 +146,7 @@ impl<const CAPACITY: usize> StaticString<CAPACITY> {
         ensures value { result.now ≡ self.now }
         ensures text { IsText result.now }
     {
-        &self.cells[..self.count]
+        &self.bytes[..self.count]
     }
 }
 
@@ -177,7 +177,7 @@ impl<const CAPACITY: usize> String for StaticString<CAPACITY> {
     }
 
     fn insert_bytes_unchecked(&mut self, idx: usize, bytes: &[u8]) {
-        open_gap(&mut self.cells, idx, self.count, bytes);
+        open_gap(&mut self.bytes, idx, self.count, bytes);
         self.count += bytes.len();
     }
 
@@ -186,15 +186,15 @@ impl<const CAPACITY: usize> String for StaticString<CAPACITY> {
         if idx > len || n > len - idx {
             return false;
         }
-        close_gap_with_zeros(&mut self.cells, idx, n, len);
+        close_gap_with_zeros(&mut self.bytes, idx, n, len);
         self.count = len - n;
         true
     }
 
     fn retain<F: FnMut(u8) -> bool>(&mut self, f: F) {
         let len = self.count;
-        let start = move_kept_back(&mut self.cells[..len], f);
-        close_gap_with_zeros(&mut self.cells, 0, start, len);
+        let start = move_kept_back(&mut self.bytes[..len], f);
+        close_gap_with_zeros(&mut self.bytes, 0, start, len);
         self.count = len - start;
     }
 }

@@ -193,7 +193,7 @@ pub trait String: Debug + Display + Eq + Ord + Hash {
     /// O(`len - n`).
     final fn truncate(&mut self, n: usize)
         ensures string { bounded self.new ≡ vec_truncate (bounded self.old) n }
-        ensures refused { length (bounded self.old).items ≤ n → self.new ≡ self.old }
+        ensures unchanged { length (bounded self.old).items ≤ n → self.new ≡ self.old }
     {
         let len = self.len();
         if n < len {
@@ -204,7 +204,7 @@ pub trait String: Debug + Display + Eq + Ord + Hash {
     /// Removes all bytes. Does nothing if the string is empty. O(`len`).
     final fn clear(&mut self)
         ensures string { bounded self.new ≡ with_items (bounded self.old) [] }
-        ensures refused { (bounded self.old).items ≡ [] → self.new ≡ self.old }
+        ensures unchanged { (bounded self.old).items ≡ [] → self.new ≡ self.old }
     {
         self.truncate(0);
     }

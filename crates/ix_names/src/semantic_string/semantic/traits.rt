@@ -18,7 +18,8 @@ use std::hash::{Hash, Hasher};
 impl<R: Rules<CAPACITY>, const CAPACITY: usize> TryFrom<&str> for Semantic<R, CAPACITY> {
     type Error = SemanticStringError;
 
-    ghost try_from_gives = { λ text result. SemanticResult CAPACITY R.rules text.now text.now result };
+    ghost try_from_gives = { λ text result.
+        SemanticResult CAPACITY R.rules text.now text.now result };
 
     /// As [`Semantic::new`], of the bytes of `text`.
     fn try_from(text: &str) -> Result<Self, SemanticStringError> {
@@ -96,7 +97,8 @@ impl<R: Rules<CAPACITY>, const CAPACITY: usize> Ord for Semantic<R, CAPACITY> {
 impl<R: Rules<CAPACITY>, const CAPACITY: usize> PartialOrd for Semantic<R, CAPACITY> {
     ghost partial_cmp = { as_partial_cmp (compare_meanings R.rules) };
 
-    ghost laws = { partial_order_from_own_ties (Prim.search (comparing, rules)) (Prim.search (comparing, rules)) };
+    ghost laws = { partial_order_from_own_ties (Prim.search (comparing, rules))
+        (Prim.search (comparing, rules)) };
 
     fn partial_cmp(&self, other: &Self) -> Option<Ordering> {
         Some(self.cmp(other))

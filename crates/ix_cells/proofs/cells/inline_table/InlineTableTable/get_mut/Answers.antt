@@ -11,7 +11,7 @@ pub item_mut-requires : goal.item_mut-requires
 item_mut-requires g c = IsSome-read c.self.view_is c.args.i c.requires c.place_mut.ensures.value
 
 pub invariant_of-self-lent : goal.invariant_of-self-lent
-invariant_of-self-lent g c w = length-set c.self.inside.row.items c.args.i (Some w) ∙ c.self.invariant
+invariant_of-self-lent g c w = length-set c.self.inside.places.items c.args.i (Some w) ∙ c.self.invariant
 
 pub returns : goal.returns
 returns g c =

@@ -14,10 +14,10 @@ unreachable-requires g c =
     cc
 
 pub invariant_of-self : goal.invariant_of-self
-invariant_of-self g c = ap length c.replace.ensures.row ∙ length-set c.self.inside.row.items _ _ ∙ c.self.invariant
+invariant_of-self g c = ap length c.replace.ensures.places ∙ length-set c.self.inside.places.items _ _ ∙ c.self.invariant
 
 pub returns-clause-value : goal.returns-clause-value
 returns-clause-value g c = place_at-read c.self.view_is c.args.i c.requires c.replace.ensures.value ∙ c.in-Some.is
 
 pub returns-clause-places : goal.returns-clause-places
-returns-clause-places g c = c.replace.ensures.row ∙ ap (λ (row : List (Option g.row.T.Denot)). slice_set row c.args.i None) c.self.view_is
+returns-clause-places g c = c.replace.ensures.places ∙ ap (λ (row : List (Option g.row.T.Denot)). slice_set row c.args.i None) c.self.view_is

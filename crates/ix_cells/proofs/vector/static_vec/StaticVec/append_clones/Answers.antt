@@ -1,6 +1,6 @@
 use Rattle.std.proofs.Common.{rules, arith, ◌+◌, ◌∙◌, List, length, take, subst}
 use Rattle.std.specs.List.{AppendsClones}
-use Rattle.ix_cells.proofs.Rows.{length-front}
+use Rattle.ix_cells.proofs.FullArrays.{length-front}
 use Rattle.ix_cells.proofs.vector.static_vec.StaticVec.append_clones.Goals as goal
 
 pub put_clones-requires : goal.put_clones-requires
@@ -20,5 +20,5 @@ invariant_of-self-2 g c =
 
 pub returns-clause-vector : goal.returns-clause-vector
 returns-clause-vector g c =
-    subst (λ (old : List g.row.T.Denot). AppendsClones g.T.Clone.is_clone old (take (c.self.inside.len + length c.args.items.now) c.put_clones.new.row.items) c.args.items.now)
-    c.self.view_is c.in_ok-put_clones.ensures.row
+    subst (λ (old : List g.row.T.Denot). AppendsClones g.T.Clone.is_clone old (take (c.self.inside.len + length c.args.items.now) c.put_clones.new.array.items) c.args.items.now)
+    c.self.view_is c.in_ok-put_clones.ensures.places

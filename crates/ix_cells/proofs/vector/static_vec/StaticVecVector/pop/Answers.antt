@@ -7,5 +7,5 @@ replace-item-requires g c = (search rules, omega (arith, c.self.invariant.within
 
 pub invariant_of-self : goal.invariant_of-self
 invariant_of-self g c =
-    let whole = ap length c.replace-item.ensures.row ∙ length-set c.self.inside.row.items _ _ ∙ c.self.invariant.whole in
+    let whole = ap length c.replace-item.ensures.places ∙ length-set c.self.inside.places.items _ _ ∙ c.self.invariant.whole in
     record { within = omega (arith, c.self.invariant.within); whole = whole }

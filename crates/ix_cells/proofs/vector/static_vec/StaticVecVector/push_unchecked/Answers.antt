@@ -1,7 +1,7 @@
 use Rattle.std.proofs.Common.{rules, arith, ◌<◌, ◌+◌, ◌∙◌, ◌++◌, [], ◌∷◌, List, length, take, ap}
 use Rattle.std.proofs.Math.ListN.{length-set}
 use Rattle.std.proofs.lemmas.List.{take_more_set}
-use Rattle.ix_cells.proofs.Rows.{length-front}
+use Rattle.ix_cells.proofs.FullArrays.{length-front}
 use Rattle.ix_cells.proofs.vector.static_vec.StaticVecVector.push_unchecked.Goals as goal
 
 pub put-requires : goal.put-requires
@@ -16,13 +16,13 @@ invariant_of-self g c =
     let len = length-front is c.self.view_is in
     record {
       within = omega (arith, len, c.requires);
-      whole = ap length c.put.ensures ∙ length-set c.self.inside.row.items _ _ ∙ is.whole;
+      whole = ap length c.put.ensures ∙ length-set c.self.inside.places.items _ _ ∙ is.whole;
     }
 
 pub returns : goal.returns
 returns g c =
     let is = c.self.invariant in
-    let old = c.self.inside.row.items in
+    let old = c.self.inside.places.items in
     let len = length-front is c.self.view_is in
     let below : c.self.inside.len < length old = omega (arith, is.whole, len, c.requires) in
     let longer = ap (take (c.self.inside.len + 1)) c.put.ensures ∙ take_more_set old c.self.inside.len c.args.item below in

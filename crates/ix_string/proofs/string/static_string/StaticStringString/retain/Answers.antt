@@ -9,9 +9,9 @@ use Rattle.ix_string.proofs.string.static_string.StaticStringString.retain.Goals
 pub invariant_of-self : goal.invariant_of-self
 invariant_of-self g c =
     let was = c.self.invariant in
-    let cells = c.self.inside.cells in
+    let padded = c.self.inside.bytes in
     let count = c.self.inside.count in
-    let text = take count cells in
+    let text = take count padded in
     let moved = c.move_kept_back-start.new.row in
     let n = c.move_kept_back-start.result in
     let within = was.within in
@@ -19,9 +19,9 @@ invariant_of-self g c =
     let place : n ≤ count = omega (arith, c.move_kept_back-start.ensures.within) in
     let whole : length moved ≡ count = c.move_kept_back-start.auto.row ∙ counted in
     let from_zero : 0 + n ≡ n = omega arith in
-    let front : take count (moved ++ drop count cells) ≡ moved = take_at moved (drop count cells) count whole in
-    let behind : drop count (moved ++ drop count cells) ≡ drop count cells = drop_at moved (drop count cells) count whole in
-    let shut : c.close_gap_with_zeros.new.row ≡ drop (0 + n) (take count (moved ++ drop count cells)) ++ (replicate n 0 ++ drop count (moved ++ drop count cells)) = c.close_gap_with_zeros.ensures in
+    let front : take count (moved ++ drop count padded) ≡ moved = take_at moved (drop count padded) count whole in
+    let behind : drop count (moved ++ drop count padded) ≡ drop count padded = drop_at moved (drop count padded) count whole in
+    let shut : c.close_gap_with_zeros.new.row ≡ drop (0 + n) (take count (moved ++ drop count padded)) ++ (replicate n 0 ++ drop count (moved ++ drop count padded)) = c.close_gap_with_zeros.ensures in
     let shorter : length (drop n moved) ≡ count - n = omega (arith, length-drop n moved) in
     let is = All-Retains (λ b. IsTextByte b) (λ p x b q. goal.F-step g p x b q) c.args.f text (drop n moved) c.move_kept_back-start.ensures.kept was.text in
-    IsPadded-shortened g.row.CAPACITY count n cells (drop n moved) c.close_gap_with_zeros.new.row was place shorter is (rw (shut, from_zero, front, behind))
+    IsPadded-shortened g.row.CAPACITY count n padded (drop n moved) c.close_gap_with_zeros.new.row was place shorter is (rw (shut, from_zero, front, behind))

@@ -1,0 +1,43 @@
+-- Lemmas on the places of a full array, the first of which are items, and part of which is overwritten by way of a slice.
+use Rattle.std.proofs.Common.{◌≡◌, ◌∙◌, ℕ, ◌-◌, ◌≤◌, List, ◌++◌, length, take, drop, refl, sym, ap, arith}
+use Rattle.std.specs.Prelude.{slice_set, Result, OnOk}
+use Rattle.std.specs.List.{AllZip, AppendsClones, refill, length_refill}
+use Rattle.std.proofs.Math.ListN.{length-set}
+use Rattle.std.proofs.lemmas.Grind.{common_steps}
+use Rattle.std.proofs.lemmas.List.{length-take-le}
+use Rattle.std.proofs.lemmas.Result.{on_ok_weaker}
+use Rattle.std.proofs.lemmas.Slice.{take-put_mid, take-put_mid_below}
+use borrow.Rule.Slice.PartMut.{put_mid}
+use Rattle.ix_cells.specs.inner.FullArrays.{IsFront}
+use Rattle.ix_cells.proofs.Refilling.{refill-same_length}
+
+-- the items are as many as len says
+pub length-front : {T : Type 0} {places items : List T} {capacity len : ℕ} → IsFront capacity places len → take len places ≡ items → length items ≡ len
+length-front {places = places} {len = len} is shown = ap length (sym shown) ∙ length-take-le len places (omega (arith, is.within, is.whole))
+
+module _ {T : Type 0} where
+  pub refill-slice_set : (xs : List T) (i : ℕ) (x : T) → refill (length xs) xs (slice_set xs i x) ≡ slice_set xs i x
+  refill-slice_set xs i x = refill-same_length xs (slice_set xs i x) (length-set xs i x)
+
+  -- the places a..e are overwritten by ys
+  module _ (xs ys : List T) (a e : ℕ) (order : a ≤ e) (bounds : e ≤ length xs) (same : length ys ≡ length (take (e - a) (drop a xs))) where
+    length-overwritten : length ys ≡ e - a
+    length-overwritten = grind (arith, common_steps)
+
+    length-put_mid : length (put_mid a (e - a) xs ys) ≡ length xs
+    length-put_mid = let part = length-overwritten in grind (arith, common_steps)
+
+    pub length-refill : length (refill (length xs) xs (put_mid a (e - a) xs ys)) ≡ length xs
+    length-refill = sym (length_refill (length xs) xs (put_mid a (e - a) xs ys) refl)
+
+    pub take-refill : take a (refill (length xs) xs (put_mid a (e - a) xs ys)) ≡ take a xs
+    take-refill =
+        rw (refill-same_length xs (put_mid a (e - a) xs ys) length-put_mid) (take-put_mid_below a (e - a) xs ys a (omega arith) (omega arith))
+
+    pub take-refill-end : take e (refill (length xs) xs (put_mid a (e - a) xs ys)) ≡ take a xs ++ ys
+    take-refill-end =
+        rw (refill-same_length xs (put_mid a (e - a) xs ys) length-put_mid) (take-put_mid a (e - a) xs ys e (omega (arith, length-overwritten)) (omega arith))
+
+    pub AppendsClones-refill : {E : Type 0} (clones : T → T → Type 0) (items : List T) (r : Result (Unit {0}) E) → OnOk r (AllZip clones items ys)
+        → OnOk r (AppendsClones clones (take a xs) (take e (refill (length xs) xs (put_mid a (e - a) xs ys))) items)
+    AppendsClones-refill clones items r = on_ok_weaker r (λ are. (ys, take-refill-end, are))

@@ -1,5 +1,0 @@
-use Rattle.ix_maps.proofs.FlatEntries.{HasDistinctKeys-slot_new}
-use Rattle.ix_maps.proofs.flatmap.fixed_size_flat_map.FixedSizeFlatMap+K+V+CAPACITY.new.Goals as goal
-
-pub invariant_of-result : goal.invariant_of-result
-invariant_of-result g c = HasDistinctKeys-slot_new g.K.PartialEq.eq _ c.new-pairs.result c.new-pairs.ensures

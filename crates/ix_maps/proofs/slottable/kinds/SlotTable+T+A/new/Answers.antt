@@ -1,0 +1,11 @@
+use Rattle.ix_maps.proofs.VacantTables.{IsVacant-replicate, replicate-same_length}
+use Rattle.ix_maps.proofs.slottable.kinds.SlotTable+T+A.new.Goals as goal
+
+pub from_tables-requires-clause-values : goal.from_tables-requires-clause-values
+from_tables-requires-clause-values g c = IsVacant-replicate _ c.in_ok-values.ensures.value
+
+pub from_tables-requires-clause-links : goal.from_tables-requires-clause-links
+from_tables-requires-clause-links g c = replicate-same_length _ c.in_ok-values.ensures.value c.in-Ok.ensures.value
+
+pub end-requires : goal.end-requires
+end-requires g c = IsVacant-replicate _ c.in_ok-values.ensures.value

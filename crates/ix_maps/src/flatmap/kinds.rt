@@ -1,0 +1,120 @@
+//! The kinds of flat maps: stored inline, in memory of an allocator, and made in two steps.
+ghost use Rattle.std.specs.Prelude.{◌≡◌, ◌≤◌, IfOk, IsOk};
+ghost use Rattle.ix_maps.specs.SlotState.{slot_new};
+
+use crate::flatmap::{MetaFlatMap, Pair};
+use crate::slottable::{FixedSizeSlotTable, Link, SlotTable};
+use ix_cells::{ContainerFamily, HeapTable, InlineTable, MAX_FIXED_CAPACITY, Uninit};
+use std::alloc::{AllocError, Allocator, Global};
+use std::marker::PhantomData;
+
+/// A flat map with room for `CAPACITY` keys that is stored inline and does not allocate.
+///
+/// ```text
+/// let mut map = FixedSizeFlatMap::<u16, char, 2>::new();
+/// map.insert(80, 'a');                      // Ok(())
+/// map.insert(443, 'b');                     // Ok(())
+/// map.insert(8080, 'c');                    // Err(IsFull)
+/// map.contains(&443);                       // true
+/// ```
+///
+/// This is `FixedSizeFlatMap` of iceoryx2-bb-container.
+pub type FixedSizeFlatMap<K, V, const CAPACITY: usize> = MetaFlatMap<
+    K,
+    V,
+    InlineTable<Pair<K, V>, CAPACITY>,
+    InlineTable<Link, CAPACITY>,
+>;
+
+impl<K: Eq + Drop, V: Drop, const CAPACITY: usize> FixedSizeFlatMap<K, V, CAPACITY> {
+    /// Creates an empty map.
+    ///
+    /// O(`CAPACITY`). `CAPACITY` is at most [`MAX_FIXED_CAPACITY`].
+    pub fn new() -> Self
+        requires { CAPACITY ≤ MAX_FIXED_CAPACITY }
+        ensures { result ≡ slot_new CAPACITY }
+    {
+        let pairs = FixedSizeSlotTable::new();
+        MetaFlatMap { pairs }
+    }
+}
+
+/// A flat map whose memory is allocated from `A` when it is made, and deallocated when it is dropped.
+///
+/// ```text
+/// let mut map = FlatMap::<u16, char>::new(alloc, 3)?;
+/// map.insert(80, 'a');                      // Ok(())
+/// ```
+///
+/// This is `FlatMap` of iceoryx2-bb-container.
+pub type FlatMap<K, V, A = Global> = MetaFlatMap<
+    K,
+    V,
+    HeapTable<Pair<K, V>, A>,
+    HeapTable<Link, A>,
+>;
+
+impl<K: Eq + Drop, V: Drop, A: Allocator + Copy> FlatMap<K, V, A> {
+    /// Creates an empty map with room for `capacity` keys.
+    ///
+    /// O(`capacity`). Allocates from `alloc` at most four times. Returns `AllocError` if there is not enough memory; what
+    /// was allocated is deallocated then. A capacity of 0 needs no memory.
+    pub fn new(alloc: A, capacity: usize) -> Result<Self, AllocError>
+        ensures value { IfOk result (λ map. map ≡ slot_new capacity) }
+        ensures memory { capacity ≡ 0 → IsOk result }
+    {
+        let pairs = SlotTable::new(alloc, capacity)?;
+        Ok(MetaFlatMap { pairs })
+    }
+}
+
+/// A flat map that is made in two steps: first its capacity, as an [`UninitFlatMap`], and later its memory, allocated
+/// from `A`.
+///
+/// ```text
+/// let uninit = RelocatableFlatMap::<u16, char>::new_uninit(3);
+/// let mut map = uninit.init(alloc)?;
+/// map.insert(80, 'a');                      // Ok(())
+/// ```
+///
+/// This is `RelocatableFlatMap` of iceoryx2-bb-container.
+pub type RelocatableFlatMap<K, V, A = Global> = FlatMap<K, V, A>;
+
+impl<K: Eq + Drop, V: Drop, A: Allocator + Copy> RelocatableFlatMap<K, V, A> {
+    /// Creates an uninitialised map with room for `capacity` keys. Does not allocate. O(1).
+    #[inline]
+    pub fn new_uninit(capacity: usize) -> UninitFlatMap<K, V>
+        ensures { result ≡ capacity }
+    {
+        UninitFlatMap::new_uninit(capacity)
+    }
+}
+
+/// An uninitialised flat map: a capacity without memory.
+/// [`RelocatableContainer::init`](ix_cells::RelocatableContainer::init) makes it a [`RelocatableFlatMap`].
+///
+/// ```text
+/// match UninitFlatMap::<u16, u64>::new_uninit(3).init(alloc) {
+///     Ok(mut map) => drop(map.insert(80, 1)),
+///     Err(error) => retry_with(error.into_uninit()),
+/// }
+/// ```
+pub type UninitFlatMap<K, V> = Uninit<FlatMapFamily<K, V>>;
+
+/// The relocatable flat maps from `K` to `V`, one type for each allocator.
+#[derive(Drop)]
+pub struct FlatMapFamily<K, V> {
+    of: PhantomData<(K, V)>,
+}
+
+impl<K: Eq + Drop, V: Drop, A: Allocator + Copy> ContainerFamily<A> for FlatMapFamily<K, V> {
+    type Container = RelocatableFlatMap<K, V, A>;
+
+    ghost is_empty_with = { λ capacity map. map ≡ slot_new capacity };
+
+    /// Creates an empty map with room for `capacity` keys. O(`capacity`). Allocates from `alloc` at most four times.
+    #[inline]
+    fn with_capacity(alloc: A, capacity: usize) -> Result<RelocatableFlatMap<K, V, A>, AllocError> {
+        FlatMap::new(alloc, capacity)
+    }
+}

@@ -1,0 +1,111 @@
+//! The kinds of queues: stored inline, in memory of an allocator, and made in two steps.
+ghost use Rattle.std.specs.Prelude.{◌≡◌, ◌≤◌, IsOk, IfOk};
+ghost use Rattle.ix_cells.specs.Bounded.{bounded_new};
+
+use crate::queue::MetaQueue;
+use ix_cells::{ContainerFamily, HeapTable, InlineTable, MAX_FIXED_CAPACITY, Uninit};
+use std::alloc::{AllocError, Allocator, Global};
+use std::marker::PhantomData;
+
+/// A queue of at most `CAPACITY` items that is stored inline and does not allocate.
+///
+/// ```text
+/// let mut queue = FixedSizeQueue::<u64, 2>::new();
+/// queue.push(1);                    // true
+/// queue.push(2);                    // true
+/// queue.push(3);                    // false: the queue is full
+/// queue.push_with_overflow(3);      // Some(1)
+/// queue.pop();                      // Some(2)
+/// ```
+///
+/// This is `FixedSizeQueue` of iceoryx2-bb-container.
+pub type FixedSizeQueue<T, const CAPACITY: usize> = MetaQueue<T, InlineTable<T, CAPACITY>>;
+
+impl<T: Drop, const CAPACITY: usize> FixedSizeQueue<T, CAPACITY> {
+    /// Creates an empty queue.
+    ///
+    /// O(`CAPACITY`). `CAPACITY` is at most [`MAX_FIXED_CAPACITY`].
+    pub fn new() -> Self
+        requires { CAPACITY ≤ MAX_FIXED_CAPACITY }
+        ensures { result ≡ bounded_new CAPACITY }
+    {
+        MetaQueue::from_table(InlineTable::new())
+    }
+}
+
+/// A queue whose memory is allocated from `A` when it is made, and deallocated when it is dropped.
+///
+/// ```text
+/// let mut queue = Queue::new(alloc, 2)?;
+/// queue.push(1);                    // true
+/// queue.peek();                     // Some(&1)
+/// queue.clear();
+/// queue.pop();                      // None
+/// ```
+///
+/// This is `Queue` of iceoryx2-bb-container.
+pub type Queue<T, A = Global> = MetaQueue<T, HeapTable<T, A>>;
+
+/// A queue that is made in two steps: first its capacity, as an [`UninitQueue`], and later its memory, allocated from
+/// `A`.
+///
+/// ```text
+/// let uninit = RelocatableQueue::<u64>::new_uninit(2);
+/// let mut queue = uninit.init(alloc)?;
+/// queue.push(1);                    // true
+/// ```
+///
+/// This is `RelocatableQueue` of iceoryx2-bb-container.
+pub type RelocatableQueue<T, A = Global> = MetaQueue<T, HeapTable<T, A>>;
+
+impl<T: Drop, A: Allocator> Queue<T, A> {
+    /// Creates an empty queue with memory for `capacity` items.
+    ///
+    /// O(`capacity`). Allocates from `alloc` at most twice. Returns `AllocError` if there is not enough memory, and for
+    /// any capacity whose items would fill more than `isize::MAX` bytes. A capacity of 0 needs no memory.
+    pub fn new(alloc: A, capacity: usize) -> Result<Self, AllocError>
+        ensures value { IfOk result (λ queue. queue ≡ bounded_new capacity) }
+        ensures memory { capacity ≡ 0 → IsOk result }
+    {
+        Ok(MetaQueue::from_table(HeapTable::new(alloc, capacity)?))
+    }
+}
+
+impl<T: Drop, A: Allocator> RelocatableQueue<T, A> {
+    /// Creates an uninitialised queue for `capacity` items. Does not allocate. O(1).
+    #[inline]
+    pub fn new_uninit(capacity: usize) -> UninitQueue<T>
+        ensures { result ≡ capacity }
+    {
+        UninitQueue::new_uninit(capacity)
+    }
+}
+
+/// The relocatable queues of `T`, one type for each allocator.
+#[derive(Drop)]
+pub struct QueueFamily<T> {
+    of: PhantomData<T>,
+}
+
+impl<T: Drop, A: Allocator> ContainerFamily<A> for QueueFamily<T> {
+    type Container = RelocatableQueue<T, A>;
+
+    ghost is_empty_with = { λ capacity queue. queue ≡ bounded_new capacity };
+
+    /// Creates an empty queue with memory for `capacity` items. O(`capacity`). Allocates from `alloc` at most twice.
+    #[inline]
+    fn with_capacity(alloc: A, capacity: usize) -> Result<RelocatableQueue<T, A>, AllocError> {
+        Queue::new(alloc, capacity)
+    }
+}
+
+/// An uninitialised queue: a capacity without memory.
+/// [`RelocatableContainer::init`](ix_cells::RelocatableContainer::init) makes it a [`RelocatableQueue`].
+///
+/// ```text
+/// match UninitQueue::<u64>::new_uninit(2).init(alloc) {
+///     Ok(mut queue) => drop(queue.push(1)),
+///     Err(error) => retry_with(error.into_uninit()),
+/// }
+/// ```
+pub type UninitQueue<T> = Uninit<QueueFamily<T>>;

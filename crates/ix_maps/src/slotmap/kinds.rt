@@ -1,0 +1,199 @@
+//! The kinds of slot maps: stored inline, in memory of an allocator, and made in two steps.
+ghost use Rattle.std.specs.Prelude.{◌≡◌, ◌≤◌, IfOk, IsOk, IfErr};
+ghost use Rattle.ix_maps.specs.Generations.{map_new};
+ghost use Rattle.ix_maps.specs.SlotState.{slot_new};
+
+use crate::slotmap::{GenerationTable, MetaSlotMap};
+use crate::slottable::{FixedSizeSlotTable, Link, SlotTable};
+use ix_cells::{HeapTable, InitError, InlineTable, MAX_FIXED_CAPACITY, RelocatableContainer};
+use std::alloc::{AllocError, Allocator, Global};
+use std::marker::{Model, PhantomData};
+
+/// A slot map with `CAPACITY` places that is stored inline and does not allocate.
+///
+/// ```text
+/// let mut map = FixedSizeSlotMap::<char, 3>::new();
+/// map.insert('a');                          // Some: index 0, generation 0
+/// map.insert('b');                          // Some: index 1, generation 0
+/// map.remove(SlotMapKey::new(0, 0));        // Some('a')
+/// map.next_free_key();                      // Some: index 0, generation 1
+/// map.insert_at(2, 'c');                    // Some: index 2, generation 0
+/// ```
+///
+/// This is `FixedSizeSlotMap` of iceoryx2-bb-container.
+pub type FixedSizeSlotMap<T, const CAPACITY: usize> = MetaSlotMap<
+    T,
+    InlineTable<Option<T>, CAPACITY>,
+    InlineTable<Link, CAPACITY>,
+    InlineTable<u32, CAPACITY>,
+>;
+
+impl<T: Drop, const CAPACITY: usize> FixedSizeSlotMap<T, CAPACITY> {
+    /// Creates an empty map, whose places have generation 0.
+    ///
+    /// O(`CAPACITY`). `CAPACITY` is at most [`MAX_FIXED_CAPACITY`].
+    pub fn new() -> Self
+        requires { CAPACITY ≤ MAX_FIXED_CAPACITY }
+        ensures { result ≡ map_new CAPACITY 0 }
+    {
+        Self::starting_at(0)
+    }
+
+    /// Creates an empty map, whose places have this generation.
+    ///
+    /// O(`CAPACITY`). `CAPACITY` is at most [`MAX_FIXED_CAPACITY`].
+    pub fn starting_at(generation: u32) -> Self
+        requires { CAPACITY ≤ MAX_FIXED_CAPACITY }
+        ensures { result ≡ map_new CAPACITY generation }
+    {
+        MetaSlotMap {
+            slots: FixedSizeSlotTable::new(),
+            generations: GenerationTable::new(InlineTable::new(), generation),
+            retired: 0,
+        }
+    }
+}
+
+/// A slot map whose memory is allocated from `A` when it is made, and deallocated when it is dropped.
+///
+/// ```text
+/// let mut map = SlotMap::<char>::new(alloc, 3)?;
+/// map.insert('a');                          // Some: index 0, generation 0
+/// ```
+///
+/// This is `SlotMap` of iceoryx2-bb-container.
+pub type SlotMap<T, A = Global> = MetaSlotMap<
+    T,
+    HeapTable<Option<T>, A>,
+    HeapTable<Link, A>,
+    HeapTable<u32, A>,
+>;
+
+impl<T: Drop, A: Allocator + Copy> SlotMap<T, A> {
+    /// Creates an empty map with `capacity` places, which have generation 0.
+    ///
+    /// O(`capacity`). Allocates from `alloc` at most six times. Returns `AllocError` if there is not enough memory; what
+    /// was allocated is deallocated then. A capacity of 0 needs no memory.
+    pub fn new(alloc: A, capacity: usize) -> Result<Self, AllocError>
+        ensures value { IfOk result (λ map. map ≡ map_new capacity 0) }
+        ensures memory { capacity ≡ 0 → IsOk result }
+    {
+        Self::starting_at(alloc, capacity, 0)
+    }
+
+    /// Creates an empty map with `capacity` places, which have this generation.
+    ///
+    /// O(`capacity`). Allocates from `alloc` at most six times. Returns `AllocError` if there is not enough memory; what
+    /// was allocated is deallocated then. A capacity of 0 needs no memory.
+    pub fn starting_at(alloc: A, capacity: usize, generation: u32) -> Result<Self, AllocError>
+        ensures value { IfOk result (λ map. map ≡ map_new capacity generation) }
+        ensures memory { capacity ≡ 0 → IsOk result }
+    {
+        let slots = SlotTable::new(alloc, capacity)?;
+        let generations = HeapTable::new(alloc, capacity)?;
+        Ok(MetaSlotMap {
+            slots,
+            generations: GenerationTable::new(generations, generation),
+            retired: 0,
+        })
+    }
+}
+
+/// A slot map that is made in two steps: first its capacity, as an [`UninitSlotMap`], and later its memory, allocated
+/// from `A`.
+///
+/// ```text
+/// let uninit = RelocatableSlotMap::<char>::new_uninit(3);
+/// let mut map = uninit.init(alloc)?;
+/// map.insert('a');                          // Some: index 0, generation 0
+/// ```
+///
+/// This is `RelocatableSlotMap` of iceoryx2-bb-container.
+pub type RelocatableSlotMap<T, A = Global> = SlotMap<T, A>;
+
+impl<T: Drop, A: Allocator + Copy> RelocatableSlotMap<T, A> {
+    /// Creates an uninitialised map with `capacity` places, which will have generation 0. Does not allocate. O(1).
+    #[inline]
+    pub fn new_uninit(capacity: usize) -> UninitSlotMap<T>
+        ensures { result ≡ record { capacity = capacity; generation = 0 } }
+    {
+        UninitSlotMap::new_uninit(capacity)
+    }
+}
+
+/// An uninitialised slot map: a capacity and a generation, and no memory yet. Contracts see these two numbers.
+///
+/// It offers [`RelocatableContainer::init`] alone, which makes it a [`RelocatableSlotMap`].
+///
+/// ```text
+/// match UninitSlotMap::<u64>::new_uninit(3).init(alloc) {
+///     Ok(mut map) => drop(map.insert(1)),
+///     Err(error) => retry_with(error.into_uninit()),
+/// }
+/// ```
+#[derive(Drop)]
+pub struct UninitSlotMap<T> {
+    capacity: usize,
+    generation: u32,
+    of: PhantomData<T>,
+}
+
+impl<T> Model for UninitSlotMap<T> {
+    ghost use Rattle.ix_maps.specs.Generations.{SlotMapStart, slot_map_start_code};
+
+    ghost Value = { SlotMapStart };
+
+    ghost coded = { slot_map_start_code };
+
+    ghost view = { λ uninit. record { capacity = uninit.capacity;
+        generation = uninit.generation } };
+}
+
+impl<T> UninitSlotMap<T> {
+    /// Creates an uninitialised map with `capacity` places, which will have generation 0. Does not allocate. O(1).
+    #[inline]
+    pub fn new_uninit(capacity: usize) -> Self
+        ensures { result ≡ record { capacity = capacity; generation = 0 } }
+    {
+        Self::starting_at(capacity, 0)
+    }
+
+    /// Creates an uninitialised map with `capacity` places, which will have this generation. Does not allocate. O(1).
+    #[inline]
+    pub fn starting_at(capacity: usize, generation: u32) -> Self
+        ensures { result ≡ record { capacity = capacity; generation = generation } }
+    {
+        UninitSlotMap {
+            capacity,
+            generation,
+            of: PhantomData,
+        }
+    }
+}
+
+impl<T: Drop, A: Allocator + Copy> RelocatableContainer<A> for UninitSlotMap<T> {
+    type Ready = RelocatableSlotMap<T, A>;
+
+    ghost capacity_of = { λ uninit. uninit.capacity };
+
+    ghost is_empty_with = { λ capacity map. map.slots ≡ slot_new capacity };
+
+    #[inline]
+    fn new_uninit(capacity: usize) -> Self
+        ensures { result ≡ record { capacity = capacity; generation = 0 } }
+    {
+        UninitSlotMap::starting_at(capacity, 0)
+    }
+
+    /// Allocates from `alloc` at most six times, and returns the empty map.
+    fn init(self, alloc: A) -> Result<RelocatableSlotMap<T, A>, InitError<Self>>
+        ensures value { IfOk result (λ map. map ≡ map_new self.capacity self.generation) }
+        ensures refused { IfErr result (λ error. error ≡ self) }
+        ensures memory { self.capacity ≡ 0 → IsOk result }
+    {
+        match SlotMap::starting_at(alloc, self.capacity, self.generation) {
+            Ok(map) => Ok(map),
+            Err(AllocError) => Err(InitError::new(self)),
+        }
+    }
+}

@@ -1,0 +1,119 @@
+//! The kinds of slot tables: stored inline, in memory of an allocator, and made in two steps.
+ghost use Rattle.std.specs.Prelude.{◌≡◌, ◌≤◌, IfOk, IsOk};
+ghost use Rattle.ix_maps.specs.SlotState.{slot_new};
+
+use crate::slottable::{Link, MetaSlotTable};
+use ix_cells::{ContainerFamily, HeapTable, InlineTable, MAX_FIXED_CAPACITY, Table, Uninit};
+use std::alloc::{AllocError, Allocator, Global};
+use std::marker::PhantomData;
+
+/// A slot table with `CAPACITY` keys that is stored inline and does not allocate.
+///
+/// ```text
+/// let mut map = FixedSizeSlotTable::<char, 3>::new();
+/// map.insert('a');                          // Some: the key 0
+/// map.insert('b');                          // Some: the key 1
+/// map.remove(SlotTableKey::new(0));           // Some('a')
+/// map.next_free_key();                      // Some: the key 0
+/// map.insert_at(SlotTableKey::new(2), 'c');   // true
+/// ```
+///
+/// This is `FixedSizeSlotTable` of iceoryx2-bb-container.
+pub type FixedSizeSlotTable<T, const CAPACITY: usize> = MetaSlotTable<
+    T,
+    InlineTable<T, CAPACITY>,
+    InlineTable<Link, CAPACITY>,
+>;
+
+impl<T: Drop, const CAPACITY: usize> FixedSizeSlotTable<T, CAPACITY> {
+    /// Creates an empty map.
+    ///
+    /// O(`CAPACITY`). `CAPACITY` is at most [`MAX_FIXED_CAPACITY`].
+    pub fn new() -> Self
+        requires { CAPACITY ≤ MAX_FIXED_CAPACITY }
+        ensures { result ≡ slot_new CAPACITY }
+    {
+        MetaSlotTable::from_tables(InlineTable::new(), InlineTable::new())
+    }
+}
+
+/// A slot table whose memory is allocated from `A` when it is made, and deallocated when it is dropped.
+///
+/// ```text
+/// let mut map = SlotTable::<char>::new(alloc, 3)?;
+/// map.insert('a');                          // Some: the key 0
+/// ```
+///
+/// This is `SlotTable` of iceoryx2-bb-container.
+pub type SlotTable<T, A = Global> = MetaSlotTable<T, HeapTable<T, A>, HeapTable<Link, A>>;
+
+impl<T: Drop, A: Allocator + Copy> SlotTable<T, A> {
+    /// Creates an empty map with `capacity` keys.
+    ///
+    /// O(`capacity`). Allocates from `alloc` at most four times. Returns `AllocError` if there is not enough memory; what
+    /// was allocated is deallocated then. A capacity of 0 needs no memory.
+    pub fn new(alloc: A, capacity: usize) -> Result<Self, AllocError>
+        ensures value { IfOk result (λ map. map ≡ slot_new capacity) }
+        ensures memory { capacity ≡ 0 → IsOk result }
+    {
+        let values = HeapTable::new(alloc, capacity)?;
+        match HeapTable::new(alloc, capacity) {
+            Ok(links) => Ok(MetaSlotTable::from_tables(values, links)),
+            Err(error) => {
+                Table::<T>::end(values);
+                Err(error)
+            }
+        }
+    }
+}
+
+/// A slot table that is made in two steps: first its capacity, as an [`UninitSlotTable`], and later its memory, allocated
+/// from `A`.
+///
+/// ```text
+/// let uninit = RelocatableSlotTable::<char>::new_uninit(3);
+/// let mut map = uninit.init(alloc)?;
+/// map.insert('a');                          // Some: the key 0
+/// ```
+///
+/// This is `RelocatableSlotTable` of iceoryx2-bb-container.
+pub type RelocatableSlotTable<T, A = Global> = SlotTable<T, A>;
+
+impl<T: Drop, A: Allocator + Copy> RelocatableSlotTable<T, A> {
+    /// Creates an uninitialised map with `capacity` keys. Does not allocate. O(1).
+    #[inline]
+    pub fn new_uninit(capacity: usize) -> UninitSlotTable<T>
+        ensures { result ≡ capacity }
+    {
+        UninitSlotTable::new_uninit(capacity)
+    }
+}
+
+/// An uninitialised slot table: a capacity without memory.
+/// [`RelocatableContainer::init`](ix_cells::RelocatableContainer::init) makes it a [`RelocatableSlotTable`].
+///
+/// ```text
+/// match UninitSlotTable::<u64>::new_uninit(3).init(alloc) {
+///     Ok(mut map) => drop(map.insert(1)),
+///     Err(error) => retry_with(error.into_uninit()),
+/// }
+/// ```
+pub type UninitSlotTable<T> = Uninit<SlotTableFamily<T>>;
+
+/// The relocatable slot tables of `T`, one type for each allocator.
+#[derive(Drop)]
+pub struct SlotTableFamily<T> {
+    of: PhantomData<T>,
+}
+
+impl<T: Drop, A: Allocator + Copy> ContainerFamily<A> for SlotTableFamily<T> {
+    type Container = RelocatableSlotTable<T, A>;
+
+    ghost is_empty_with = { λ capacity map. map ≡ slot_new capacity };
+
+    /// Creates an empty map with `capacity` keys. O(`capacity`). Allocates from `alloc` at most four times.
+    #[inline]
+    fn with_capacity(alloc: A, capacity: usize) -> Result<RelocatableSlotTable<T, A>, AllocError> {
+        SlotTable::new(alloc, capacity)
+    }
+}

@@ -1,0 +1,138 @@
+//! The kinds of heap strings: made in one step, and made in two.
+ghost use Rattle.std.specs.Prelude.{◌≡◌, ℕ, List, codes, IsOk, IfOk};
+ghost use Rattle.ix_cells.specs.Bounded.{bounded_new};
+
+use crate::string::heap_string::HeapString;
+use ix_cells::{ContainerFamily, PolymorphicVec, Uninit};
+use std::alloc::{AllocError, Allocator, Global};
+use std::marker::PhantomData;
+
+/// The kind of a [`HeapString`](crate::HeapString), whose name its `Debug` text begins with.
+pub trait HeapStringKind {
+    /// The name of the kind's type.
+    ghost text: { List ℕ };
+
+    /// Returns the name of the kind's type.
+    fn name() -> &'static str
+        ensures { result.now ≡ text };
+}
+
+/// The kind of [`PolymorphicString`](crate::PolymorphicString).
+#[derive(Drop)]
+pub struct Polymorphic;
+
+impl HeapStringKind for Polymorphic {
+    ghost text = { codes "PolymorphicString" };
+
+    #[inline]
+    fn name() -> &'static str {
+        "PolymorphicString"
+    }
+}
+
+/// The kind of [`RelocatableString`](crate::RelocatableString).
+#[derive(Drop)]
+pub struct Relocatable;
+
+impl HeapStringKind for Relocatable {
+    ghost text = { codes "RelocatableString" };
+
+    #[inline]
+    fn name() -> &'static str {
+        "RelocatableString"
+    }
+}
+
+/// A string in memory of the allocator `A`, which is allocated when the string is made.
+///
+/// ```text
+/// let mut string = PolymorphicString::new(alloc, 4)?;
+/// string.push_bytes(b"abc")?;
+/// let mut copy = string.try_clone()?;
+/// copy.push(100)?;
+/// copy > string;    // true: "abcd" > "abc"
+/// ```
+///
+/// This is `PolymorphicString` of iceoryx2-bb-container.
+pub type PolymorphicString<A = Global> = HeapString<Polymorphic, A>;
+
+impl<A: Allocator> PolymorphicString<A> {
+    /// Creates an empty string that can hold `capacity` bytes. Allocates from `alloc` once, or not at all if `capacity`
+    /// is 0. O(1).
+    ///
+    /// Returns `AllocError` if there is no memory for `capacity` bytes, and always if `capacity` is greater than
+    /// `isize::MAX`.
+    pub fn new(alloc: A, capacity: usize) -> Result<Self, AllocError>
+        ensures value { IfOk result (λ string. string ≡ bounded_new capacity) }
+        ensures memory { capacity ≡ 0 → IsOk result }
+    {
+        Ok(HeapString::in_vector(PolymorphicVec::new(alloc, capacity)?))
+    }
+}
+
+impl<A: Allocator + Copy> PolymorphicString<A> {
+    /// Returns a string with the same bytes and the same capacity. Allocates once from the string's allocator, or not
+    /// at all if the capacity is 0. O(`len`).
+    ///
+    /// Returns `AllocError` if there is no memory.
+    pub fn try_clone(&self) -> Result<Self, AllocError>
+        ensures value { IfOk result (λ string. string ≡ self.now) }
+        ensures memory { self.now.capacity ≡ 0 → IsOk result }
+    {
+        Ok(HeapString {
+            bytes: self.bytes.try_clone()?,
+            kind: PhantomData,
+        })
+    }
+}
+
+/// A string that is made in two steps: an [`UninitString`] has a capacity, and its `init` allocates the memory from the
+/// allocator `A`.
+///
+/// ```text
+/// let uninit = RelocatableString::<Global>::new_uninit(2);
+/// let mut string = uninit.init(alloc)?;
+/// string.push(97);    // Ok(())
+/// ```
+///
+/// This is `RelocatableString` of iceoryx2-bb-container.
+pub type RelocatableString<A = Global> = HeapString<Relocatable, A>;
+
+impl<A: Allocator> RelocatableString<A> {
+    /// Creates an uninitialised string for `capacity` bytes. Does not allocate. O(1).
+    #[inline]
+    pub fn new_uninit(capacity: usize) -> UninitString
+        ensures { result ≡ capacity }
+    {
+        UninitString::new_uninit(capacity)
+    }
+}
+
+/// The family of relocatable strings: one type for each allocator.
+#[derive(Drop)]
+pub struct StringFamily;
+
+impl<A: Allocator> ContainerFamily<A> for StringFamily {
+    type Container = RelocatableString<A>;
+
+    ghost is_empty_with = { λ capacity string. string ≡ bounded_new capacity };
+
+    /// Allocates from `alloc` once, or not at all if `capacity` is 0. O(1).
+    #[inline]
+    fn with_capacity(alloc: A, capacity: usize) -> Result<RelocatableString<A>, AllocError> {
+        let bytes = PolymorphicVec::new(alloc, capacity)?;
+        Ok(HeapString::in_vector(bytes))
+    }
+}
+
+/// An uninitialised string: a capacity, and no memory yet.
+/// [`RelocatableContainer::init`](ix_cells::RelocatableContainer::init) makes it a [`RelocatableString`].
+///
+/// ```text
+/// let uninit = UninitString::new_uninit(1000);
+/// match uninit.init(alloc) {
+///     Ok(mut string) => string.push_bytes(b"later")?,
+///     Err(error) => retry_with(error.into_uninit()),
+/// }
+/// ```
+pub type UninitString = Uninit<StringFamily>;
