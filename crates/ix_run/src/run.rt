@@ -1,10 +1,12 @@
 //! Scripts: lines are read as commands of `ix_commands`, and replies are written as lines.
 //!
 //! ```text
-//! let mut queue = FixedSizeQueue::<u64, 1>::new();
-//! queue.run_command(QueueCommand::Push(7));    // Reply::Bool(true)
-//! run_queue(alloc, &mut queue, &[QueueCommand::Pop, QueueCommand::Pop]);    // Ok: Reply::Value(7), Reply::None
+//! read_header(b"queue fixed 3");    // Some: Container::Queue, Storage::Fixed(FixedCapacity::Three)
 //! read_queue_command(b"push 7");    // Some(QueueCommand::Push(7))
+//! let mut reader = b"queue fixed 3\npush 7\n".as_slice();
+//! let mut writer = Vec::new(alloc);
+//! script(alloc, &mut reader, &mut writer)?;
+//! writer.as_slice();                // b"ready\ntrue\n"
 //! ```
 
 mod containers;

@@ -22,7 +22,8 @@ mod vector_text;
 pub use escape::{EscapedByte, as_escaped_string, escape_byte};
 pub use heap_string::HeapString;
 pub use kinds::{
-    HeapStringKind, Polymorphic, PolymorphicString, Relocatable, RelocatableString, StringFamily, UninitString,
+    HeapStringKind, Polymorphic, PolymorphicString, Relocatable, RelocatableString, StringFamily,
+    UninitString,
 };
 pub use modification_error::StringModificationError;
 pub use nul::strnlen;

@@ -40,8 +40,10 @@ impl<T, A: Allocator> Model for PolymorphicVec<T, A> {
 
     ghost coded = { bounded_code T.code };
 
-    ghost view = { λ vector. record { items = vector.items.items;
-        capacity = vec_capacity vector.items } };
+    ghost view = { λ vector. record {
+      items = vector.items.items;
+      capacity = vec_capacity vector.items;
+    } };
 
     ghost invariant = { λ vector. length vector.items.items ≤ vec_capacity vector.items };
 }

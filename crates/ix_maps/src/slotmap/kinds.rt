@@ -145,8 +145,10 @@ impl<T> Model for UninitSlotMap<T> {
 
     ghost coded = { slot_map_start_code };
 
-    ghost view = { λ uninit. record { capacity = uninit.capacity;
-        generation = uninit.generation } };
+    ghost view = { λ uninit. record {
+      capacity = uninit.capacity;
+      generation = uninit.generation;
+    } };
 }
 
 impl<T> UninitSlotMap<T> {

@@ -14,8 +14,8 @@ use crate::run::reply_writer::ReplyWriter;
 use crate::run::served::Served;
 use crate::run::serving::serve_made;
 use crate::run::slot_lines::SlotMaps;
-use crate::run::table_lines::SlotTables;
 use crate::run::string_lines::Strings;
+use crate::run::table_lines::SlotTables;
 use crate::run::vec_lines::Vectors;
 use crate::run::{Container, FixedCapacity, Header, ScriptFault, Storage};
 use bumpalo::Bump;
@@ -23,12 +23,12 @@ use std::alloc::{Allocator, Global};
 use std::io::{Read, Write};
 
 /// A container that headers name.
-pub trait Named {
+pub(crate) trait Named {
     ghost container: { Self → Container };
 }
 
 /// A container that is stored inline, with a capacity of `N`.
-pub trait MakesInline<const N: usize>: Named {
+pub(crate) trait MakesInline<const N: usize>: Named {
     type Inline: Served + Drop;
 
     /// Returns an empty container.
@@ -39,7 +39,7 @@ pub trait MakesInline<const N: usize>: Named {
 }
 
 /// A container that is stored in memory of `A`.
-pub trait MakesIn<A: Allocator>: Named {
+pub(crate) trait MakesIn<A: Allocator>: Named {
     type Made: Served + Drop;
 
     /// Returns an empty container, or `None` if there is no memory.
@@ -150,7 +150,7 @@ fn serve_header_in<'a, R: Read, W: Write>(
 
 /// Makes the container that the header asks for, and replies to the lines that come. An arena is made in any case; it
 /// allocates nothing for itself.
-pub fn serve_header<R: Read, W: Write>(
+pub(crate) fn serve_header<R: Read, W: Write>(
     alloc: Global,
     header: Header,
     lines: &mut LineReader<'_, R>,

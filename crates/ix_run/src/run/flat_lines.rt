@@ -73,7 +73,7 @@ impl<S: Table<Pair<u64, u64>>, L: Table<Link>> Served for MetaFlatMap<u64, u64, 
 
 /// The flat maps that headers name.
 #[derive(Drop)]
-pub struct FlatMaps;
+pub(crate) struct FlatMaps;
 
 impl Named for FlatMaps {
     ghost use Rattle.ix_run.specs.declared.run.header.Container.TheVariants as container;

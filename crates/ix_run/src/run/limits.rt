@@ -4,16 +4,16 @@
 pub const MAX_LINE_LEN: usize = 200;
 
 /// The number of bytes of the buffer of input, and of that of replies.
-pub const BUFFER_LEN: usize = 32_768;
+pub(crate) const BUFFER_LEN: usize = 32_768;
 
 /// The maximum number of digits of a `u64`.
-pub const MAX_DIGITS: usize = 20;
+pub(crate) const MAX_DIGITS: usize = 20;
 
 /// The text of a key is at most this long: two numbers, and a colon between.
-pub const MAX_KEY_LEN: usize = 41;
+pub(crate) const MAX_KEY_LEN: usize = 41;
 
 /// A reply of a line is at most this long, but for that of `show`.
-pub const MAX_REPLY_LEN: usize = 72;
+pub(crate) const MAX_REPLY_LEN: usize = 72;
 
 /// The maximum capacity that a header may name for a container in the machine's memory or in an arena.
 pub const MAX_CAPACITY: usize = 1000;
@@ -22,4 +22,4 @@ pub const MAX_CAPACITY: usize = 1000;
 pub const MAX_NUMBERS: usize = 100;
 
 /// The number of reads of an input, and of tries of a write that is interrupted.
-pub const MAX_TRIES: u64 = u64::MAX;
+pub(crate) const MAX_TRIES: u64 = u64::MAX;

@@ -39,7 +39,7 @@ fn read_once<R: Read>(reader: &mut R, buffer: &mut [u8]) -> Result<Option<usize>
 /// The last piece that was read, and the current line: where it lies in the piece, or, if it came in several pieces, its
 /// bytes.
 #[derive(Drop)]
-pub struct LineBuffer {
+pub(crate) struct LineBuffer {
     piece: [u8; BUFFER_LEN],
     line_start: usize,
     line_end: usize,
@@ -66,7 +66,7 @@ impl Model for LineBuffer {
     ghost invariant = { λ buffer. (length buffer.piece ≡ BUFFER_LEN)
         × (buffer.line_start ≤ buffer.line_end)
         × (buffer.line_end ≤ BUFFER_LEN) × (buffer.rest_start ≤ buffer.rest_end)
-            × (buffer.rest_end ≤ BUFFER_LEN) };
+        × (buffer.rest_end ≤ BUFFER_LEN) };
 }
 
 impl LineBuffer {

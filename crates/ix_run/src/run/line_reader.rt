@@ -11,7 +11,7 @@ use std::io::{Read, Write};
 
 /// A reader, and what was read from it last.
 #[derive(Drop)]
-pub struct LineReader<'r, R> {
+pub(crate) struct LineReader<'r, R> {
     reader: &'r mut R,
     buffer: LineBuffer,
     is_at_end: bool,

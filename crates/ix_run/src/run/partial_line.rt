@@ -8,7 +8,7 @@ use std::marker::Model;
 
 /// The bytes of the current line so far, unless there are more than [`MAX_LINE_LEN`].
 #[derive(Drop)]
-pub struct PartialLine {
+pub(crate) struct PartialLine {
     bytes: [u8; MAX_LINE_LEN],
     len: usize,
 }

@@ -56,7 +56,7 @@ impl<S: Table<u64>> Served for MetaQueue<u64, S> {
 
 /// The queues that headers name.
 #[derive(Drop)]
-pub struct Queues;
+pub(crate) struct Queues;
 
 impl Named for Queues {
     ghost use Rattle.ix_run.specs.declared.run.header.Container.TheVariants as container;

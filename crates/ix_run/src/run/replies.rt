@@ -36,7 +36,7 @@ fn put_number_line(replies: &mut ReplyBuffer, number: u64)
 }
 
 /// A key of replies.
-pub trait ReplyKey: Copy {
+pub(crate) trait ReplyKey: Copy {
     /// Its text, at most [`MAX_KEY_LEN`] bytes.
     ghost text: { Self → List ℕ };
 
@@ -145,7 +145,7 @@ impl<K: ReplyKey> Piece for Reply<K, u64> {
 }
 
 /// Numbers that `show` prints by their index.
-pub trait Listing {
+pub(crate) trait Listing {
     ghost items: { Self → List ℕ };
 
     /// Returns the number of items.
@@ -160,7 +160,7 @@ pub trait Listing {
 
 /// A number of a list, after a space unless it is the first.
 #[derive(Drop)]
-pub struct ListedNumber {
+pub(crate) struct ListedNumber {
     pub is_first: bool,
     pub number: u64,
 }
@@ -177,7 +177,7 @@ impl Piece for ListedNumber {
 }
 
 /// Appends the items separated by single spaces, or a dash if there are none.
-pub fn append_items<L: Listing, W: Write>(
+pub(crate) fn append_items<L: Listing, W: Write>(
     replies: &mut ReplyWriter<'_, W>,
     list: &L,
 ) -> Result<(), ScriptFault>

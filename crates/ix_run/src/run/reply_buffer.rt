@@ -6,7 +6,7 @@ use crate::run::limits::{BUFFER_LEN, MAX_DIGITS, MAX_REPLY_LEN};
 use std::marker::Model;
 
 /// What is appended at once: at most [`MAX_REPLY_LEN`] bytes.
-pub trait Piece {
+pub(crate) trait Piece {
     /// Its bytes.
     ghost text: { Self → List ℕ };
 
@@ -18,7 +18,7 @@ pub trait Piece {
 
 /// Bytes of replies, at most [`BUFFER_LEN`], so that one write carries many of them.
 #[derive(Drop)]
-pub struct ReplyBuffer {
+pub(crate) struct ReplyBuffer {
     bytes: [u8; BUFFER_LEN],
     len: usize,
 }

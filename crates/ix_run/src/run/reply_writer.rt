@@ -48,7 +48,7 @@ fn write_all<W: Write>(writer: &mut W, bytes: &[u8]) -> Result<(), ScriptFault>
 
 /// A writer, and the replies that are not written yet.
 #[derive(Drop)]
-pub struct ReplyWriter<'w, W> {
+pub(crate) struct ReplyWriter<'w, W> {
     writer: &'w mut W,
     pending: ReplyBuffer,
 }

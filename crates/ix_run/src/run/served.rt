@@ -12,7 +12,7 @@ use crate::run::{Reply, ScriptFault};
 use std::io::Write;
 
 /// A container that runs the commands which lines spell, and shows what it holds.
-pub trait Served {
+pub(crate) trait Served {
     /// The type of the keys in replies.
     type Key: ReplyKey;
 
@@ -57,7 +57,7 @@ fn show_line<C: Served, W: Write>(
 
 /// Does what a line asks, and appends the reply. The line is `None` if it is too long.
 #[inline(always)]
-pub fn answer<C: Served, W: Write>(
+pub(crate) fn answer<C: Served, W: Write>(
     container: &mut C,
     line: Option<&[u8]>,
     replies: &mut ReplyWriter<'_, W>,

@@ -22,7 +22,7 @@ fn header_in(line: Option<&[u8]>) -> Option<Header>
 }
 
 /// Replies `?` to the lines before the next header, and returns it, or `None` at the end of the input.
-pub fn next_header<R: Read, W: Write>(
+pub(crate) fn next_header<R: Read, W: Write>(
     lines: &mut LineReader<'_, R>,
     replies: &mut ReplyWriter<'_, W>,
 ) -> Result<Option<Header>, ScriptFault>
@@ -72,7 +72,7 @@ fn serve<C: Served + Drop, R: Read, W: Write>(
 }
 
 /// Does what [`serve`] does with the container, or writes the pending replies and stops if it was not made.
-pub fn serve_made<C: Served + Drop, R: Read, W: Write>(
+pub(crate) fn serve_made<C: Served + Drop, R: Read, W: Write>(
     made: Option<C>,
     lines: &mut LineReader<'_, R>,
     replies: &mut ReplyWriter<'_, W>,

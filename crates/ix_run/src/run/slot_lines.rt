@@ -95,7 +95,7 @@ impl<S: Table<Option<u64>>, L: Table<Link>, G: Table<u32>> Served for MetaSlotMa
 
 /// The slot maps that headers name, with the generation of their places at first, if the header says it.
 #[derive(Drop)]
-pub struct SlotMaps {
+pub(crate) struct SlotMaps {
     pub start: Option<u32>,
 }
 

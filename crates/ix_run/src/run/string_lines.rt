@@ -19,7 +19,7 @@ use std::io::Write;
 
 /// A string, and room for the bytes of a line.
 #[derive(Drop)]
-pub struct StringLines<S: String> {
+pub(crate) struct StringLines<S: String> {
     pub string: S,
     bytes: [u8; MAX_NUMBERS],
 }
@@ -142,7 +142,7 @@ impl<S: String> Served for StringLines<S> {
 
 /// The strings that headers name.
 #[derive(Drop)]
-pub struct Strings;
+pub(crate) struct Strings;
 
 impl Named for Strings {
     ghost use Rattle.ix_run.specs.declared.run.header.Container.TheVariants as container;

@@ -94,7 +94,7 @@ impl<S: Table<u64>, L: Table<Link>> Served for MetaSlotTable<u64, S, L> {
 
 /// The slot tables that headers name.
 #[derive(Drop)]
-pub struct SlotTables;
+pub(crate) struct SlotTables;
 
 impl Named for SlotTables {
     ghost use Rattle.ix_run.specs.declared.run.header.Container.TheVariants as container;

@@ -16,7 +16,7 @@ use std::io::Write;
 
 /// A vector, and room for the numbers of a line.
 #[derive(Drop)]
-pub struct VecLines<V: Vector<u64>> {
+pub(crate) struct VecLines<V: Vector<u64>> {
     pub vector: V,
     numbers: [u64; MAX_NUMBERS],
 }
@@ -78,7 +78,7 @@ impl<V: Vector<u64>> Served for VecLines<V> {
 
 /// The vectors that headers name.
 #[derive(Drop)]
-pub struct Vectors;
+pub(crate) struct Vectors;
 
 impl Named for Vectors {
     ghost use Rattle.ix_run.specs.declared.run.header.Container.TheVariants as container;

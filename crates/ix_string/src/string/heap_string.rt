@@ -11,10 +11,9 @@ ghost use Rattle.std.proofs.Common.{rules};
 ghost use Rattle.ix_string.specs.Debug.{heap_debug_text};
 ghost use Rattle.ix_string.specs.Escape.{escaped_text};
 
-use crate::string::String;
 use crate::string::escape::Escaped;
-use crate::string::HeapStringKind;
 use crate::string::vector_text::{insert_into, remove_from, retain_in};
+use crate::string::{HeapStringKind, String};
 use ix_cells::{PolymorphicVec, Vector};
 use std::alloc::{Allocator, Global};
 use std::cmp::Ordering;
