@@ -165,7 +165,9 @@ const NORMAL: &[(&[u8], bool, bool)] = &[
 ];
 
 /// Returns what `is_normal_form` of the rules returns.
-fn is_known_normal<R: Rules<CAPACITY>, const CAPACITY: usize>(string: &Semantic<R, CAPACITY>) -> bool {
+fn is_known_normal<R: Rules<CAPACITY>, const CAPACITY: usize>(
+    string: &Semantic<R, CAPACITY>,
+) -> bool {
     R::is_normal_form(string.as_string())
 }
 
@@ -174,11 +176,21 @@ fn texts_known_to_be_normal_forms() -> Result<(), Fail> {
     let findings = Findings::new();
     for (row, (bytes, paths, others)) in NORMAL.iter().enumerate() {
         match Semantic::<TrailingSlashRules, 255>::new(bytes) {
-            Ok(path) => findings.expect_same_at(is_known_normal(&path), *paths, row, "trailing slashes"),
+            Ok(path) => findings.expect_same_at(
+                is_known_normal(&path),
+                *paths,
+                row,
+                "trailing slashes",
+            ),
             Err(_) => findings.miss("a path"),
         }
         match Semantic::<NonEmptyRules, 255>::new(bytes) {
-            Ok(text) => findings.expect_same_at(is_known_normal(&text), *others, row, "rules that do not say"),
+            Ok(text) => findings.expect_same_at(
+                is_known_normal(&text),
+                *others,
+                row,
+                "rules that do not say",
+            ),
             Err(_) => findings.miss("a text"),
         }
     }

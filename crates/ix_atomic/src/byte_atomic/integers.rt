@@ -68,7 +68,7 @@ impl AtomicCopy for u16 {
 
     ghost one_value = { λ m n m_is n_is same.
         sym (from_le_bytes-to_le_bytes_2 m m_is) ∙ ap (from_le_bytes w16) same
-            ∙ from_le_bytes-to_le_bytes_2 n n_is };
+        ∙ from_le_bytes-to_le_bytes_2 n n_is };
 }
 
 /// Four bytes, the least one first.
@@ -95,7 +95,7 @@ impl AtomicCopy for u32 {
 
     ghost one_value = { λ m n m_is n_is same.
         sym (from_le_bytes-to_le_bytes_4 m m_is) ∙ ap (from_le_bytes w32) same
-            ∙ from_le_bytes-to_le_bytes_4 n n_is };
+        ∙ from_le_bytes-to_le_bytes_4 n n_is };
 }
 
 /// Eight bytes, the least one first.
@@ -122,7 +122,7 @@ impl AtomicCopy for u64 {
 
     ghost one_value = { λ m n m_is n_is same.
         sym (from_le_bytes-to_le_bytes_8 m m_is) ∙ ap (from_le_bytes w64) same
-            ∙ from_le_bytes-to_le_bytes_8 n n_is };
+        ∙ from_le_bytes-to_le_bytes_8 n n_is };
 }
 
 /// As the `u64` of the same bits in two's complement.
