@@ -1,5 +1,18 @@
-//! The kernels of the library `ix_bench`, each with its peer.
-use crate::{plain, Operation};
+//! The kernels of the library `ix_bench`, beside their peers, and at any capacity.
+use crate::{plain, Kernel, Operation};
+
+/// The library's kernel of a name.
+macro_rules! kernel {
+    ($linked:ident) => {
+        |rounds, param| {
+            extern "C" {
+                fn $linked(rounds: u64, param: u64) -> u64;
+            }
+            // SAFETY: the library proves that its kernels are safe for all numbers.
+            unsafe { $linked(rounds, param) }
+        }
+    };
+}
 
 /// Lists the library's kernels, of which one may serve several operations, beside their peers.
 macro_rules! operations {
@@ -7,13 +20,7 @@ macro_rules! operations {
         pub const OPERATIONS: &[Operation] = &[$(Operation {
             name: stringify!($name),
             param: $param,
-            ours: |rounds, param| {
-                extern "C" {
-                    fn $linked(rounds: u64, param: u64) -> u64;
-                }
-                // SAFETY: the library proves that its kernels are safe for all numbers.
-                unsafe { $linked(rounds, param) }
-            },
+            ours: kernel!($linked),
             peer: $peer,
             theirs: $theirs,
         }),*];
@@ -62,3 +69,21 @@ operations! {
     seq_read_64 = ix_bench_seq_read, 64, "sequence lock", plain::seq_read;
     seq_read_256 = ix_bench_seq_read, 256, "sequence lock", plain::seq_read;
 }
+
+/// What a round of each kernel does whose `param` is a capacity.
+pub const OF_ANY_CAPACITY: &[(&str, Kernel)] = &[
+    ("queue: push, pop", kernel!(ix_bench_queue_heap)),
+    ("queue: push_with_overflow", kernel!(ix_bench_overflow_heap)),
+    ("slot table: remove, insert, get", kernel!(ix_bench_slot_churn_heap)),
+    ("slot table: insert_at or remove", kernel!(ix_bench_slot_at)),
+    ("slot table: iterate", kernel!(ix_bench_slot_iter)),
+    ("slot map: remove, insert, get", kernel!(ix_bench_slot_map_churn_heap)),
+    ("slot map: insert_at or remove", kernel!(ix_bench_slot_map_at)),
+    ("slot map: iterate", kernel!(ix_bench_slot_map_iter)),
+    ("flat map: get a held key", kernel!(ix_bench_flat_get)),
+    ("flat map: get an absent key", kernel!(ix_bench_flat_miss)),
+    ("vector: push, pop", kernel!(ix_bench_vec_push_pop_heap)),
+    ("vector: insert and remove at 0", kernel!(ix_bench_vec_ins_rem_heap)),
+    ("string: push, pop", kernel!(ix_bench_str_push_pop_heap)),
+    ("string: find an absent text", kernel!(ix_bench_str_find_heap)),
+];

@@ -1,12 +1,16 @@
-//! Times Tolkzin's containers beside Rust's own on the same operations, and prints one table.
+//! Times Tolkzin's containers beside Rust's own on the same operations, and at growing capacities, and prints a table of each.
 //!
 //! Each operation runs on both sides in turn, many times; the table has the medians and the least times, and the ratio of
 //! the least ones, which other work on the machine disturbs least. Both sides answer a checksum, which must be the same.
-//! `bench PICTURE.svg` also writes a picture of the ratios.
+//! `bench RATIOS.svg GROWTH.svg` also writes a picture of the ratios, and one of what grows with the capacity.
+mod capacities;
+mod drawing;
+mod growth;
 mod linked;
 mod picture;
 mod plain;
 
+use capacities::{Growth, CAPACITIES};
 use picture::Bar;
 use std::hint::black_box;
 use std::time::Instant;
@@ -46,6 +50,16 @@ const MILLISECONDS_A_RUN: f64 = 4.0;
 const ROUNDS_TO_COMPARE: u64 = 1000;
 
 fn main() {
+    let rows = printed_ratios();
+    let curves = printed_growth();
+    if let [ratios, growth] = &std::env::args().skip(1).collect::<Vec<_>>()[..] {
+        let bars: Vec<Bar> = rows.iter().map(bar).collect();
+        std::fs::write(ratios, picture::of(&bars)).expect("the picture of ratios can be written");
+        std::fs::write(growth, growth::of(&curves)).expect("the picture of growth can be written");
+    }
+}
+
+fn printed_ratios() -> Vec<Timed> {
     println!("{:<20} {:>10} {:>10} {:>10} {:>10} {:>7}  {}", "operation", "Tolkzin ns", "Rust ns", "(least)", "(least)", "ratio", "Rust's side");
     let mut rows = Vec::new();
     for operation in linked::OPERATIONS {
@@ -54,10 +68,20 @@ fn main() {
         println!("{:<20} {:>10.2} {:>10.2} {:>10.2} {:>10.2} {:>7.2}  {}", row.name, ours.median, theirs.median, ours.least, theirs.least, row.ratio(), row.peer);
         rows.push(row);
     }
-    if let Some(path) = std::env::args().nth(1) {
-        let bars: Vec<Bar> = rows.iter().map(bar).collect();
-        std::fs::write(&path, picture::of(&bars)).expect("the picture can be written");
+    rows
+}
+
+fn printed_growth() -> Vec<Growth> {
+    let printed = |operation: &str, fields: [String; CAPACITIES.len()]| println!("{operation:<32}{}", fields.map(|field| format!("{field:>11}")).concat());
+    println!();
+    printed("least ns at the capacity", CAPACITIES.map(growth::with_commas));
+    let mut curves = Vec::new();
+    for operation in linked::OF_ANY_CAPACITY {
+        let curve = capacities::growth(operation);
+        printed(curve.operation, curve.times.map(|time| format!("{time:.1}")));
+        curves.push(curve);
     }
+    curves
 }
 
 fn bar(row: &Timed) -> Bar<'_> {

@@ -1,6 +1,7 @@
 //! A picture of the ratios: a bar for each operation, over a dashed line where both sides take equally long.
 //!
 //! Names stand left of the plot and numbers right of it, so no line runs through a label.
+use crate::drawing::{dashed, label, line, opening, Point, BLUE, DARK, FAINT, ORANGE};
 
 pub struct Bar<'a> {
     pub operation: &'a str,
@@ -27,16 +28,12 @@ const ROW: usize = 22;
 const THICKNESS: usize = 14;
 const HEAD_LENGTH: usize = 12;
 
-const SHORTER: &str = "#2f6f9f";
-const LONGER: &str = "#c8701a";
-const DARK: &str = "#222222";
-const FAINT: &str = "#d0d0d0";
-
-type Point = (usize, usize);
+const SHORTER: &str = BLUE;
+const LONGER: &str = ORANGE;
 
 pub fn of(bars: &[Bar]) -> String {
     let bottom = TOP + ROW * bars.len();
-    let mut lines = opening(bottom + AXIS_HEIGHT);
+    let mut lines = opening(PICTURE_WIDTH, bottom + AXIS_HEIGHT);
     lines.extend(heading());
     lines.extend(legend());
     lines.extend(stripes(bottom));
@@ -44,15 +41,6 @@ pub fn of(bars: &[Bar]) -> String {
     lines.extend(bars.iter().zip((TOP..).step_by(ROW)).flat_map(|(bar, top)| row(top, bar)));
     lines.push("</svg>\n".to_owned());
     lines.join("\n")
-}
-
-fn opening(height: usize) -> Vec<String> {
-    let size = format!(r#"width="{PICTURE_WIDTH}" height="{height}" viewBox="0 0 {PICTURE_WIDTH} {height}""#);
-    let font = format!(r#"font-family="sans-serif" font-size="12" fill="{DARK}""#);
-    vec![
-        format!(r#"<svg xmlns="http://www.w3.org/2000/svg" {size} {font}>"#),
-        r##"<rect width="100%" height="100%" fill="#ffffff"/>"##.to_owned(),
-    ]
 }
 
 fn heading() -> Vec<String> {
@@ -79,7 +67,7 @@ fn legend() -> Vec<String> {
         words(less, "Tolkzin takes less"),
         thick((longer, top), length, LONGER),
         words(longer, "Tolkzin takes longer"),
-        even_line((even, middle), (even + length, middle)),
+        dashed((even, middle), (even + length, middle)),
         words(even, "both take equally long"),
         thick((past, top), length - HEAD_LENGTH, LONGER),
         arrow_head((past + length - HEAD_LENGTH, top), LONGER),
@@ -98,7 +86,7 @@ fn axis(bottom: usize) -> Vec<String> {
     let mut lines = Vec::new();
     for tick in TICKS {
         let x = LEFT + length_of(tick);
-        lines.push(if tick == 1.0 { even_line((x, TOP), (x, bottom)) } else { line((x, TOP), (x, bottom), FAINT) });
+        lines.push(if tick == 1.0 { dashed((x, TOP), (x, bottom)) } else { line((x, TOP), (x, bottom), FAINT) });
         lines.push(line((x, bottom), (x, bottom + 5), DARK));
         lines.push(label((x, bottom + 19), "middle", &tick.to_string()));
     }
@@ -136,33 +124,9 @@ fn arrow_head((x, bar_top): Point, colour: &str) -> String {
     format!(r#"<polygon points="{x},{above} {tip},{middle} {x},{below}" fill="{colour}"/>"#)
 }
 
-fn even_line((x1, y1): Point, (x2, y2): Point) -> String {
-    format!(r#"<line x1="{x1}" y1="{y1}" x2="{x2}" y2="{y2}" stroke="{DARK}" stroke-dasharray="4 3"/>"#)
-}
-
-fn line((x1, y1): Point, (x2, y2): Point, colour: &str) -> String {
-    format!(r#"<line x1="{x1}" y1="{y1}" x2="{x2}" y2="{y2}" stroke="{colour}"/>"#)
-}
-
-/// All words of the picture are written here, so none goes unescaped.
-fn label((x, baseline): Point, anchor: &str, words: &str) -> String {
-    format!(r#"<text x="{x}" y="{baseline}" text-anchor="{anchor}">{}</text>"#, escaped(words))
-}
-
-fn escaped(words: &str) -> String {
-    // `&` goes first, for the others put new ones in
-    words.replace('&', "&amp;").replace('<', "&lt;").replace('>', "&gt;").replace('"', "&quot;")
-}
-
 #[cfg(test)]
 mod tests {
     use super::*;
-
-    #[test]
-    fn words_are_escaped() {
-        assert_eq!(escaped("&str"), "&amp;str");
-        assert_eq!(escaped("Vec<\"&lt;\">"), "Vec&lt;&quot;&amp;lt;&quot;&gt;");
-    }
 
     #[test]
     fn a_picture_escapes_what_it_is_given() {

@@ -146,6 +146,18 @@ pub extern "C" fn ix_bench_vec_refuse(rounds: u64, _param: u64) -> u64 {
     vectors::refused(rounds)
 }
 
+/// Push and pop on an allocated vector of `param` that is half full.
+#[unsafe(no_mangle)]
+pub extern "C" fn ix_bench_vec_push_pop_heap(alloc: Global, rounds: u64, param: u64) -> u64 {
+    vectors::allocated_push_and_pop(alloc, rounds, param as usize)
+}
+
+/// Insert and remove at index 0 of an allocated vector of `param` that is half full.
+#[unsafe(no_mangle)]
+pub extern "C" fn ix_bench_vec_ins_rem_heap(alloc: Global, rounds: u64, param: u64) -> u64 {
+    vectors::allocated_insert_and_remove(alloc, rounds, param as usize)
+}
+
 /// Appends eight bytes to a fixed string of 123, which is cleared at 120.
 #[unsafe(no_mangle)]
 pub extern "C" fn ix_bench_str_push(rounds: u64, _param: u64) -> u64 {
@@ -180,6 +192,18 @@ pub extern "C" fn ix_bench_str_hash(rounds: u64, _param: u64) -> u64 {
 #[unsafe(no_mangle)]
 pub extern "C" fn ix_bench_str_ins_rem(rounds: u64, _param: u64) -> u64 {
     strings::insert_and_remove(rounds)
+}
+
+/// Push and pop of a byte on an allocated string of `param` that is half full.
+#[unsafe(no_mangle)]
+pub extern "C" fn ix_bench_str_push_pop_heap(alloc: Global, rounds: u64, param: u64) -> u64 {
+    strings::allocated_push_and_pop(alloc, rounds, param as usize)
+}
+
+/// Looks for four bytes that a full allocated string of `param` does not have.
+#[unsafe(no_mangle)]
+pub extern "C" fn ix_bench_str_find_heap(alloc: Global, rounds: u64, param: u64) -> u64 {
+    strings::allocated_find_absent(alloc, rounds, param as usize)
 }
 
 /// Writes a block of `param` bytes, which are 8, 64 or 256, to a sequenced cell.

@@ -2,7 +2,8 @@
 ghost use Rattle.ix_bench.specs.Fnv.{fnv_bytes};
 
 use crate::generator::step;
-use ix_string::{StaticString, String};
+use ix_string::{PolymorphicString, StaticString, String};
+use std::alloc::{AllocError, Global};
 use std::cmp::Ordering;
 use std::hash::{Hash, Hasher};
 
@@ -159,4 +160,44 @@ fn byte_or_0(text: &Text, index: usize) -> u64 {
         Some(byte) => *byte as u64,
         None => 0,
     }
+}
+
+pub fn allocated_push_and_pop(alloc: Global, rounds: u64, capacity: usize) -> u64 {
+    let Ok(mut text) = letters(alloc, capacity, capacity / 2) else {
+        return 0;
+    };
+    let mut sum: u64 = 0;
+    for i in 0..rounds {
+        append(&mut text, 97 + (i & 15) as u8);
+        sum = sum.wrapping_add(text.pop().unwrap_or(1) as u64);
+    }
+    sum
+}
+
+pub fn allocated_find_absent(alloc: Global, rounds: u64, capacity: usize) -> u64 {
+    let Ok(text) = letters(alloc, capacity, capacity) else {
+        return 0;
+    };
+    let mut word = *b"xyz!";
+    let mut sum: u64 = 0;
+    for i in 0..rounds {
+        word[3] = b'!' + (i & 1) as u8;
+        sum = sum.wrapping_add(text.find(&word).unwrap_or(200) as u64);
+    }
+    sum
+}
+
+/// Returns a string of `capacity` that holds `count` times the letter `a`.
+fn letters(alloc: Global, capacity: usize, count: usize) -> Result<PolymorphicString, AllocError> {
+    let mut text = PolymorphicString::new(alloc, capacity)?;
+    for _ in 0..count {
+        append(&mut text, b'a');
+    }
+    Ok(text)
+}
+
+/// Pushes a byte, by a call that the optimizer does not see through.
+#[inline(never)]
+fn append(text: &mut PolymorphicString, byte: u8) {
+    let _ = text.push(byte);
 }
