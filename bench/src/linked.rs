@@ -1,5 +1,5 @@
 //! The kernels of the library `ix_bench`, beside their peers, and at any capacity.
-use crate::{plain, Kernel, Operation};
+use crate::{floors, plain, Kernel, Operation};
 
 /// The library's kernel of a name.
 macro_rules! kernel {
@@ -16,8 +16,8 @@ macro_rules! kernel {
 
 /// Lists the library's kernels, of which one may serve several operations, beside their peers.
 macro_rules! operations {
-    ($($name:ident = $linked:ident, $param:expr, $peer:literal, $theirs:path;)*) => {
-        pub const OPERATIONS: &[Operation] = &[$(Operation {
+    ($list:ident: $($name:ident = $linked:ident, $param:expr, $peer:literal, $theirs:path;)*) => {
+        pub const $list: &[Operation] = &[$(Operation {
             name: stringify!($name),
             param: $param,
             ours: kernel!($linked),
@@ -28,6 +28,7 @@ macro_rules! operations {
 }
 
 operations! {
+    BESIDE_STD:
     queue_fixed = ix_bench_queue_fixed, 64, "VecDeque", plain::queue;
     queue_heap = ix_bench_queue_heap, 64, "VecDeque", plain::queue;
     overflow_fixed = ix_bench_overflow_fixed, 64, "VecDeque", plain::overflow;
@@ -68,6 +69,17 @@ operations! {
     seq_read_8 = ix_bench_seq_read, 8, "sequence lock", plain::seq_read;
     seq_read_64 = ix_bench_seq_read, 64, "sequence lock", plain::seq_read;
     seq_read_256 = ix_bench_seq_read, 256, "sequence lock", plain::seq_read;
+}
+
+operations! {
+    BESIDE_FLOORS:
+    vec_push_pop = ix_bench_vec_push_pop, 64, "full array", floors::vec_push_pop;
+    vec_ins_rem = ix_bench_vec_ins_rem, 64, "full array", floors::vec_ins_rem;
+    vec_extend = ix_bench_vec_extend, 64, "full array", floors::vec_extend;
+    queue_big = ix_bench_queue_big, 16, "array of whole places", floors::queue_big;
+    seq_write_8 = ix_bench_seq_write, 8, "exchanged words", floors::seq_write;
+    seq_write_64 = ix_bench_seq_write, 64, "exchanged words", floors::seq_write;
+    seq_write_256 = ix_bench_seq_write, 256, "exchanged words", floors::seq_write;
 }
 
 /// What a round of each kernel does whose `param` is a capacity.

@@ -1,10 +1,12 @@
-//! Times Tolkzin's containers beside Rust's own on the same operations, and at growing capacities, and prints a table of each.
+//! Times Tolkzin's containers beside Rust's own on the same operations, beside twins in plain Rust of the same steps, and at
+//! growing capacities, and prints a table of each.
 //!
 //! Each operation runs on both sides in turn, many times; the table has the medians and the least times, and the ratio of
 //! the least ones, which other work on the machine disturbs least. Both sides answer a checksum, which must be the same.
 //! `bench RATIOS.svg GROWTH.svg` also writes a picture of the ratios, and one of what grows with the capacity.
 mod capacities;
 mod drawing;
+mod floors;
 mod growth;
 mod linked;
 mod picture;
@@ -50,7 +52,9 @@ const MILLISECONDS_A_RUN: f64 = 4.0;
 const ROUNDS_TO_COMPARE: u64 = 1000;
 
 fn main() {
-    let rows = printed_ratios();
+    let rows = printed_ratios("Rust's side", linked::BESIDE_STD);
+    println!();
+    printed_ratios("the same steps in plain Rust", linked::BESIDE_FLOORS);
     let curves = printed_growth();
     if let [ratios, growth] = &std::env::args().skip(1).collect::<Vec<_>>()[..] {
         let bars: Vec<Bar> = rows.iter().map(bar).collect();
@@ -59,10 +63,10 @@ fn main() {
     }
 }
 
-fn printed_ratios() -> Vec<Timed> {
-    println!("{:<20} {:>10} {:>10} {:>10} {:>10} {:>7}  {}", "operation", "Tolkzin ns", "Rust ns", "(least)", "(least)", "ratio", "Rust's side");
+fn printed_ratios(peer: &str, operations: &[Operation]) -> Vec<Timed> {
+    println!("{:<20} {:>10} {:>10} {:>10} {:>10} {:>7}  {peer}", "operation", "Tolkzin ns", "Rust ns", "(least)", "(least)", "ratio");
     let mut rows = Vec::new();
-    for operation in linked::OPERATIONS {
+    for operation in operations {
         let row = timed(operation);
         let (ours, theirs) = (&row.ours, &row.theirs);
         println!("{:<20} {:>10.2} {:>10.2} {:>10.2} {:>10.2} {:>7.2}  {}", row.name, ours.median, theirs.median, ours.least, theirs.least, row.ratio(), row.peer);

@@ -6,7 +6,7 @@ use std::hint::black_box;
 use std::sync::atomic::{AtomicU64, AtomicU8, Ordering::SeqCst};
 
 /// The number behind `x` of a multiplicative generator. Its high bits serve.
-fn step(x: u64) -> u64 {
+pub fn step(x: u64) -> u64 {
     x.wrapping_mul(6_364_136_223_846_793_005).wrapping_add(1_442_695_040_888_963_407)
 }
 
