@@ -1,3 +1,4 @@
+pub mod Eights
 pub mod Entries
 pub mod Judging
 pub mod TextTrees

@@ -3,6 +3,17 @@ ghost use Rattle.std.specs.Prelude.{◌≡◌, ◌<◌, ◌^◌, length, All};
 
 use crate::byte_atomic::AtomicCopy;
 
+/// Returns a copy of the `N` bytes. O(`N`).
+#[inline]
+pub(super) fn to_array<const N: usize>(bytes: &[u8]) -> [u8; N]
+    requires { length bytes.now ≡ N }
+    ensures { result ≡ bytes.now }
+{
+    let mut array = [0; N];
+    array.copy_from_slice(bytes);
+    array
+}
+
 /// The bytes themselves.
 impl<const N: usize> AtomicCopy for [u8; N] {
     const SIZE: usize = N;
@@ -20,7 +31,7 @@ impl<const N: usize> AtomicCopy for [u8; N] {
 
     #[inline]
     fn decode(bytes: &[u8]) -> Option<[u8; N]> {
-        bytes.try_into().ok()
+        Some(to_array(bytes))
     }
 
     ghost encoding_len = { λ _ is. is.0 };

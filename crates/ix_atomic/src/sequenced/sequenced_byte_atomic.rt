@@ -1,5 +1,5 @@
 //! The cell, its calls, and the walks over its words.
-ghost use Rattle.std.specs.Prelude.{◌≡◌, ℕ, ◌+◌, ◌/◌, ◌<◌, ◌⊎◌, [], ◌∷◌, ◌++◌, List, length, Some, Ok, IsOk, IfOk, IfErr};
+ghost use Rattle.std.specs.Prelude.{◌≡◌, ℕ, ◌+◌, ◌/◌, ◌<◌, ◌⊎◌, [], ◌∷◌, ◌++◌, List, length, Some, Ok, Err, IsOk, IfOk, IfErr};
 ghost use Rattle.ix_atomic.specs.Words.{word_count};
 ghost use Rattle.ix_atomic.specs.History.{Begins, Loads, LoadsTwice, value_at, last_value, IsEven, IsOdd, data_words, all_words};
 ghost use Rattle.ix_atomic.specs.Writers.{Writes, Refuses, AreOwn, AreApart, as_reader, places_merge};
@@ -315,7 +315,9 @@ impl<T: AtomicCopy, const SIZE: usize> SequencedByteAtomic<T, SIZE> {
         if first == last && first % 2 == 0 {
             value_read(&bytes)
         } else {
-            Err(Interfered { first, last })
+            // In a place of its own, so that a value does not pass through the one that the call writes to.
+            let error = interfered(first, last);
+            error
         }
     }
 
@@ -364,10 +366,19 @@ impl<T: AtomicCopy, const SIZE: usize> SequencedByteAtomic<T, SIZE> {
     }
 }
 
-/// Returns the value whose encoding is `bytes`, as a read does.
-// Out of line and with no error, so that the value is copied as a whole: beside an error LLVM cuts it where the error's
-// numbers begin, and a load of the whole then waits for the stores of the parts.
+/// Returns the error of a read that loaded these versions.
+// Out of line, so that a value is copied as a whole: where LLVM sees the error's numbers stored, it cuts the value where they
+// begin, and a load of the whole then waits for the stores of the parts.
+#[cold]
 #[inline(never)]
+fn interfered<T>(first: u64, last: u64) -> Result<T, Interfered>
+    ensures { result ≡ Err (record { first = first; last = last }) }
+{
+    Err(Interfered { first, last })
+}
+
+/// Returns the value whose encoding is `bytes`, as a read does.
+#[inline]
 fn value_read<T: AtomicCopy>(bytes: &[u8]) -> Result<T, Interfered>
     requires len { length bytes.now ≡ T.SIZE }
     requires bytes { (value : T) × Encodes T.is_value T.encoding value bytes.now }

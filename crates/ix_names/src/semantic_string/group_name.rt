@@ -34,7 +34,13 @@ impl Rules<31> for GroupNameRules {
 
     /// Returns `true` if a byte is no lower-case letter, digit or dash.
     fn invalid_characters(bytes: &[u8]) -> bool {
-        bytes.iter().any(|byte| !may_stand_in_name(*byte))
+        let (eights, rest) = bytes.as_chunks::<8>();
+        for eight in eights {
+            if is_invalid_eight(eight) {
+                return true;
+            }
+        }
+        has_invalid_byte(rest)
     }
 
     /// Returns the text itself.
@@ -54,9 +60,30 @@ impl Rules<31> for GroupNameRules {
     ghost normal_twice = { λ _ _. refl };
 }
 
+/// Returns `true` if one of the bytes may not stand in a name.
+#[inline]
+fn has_invalid_byte(bytes: &[u8]) -> bool
+    ensures { result ≡ group_name_rules.invalid_characters bytes.now }
+{
+    bytes.iter().any(|byte| !may_stand_in_name(*byte))
+}
+
+/// As [`has_invalid_byte`], of eight bytes in one step.
+#[inline]
+fn is_invalid_eight(eight: &[u8; 8]) -> bool
+    ensures { result ≡ group_name_rules.invalid_characters eight.now }
+{
+    let mut found = false;
+    for byte in eight {
+        // The loop does not end early, so that the compiler tests the bytes side by side.
+        found = found | !may_stand_in_name(*byte);
+    }
+    found
+}
+
 #[inline]
 fn may_stand_in_name(byte: u8) -> bool
     ensures { result ≡ is_ascii_lowercase byte || (is_ascii_digit byte || is_dash byte) }
 {
-    byte.is_ascii_lowercase() || byte.is_ascii_digit() || byte == b'-'
+    byte.is_ascii_lowercase() | byte.is_ascii_digit() | (byte == b'-')
 }

@@ -74,9 +74,12 @@ impl<const CAPACITY: usize> StaticString<CAPACITY> {
         requires text { IsText (take n bytes.now) }
         ensures { result ≡ take n bytes.now }
     {
-        let mut string = StaticString::new();
-        string.insert_bytes_unchecked(0, &bytes[..n]);
-        string
+        let mut row = [0; CAPACITY];
+        row[..n].copy_from_slice(&bytes[..n]);
+        StaticString {
+            bytes: row,
+            count: n,
+        }
     }
 
     /// Returns a string of the bytes, without checking that they fit and are from 1 to 127. O(`CAPACITY`).

@@ -41,9 +41,9 @@ returns-then-first-eq0-clause-value g c =
 
 pub returns-else-first-last-clause-interfered : goal.returns-else-first-last-clause-interfered
 returns-else-first-last-clause-interfered g c =
-    let first = c.load-first.result in let last = c.load-last.result in let loads = seat g c.before in
+    let first = c.load-first.result in let last = c.load-last.result in let loads = seat g c.before.before in
     let odd_or_less : IsOdd first ⊎ (first < last) = elim c.else-first-last.branch [
       | else-first-last-via-then-first-last+else-first-eq0 w ↦ let odd = w.if-first-eq0.false in inl (omega arith)
       | else-first-last-via-else-first-last w ↦ let differ = w.if-first-last.false in let order = loads.order in inr (omega arith)
     ] in
-    (loads, odd_or_less)
+    rw c.interfered-error.ensures (loads, odd_or_less)
