@@ -1,7 +1,29 @@
 //! Words that are numbers.
-ghost use Rattle.std.specs.Prelude.{ℕ, ◌≡◌, ◌<◌, ◌^◌, true, Some, IfSome, SomeIff, decimal, length};
+ghost use Rattle.std.specs.Prelude.{ℕ, ◌≡◌, ◌<◌, ◌≤◌, ◌^◌, true, Some, IfSome, SomeIff, decimal, length};
 ghost use Rattle.std.specs.Str.{all_ascii_digits};
 ghost use Rattle.ix_run.specs.Reading.{digits_value_from, number_of};
+ghost use Rattle.ix_run.specs.declared.run.reading.TheConstants.{SHORT_LEN};
+
+/// A word of at most this many digits is read one by one, which for so few takes less than reading eight at once.
+const SHORT_LEN: usize = 8;
+
+/// Returns the value of a short word of digits alone.
+#[inline]
+fn value_of_few_digits(word: &[u8]) -> Option<u64>
+    requires { length word.now ≤ SHORT_LEN }
+    ensures { SomeIff result
+        ((all_ascii_digits word.now ≡ true) × (digits_value_from 0 word.now < 2 ^ 64))
+        (digits_value_from 0 word.now) }
+{
+    let mut value = 0;
+    for &byte in word {
+        if byte < b'0' || byte > b'9' {
+            return None;
+        }
+        value = value * 10 + (byte - b'0') as u64;
+    }
+    Some(value)
+}
 
 /// Returns the value of a word of digits alone, if it is a `u64`.
 #[inline]
@@ -11,6 +33,9 @@ fn value_of_digits(word: &[u8]) -> Option<u64>
         ((all_ascii_digits word.now ≡ true) × (digits_value_from 0 word.now < 2 ^ 64))
         (digits_value_from 0 word.now) }
 {
+    if word.len() <= SHORT_LEN {
+        return value_of_few_digits(word);
+    }
     if word[0] == b'+' {
         return None;
     }
