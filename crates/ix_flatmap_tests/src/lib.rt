@@ -30,4 +30,6 @@ mod rows;
 #[cfg(test)]
 mod slow_map;
 #[cfg(test)]
+mod small_key_tests;
+#[cfg(test)]
 mod walk_tests;

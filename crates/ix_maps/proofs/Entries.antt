@@ -4,8 +4,8 @@ use Rattle.std.specs.Prelude.{nat_eq, if◌then◌else◌, is_some, count_by}
 use Rattle.std.specs.List.Sorted.{IsStrictlyIncreasing}
 use Rattle.std.specs.Map.{keys_of, lookup}
 use Rattle.std.proofs.lemmas.Bool.Decides.{nat_tests}
-use Rattle.std.proofs.lemmas.List.Sums.{sum_by-cons}
-use Rattle.ix_cells.specs.Places.{place_at}
+use Rattle.std.proofs.lemmas.List.Sums.{sum_by-cons, count_by-le-length}
+use Rattle.ix_cells.specs.Places.{place_at, IsHeldAt}
 use Rattle.ix_maps.specs.SlotState.{SlotState, value_at, entries_from, entries}
 
 -- some keys rise, and none is less than `start`
@@ -73,3 +73,14 @@ module _ {T : Type 0} where
   count_by-is_some start (Some value ∷ places) =
       let one : count_by is_some (Some value ∷ places) ≡ 1 + count_by is_some places = sum_by-cons (λ (place : Option T). if is_some place then 1 else 0) (Some value) places in
       let later = count_by-is_some (start + 1) places in omega arith
+
+module _ {T : Type 0} where
+  -- where as many places have a value as there are, each has one
+  pub IsHeld-full : (places : List (Option T)) (i : ℕ) → count_by is_some places ≡ length places → i < length places → IsHeldAt places i
+  IsHeld-full [] i full below = absurd (omega (arith, below))
+  IsHeld-full (None ∷ places) i full below =
+      let most = count_by-le-length is_some places in absurd (omega (arith, full, most))
+  IsHeld-full (Some value ∷ places) zero full below = refl
+  IsHeld-full (Some value ∷ places) (suc i) full below =
+      let one : count_by is_some (Some value ∷ places) ≡ 1 + count_by is_some places = sum_by-cons (λ (place : Option T). if is_some place then 1 else 0) (Some value) places in
+      IsHeld-full places i (omega (arith, full, one)) (omega (arith, below))

@@ -1,6 +1,6 @@
 -- The pair of a flat map whose key equals a given one.
-use Rattle.std.proofs.Common.{◌≡◌, ℕ, zero, suc, ◌+◌, ◌↔◌, List, [], ◌∷◌, replicate, Option, Some, None, IsSome, IsNone, Bool, true, false, cond, refl, sym, ap, ◌∙◌, subst, inl, inr, arith}
-use Rattle.std.proofs.lemmas.Bool.{cases_Bool, both_ways}
+use Rattle.std.proofs.Common.{◌≡◌, ◌<◌, ℕ, zero, suc, ◌+◌, ◌-◌, drop, ◌↔◌, List, [], ◌∷◌, replicate, Option, Some, None, IsSome, IsNone, Bool, true, false, cond, refl, sym, ap, ◌∙◌, subst, inl, inr, arith}
+use Rattle.std.proofs.lemmas.Bool.{cases_Bool, cases_lt, both_ways}
 use Rattle.std.specs.Cmp.{IsEquivalence}
 use Rattle.std.specs.List.{find}
 use Rattle.std.specs.Map.{keys_of, lookup}
@@ -8,6 +8,8 @@ use Rattle.std.specs.Prelude.{map, option_map}
 use Rattle.std.proofs.lemmas.Simd.{map-map}
 use Rattle.ix_cells.specs.Places.{place_at}
 use Rattle.ix_maps.specs.SlotState.{SlotState, value_at, entries, entries_from, slot_new}
+use Rattle.ix_maps.specs.inner.FlatSearch.{is_key_at, HasNoKeyIn}
+use Rattle.std.specs.Option.{option_map_or}
 use Rattle.ix_maps.specs.FlatState.{HasDistinctKeys, flat_entry, flat_value, flat_keys, flat_item, flat_items}
 use Rattle.ix_maps.specs.declared.flatmap.pair.Pair.{Pair}
 
@@ -67,6 +69,44 @@ module _ {K V : Type 0} (eq : K → K → Bool) where
       first_or_later : (i : ℕ) → place_at (Some first ∷ places) i ≡ Some pair → ((j : ℕ) (other : Pair K V) → place_at places j ≡ Some other → eq other.key key ≡ false) → eq first.key key ≡ false → eq pair.key key ≡ false
       first_or_later zero at later differs = let is : first ≡ pair = cc in ap (λ (p : Pair K V). eq p.key key) (sym is) ∙ differs
       first_or_later (suc i) at later differs = later i pair at
+
+  -- no place among the first has the key
+  abbrev NoneOfFirst : ℕ → List (Option (Pair K V)) → K → Type 0
+  NoneOfFirst n places key = (i : ℕ) → i < n → option_map_or (λ pair. eq pair.key key) (place_at places i) false ≡ false
+
+  none-of-rest : (n : ℕ) (place : Option (Pair K V)) (places : List (Option (Pair K V))) (key : K) → NoneOfFirst (suc n) (place ∷ places) key → NoneOfFirst n places key
+  none-of-rest n place places key none i below = none (suc i) (omega (arith, below))
+
+  find-skips : (n start : ℕ) (places : List (Option (Pair K V))) (key : K) → NoneOfFirst n places key
+      → find (λ e. eq e.1.key key) (entries_from (start + n) (drop n places)) ≡ find (λ e. eq e.1.key key) (entries_from start places)
+  find-skips zero start places key none =
+      let at : start + 0 ≡ start = omega arith in
+      ap (λ first. find (λ e. eq e.1.key key) (entries_from first places)) at
+  find-skips (suc n) start [] key none = refl
+  find-skips (suc n) start (place ∷ places) key none =
+      let at : start + suc n ≡ (start + 1) + n = omega arith in
+      ap (λ first. find (λ e. eq e.1.key key) (entries_from first (drop n places))) at
+      ∙ (find-skips n (start + 1) places key (none-of-rest n place places key none) ∙ skips-one place (none 0 (omega arith)))
+    where
+      skips-one : (place : Option (Pair K V)) → option_map_or (λ pair. eq pair.key key) place false ≡ false
+          → find (λ e. eq e.1.key key) (entries_from (start + 1) places) ≡ find (λ e. eq e.1.key key) (entries_from start (place ∷ places))
+      skips-one None none = refl
+      skips-one (Some pair) differs = sym (find-differs (λ e. eq e.1.key key) (start, pair) (entries_from (start + 1) places) differs)
+
+  -- what is found from a place on is what is found in all, if no place before it has the key
+  pub flat_entry_from : (s : SlotState (Pair K V)) (key : K) (start : ℕ) → HasNoKeyIn eq s key 0 start → find (λ e. eq e.1.key key) (entries_from start (drop start s.values)) ≡ flat_entry eq s key
+  flat_entry_from s key start none =
+      let at : start ≡ 0 + start = omega arith in
+      ap (λ first. find (λ e. eq e.1.key key) (entries_from first (drop start s.values))) at ∙ find-skips start 0 s.values key (λ i below. let at : i ≡ 0 + i = omega arith in ap (is_key_at eq s key) at ∙ none i below)
+
+  -- none of the first, and none of so many more
+  pub HasNoKeyIn-more : (s : SlotState (Pair K V)) (key : K) (start n : ℕ) → HasNoKeyIn eq s key 0 start → HasNoKeyIn eq s key start n → HasNoKeyIn eq s key 0 (start + n)
+  HasNoKeyIn-more s key start n first more i below = elim (cases_lt i start) [
+    | inl before ↦ first i before
+    | inr later ↦
+        let at : 0 + i ≡ start + (i - start) = omega (arith, later) in
+        ap (is_key_at eq s key) at ∙ more (i - start) (omega (arith, later, below))
+  ]
 
   -- what is found is an entry
   pub IsEntry-flat_entry : (s : SlotState (Pair K V)) (key : K) (entry : ℕ × Pair K V) → flat_entry eq s key ≡ Some entry → IsEntry s key entry.0 entry.1
@@ -130,6 +170,11 @@ module _ {K V : Type 0} (eq : K → K → Bool) where
             let both : Some entry.1 ≡ Some pair = sym other.at ∙ (ap (value_at s) place_is ∙ is.at) in
             let pair_is : entry.1 ≡ pair = cc in
             ap (λ (p : ℕ). Some (p, entry.1)) place_is ∙ ap (λ (p : Pair K V). Some (place, p)) pair_is
+
+    -- where keys are distinct, the pair at a place that has the key is what is found
+    pub flat_entry-is_key_at : (s : SlotState (Pair K V)) (key : K) (place : ℕ) (pair : Pair K V) → HasDistinctKeys eq s → value_at s place ≡ Some pair → is_key_at eq s key place ≡ true → flat_entry eq s key ≡ Some (place, pair)
+    flat_entry-is_key_at s key place pair distinct at found =
+        flat_entry-IsEntry s key place pair distinct (record { at = at; equal = sym (ap (λ p. option_map_or (λ pair. eq pair.key key) p false) at) ∙ found })
 
     pub flat_value-IsEntry : (s : SlotState (Pair K V)) (key : K) (place : ℕ) (pair : Pair K V) → HasDistinctKeys eq s → value_at s place ≡ Some pair → eq pair.key key ≡ true → flat_value eq s key ≡ Some pair.value
     flat_value-IsEntry s key place pair distinct at equal =

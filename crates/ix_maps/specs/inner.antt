@@ -2,3 +2,4 @@
 pub mod Ring
 pub mod FreeList
 pub mod GenerationTable
+pub mod FlatSearch

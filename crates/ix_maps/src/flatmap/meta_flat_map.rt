@@ -1,5 +1,5 @@
 //! The flat map over any two tables.
-ghost use Rattle.std.specs.Prelude.{◌≡◌, ◌↔◌, ◌+◌, ℕ, [], length, Some, None, IsSome, IsTrue, IsNone, IsOk, IfSome, IfOk, OnErr, option_copied, option_map, slice_get, false, true};
+ghost use Rattle.std.specs.Prelude.{◌≡◌, ◌↔◌, ◌+◌, ◌<◌, ◌≤◌, ℕ, [], length, Some, None, IsSome, IsTrue, IsNone, IsOk, IfSome, IfOk, OnErr, option_copied, option_map, slice_get, false, true};
 ghost use Rattle.std.specs.Borrow.{sem, Lends, LendsIf};
 ghost use Rattle.std.specs.Option.{option_copied_mut};
 ghost use Rattle.std.specs.Map.{keys_of, lookup};
@@ -8,6 +8,8 @@ ghost use Rattle.ix_maps.specs.SlotState.{IsWellFormed, IsHeld, value_at, held_c
 ghost use Rattle.ix_maps.specs.FlatState.{HasDistinctKeys, flat_entry, flat_value, flat_keys, flat_items};
 ghost use Rattle.ix_maps.specs.FlatSteps.{flat_insert_result, flat_insert, pair_set, flat_set, flat_remove, ListsUntilStop};
 ghost use Rattle.ix_maps.specs.SlotSteps.{slot_set, SlotRemove};
+ghost use Rattle.ix_maps.specs.inner.FlatSearch.{is_key_at, HasNoKeyIn};
+ghost use Rattle.ix_maps.specs.declared.flatmap.meta_flat_map.TheConstants.{BLOCK_LEN};
 
 use crate::flatmap::{CallbackProgression, FlatMapError, Iter, Keys, Pair};
 use crate::slottable::{Link, MetaSlotTable, SlotTableKey, held_mut};
@@ -15,13 +17,21 @@ use ix_cells::Table;
 use std::alloc::AllocError;
 use std::fmt::{self, Debug, Formatter, Write};
 use std::marker::Model;
+use std::mem::size_of_val;
+
+/// A full map compares so many keys at a time, with no branch between them.
+const BLOCK_LEN: usize = 8;
+
+/// Keys of at most this many bytes are compared so: a few comparisons take less time than a branch that is mispredicted.
+const MAX_KEY_SIZE: usize = 8;
 
 /// A map from keys to values, over a table of pairs `S` and a table of links `L`. Keys are compared by their `Eq`.
 /// Contracts see a slot table of pairs, in which no two keys are equal.
 ///
 /// A pair stays at its place until it is removed, and a new one takes the first free place: the one vacated last, or else
 /// the least that was never used. Slot order is that of the places. A call that looks for a key compares it with the keys of the map in
-/// slot order, up to the equal one.
+/// slot order, up to the equal one. If the map is full and keys take at most eight bytes, it compares eight at a time, and so
+/// up to seven after that one; in any case it compares no key twice.
 ///
 /// Each call that looks for a key takes O(capacity) time, any other O(1), if nothing else is said. No call allocates.
 /// A map that is dropped drops its pairs in slot order, in O(capacity) time.
@@ -266,7 +276,64 @@ impl<K: Eq + Drop, V: Drop, S: Table<Pair<K, V>>, L: Table<Link>> MetaFlatMap<K,
             ≡ flat_entry K.eq self.now key.now }
         ensures distinct { HasDistinctKeys K.eq self.now }
     {
-        for place in 0..self.pairs.capacity() {
+        if size_of_val(key) <= MAX_KEY_SIZE && self.pairs.next_free_key().is_none() {
+            self.find_in_full(key)
+        } else {
+            self.find_from(0, key)
+        }
+    }
+
+    /// Returns what [`MetaFlatMap::find`] returns, of a full map.
+    #[inline]
+    fn find_in_full(&self, key: &K) -> Option<(SlotTableKey, &Pair<K, V>)>
+        requires { held_count self.now ≡ length self.now.values }
+        ensures value { option_map (λ entry. (entry.0, entry.1.now)) result
+            ≡ flat_entry K.eq self.now key.now }
+        ensures distinct { HasDistinctKeys K.eq self.now }
+    {
+        let mut start = 0;
+        while self.pairs.capacity() - start >= BLOCK_LEN {
+            let index = self.index_in_block(start, key);
+            if index < BLOCK_LEN {
+                let place = start + index;
+                return Some((SlotTableKey::new(place), self.pairs.held_value(place)));
+            }
+            start += BLOCK_LEN;
+        }
+        self.find_from(start, key)
+    }
+
+    /// Returns which of the [`BLOCK_LEN`] places from `start` on has a key that equals `key`, or [`BLOCK_LEN`], of a full map.
+    // Compares all of these keys, with no branch: which of them is equal can't be predicted.
+    #[inline]
+    fn index_in_block(&self, start: usize, key: &K) -> usize
+        requires full { held_count self.now ≡ length self.now.values }
+        requires within { start + BLOCK_LEN ≤ length self.now.values }
+        ensures found { result < BLOCK_LEN
+            → is_key_at K.eq self.now key.now (start + result) ≡ true }
+        ensures absent { result ≡ BLOCK_LEN → HasNoKeyIn K.eq self.now key.now start BLOCK_LEN }
+        ensures within { result ≤ BLOCK_LEN }
+    {
+        // Names the capacity, by which the check knows that `start + i` does not overflow.
+        let _capacity = self.pairs.capacity();
+        let mut found = BLOCK_LEN;
+        for i in 0..BLOCK_LEN {
+            if self.pairs.held_value(start + i).key == *key {
+                found = i;
+            }
+        }
+        found
+    }
+
+    /// Returns the place of the key that equals `key`, which no place before `start` has, and the pair there.
+    #[inline]
+    fn find_from(&self, start: usize, key: &K) -> Option<(SlotTableKey, &Pair<K, V>)>
+        requires { HasNoKeyIn K.eq self.now key.now 0 start }
+        ensures value { option_map (λ entry. (entry.0, entry.1.now)) result
+            ≡ flat_entry K.eq self.now key.now }
+        ensures distinct { HasDistinctKeys K.eq self.now }
+    {
+        for place in start..self.pairs.capacity() {
             let place = SlotTableKey::new(place);
             if let Some(pair) = self.pairs.get(place)
                 && pair.key == *key

@@ -1,0 +1,14 @@
+-- Which places of a flat map have a key.
+use Rattle.std.specs.Prelude.{◌≡◌, ℕ, ◌+◌, ◌<◌, Bool, false}
+use Rattle.std.specs.Option.{option_map_or}
+use Rattle.ix_maps.specs.SlotState.{SlotState, value_at}
+use Rattle.ix_maps.specs.declared.flatmap.pair.Pair.{Pair}
+
+module _ {K V : Type 0} where
+  -- the place has a pair whose key equals this one
+  abbrev pub is_key_at : (K → K → Bool) → SlotState (Pair K V) → K → ℕ → Bool
+  is_key_at eq s key place = option_map_or (λ pair. eq pair.key key) (value_at s place) false
+
+  -- none of so many places from start on has it
+  abbrev pub HasNoKeyIn : (K → K → Bool) → SlotState (Pair K V) → K → ℕ → ℕ → Type 0
+  HasNoKeyIn eq s key start n = (i : ℕ) → i < n → is_key_at eq s key (start + i) ≡ false
