@@ -1,5 +1,9 @@
 -- Words that are numbers.
-use Rattle.std.proofs.Common.{ℕ, ◌≡◌, ◌<◌, ◌^◌, zero, suc, List, Option, Some, None, IfSome, SomeIff, length, get_or, nat_eq, nat_lt, bytes_eq, Bool, true, false, ◌&&◌, refl, sym, ap, ◌∙◌, rules, arith, decimal, cond}
+use Rattle.std.proofs.Common.{ℕ, ◌≡◌, ◌<◌, ◌≤◌, ◌+◌, ◌-◌, ◌*◌, ◌^◌, zero, suc, List, [], ◌∷◌, ◌++◌, Option, Some, None, IfSome, SomeIff, length, take, drop, get_or, nat_eq, nat_lt, bytes_eq, Bool, true, false, ◌&&◌, refl, sym, ap, ◌∙◌, rules, arith, decimal, cond, true≢false}
+use Rattle.std.specs.Char.{is_ascii_digit}
+use Rattle.std.proofs.Math.Nat.{pow-suc, pow-le-pow_right}
+use Rattle.std.proofs.lemmas.List.{take-append-drop, length-take-le, nil_from_length}
+use Rattle.std.proofs.Math.Bool.{and_assoc}
 use Rattle.std.specs.Str.{all_ascii_digits}
 use Rattle.std.specs.Str.Parse.{AllDigits, digits_value, without_leading_plus}
 use Rattle.std.proofs.lemmas.Bool.{and_parts, eqb-true}
@@ -104,3 +108,107 @@ pub number_of-SomeIff : (word : List ℕ) (r : Option ℕ) → SomeIff r ((all_a
     → 0 < length word → (get_or word 0 0 ≡ 48 → length word ≡ 1) → r ≡ number_of word
 number_of-SomeIff word (Some x) ((d, s), e) some front = ap (λ k. Some k) e ∙ sym (number_of-digits word some front d s)
 number_of-SomeIff word None h some front = sym (number_of-none word (λ n l e. let w = IsNumeral-decimal word n l e in h (w.digits, rw w.value l)))
+
+-- one digit more
+pub next_digit : (value digit j k : ℕ) → value < 10 ^ (j + k) → digit ≤ 9 → value * 10 + digit < 10 ^ (j + (k + 1))
+next_digit value digit j k h d =
+    let e : 10 ^ suc (j + k) ≡ 10 ^ (j + k) * 10 = pow-suc 10 (j + k) in
+    let s : j + (k + 1) ≡ suc (j + k) = omega arith in
+    rw s (omega (arith, e, h, d))
+
+pub few_digits_fit : (value k : ℕ) → value < 10 ^ k → k ≤ 19 → value < 2 ^ 64
+few_digits_fit value k h l = let most : 10 ^ k ≤ 10 ^ 19 = pow-le-pow_right (omega arith) l in omega (arith, h, most)
+
+pub below_more_digits : (value j k : ℕ) → value < 10 ^ j → j ≤ k → value < 10 ^ k
+below_more_digits value j k h l = let more : 10 ^ j ≤ 10 ^ k = pow-le-pow_right (omega arith) l in omega (arith, h, more)
+
+digits_value_from-append : (n : ℕ) (xs ys : List ℕ) → digits_value_from n (xs ++ ys) ≡ digits_value_from (digits_value_from n xs) ys
+digits_value_from-append n [] ys = refl
+digits_value_from-append n (x ∷ xs) ys = digits_value_from-append (n * 10 + (x - 48)) xs ys
+
+all_ascii_digits-append : (xs ys : List ℕ) → all_ascii_digits (xs ++ ys) ≡ (all_ascii_digits xs && all_ascii_digits ys)
+all_ascii_digits-append [] ys = refl
+all_ascii_digits-append (x ∷ xs) ys = ap (λ t. is_ascii_digit x && t) (all_ascii_digits-append xs ys) ∙ sym (and_assoc (is_ascii_digit x) (all_ascii_digits xs) (all_ascii_digits ys))
+
+-- the first digits of a word, and those after them
+all_ascii_digits-parts : (word : List ℕ) (k : ℕ) → all_ascii_digits word ≡ (all_ascii_digits (take k word) && all_ascii_digits (drop k word))
+all_ascii_digits-parts word k = ap all_ascii_digits (sym (take-append-drop k word)) ∙ all_ascii_digits-append (take k word) (drop k word)
+
+digits_value_from-parts : (n : ℕ) (word : List ℕ) (k : ℕ) → digits_value_from n word ≡ digits_value_from (digits_value_from n (take k word)) (drop k word)
+digits_value_from-parts n word k = ap (digits_value_from n) (sym (take-append-drop k word)) ∙ digits_value_from-append n (take k word) (drop k word)
+
+-- a byte is a digit
+abbrev pub IsDigit : ℕ → Type 0
+IsDigit x = (48 ≤ x) × (x ≤ 57)
+
+-- a first digit, and the digits after it
+record FirstDigit (xs : List ℕ) (n : ℕ) : Type 0 where
+  pub digit : ℕ
+  pub rest : List ℕ
+  pub is : xs ≡ digit ∷ rest
+  pub len : length rest ≡ n
+  pub digits : all_ascii_digits rest ≡ true
+  pub bounds : IsDigit digit
+
+first_digit : (xs : List ℕ) (n : ℕ) → length xs ≡ suc n → all_ascii_digits xs ≡ true → FirstDigit xs n
+first_digit [] n e h = absurd (omega (arith, e))
+first_digit (x ∷ xs) n e h =
+    let parts = and_parts (is_ascii_digit x) (all_ascii_digits xs) h in
+    let test : is_ascii_digit x ≡ true = parts.0 in
+    let low : 48 ≤ x = grind (arith, common_steps) in
+    let high : x ≤ 57 = grind (arith, common_steps) in
+    record { digit = x; rest = xs; is = refl; len = omega (arith, e); digits = parts.1; bounds = (low, high) }
+
+-- eight digits, one by one
+pub record EightDigits (xs : List ℕ) : Type 0 where
+  pub a : ℕ
+  pub b : ℕ
+  pub c : ℕ
+  pub d : ℕ
+  pub e : ℕ
+  pub f : ℕ
+  pub g : ℕ
+  pub h : ℕ
+  pub is : xs ≡ a ∷ b ∷ c ∷ d ∷ e ∷ f ∷ g ∷ h ∷ []
+  pub bounds : IsDigit a × IsDigit b × IsDigit c × IsDigit d × IsDigit e × IsDigit f × IsDigit g × IsDigit h
+
+pub eight_digits : (xs : List ℕ) → length xs ≡ 8 → all_ascii_digits xs ≡ true → EightDigits xs
+eight_digits xs len all =
+    let a = first_digit xs 7 len all in
+    let b = first_digit a.rest 6 a.len a.digits in
+    let c = first_digit b.rest 5 b.len b.digits in
+    let d = first_digit c.rest 4 c.len c.digits in
+    let e = first_digit d.rest 3 d.len d.digits in
+    let f = first_digit e.rest 2 e.len e.digits in
+    let g = first_digit f.rest 1 f.len f.digits in
+    let h = first_digit g.rest 0 g.len g.digits in
+    record {
+      a = a.digit;
+      b = b.digit;
+      c = c.digit;
+      d = d.digit;
+      e = e.digit;
+      f = f.digit;
+      g = g.digit;
+      h = h.digit;
+      is = a.is ∙ ap (λ r. a.digit ∷ r) (b.is ∙ ap (λ r. b.digit ∷ r) (c.is ∙ ap (λ r. c.digit ∷ r) (d.is ∙ ap (λ r. d.digit ∷ r) (e.is ∙ ap (λ r. e.digit ∷ r)
+          (f.is ∙ ap (λ r. f.digit ∷ r) (g.is ∙ ap (λ r. g.digit ∷ r) (h.is ∙ ap (λ r. h.digit ∷ r) (nil_from_length h.rest h.len))))))));
+      bounds = (a.bounds, b.bounds, c.bounds, d.bounds, e.bounds, f.bounds, g.bounds, h.bounds);
+    }
+
+value_after_eight : (n : ℕ) (xs : List ℕ) → EightDigits xs → digits_value_from n xs ≡ n * 100000000 + digits_value_from 0 xs
+value_after_eight n xs eight = rw eight.is (omega arith)
+
+-- a word that begins with eight digits, from the rest of it
+pub after_eight : (word first rest : List ℕ) (n : ℕ) → 8 ≤ length word → first ≡ take 8 word → rest ≡ drop 8 word → all_ascii_digits first ≡ true
+    → (all_ascii_digits word ≡ all_ascii_digits rest) × (digits_value_from n word ≡ digits_value_from (n * 100000000 + digits_value_from 0 first) rest)
+after_eight word first rest n long front back digits =
+    let len : length first ≡ 8 = ap length front ∙ length-take-le 8 word long in (
+      all_ascii_digits-parts word 8 ∙ rw (sym front, sym back, digits) refl,
+      digits_value_from-parts n word 8 ∙ rw (sym front, sym back) (ap (λ m. digits_value_from m rest) (value_after_eight n first (eight_digits first len digits))),
+    )
+
+pub not_after_eight : (word first : List ℕ) → first ≡ take 8 word → all_ascii_digits first ≡ false → all_ascii_digits word ≡ true → ⊥
+not_after_eight word first front none all =
+    let parts = and_parts (all_ascii_digits (take 8 word)) (all_ascii_digits (drop 8 word)) (sym (all_ascii_digits-parts word 8) ∙ all) in
+    true≢false (sym parts.0 ∙ ap all_ascii_digits (sym front) ∙ none)

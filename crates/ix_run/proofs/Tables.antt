@@ -1,12 +1,13 @@
 -- Tables of the commands by name, as forms.
-use Rattle.std.proofs.Common.{ℕ, ◌≡◌, List, [], ◌∷◌, Option, Some, None, Bool, true, false, bytes_eq, map, cond, refl, sym, ap, ◌∙◌}
+use Rattle.std.proofs.Common.{ℕ, ◌≡◌, List, [], ◌∷◌, ◌++◌, Option, Some, None, Bool, true, false, bytes_eq, map, cond, refl, sym, ap, ◌∙◌}
 use Rattle.std.specs.List.{slice_split, list_all}
 use Rattle.std.specs.Option.{option_and_then, option_map}
 use Rattle.std.specs.Map.{lookup}
+use Rattle.std.proofs.lemmas.Option.{none-some}
 use Rattle.std.proofs.lemmas.Map.Made.{lookup-map_values}
 use Rattle.ix_maps.specs.Generations.{SlotKey}
 use Rattle.ix_run.specs.Words.{Form, KeyForm, is_space, numbers_in, words_of, fits_byte, make_named, command_of, key_and_numbers, name_key_numbers, make_with_key, key_command_of}
-use Rattle.ix_run.specs.inner.Tables.{numbers_taken, items_taken, bytes_taken, forms_by}
+use Rattle.ix_run.specs.inner.Tables.{first_word, IsNamed, numbers_taken, items_taken, bytes_taken, forms_by}
 use Rattle.ix_run.specs.declared.run.tables.Takes.{Takes}
 use Rattle.ix_run.specs.declared.run.tables.Takes.TheVariants.{Nothing, Number, TwoNumbers, Numbers, Byte, NumberAndByte, Bytes, NumberAndBytes}
 use Rattle.ix_run.proofs.Words.{command_of_split}
@@ -37,6 +38,19 @@ module _ {C : Type 0} where
   taken_made TwoNumbers make (Some (n ∷ m ∷ [])) = refl
   taken_made TwoNumbers make (Some (n ∷ m ∷ k ∷ ns)) = refl
   taken_made other make numbers = none-map {A = ℕ × ℕ} (λ p. make p.0 p.1) numbers
+
+module _ {V : Type 0} where
+  cond-lookup : (t : Bool) (value : V) (found more : Option V) (v : V) → (found ≡ Some v → more ≡ Some v) → cond t (Some value) found ≡ Some v → cond t (Some value) more ≡ Some v
+  cond-lookup true value found more v h e = e
+  cond-lookup false value found more v h e = h e
+
+  lookup-before : (is : List ℕ → Bool) (xs ys : List (List ℕ × V)) (v : V) → lookup is xs ≡ Some v → lookup is (xs ++ ys) ≡ Some v
+  lookup-before is [] ys v e = absurd (none-some v e)
+  lookup-before is (x ∷ xs) ys v e = cond-lookup (is x.0) x.1 (lookup is xs) (lookup is (xs ++ ys)) v (lookup-before is xs ys v) e
+
+  -- a name of the first table is one of both
+  pub named_before : (xs ys : List (List ℕ × V)) (line : List ℕ) (value : V) (rest : Option (List ℕ)) → IsNamed xs line value rest → IsNamed (xs ++ ys) line value rest
+  named_before xs ys line value rest n = record { found = lookup-before (bytes_eq (first_word line)) xs ys value n.found; words = n.words; len = n.len }
 
 module _ {V : Type 0} where
   -- a value, and the numbers read for it

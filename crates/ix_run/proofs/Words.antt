@@ -1,18 +1,22 @@
 -- Words of a line.
-use Rattle.std.proofs.Common.{ℕ, ◌≡◌, ◌≤◌, ◌<◌, ◌+◌, ◌-◌, List, [], ◌∷◌, ◌++◌, Option, Some, None, IfSome, All, ◌^◌, decimal, bytes_eq, length, take, drop, set, nat_eq, Bool, true, false, ◌&&◌, append_assoc, cond, refl, sym, ap, ◌∙◌, arith}
-use Rattle.std.specs.List.{list_all, slice_split, position_or_len, before_first, after_first, join_with_byte}
+use Rattle.std.proofs.Common.{ℕ, ◌≡◌, ◌≤◌, ◌<◌, ◌+◌, ◌-◌, List, [], ◌∷◌, ◌++◌, Option, Some, None, IfSome, All, ◌^◌, decimal, bytes_eq, length, take, drop, set, nat_eq, Bool, true, false, ◌&&◌, append_assoc, cond, refl, sym, ap, ◌∙◌, arith, ◌||◌, get_or, append-nil, take-append-drop, true≢false}
+use Rattle.std.specs.List.{list_all, list_any, onto_first, slice_split, position_or_len, before_first, after_first, join_with_byte}
 use Rattle.std.specs.Str.{all_ascii_digits}
 use Rattle.std.specs.Char.{is_ascii_digit}
 use Rattle.std.specs.Option.{option_and_then, option_map}
 use Rattle.std.specs.Map.{lookup}
-use Rattle.std.proofs.lemmas.Bool.{and_parts}
+use Rattle.std.proofs.lemmas.Bool.{and_parts, eqb-true}
 use Rattle.std.proofs.lemmas.Grind.{common_steps, take-set_at}
-use Rattle.std.proofs.lemmas.List.{take_all, drop-drop, length-drop}
+use Rattle.std.proofs.lemmas.List.{take_all, drop-drop, length-drop, nil_from_length, length-append}
 use Rattle.std.proofs.lemmas.List.Elements.{All-cons, All-nil}
 use Rattle.std.proofs.lemmas.List.Sums.{prefix_len-le-length, fails_before_first}
 use Rattle.std.proofs.lemmas.List.Splits.{slice_split_first, slice_split_none, length-slice_split, join_with_byte-slice_split}
+use Rattle.std.proofs.Math.Seq.{drop-cons, take-append_seam}
+use Rattle.std.proofs.lemmas.Slice.Eq.{bytes_eq-Decides}
+use Rattle.ix_run.specs.inner.Tables.{first_word, IsAfterName}
+use Rattle.ix_run.proofs.Pieces.{not_true}
 use Rattle.ix_run.specs.Reading.{number_of}
-use Rattle.ix_run.specs.Words.{Form, is_space, is_colon, numbers_in, name_and_numbers, fits_byte, byte_of, make_named, command_of, alone, one, two, one_byte, number_byte, many_bytes, number_many_bytes}
+use Rattle.ix_run.specs.Words.{Form, is_space, is_colon, words_after, len_after, numbers_in, name_and_numbers, fits_byte, byte_of, make_named, command_of, alone, one, two, one_byte, number_byte, many_bytes, number_many_bytes}
 use Rattle.ix_run.proofs.Numbers.{IsNumeral-decimal, number_of-IfSome}
 
 -- where a separator is
@@ -47,7 +51,100 @@ split_last_word bytes word rest n e w r none = split_last 32 bytes word rest n e
 pub split_first_word : (bytes word rest : List ℕ) (n : ℕ) → n ≡ position_or_len is_space bytes → word ≡ take n bytes → rest ≡ drop n bytes → 0 < length rest → slice_split is_space bytes ≡ word ∷ slice_split is_space (take (length rest - 1) (drop 1 rest))
 split_first_word bytes word rest n e w r some = split_first 32 bytes word rest n e w r some
 
-pub ruleset first_word = (position_or_len_bound, split_last_word, split_first_word)
+pub ruleset words_split = (position_or_len_bound, split_last_word, split_first_word)
+
+first_part : (byte : ℕ) (t : Bool) (parts others : List (List ℕ)) (first : List ℕ) → parts ≡ first ∷ others
+    → cond t ([] ∷ parts) (onto_first byte parts) ≡ cond t [] (byte ∷ first) ∷ cond t parts others
+first_part byte true parts others first e = refl
+first_part byte false parts others first e = ap (onto_first byte) e
+
+-- the words behind the first
+abbrev pub other_words : List ℕ → List (List ℕ)
+other_words [] = []
+other_words (byte ∷ bytes) = cond (is_space byte) (slice_split is_space bytes) (other_words bytes)
+
+-- a line is its first word and the others
+pub first_word_split : (line : List ℕ) → slice_split is_space line ≡ first_word line ∷ other_words line
+first_word_split [] = refl
+first_word_split (byte ∷ bytes) = first_part byte (is_space byte) (slice_split is_space bytes) (other_words bytes) (first_word bytes) (first_word_split bytes)
+
+prefix-cons : (byte : ℕ) (bytes : List ℕ) (t : Bool) (first : List ℕ) → (rest : List ℕ) × (bytes ≡ first ++ rest) → (rest : List ℕ) × (byte ∷ bytes ≡ cond t [] (byte ∷ first) ++ rest)
+prefix-cons byte bytes true first h = (byte ∷ bytes, refl)
+prefix-cons byte bytes false first h = (h.0, ap (λ l. byte ∷ l) h.1)
+
+-- a line begins with its first word
+first_word-prefix : (line : List ℕ) → (rest : List ℕ) × (line ≡ first_word line ++ rest)
+first_word-prefix [] = ([], refl)
+first_word-prefix (byte ∷ bytes) = prefix-cons byte bytes (is_space byte) (first_word bytes) (first_word-prefix bytes)
+
+or_parts : (a b : Bool) → (a || b) ≡ false → (a ≡ false) × (b ≡ false)
+or_parts true b e = absurd (true≢false e)
+or_parts false b e = (refl, e)
+
+-- bytes without a space lengthen the first word of what stands behind them
+first_word-append : (name rest : List ℕ) → list_any is_space name ≡ false → first_word (name ++ rest) ≡ name ++ first_word rest
+first_word-append [] rest h = refl
+first_word-append (byte ∷ name) rest h =
+    let parts = or_parts (is_space byte) (list_any is_space name) h in
+    rw parts.0 (ap (λ l. byte ∷ l) (first_word-append name rest parts.1))
+
+other_words-append : (name rest : List ℕ) → list_any is_space name ≡ false → other_words (name ++ rest) ≡ other_words rest
+other_words-append [] rest h = refl
+other_words-append (byte ∷ name) rest h =
+    let parts = or_parts (is_space byte) (list_any is_space name) h in
+    rw parts.0 (other_words-append name rest parts.1)
+
+pub bytes_differ : (a b : List ℕ) → (a ≡ b → ⊥) → bytes_eq a b ≡ false
+bytes_differ a b h = not_true (bytes_eq a b) (λ e. h ((bytes_eq-Decides a b).0 e))
+
+-- a line that does not begin with the name
+pub not_name_before : (line name : List ℕ) → bytes_eq (take (length name) line) name ≡ false → bytes_eq (first_word line) name ≡ false
+not_name_before line name other =
+    bytes_differ (first_word line) name (λ e.
+    let (rest, is) = first_word-prefix line in
+    let front : take (length name) line ≡ name = ap (take (length name)) (is ∙ ap (λ w. w ++ rest) e) ∙ take-append_seam name rest in
+    true≢false (sym ((bytes_eq-Decides (take (length name) line) name).1 front) ∙ other))
+
+-- a line that begins with the name, and with what stands behind it
+begins : (line name rest : List ℕ) → bytes_eq (take (length name) line) name ≡ true → rest ≡ drop (length name) line → line ≡ name ++ rest
+begins line name rest e back =
+    sym (take-append-drop (length name) line) ∙ rw (sym back) (ap (λ l. l ++ rest) ((bytes_eq-Decides (take (length name) line) name).0 e))
+
+named : (line name rest : List ℕ) (after : Option (List ℕ)) → line ≡ name ++ rest → list_any is_space name ≡ false → first_word rest ≡ [] → other_words rest ≡ words_after after → len_after after ≤ length rest
+    → IsAfterName line name after
+named line name rest after is word first others len =
+    let same : first_word line ≡ name = ap first_word is ∙ first_word-append name rest word ∙ ap (λ l. name ++ l) first ∙ append-nil name in
+    let behind : other_words line ≡ words_after after = ap other_words is ∙ other_words-append name rest word ∙ others in
+    let long : length line ≡ length name + length rest = ap length is ∙ length-append name rest in
+    record {
+      named = (bytes_eq-Decides (first_word line) name).1 same;
+      words = first_word_split line ∙ ap (λ l. first_word line ∷ l) behind;
+      len = omega (arith, long, len);
+    }
+
+pub name_alone : (line name rest : List ℕ) → bytes_eq (take (length name) line) name ≡ true → rest ≡ drop (length name) line → list_any is_space name ≡ false → length rest ≡ 0 → IsAfterName line name None
+name_alone line name rest e back word none =
+    let end : rest ≡ [] = nil_from_length rest none in
+    named line name rest None (begins line name rest e back) word (ap first_word end) (ap other_words end) (omega arith)
+
+name_and_byte : (line name rest : List ℕ) (byte : ℕ) → line ≡ name ++ rest → list_any is_space name ≡ false → rest ≡ byte ∷ drop 1 rest → is_space byte ≡ true → IsAfterName line name (Some (drop 1 rest))
+name_and_byte line name rest byte is word cut space =
+    named line name rest (Some (drop 1 rest)) is word (ap first_word cut ∙ rw space refl) (ap other_words cut ∙ rw space refl) (let long : length rest ≡ length (drop 1 rest) + 1 = ap length cut ∙ omega arith in omega (arith, long))
+
+pub name_before_space : (line name rest : List ℕ) → bytes_eq (take (length name) line) name ≡ true → rest ≡ drop (length name) line → list_any is_space name ≡ false → 0 < length rest → get_or rest 0 0 ≡ 32
+    → IsAfterName line name (Some (take (length rest - 1) (drop 1 rest)))
+name_before_space line name rest e back word some space =
+    let all : take (length rest - 1) (drop 1 rest) ≡ drop 1 rest = take_all _ _ (simp length-drop (omega arith)) in
+    rw all (name_and_byte line name rest (get_or rest 0 0) (begins line name rest e back) word (drop-cons rest 0 0 some) (ap is_space space))
+
+pub not_name_inside : (line name rest : List ℕ) → bytes_eq (take (length name) line) name ≡ true → rest ≡ drop (length name) line → list_any is_space name ≡ false → 0 < length rest → (get_or rest 0 0 ≡ 32 → ⊥)
+    → bytes_eq (first_word line) name ≡ false
+not_name_inside line name rest e back word some other =
+    let byte = get_or rest 0 0 in
+    let none : is_space byte ≡ false = not_true (is_space byte) (λ h. other (eqb-true byte 32 h)) in
+    let first : first_word rest ≡ byte ∷ first_word (drop 1 rest) = ap first_word (drop-cons rest 0 0 some) ∙ rw none refl in
+    let same : first_word line ≡ name ++ (byte ∷ first_word (drop 1 rest)) = ap first_word (begins line name rest e back) ∙ first_word-append name rest word ∙ ap (λ l. name ++ l) first in
+    bytes_differ (first_word line) name (λ h. let long = ap length (sym h ∙ same) ∙ length-append name (byte ∷ first_word (drop 1 rest)) in omega (arith, long))
 
 -- no digit is a space
 pub digits-All : (digits : List ℕ) → all_ascii_digits digits ≡ true → All (λ b. is_space b ≡ false) digits

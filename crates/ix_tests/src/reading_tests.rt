@@ -1,4 +1,5 @@
 //! Numbers and headers that are just read, and others that just are not.
+use crate::script_tests::{Example, check_output};
 use ix_run::run::{Container, FixedCapacity, Storage, read_header, read_number};
 use ix_test_support::Findings;
 use std::fmt::Debug;
@@ -44,6 +45,26 @@ const UNREADABLE_NUMBERS: &[&str] = &[
     "0x1",
     "1_0",
     "1.0",
+    "/2345678",
+    "1234567:",
+    "a23456789",
+    "1/3456789",
+    "12:456789",
+    "123 56789",
+    "1234-6789",
+    "12345x789",
+    "123456.89",
+    "1234567+9",
+    "12345678a",
+    "012345678",
+    "+12345678",
+    "12345678/0123456",
+    "123456789:123456",
+    "123456789012345a",
+    "12345678901234567/",
+    "123456789012345678:",
+    "1234567890123456789a",
+    "01234567890123456",
     "18446744073709551616",
     "18446744073709551621",
     "36893488147419103232",
@@ -60,6 +81,18 @@ const NUMBERS: &[(&str, u64)] = &[
     ("1", 1),
     ("9", 9),
     ("10", 10),
+    ("1234567", 1_234_567),
+    ("12345678", 12_345_678),
+    ("99999999", 99_999_999),
+    ("100000000", 100_000_000),
+    ("123456789", 123_456_789),
+    ("987654321012345", 987_654_321_012_345),
+    ("1234567890123456", 1_234_567_890_123_456),
+    ("9999999999999999", 9_999_999_999_999_999),
+    ("10000000000000000", 10_000_000_000_000_000),
+    ("12345678901234567", 12_345_678_901_234_567),
+    ("123456789012345678", 123_456_789_012_345_678),
+    ("1234567890123456789", 1_234_567_890_123_456_789),
     ("9999999999999999999", 9_999_999_999_999_999_999),
     ("10000000000000000000", 10_000_000_000_000_000_000),
     ("18446744073709551609", 18_446_744_073_709_551_609),
@@ -69,6 +102,39 @@ const NUMBERS: &[(&str, u64)] = &[
 #[test]
 fn numbers() -> Result<(), Fail> {
     check_reading(|text: &[u8]| read_number(text), NUMBERS, UNREADABLE_NUMBERS)
+}
+
+/// Scripts with numbers of each length, from 1 to 20 digits.
+const SCRIPTS_OF_NUMBERS: &[Example] = &[
+    (
+        b"queue heap 8\npush 1\npush 18\npush 184\npush 1844\npush 18446\npush 184467\npush 1844674\nshow\n",
+        b"ready\ntrue\ntrue\ntrue\ntrue\ntrue\ntrue\ntrue\n1 18 184 1844 18446 184467 1844674\n",
+    ),
+    (
+        b"queue heap 8\npush 18446744\npush 184467440\npush 1844674407\npush 18446744073\npush 184467440737\nshow\n",
+        b"ready\ntrue\ntrue\ntrue\ntrue\ntrue\n18446744 184467440 1844674407 18446744073 184467440737\n",
+    ),
+    (
+        b"queue heap 8\npush 1844674407370\npush 18446744073709\npush 184467440737095\npush 1844674407370955\nshow\n",
+        b"ready\ntrue\ntrue\ntrue\ntrue\n1844674407370 18446744073709 184467440737095 1844674407370955\n",
+    ),
+    (
+        b"queue heap 8\npush 18446744073709551\npush 184467440737095516\npush 1844674407370955161\npush 18446744073709551615\nshow\n",
+        b"ready\ntrue\ntrue\ntrue\ntrue\n18446744073709551 184467440737095516 1844674407370955161 18446744073709551615\n",
+    ),
+    (
+        b"queue heap 3\nover 99999999\nover 100000000\nover 9999999999999999\nover 10000000000000000\nover 9999999999999999999\nover 10000000000000000000\npop\npop\npop\n",
+        b"ready\nnone\nnone\nnone\nsome 99999999\nsome 100000000\nsome 9999999999999999\nsome 10000000000000000\nsome 9999999999999999999\nsome 10000000000000000000\n",
+    ),
+];
+
+#[test]
+fn numbers_read_and_printed(rt: HostRuntime) -> Result<(), Fail> {
+    let findings = Findings::new();
+    for (i, (input, output)) in SCRIPTS_OF_NUMBERS.iter().enumerate() {
+        check_output(&findings, rt.alloc(), input, output, i);
+    }
+    findings.verdict()
 }
 
 /// Lines that are no header.

@@ -20,7 +20,7 @@ const ENDED_INPUT: &[u8] = b"queue fixed 1\npush 123\npush 5\nover 456\npop\npop
 const OUTPUT: &[u8] = b"ready\ntrue\nfalse\nsome 123\nsome 456\nnone\n";
 
 /// A script and its output.
-type Example = (&'static [u8], &'static [u8]);
+pub type Example = (&'static [u8], &'static [u8]);
 
 const WORKED: &[Example] = &[
     (INPUT, OUTPUT),

@@ -1,7 +1,9 @@
 -- Tables of the commands by name, as forms.
-use Rattle.std.specs.Prelude.{ℕ, List, [], Option, None, map}
+use Rattle.std.specs.Prelude.{ℕ, ◌≡◌, ◌≤◌, List, [], ◌∷◌, Option, None, Some, map, true, not, length, bytes_eq, if◌then◌else◌}
+use Rattle.std.specs.List.{slice_split, list_all, list_any}
+use Rattle.std.specs.Map.{lookup}
 use Rattle.std.specs.Borrow.{Bor}
-use Rattle.ix_run.specs.Words.{Form, alone, one, two, many, one_byte, number_byte, many_bytes, number_many_bytes, slice_of}
+use Rattle.ix_run.specs.Words.{Form, is_space, words_after, len_after, alone, one, two, many, one_byte, number_byte, many_bytes, number_many_bytes, slice_of}
 use Rattle.ix_run.specs.declared.run.tables.Takes.{Takes}
 use Rattle.ix_run.specs.declared.run.tables.Takes.TheVariants.{Nothing, Number, TwoNumbers, Numbers, Byte, NumberAndByte, Bytes, NumberAndBytes}
 use Rattle.ix_commands.specs.declared.command.QueueCommand.{QueueCommand}
@@ -34,6 +36,28 @@ module _ {V : Type 0} where
   -- the same of a table that is a constant
   abbrev pub constant_rows : List (record { now : List ℕ } × V) → List (List ℕ × V)
   constant_rows table = map (λ row. (row.0.now, row.1)) table
+
+-- the bytes before the first space
+abbrev pub first_word : List ℕ → List ℕ
+first_word [] = []
+first_word (byte ∷ bytes) = if is_space byte then [] else byte ∷ first_word bytes
+
+-- the name is the first word of a line, and this stands behind the space after it
+pub record IsAfterName (line name : List ℕ) (rest : Option (List ℕ)) : Type 0 where
+  pub named : bytes_eq (first_word line) name ≡ true
+  pub words : slice_split is_space line ≡ first_word line ∷ words_after rest
+  pub len : len_after rest ≤ length line
+
+module _ {V : Type 0} where
+  -- no name has a space
+  abbrev pub HasWords : List (List ℕ × V) → Type 0
+  HasWords table = list_all (λ row. not (list_any is_space row.0)) table ≡ true
+
+  -- the value beside the first word of a line, and what stands behind the space after it
+  pub record IsNamed (table : List (List ℕ × V)) (line : List ℕ) (value : V) (rest : Option (List ℕ)) : Type 0 where
+    pub found : lookup (bytes_eq (first_word line)) table ≡ Some value
+    pub words : slice_split is_space line ≡ first_word line ∷ words_after rest
+    pub len : len_after rest ≤ length line
 
 module _ {C : Type 0} where
   -- what at most two numbers make, with zeros for those that are missing

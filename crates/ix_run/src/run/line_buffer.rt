@@ -10,15 +10,50 @@ use crate::run::partial_line::PartialLine;
 use memchr::memchr;
 use std::io::{ErrorKind, Read};
 use std::marker::Model;
+use std::simd::prelude::*;
 
-/// Returns the index of the first line feed.
-#[inline]
-fn line_end(bytes: &[u8]) -> Option<usize>
+/// As many bytes are looked at in one step before the others, since most lines are shorter.
+const NEAR_LEN: usize = 32;
+
+/// Returns the index of the first line feed, if it is near.
+#[inline(always)]
+fn near_line_end(bytes: &[u8]) -> Option<usize>
+    ensures { IfSome result (λ at. (at < length bytes.now) × IsOneLine (take at bytes.now)
+        × (bytes.now ≡ take at bytes.now ++ line_feed ∷ drop (at + 1) bytes.now)) }
+{
+    if bytes.len() < NEAR_LEN {
+        return None;
+    }
+    let ends = u8x32::from_slice(bytes)
+        .simd_eq(u8x32::splat(b'\n'))
+        .to_bitmask();
+    if ends == 0 {
+        return None;
+    }
+    Some(ends.trailing_zeros() as usize)
+}
+
+/// Returns the index of the first line feed, near or far. It is a call, so that the code of the caller stays small.
+#[inline(never)]
+fn far_line_end(bytes: &[u8]) -> Option<usize>
     ensures found { IfSome result (λ at. (at < length bytes.now) × IsOneLine (take at bytes.now)
         × (bytes.now ≡ take at bytes.now ++ line_feed ∷ drop (at + 1) bytes.now)) }
     ensures none { IfNone result (IsOneLine bytes.now) }
 {
     memchr(b'\n', bytes)
+}
+
+/// Returns the index of the first line feed.
+#[inline(always)]
+fn line_end(bytes: &[u8]) -> Option<usize>
+    ensures found { IfSome result (λ at. (at < length bytes.now) × IsOneLine (take at bytes.now)
+        × (bytes.now ≡ take at bytes.now ++ line_feed ∷ drop (at + 1) bytes.now)) }
+    ensures none { IfNone result (IsOneLine bytes.now) }
+{
+    match near_line_end(bytes) {
+        Some(at) => Some(at),
+        None => far_line_end(bytes),
+    }
 }
 
 /// Reads once, and returns the number of bytes, or `None` if the read was interrupted.

@@ -1,5 +1,5 @@
 //! Replies in a buffer.
-ghost use Rattle.std.specs.Prelude.{ℕ, ◌≡◌, ◌≤◌, ◌+◌, ◌++◌, ◌↔◌, List, [], IsTrue, length, decimal};
+ghost use Rattle.std.specs.Prelude.{ℕ, ◌≡◌, ◌≤◌, ◌+◌, ◌++◌, ◌↔◌, List, [], IsTrue, length, take, decimal};
 ghost use Rattle.ix_run.specs.declared.run.limits.TheConstants.{BUFFER_LEN, MAX_DIGITS, MAX_REPLY_LEN};
 
 use crate::run::limits::{BUFFER_LEN, MAX_DIGITS, MAX_REPLY_LEN};
@@ -69,15 +69,25 @@ impl ReplyBuffer {
         self.len <= BUFFER_LEN - MAX_REPLY_LEN
     }
 
+    /// Appends the first `len` of the bytes. There is room for all of them.
+    #[inline(always)]
+    fn put_first(&mut self, bytes: &[u8], len: usize)
+        requires room { length self.old + length bytes.now ≤ BUFFER_LEN }
+        requires within { len ≤ length bytes.now }
+        ensures { self.new ≡ self.old ++ take len bytes.now }
+    {
+        let end = self.len + bytes.len();
+        self.bytes[self.len..end].copy_from_slice(bytes);
+        self.len += len;
+    }
+
     /// Appends bytes for which there is room.
-    #[inline]
+    #[inline(always)]
     pub fn put(&mut self, bytes: &[u8])
         requires { length self.old + length bytes.now ≤ BUFFER_LEN }
         ensures { self.new ≡ self.old ++ bytes.now }
     {
-        let end = self.len + bytes.len();
-        self.bytes[self.len..end].copy_from_slice(bytes);
-        self.len = end;
+        self.put_first(bytes, bytes.len());
     }
 
     /// Appends the decimal text of a number, for which there is room.
@@ -87,8 +97,9 @@ impl ReplyBuffer {
         ensures value { self.new ≡ self.old ++ decimal number }
         ensures len { length self.new ≤ length self.old + MAX_DIGITS }
     {
-        let mut digits = [0u8; MAX_DIGITS];
+        let mut digits = [0u8; 2 * MAX_DIGITS];
         let start = itoa::write_digits(number, &mut digits, MAX_DIGITS);
-        self.put(&digits[start..]);
+        // Always as many bytes are copied, so that this is no call.
+        self.put_first(&digits[start..start + MAX_DIGITS], MAX_DIGITS - start);
     }
 }

@@ -1,13 +1,13 @@
 //! Tables of names, and what stands after a name.
-ghost use Rattle.std.specs.Prelude.{ℕ, ◌≡◌, ◌≤◌, ◌*◌, List, [], None, length, bytes_eq};
+ghost use Rattle.std.specs.Prelude.{ℕ, ◌≡◌, ◌≤◌, ◌*◌, List, [], None, MatchOption, length, bytes_eq};
 ghost use Rattle.std.specs.Option.{option_map, option_and_then, option_copied};
 ghost use Rattle.std.specs.Map.{lookup};
 ghost use Rattle.ix_run.specs.Words.{words_after, len_after, numbers_in, command_of};
-ghost use Rattle.ix_run.specs.inner.Tables.{rows, numbers_taken, items_taken, bytes_taken, forms_by};
+ghost use Rattle.ix_run.specs.inner.Tables.{rows, first_word, HasWords, IsNamed, numbers_taken, items_taken, bytes_taken, forms_by};
 
 use crate::run::words::{
-    alone, bytes_of_words, is_word, many_numbers, number_and_byte, number_and_bytes, one_byte,
-    one_number, split_word, two_numbers,
+    after_name, alone, bytes_of_words, many_numbers, number_and_byte, number_and_bytes, one_byte,
+    one_number, two_numbers,
 };
 
 /// What stands after the name of a command.
@@ -23,14 +23,20 @@ pub(crate) enum Takes {
     NumberAndBytes,
 }
 
-/// Returns the value beside the first name in `table` that is equal to `name`.
+/// Returns the value beside the name in `table` that is the first word of `line`, and what stands behind the space after
+/// that word.
 #[inline(always)]
-pub(crate) fn value_named<V: Copy>(table: &[(&[u8], V)], name: &[u8]) -> Option<V>
-    ensures { result ≡ lookup (bytes_eq name.now) (rows table.now) }
+pub(crate) fn split_name<'a, V: Copy>(
+    table: &[(&[u8], V)],
+    line: &'a [u8],
+) -> Option<(V, Option<&'a [u8]>)>
+    requires words { HasWords (rows table.now) }
+    ensures { MatchOption result (lookup (bytes_eq (first_word line.now)) (rows table.now) ≡ None)
+        (λ r. IsNamed (rows table.now) line.now r.0 (option_copied r.1)) }
 {
     for row in table {
-        if is_word(name, row.0) {
-            return Some(row.1);
+        if let Some(rest) = after_name(line, row.0) {
+            return Some((row.1, rest));
         }
     }
     None
@@ -57,11 +63,11 @@ pub(crate) fn read_by_table<C: Copy>(
     line: &[u8],
 ) -> Option<(C, (u64, u64))>
     requires names { lookup (bytes_eq []) (rows table.now) ≡ None }
+    requires words { HasWords (rows table.now) }
     ensures { result
         ≡ command_of (forms_by (λ command n m. (command, (n, m))) (rows table.now)) line.now }
 {
-    let (name, rest) = split_word(line);
-    let (takes, command) = value_named(table, name)?;
+    let ((takes, command), rest) = split_name(table, line)?;
     let numbers = read_numbers(takes, rest)?;
     Some((command, numbers))
 }

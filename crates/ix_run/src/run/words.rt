@@ -1,9 +1,10 @@
 //! Lines as words: a name, and numbers. `rest` is the part of a line after the last space that was read, or `None` at its
 //! end.
-ghost use Rattle.std.specs.Prelude.{ℕ, ◌≡◌, ◌≤◌, ◌*◌, ◌+◌, List, ◌∷◌, length, nat_eq, bytes_eq};
+ghost use Rattle.std.specs.Prelude.{ℕ, ◌≡◌, ◌≤◌, ◌*◌, ◌+◌, List, ◌∷◌, false, MatchOption, length, take, nat_eq, bytes_eq};
 ghost use Rattle.std.specs.Option.{option_map, option_and_then, option_copied};
-ghost use Rattle.std.specs.List.{position_or_len, slice_split};
+ghost use Rattle.std.specs.List.{position_or_len, slice_split, list_any};
 ghost use Rattle.ix_run.specs.Words.{is_space, words_after, len_after, numbers_in, byte_of, key_of};
+ghost use Rattle.ix_run.specs.inner.Tables.{first_word, IsAfterName};
 ghost use Rattle.ix_run.specs.Words.{alone, one, two, one_byte, number_byte, many_bytes, number_many_bytes};
 
 use crate::run::reading::number_in;
@@ -23,7 +24,7 @@ fn word_len(bytes: &[u8], separator: u8) -> usize
 }
 
 /// Returns the first word of `bytes`, and what stands behind the space after it.
-#[tactic(auto, using(crate::proofs::Words::first_word))]
+#[tactic(auto, using(crate::proofs::Words::words_split))]
 #[inline]
 pub(crate) fn split_word(bytes: &[u8]) -> (&[u8], Option<&[u8]>)
     ensures words { slice_split is_space bytes.now
@@ -47,6 +48,43 @@ pub(crate) fn is_word(word: &[u8], other: &[u8]) -> bool
         Some(rest) => rest.is_empty(),
         None => false,
     }
+}
+
+/// Returns `true` if `name` is the beginning of `line`. Most names differ in the first byte.
+#[inline(always)]
+fn begins_with(line: &[u8], name: &[u8]) -> bool
+    ensures { result ≡ bytes_eq (take (length name.now) line.now) name.now }
+{
+    if line.len() < name.len() {
+        return false;
+    }
+    for i in 0..name.len() {
+        if line[i] != name[i] {
+            return false;
+        }
+    }
+    true
+}
+
+/// Returns what stands behind the space after `name`, if `line` begins with that word, or `Some(None)` if `name` is the
+/// whole line.
+#[inline(always)]
+pub(crate) fn after_name<'a>(line: &'a [u8], name: &[u8]) -> Option<Option<&'a [u8]>>
+    requires { list_any is_space name.now ≡ false }
+    ensures { MatchOption result (bytes_eq (first_word line.now) name.now ≡ false)
+        (λ rest. IsAfterName line.now name.now (option_copied rest)) }
+{
+    if !begins_with(line, name) {
+        return None;
+    }
+    let rest = &line[name.len()..];
+    if rest.is_empty() {
+        return Some(None);
+    }
+    if rest[0] != b' ' {
+        return None;
+    }
+    Some(Some(&rest[1..]))
 }
 
 /// Returns the command, if no word is left.

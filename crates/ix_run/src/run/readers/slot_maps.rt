@@ -1,12 +1,12 @@
 //! Lines as commands of slot maps.
-ghost use Rattle.std.specs.Prelude.{◌≡◌, bytes_eq};
+ghost use Rattle.std.specs.Prelude.{◌≡◌, None, MatchOption, bytes_eq, option_copied};
 ghost use Rattle.std.specs.Map.{lookup};
 ghost use Rattle.ix_run.specs.Words.{command_of, key_command_of};
 ghost use Rattle.ix_run.specs.Forms.{slot_forms, slot_key_forms, slot_command_of};
-ghost use Rattle.ix_run.specs.inner.Tables.{constant_rows, slot_named, slot_key_named};
+ghost use Rattle.ix_run.specs.inner.Tables.{constant_rows, first_word, IsNamed, slot_named, slot_key_named};
 
 use crate::run::SlotCommand;
-use crate::run::tables::{Takes, read_by_table, read_numbers, value_named};
+use crate::run::tables::{Takes, read_by_table, read_numbers, split_name};
 use crate::run::words::{key_in, split_word};
 use ix_maps::SlotMapKey;
 
@@ -98,19 +98,22 @@ fn plain_named(name: PlainName, first: u64, second: u64) -> SlotCommand<u64>
 fn read_key_command(line: &[u8]) -> Option<SlotCommand<u64>>
     ensures { result ≡ key_command_of slot_key_forms line.now }
 {
-    let (name, rest) = split_word(line);
-    let (takes, name) = key_form_named(name)?;
+    let ((takes, name), rest) = split_key_form(line)?;
     let (word, rest) = split_word(rest?);
     let key = key_in(word)?;
     let (value, _) = read_numbers(takes, rest)?;
     Some(key_named(name, key, value))
 }
 
-/// Returns what the command with this name takes after its key, and which command it is.
-fn key_form_named(name: &[u8]) -> Option<(Takes, KeyName)>
-    ensures { result ≡ lookup (bytes_eq name.now) (constant_rows KEY_NAMES) }
+/// Returns what the command that `line` names takes after its key, which command it is, and what stands behind the space
+/// after its name.
+#[inline(always)]
+fn split_key_form<'a>(line: &'a [u8]) -> Option<((Takes, KeyName), Option<&'a [u8]>)>
+    ensures { MatchOption result
+        (lookup (bytes_eq (first_word line.now)) (constant_rows KEY_NAMES) ≡ None)
+        (λ r. IsNamed (constant_rows KEY_NAMES) line.now r.0 (option_copied r.1)) }
 {
-    value_named(&KEY_NAMES, name)
+    split_name(&KEY_NAMES, line)
 }
 
 /// Returns the command with this name, of this key and this number.

@@ -1,15 +1,14 @@
 //! Lines as commands of strings.
-ghost use Rattle.std.specs.Prelude.{◌≡◌, ◌≤◌, length, bytes_eq, option_map};
+ghost use Rattle.std.specs.Prelude.{◌≡◌, ◌≤◌, ◌++◌, None, MatchOption, length, bytes_eq, option_copied, option_map};
 ghost use Rattle.std.specs.Map.{lookup};
 ghost use Rattle.ix_run.specs.Words.{command_of};
 ghost use Rattle.ix_run.specs.Forms.{text_forms, text_plain};
-ghost use Rattle.ix_run.specs.inner.Tables.{constant_rows, text_named};
-ghost use Rattle.ix_run.specs.declared.run.readers.strings.TheConstants.{NAMES};
+ghost use Rattle.ix_run.specs.inner.Tables.{constant_rows, first_word, IsNamed, text_named};
+ghost use Rattle.ix_run.specs.declared.run.readers.strings.TheConstants.{NAMES, OTHER_NAMES};
 ghost use Rattle.ix_run.specs.declared.run.limits.TheConstants.{MAX_LINE_LEN};
 
 use crate::run::limits::MAX_NUMBERS;
-use crate::run::tables::{Takes, read_bytes, value_named};
-use crate::run::words::split_word;
+use crate::run::tables::{Takes, read_bytes, split_name};
 use crate::run::{MAX_LINE_LEN, TextCommand};
 
 /// The name of a command.
@@ -36,8 +35,8 @@ enum TextName {
     Full,
 }
 
-/// The names of the commands, and what each takes.
-const NAMES: [(&[u8], (Takes, TextName)); 19] = [
+/// The names of the first commands, and what each takes. There are two tables, since the compiler unrolls short ones alone.
+const NAMES: [(&[u8], (Takes, TextName)); 9] = [
     (b"push", (Takes::Byte, TextName::Push)),
     (b"append", (Takes::Bytes, TextName::Append)),
     (b"insert", (Takes::NumberAndByte, TextName::Insert)),
@@ -50,6 +49,10 @@ const NAMES: [(&[u8], (Takes, TextName)); 19] = [
     (b"remove_range", (Takes::TwoNumbers, TextName::RemoveRange)),
     (b"find", (Takes::Bytes, TextName::Find)),
     (b"rfind", (Takes::Bytes, TextName::Rfind)),
+];
+
+/// The names of the other commands, and what each takes.
+const OTHER_NAMES: [(&[u8], (Takes, TextName)); 10] = [
     (b"strip_prefix", (Takes::Bytes, TextName::StripPrefix)),
     (b"strip_suffix", (Takes::Bytes, TextName::StripSuffix)),
     (b"drop", (Takes::Byte, TextName::Drop)),
@@ -72,17 +75,24 @@ pub fn read_text_command<'a>(
     // The bytes of a list are the ones in the buffer, whatever their address.
     ensures value { option_map text_plain result ≡ command_of text_forms line.now }
 {
-    let (name, rest) = split_word(line);
-    let (takes, name) = form_named(name)?;
+    let ((takes, name), rest) = split_form(line)?;
     let (first, second, byte, bytes) = read_bytes(takes, rest, bytes)?;
     Some(command_named(name, first, second, byte, bytes))
 }
 
-/// Returns what the command with this name takes, and which command it is.
-fn form_named(name: &[u8]) -> Option<(Takes, TextName)>
-    ensures { result ≡ lookup (bytes_eq name.now) (constant_rows NAMES) }
+/// Returns what the command that `line` names takes, which command it is, and what stands behind the space after its name.
+#[inline(always)]
+fn split_form<'a>(line: &'a [u8]) -> Option<((Takes, TextName), Option<&'a [u8]>)>
+    ensures { MatchOption result
+        (lookup (bytes_eq (first_word line.now)) (constant_rows NAMES ++ constant_rows OTHER_NAMES)
+        ≡ None)
+        (λ r. IsNamed (constant_rows NAMES ++ constant_rows OTHER_NAMES) line.now r.0
+        (option_copied r.1)) }
 {
-    value_named(&NAMES, name)
+    match split_name(&NAMES, line) {
+        Some(form) => Some(form),
+        None => split_name(&OTHER_NAMES, line),
+    }
 }
 
 /// Returns the command with this name, of these numbers, this byte or these bytes.

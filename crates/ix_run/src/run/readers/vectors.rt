@@ -1,15 +1,14 @@
 //! Lines as commands of vectors.
-ghost use Rattle.std.specs.Prelude.{◌≡◌, ◌≤◌, length, bytes_eq, option_map};
+ghost use Rattle.std.specs.Prelude.{◌≡◌, ◌≤◌, ◌++◌, None, MatchOption, length, bytes_eq, option_copied, option_map};
 ghost use Rattle.std.specs.Map.{lookup};
 ghost use Rattle.ix_run.specs.Words.{command_of};
 ghost use Rattle.ix_run.specs.Forms.{vec_forms, vec_plain};
-ghost use Rattle.ix_run.specs.inner.Tables.{constant_rows, vec_named};
-ghost use Rattle.ix_run.specs.declared.run.readers.vectors.TheConstants.{NAMES};
+ghost use Rattle.ix_run.specs.inner.Tables.{constant_rows, first_word, IsNamed, vec_named};
+ghost use Rattle.ix_run.specs.declared.run.readers.vectors.TheConstants.{NAMES, OTHER_NAMES};
 ghost use Rattle.ix_run.specs.declared.run.limits.TheConstants.{MAX_LINE_LEN};
 
 use crate::run::limits::MAX_NUMBERS;
-use crate::run::tables::{Takes, read_items, value_named};
-use crate::run::words::split_word;
+use crate::run::tables::{Takes, read_items, split_name};
 use crate::run::{MAX_LINE_LEN, VecCommand};
 
 /// The name of a command.
@@ -31,8 +30,8 @@ enum VecName {
     Full,
 }
 
-/// The names of the commands, and what each takes.
-const NAMES: [(&[u8], (Takes, VecName)); 14] = [
+/// The names of the first commands, and what each takes. There are two tables, since the compiler unrolls short ones alone.
+const NAMES: [(&[u8], (Takes, VecName)); 7] = [
     (b"push", (Takes::Number, VecName::Push)),
     (b"insert", (Takes::TwoNumbers, VecName::Insert)),
     (b"extend", (Takes::Numbers, VecName::Extend)),
@@ -40,6 +39,10 @@ const NAMES: [(&[u8], (Takes, VecName)); 14] = [
     (b"pop", (Takes::Nothing, VecName::Pop)),
     (b"remove", (Takes::Number, VecName::Remove)),
     (b"at", (Takes::Number, VecName::At)),
+];
+
+/// The names of the other commands, and what each takes.
+const OTHER_NAMES: [(&[u8], (Takes, VecName)); 7] = [
     (b"set", (Takes::TwoNumbers, VecName::Set)),
     (b"truncate", (Takes::Number, VecName::Truncate)),
     (b"clear", (Takes::Nothing, VecName::Clear)),
@@ -59,17 +62,24 @@ pub fn read_vec_command<'a>(
     // The items of a list are the ones in the buffer, whatever their address.
     ensures value { option_map vec_plain result ≡ command_of vec_forms line.now }
 {
-    let (name, rest) = split_word(line);
-    let (takes, name) = form_named(name)?;
+    let ((takes, name), rest) = split_form(line)?;
     let (first, second, items) = read_items(takes, rest, numbers)?;
     Some(command_named(name, first, second, items))
 }
 
-/// Returns what the command with this name takes, and which command it is.
-fn form_named(name: &[u8]) -> Option<(Takes, VecName)>
-    ensures { result ≡ lookup (bytes_eq name.now) (constant_rows NAMES) }
+/// Returns what the command that `line` names takes, which command it is, and what stands behind the space after its name.
+#[inline(always)]
+fn split_form<'a>(line: &'a [u8]) -> Option<((Takes, VecName), Option<&'a [u8]>)>
+    ensures { MatchOption result
+        (lookup (bytes_eq (first_word line.now)) (constant_rows NAMES ++ constant_rows OTHER_NAMES)
+        ≡ None)
+        (λ r. IsNamed (constant_rows NAMES ++ constant_rows OTHER_NAMES) line.now r.0
+        (option_copied r.1)) }
 {
-    value_named(&NAMES, name)
+    match split_name(&NAMES, line) {
+        Some(form) => Some(form),
+        None => split_name(&OTHER_NAMES, line),
+    }
 }
 
 /// Returns the command with this name, of these numbers or this list.

@@ -22,4 +22,4 @@ returns c =
       | else-word-eq48-via-then-word-eq48+else-word-gt1 w ↦ λ e. omega (arith, some, w.if-word-gt1.false)
       | else-word-eq48-via-else-word-eq48 w ↦ λ e. absurd (w.if-word-eq48.false e)
     ] in
-    number_of-SomeIff word c.value_of_digits.result c.value_of_digits.ensures some front
+    number_of-SomeIff word c.value_of_digits-value.result c.value_of_digits-value.ensures some front

@@ -7,10 +7,11 @@ use Rattle.ix_maps.specs.Generations.{SlotKey}
 use Rattle.ix_commands.specs.declared.command.SlotCommand.{SlotCommand}
 use Rattle.ix_run.specs.Words.{is_space, words_after, numbers_in, key_of, key_and_numbers, key_command_of}
 use Rattle.ix_run.specs.Forms.{slot_key_forms}
-use Rattle.ix_run.specs.inner.Tables.{constant_rows, numbers_taken, slot_key_named}
+use Rattle.ix_run.specs.inner.Tables.{constant_rows, first_word, numbers_taken, slot_key_named}
 use Rattle.ix_run.specs.declared.run.tables.Takes.{Takes}
 use Rattle.ix_run.specs.declared.run.readers.slot_maps.KeyName.{KeyName}
 use Rattle.ix_run.specs.declared.run.readers.slot_maps.TheConstants.{KEY_NAMES}
+use Rattle.ix_run.proofs.Words.{other_words, first_word_split}
 use Rattle.ix_run.proofs.Tables.{taken_made, key_made, key_line}
 use Rattle.ix_run.proofs.run.readers.slot_maps.read_key_command.Goals as goal
 
@@ -36,16 +37,23 @@ read-key line name rest bytes word words takes form key first found e split is =
     ∙ (ap (key_made make (key_and_numbers (words_after rest))) (sym found)
     ∙ (ap (λ taken. key_made make taken (Some (takes, form))) (key-first rest bytes word words key e split (sym is)) ∙ key-taken takes form key (numbers_in words)))
 
+pub returns-in_err-takes : goal.returns-in_err-takes
+returns-in_err-takes c =
+    let line = c.args.line.now in
+    c.from_residual.ensures
+    ∙ (ap (key_made make (key_and_numbers (other_words line))) (sym c.in_err-takes.ensures)
+    ∙ sym (key_line make (constant_rows KEY_NAMES) line (first_word line) (other_words line) (first_word_split line) refl))
+
 pub returns-in_err-value : goal.returns-in_err-value
 returns-in_err-value c =
-    let words = words_after (option_copied c.split_word-2.result.1) in
-    let line = read-key c.args.line.now c.split_word.result.0.now (option_copied c.split_word.result.1) c.in_ok-rest.field-0.now c.split_word-2.result.0.now words c.in_ok-takes.takes c.in_ok-takes.name c.in_ok-key.key
-    c.split_word.ensures.words c.in_ok-takes.ensures (ap option_copied c.in_ok-rest.was) c.split_word-2.ensures.words c.in_ok-key.ensures in
+    let words = words_after (option_copied c.split_word.result.1) in
+    let line = read-key c.args.line.now (first_word c.args.line.now) (option_copied c.in_ok-takes.rest) c.in_ok-rest.field-0.now c.split_word.result.0.now words c.in_ok-takes.takes c.in_ok-takes.name c.in_ok-key.key
+    c.in_ok-takes.ensures.words (sym c.in_ok-takes.ensures.found) (ap option_copied c.in_ok-rest.was) c.split_word.ensures.words c.in_ok-key.ensures in
     c.from_residual-in_err-value.ensures ∙ (ap (option_map (λ (p : ℕ × ℕ). slot_key_named c.in_ok-takes.name c.in_ok-key.key p.0)) c.in_err-value.ensures ∙ sym line)
 
 pub returns : goal.returns
 returns c =
-    let words = words_after (option_copied c.split_word-2.result.1) in
-    let line = read-key c.args.line.now c.split_word.result.0.now (option_copied c.split_word.result.1) c.in_ok-rest.field-0.now c.split_word-2.result.0.now words c.in_ok-takes.takes c.in_ok-takes.name c.in_ok-key.key
-    c.split_word.ensures.words c.in_ok-takes.ensures (ap option_copied c.in_ok-rest.was) c.split_word-2.ensures.words c.in_ok-key.ensures in
+    let words = words_after (option_copied c.split_word.result.1) in
+    let line = read-key c.args.line.now (first_word c.args.line.now) (option_copied c.in_ok-takes.rest) c.in_ok-rest.field-0.now c.split_word.result.0.now words c.in_ok-takes.takes c.in_ok-takes.name c.in_ok-key.key
+    c.in_ok-takes.ensures.words (sym c.in_ok-takes.ensures.found) (ap option_copied c.in_ok-rest.was) c.split_word.ensures.words c.in_ok-key.ensures in
     ap Some c.key_named.ensures ∙ (ap (option_map (λ (p : ℕ × ℕ). slot_key_named c.in_ok-takes.name c.in_ok-key.key p.0)) c.in_ok-value.ensures ∙ sym line)
