@@ -315,9 +315,7 @@ impl<T: AtomicCopy, const SIZE: usize> SequencedByteAtomic<T, SIZE> {
         if first == last && first % 2 == 0 {
             value_read(&bytes)
         } else {
-            // In a place of its own, so that a value does not pass through the one that the call writes to.
-            let error = interfered(first, last);
-            error
+            interfered(first, last)
         }
     }
 
@@ -367,11 +365,21 @@ impl<T: AtomicCopy, const SIZE: usize> SequencedByteAtomic<T, SIZE> {
 }
 
 /// Returns the error of a read that loaded these versions.
+// Inlined, so that the place which the call writes to is one of its own, and is cleared in this case alone.
+#[inline(always)]
+fn interfered<T>(first: u64, last: u64) -> Result<T, Interfered>
+    ensures { result ≡ Err (record { first = first; last = last }) }
+{
+    let error = interfered_by_a_call(first, last);
+    error
+}
+
+/// Does what [`interfered`] does.
 // Out of line, so that a value is copied as a whole: where LLVM sees the error's numbers stored, it cuts the value where they
 // begin, and a load of the whole then waits for the stores of the parts.
 #[cold]
 #[inline(never)]
-fn interfered<T>(first: u64, last: u64) -> Result<T, Interfered>
+fn interfered_by_a_call<T>(first: u64, last: u64) -> Result<T, Interfered>
     ensures { result ≡ Err (record { first = first; last = last }) }
 {
     Err(Interfered { first, last })

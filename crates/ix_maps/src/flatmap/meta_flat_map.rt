@@ -291,16 +291,16 @@ impl<K: Eq + Drop, V: Drop, S: Table<Pair<K, V>>, L: Table<Link>> MetaFlatMap<K,
             ≡ flat_entry K.eq self.now key.now }
         ensures distinct { HasDistinctKeys K.eq self.now }
     {
-        let mut start = 0;
-        while self.pairs.capacity() - start >= BLOCK_LEN {
+        let blocks = self.pairs.capacity() / BLOCK_LEN;
+        for block in 0..blocks {
+            let start = block * BLOCK_LEN;
             let index = self.index_in_block(start, key);
             if index < BLOCK_LEN {
                 let place = start + index;
                 return Some((SlotTableKey::new(place), self.pairs.held_value(place)));
             }
-            start += BLOCK_LEN;
         }
-        self.find_from(start, key)
+        self.find_from(blocks * BLOCK_LEN, key)
     }
 
     /// Returns which of the [`BLOCK_LEN`] places from `start` on has a key that equals `key`, or [`BLOCK_LEN`], of a full map.

@@ -308,9 +308,12 @@ impl<T, S: Table<T>> MetaQueue<T, S> {
         requires { length self.old.items < self.old.capacity }
         ensures { self.new ≡ with_items self.old (push self.old.items value) }
     {
+        let start = self.start;
         let len = self.len;
-        let place = place_after(self.start, len, self.table.len());
+        let place = place_after(start, len, self.table.len());
         self.table.put(place, value);
+        // Written again, since LLVM takes a place of an inline table for any field, and would load it again.
+        self.start = start;
         self.len = len + 1;
     }
 

@@ -180,8 +180,9 @@ impl<const CAPACITY: usize> String for StaticString<CAPACITY> {
     }
 
     fn insert_bytes_unchecked(&mut self, idx: usize, bytes: &[u8]) {
-        open_gap(&mut self.bytes, idx, self.count, bytes);
-        self.count += bytes.len();
+        let len = self.count;
+        open_gap(&mut self.bytes, idx, len, bytes);
+        self.count = len + bytes.len();
     }
 
     fn remove_range(&mut self, idx: usize, n: usize) -> bool {

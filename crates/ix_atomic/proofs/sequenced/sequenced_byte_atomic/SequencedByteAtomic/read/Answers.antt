@@ -46,4 +46,4 @@ returns-else-first-last-clause-interfered g c =
       | else-first-last-via-then-first-last+else-first-eq0 w ↦ let odd = w.if-first-eq0.false in inl (omega arith)
       | else-first-last-via-else-first-last w ↦ let differ = w.if-first-last.false in let order = loads.order in inr (omega arith)
     ] in
-    rw c.interfered-error.ensures (loads, odd_or_less)
+    rw c.interfered.ensures (loads, odd_or_less)
