@@ -94,6 +94,7 @@ fn value_of_digits(word: &[u8]) -> Option<u64>
     }
 }
 
+/// Does what [`read_number`] does.
 #[inline]
 pub(crate) fn number_in(word: &[u8]) -> Option<u64>
     ensures { result ≡ number_of word.now }
