@@ -54,7 +54,7 @@ module _ {T : Type 0} where
   free_of_usable (Some None) empty unretired = absurd (unretired refl)
   free_of_usable (Some (Some x)) empty unretired = absurd (cc)
 
-  pub IsMapFormed-made : (s : SlotMapState T) (retired : ℕ) → HasGenerations s retired → IsWellFormed s.slots → IsMapFormed s
+  pub IsMapFormed-made : (s : SlotMapState T) (retired : ℕ) → HasGenerations None is_retired s retired → IsWellFormed s.slots → IsMapFormed s
   IsMapFormed-made s retired has formed = record {
     listed_is_usable = λ place listed. (let free = formed.listed_is_free place listed in record {
       within = free.0;
@@ -72,7 +72,7 @@ module _ {T : Type 0} where
     | inr past ↦ place_at_past _ i (let len = length-replicate n (let none : Option (Option T) = None in none) in omega arith)
   ]
 
-  pub HasGenerations-new : (slots : SlotState (Option T)) (generations : List ℕ) (capacity n generation : ℕ) → slots ≡ slot_new capacity → n ≡ capacity → generations ≡ replicate n generation → HasGenerations (record { slots = slots; generations = generations }) 0
+  pub HasGenerations-new : (slots : SlotState (Option T)) (generations : List ℕ) (capacity n generation : ℕ) → slots ≡ slot_new capacity → n ≡ capacity → generations ≡ replicate n generation → HasGenerations None is_retired (record { slots = slots; generations = generations }) 0
   HasGenerations-new slots generations capacity n generation new as_many filled = record {
     lengths = ap length filled ∙ length-replicate n generation ∙ as_many ∙ sym (ap (λ (s : SlotState (Option T)). length s.values) new ∙ length-replicate capacity None);
     last = λ place retired.

@@ -4,11 +4,15 @@ use Rattle.std.specs.List.{find}
 use Rattle.ix_maps.specs.SlotState.{SlotState, value_at, entries}
 use Rattle.ix_maps.specs.declared.flatmap.pair.Pair.{Pair}
 
+-- no two places hold values that this relates
+abbrev pub AreDistinctBy : {T : Type 0} → (T → T → Bool) → SlotState T → Type 0
+AreDistinctBy {T} same s =
+    (i j : ℕ) (a b : T) → value_at s i ≡ Some a → value_at s j ≡ Some b → same a b ≡ true → i ≡ j
+
 module _ {K V : Type 0} where
   -- no two places have equal keys
   abbrev pub HasDistinctKeys : (K → K → Bool) → SlotState (Pair K V) → Type 0
-  HasDistinctKeys eq s =
-      (i j : ℕ) (a b : Pair K V) → value_at s i ≡ Some a → value_at s j ≡ Some b → eq a.key b.key ≡ true → i ≡ j
+  HasDistinctKeys eq s = AreDistinctBy (λ (a b : Pair K V). eq a.key b.key) s
 
   -- the place whose pair's key equals this one, and the pair
   abbrev pub flat_entry : (K → K → Bool) → SlotState (Pair K V) → K → Option (ℕ × Pair K V)

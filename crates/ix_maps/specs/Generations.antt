@@ -3,7 +3,7 @@ use Rattle.std.specs.Prelude.{◌≡◌, ℕ, ◌<◌, ◌≤◌, ◌⊎◌, Lis
 use Rattle.std.specs.Option.{option_flatten}
 use Rattle.std.specs.List.Sorted.{IsStrictlyIncreasing}
 use Rattle.std.specs.Map.{lookup}
-use Rattle.std.specs.Coded.{Coded, code_by, coded×, coded_ℕ, coded_list, coded_option}
+use Rattle.std.specs.Coded.{Coded, code_by, coded×, coded_ℕ, coded_list}
 use Rattle.ix_maps.specs.SlotState.{SlotState, slot_state_code, value_at, slot_new, entries}
 
 -- a key: the number of a place, and a generation
@@ -18,16 +18,20 @@ abbrev pub slot_key_code : Coded SlotKey
 slot_key_code =
     code_by (ℕ × ℕ) (coded× coded_ℕ coded_ℕ) (λ key. (key.index, key.generation)) (λ p. record { index = p.0; generation = p.1 }) (λ _. refl)
 
--- a place of `slots` is free, has a value in it, or has nothing in it: then it is retired
-pub record SlotMapState (T : Type 0) : Type 0 where
-  pub slots : SlotState (Option T)
+-- the places, and the generation of each
+pub record GenerationState (C : Type 0) : Type 0 where
+  pub slots : SlotState C
   pub generations : List ℕ
 
-abbrev pub slot_map_state_code : {T : Type 0} → Coded T → Coded (SlotMapState T)
-slot_map_state_code {T} code =
+-- a place is free, has a value in it, or has nothing in it: then it is retired
+abbrev pub SlotMapState : Type 0 → Type 0
+SlotMapState T = GenerationState (Option T)
+
+abbrev pub generation_state_code : {C : Type 0} → Coded C → Coded (GenerationState C)
+generation_state_code {C} code =
     code_by
-    (SlotState (Option T) × List ℕ)
-    (coded× (slot_state_code (coded_option code)) (coded_list coded_ℕ))
+    (SlotState C × List ℕ)
+    (coded× (slot_state_code code) (coded_list coded_ℕ))
     (λ s. (s.slots, s.generations))
     (λ p. record { slots = p.0; generations = p.1 })
     (λ _. refl)

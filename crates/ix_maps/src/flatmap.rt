@@ -24,4 +24,4 @@ pub use iter::Iter;
 pub use keys::Keys;
 pub use kinds::{FixedSizeFlatMap, FlatMap, FlatMapFamily, RelocatableFlatMap, UninitFlatMap};
 pub use meta_flat_map::MetaFlatMap;
-pub use pair::Pair;
+pub use pair::{Keyed, Pair};

@@ -21,12 +21,12 @@ pub mod slotmap;
 pub mod slottable;
 
 pub use flatmap::{
-    CallbackProgression, FixedSizeFlatMap, FlatMap, FlatMapError, FlatMapFamily, Keys, MetaFlatMap,
-    Pair, RelocatableFlatMap, UninitFlatMap,
+    CallbackProgression, FixedSizeFlatMap, FlatMap, FlatMapError, FlatMapFamily, Keyed, Keys,
+    MetaFlatMap, Pair, RelocatableFlatMap, UninitFlatMap,
 };
 pub use queue::{FixedSizeQueue, MetaQueue, Queue, QueueFamily, RelocatableQueue, UninitQueue};
 pub use slotmap::{
-    FixedSizeSlotMap, MetaSlotMap, RelocatableSlotMap, SlotMap, SlotMapKey, UninitSlotMap,
+    Content, FixedSizeSlotMap, MetaSlotMap, RelocatableSlotMap, SlotMap, SlotMapKey, UninitSlotMap,
 };
 pub use slottable::{
     FixedSizeSlotTable, Link, MetaSlotTable, RelocatableSlotTable, SlotTable, SlotTableFamily,

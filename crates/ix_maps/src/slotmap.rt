@@ -13,12 +13,14 @@
 //! }
 //! ```
 
+mod content;
 mod generation_table;
 mod iter;
 mod kinds;
 mod meta_slot_map;
 mod slot_map_key;
 
+pub use content::Content;
 pub(crate) use generation_table::GenerationTable;
 pub use iter::Iter;
 pub use kinds::{FixedSizeSlotMap, RelocatableSlotMap, SlotMap, UninitSlotMap};

@@ -95,7 +95,7 @@ impl<'a, K: Debug, V: Debug, S: Table<Pair<K, V>>, L: Table<Link>> Debug for Ite
 }
 
 impl<'a, K: Eq, V, S: Table<Pair<K, V>>, L: Table<Link>> IntoIterator
-    for &'a MetaFlatMap<K, V, S, L> {
+    for &'a MetaFlatMap<Pair<K, V>, S, L> {
     ghost use Rattle.ix_maps.specs.FlatState.{flat_items};
 
     type Item = (&'a K, &'a V);

@@ -20,8 +20,7 @@ use std::marker::PhantomData;
 ///
 /// This is `FixedSizeFlatMap` of iceoryx2-bb-container.
 pub type FixedSizeFlatMap<K, V, const CAPACITY: usize> = MetaFlatMap<
-    K,
-    V,
+    Pair<K, V>,
     InlineTable<Pair<K, V>, CAPACITY>,
     InlineTable<Link, CAPACITY>,
 >;
@@ -48,8 +47,7 @@ impl<K: Eq + Drop, V: Drop, const CAPACITY: usize> FixedSizeFlatMap<K, V, CAPACI
 ///
 /// This is `FlatMap` of iceoryx2-bb-container.
 pub type FlatMap<K, V, A = Global> = MetaFlatMap<
-    K,
-    V,
+    Pair<K, V>,
     HeapTable<Pair<K, V>, A>,
     HeapTable<Link, A>,
 >;

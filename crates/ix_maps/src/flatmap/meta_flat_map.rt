@@ -11,7 +11,7 @@ ghost use Rattle.ix_maps.specs.SlotSteps.{slot_set, SlotRemove};
 ghost use Rattle.ix_maps.specs.inner.FlatSearch.{is_key_at, HasNoKeyIn};
 ghost use Rattle.ix_maps.specs.declared.flatmap.meta_flat_map.TheConstants.{BLOCK_LEN};
 
-use crate::flatmap::{CallbackProgression, FlatMapError, Iter, Keys, Pair};
+use crate::flatmap::{CallbackProgression, FlatMapError, Iter, Keyed, Keys, Pair};
 use crate::slottable::{Link, MetaSlotTable, SlotTableKey, held_mut};
 use ix_cells::Table;
 use std::alloc::AllocError;
@@ -48,24 +48,26 @@ const MAX_KEY_SIZE: usize = 8;
 ///
 /// This is `MetaFlatMap` of iceoryx2-bb-container.
 #[derive(Drop)]
-pub struct MetaFlatMap<K: Eq, V, S: Table<Pair<K, V>>, L: Table<Link>> {
-    pub(crate) pairs: MetaSlotTable<Pair<K, V>, S, L>,
+pub struct MetaFlatMap<P: Keyed, S: Table<P>, L: Table<Link>> {
+    pub(crate) pairs: MetaSlotTable<P, S, L>,
 }
 
-impl<K: Eq, V, S: Table<Pair<K, V>>, L: Table<Link>> Model for MetaFlatMap<K, V, S, L> {
-    ghost use Rattle.ix_maps.specs.SlotState.{SlotState};
-    ghost use Rattle.ix_maps.specs.declared.flatmap.pair.Pair.{Pair};
-    ghost use Rattle.ix_maps.specs.FlatState.{HasDistinctKeys};
+impl<P: Keyed, S: Table<P>, L: Table<Link>> Model for MetaFlatMap<P, S, L> {
+    ghost use Rattle.ix_maps.specs.SlotState.{SlotState, slot_state_code};
+    ghost use Rattle.ix_maps.specs.FlatState.{AreDistinctBy};
 
-    ghost Value = { SlotState (Pair K V) };
+    ghost Value = { SlotState P };
+
+    ghost coded = { slot_state_code P.code };
 
     ghost view = { λ map. map.pairs };
 
-    ghost invariant = { λ map. HasDistinctKeys K.eq map.pairs };
+    ghost invariant = { λ map. AreDistinctBy P.has_key_of map.pairs };
 }
 
-impl<K: Eq + Drop, V: Drop, S: Table<Pair<K, V>>, L: Table<Link>> MetaFlatMap<K, V, S, L> {
+impl<K: Eq + Drop, V: Drop, S: Table<Pair<K, V>>, L: Table<Link>> MetaFlatMap<Pair<K, V>, S, L> {
     ghost use Rattle.ix_maps.specs.contracts.flatmap.meta_flat_map.MetaFlatMap.{the_row};
+    ghost use Rattle.ix_maps.specs.contracts.flatmap.pair.Pair as pair;
 
     /// Inserts `key` with `value`.
     ///
@@ -133,7 +135,7 @@ impl<K: Eq + Drop, V: Drop, S: Table<Pair<K, V>>, L: Table<Link>> MetaFlatMap<K,
     #[inline]
     pub fn get_mut_ref(&mut self, key: &K) -> Option<&mut V>
         ensures* writes_back { sem 𝓛
-            (LendsIf (the_row K.row V.row S.row L.row K.PartialEq S.Table L.Table)
+            (LendsIf (the_row (pair.the_row K.row V.row) S.row L.row ⟦<Pair<K, V> as Keyed>⟧ S.Table L.Table)
             V.row self.entry result (flat_set K.eq self.old key.now) self.old) }
         ensures value { option_copied_mut result ≡ flat_value K.eq self.old key.now }
         // Whatever value is written, the key has it, and any other key keeps its own.
@@ -361,7 +363,7 @@ impl<K: Eq + Drop, V: Drop, S: Table<Pair<K, V>>, L: Table<Link>> MetaFlatMap<K,
     fn value_mut(&mut self, place: SlotTableKey) -> &mut V
         requires { IsHeld self.old place }
         ensures* writes_back { sem 𝓛
-            (Lends (the_row K.row V.row S.row L.row K.PartialEq S.Table L.Table)
+            (Lends (the_row (pair.the_row K.row V.row) S.row L.row ⟦<Pair<K, V> as Keyed>⟧ S.Table L.Table)
             V.row self.entry result (pair_set self.old place)) }
         ensures value { option_map (λ pair. pair.value) (value_at self.old place)
             ≡ Some result.now }
@@ -387,7 +389,7 @@ fn remove_pair<T, S: Table<T>, L: Table<Link>>(
 
 /// Prints a map from the keys to their values, in slot order. O(capacity).
 impl<K: Eq + Debug, V: Debug, S: Table<Pair<K, V>>, L: Table<Link>> Debug
-    for MetaFlatMap<K, V, S, L> {
+    for MetaFlatMap<Pair<K, V>, S, L> {
     fn fmt<W: Write>(&self, f: &mut Formatter<W>) -> fmt::Result {
         f.debug_map().entries(Iter::new(self.pairs.iter())).finish()
     }

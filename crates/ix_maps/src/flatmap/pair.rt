@@ -1,8 +1,20 @@
 //! What a flat map has at a place.
+ghost use Rattle.std.specs.Prelude.{Bool};
+
+/// What a [`MetaFlatMap`](crate::flatmap::MetaFlatMap) can hold at a place: it has a key. Every [`Pair`] is, and nothing else
+/// has the calls of a map.
+pub trait Keyed {
+    /// The two have equal keys.
+    ghost has_key_of: { Self → Self → Bool };
+}
 
 /// A key and its value, as the tables of a flat map hold them.
 #[derive(Drop)]
 pub struct Pair<K, V> {
     pub key: K,
     pub value: V,
+}
+
+impl<K: Eq, V> Keyed for Pair<K, V> {
+    ghost has_key_of = { λ pair other. K.eq pair.key other.key };
 }

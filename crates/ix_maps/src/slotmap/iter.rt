@@ -26,7 +26,7 @@ use std::marker::Model;
 /// This is `Iter` of iceoryx2-bb-container.
 #[derive(Drop)]
 pub struct Iter<'a, T, S: Table<Option<T>>, L: Table<Link>, G: Table<u32>> {
-    map: &'a MetaSlotMap<T, S, L, G>,
+    map: &'a MetaSlotMap<Option<T>, S, L, G>,
     /// The places that are still to be visited, but for the free ones.
     slots: slottable::Iter<'a, Option<T>, S, L>,
     /// The number of items that are still to come.
@@ -48,7 +48,7 @@ impl<'a, T, S: Table<Option<T>>, L: Table<Link>, G: Table<u32>> Model for Iter<'
 impl<'a, T, S: Table<Option<T>>, L: Table<Link>, G: Table<u32>> Iter<'a, T, S, L, G> {
     /// Returns an iterator over all held keys. O(1).
     #[inline]
-    pub(crate) fn new(map: &'a MetaSlotMap<T, S, L, G>) -> Self
+    pub(crate) fn new(map: &'a MetaSlotMap<Option<T>, S, L, G>) -> Self
         ensures { result ≡ map_entries map.now }
     {
         Iter {
@@ -128,7 +128,7 @@ impl<'a, T: Debug, S: Table<Option<T>>, L: Table<Link>, G: Table<u32>> Debug
 }
 
 impl<'a, T, S: Table<Option<T>>, L: Table<Link>, G: Table<u32>> IntoIterator
-    for &'a MetaSlotMap<T, S, L, G> {
+    for &'a MetaSlotMap<Option<T>, S, L, G> {
     type Item = (SlotMapKey, &'a T);
 
     type IntoIter = Iter<'a, T, S, L, G>;

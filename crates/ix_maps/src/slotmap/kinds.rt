@@ -22,7 +22,7 @@ use std::marker::{Model, PhantomData};
 ///
 /// This is `FixedSizeSlotMap` of iceoryx2-bb-container.
 pub type FixedSizeSlotMap<T, const CAPACITY: usize> = MetaSlotMap<
-    T,
+    Option<T>,
     InlineTable<Option<T>, CAPACITY>,
     InlineTable<Link, CAPACITY>,
     InlineTable<u32, CAPACITY>,
@@ -63,7 +63,7 @@ impl<T: Drop, const CAPACITY: usize> FixedSizeSlotMap<T, CAPACITY> {
 ///
 /// This is `SlotMap` of iceoryx2-bb-container.
 pub type SlotMap<T, A = Global> = MetaSlotMap<
-    T,
+    Option<T>,
     HeapTable<Option<T>, A>,
     HeapTable<Link, A>,
     HeapTable<u32, A>,

@@ -7,7 +7,7 @@ ghost use Rattle.ix_maps.specs.SlotState.{IsFree, entries};
 ghost use Rattle.ix_maps.specs.Generations.{SlotKey, greatest_generation, generation_at, key_at, place_value, map_value, IsDead, retired_count, map_len, map_entries, IsMapFormed, DeadAreNotHeld, KeysRise, ListsExactly};
 ghost use Rattle.ix_maps.specs.SlotMapSteps.{map_set, map_set_at, map_replace, map_retire, MapInsert, MapInsertAt, MapRemove};
 
-use crate::slotmap::{GenerationTable, Iter, SlotMapKey};
+use crate::slotmap::{Content, GenerationTable, Iter, SlotMapKey};
 use crate::slottable::{self, Link, MetaSlotTable, SlotTableKey, held_mut};
 use ix_cells::{Table, Touches};
 use std::fmt::{self, Debug, Formatter, Write};
@@ -41,27 +41,27 @@ use std::marker::Model;
 ///
 /// This is `MetaSlotMap` of iceoryx2-bb-container, whose keys have no generation: that map is [`MetaSlotTable`] here.
 #[derive(Drop)]
-pub struct MetaSlotMap<T, S: Table<Option<T>>, L: Table<Link>, G: Table<u32>> {
-    pub(crate) slots: MetaSlotTable<Option<T>, S, L>,
+pub struct MetaSlotMap<C: Content, S: Table<C>, L: Table<Link>, G: Table<u32>> {
+    pub(crate) slots: MetaSlotTable<C, S, L>,
     pub(crate) generations: GenerationTable<G>,
     pub(crate) retired: usize,
 }
 
-impl<T, S: Table<Option<T>>, L: Table<Link>, G: Table<u32>> Model for MetaSlotMap<T, S, L, G> {
-    ghost use Rattle.ix_maps.specs.Generations.{SlotMapState, slot_map_state_code};
+impl<C: Content, S: Table<C>, L: Table<Link>, G: Table<u32>> Model for MetaSlotMap<C, S, L, G> {
+    ghost use Rattle.ix_maps.specs.Generations.{GenerationState, generation_state_code};
     ghost use Rattle.ix_maps.specs.inner.GenerationTable.{HasGenerations};
 
-    ghost Value = { SlotMapState T };
+    ghost Value = { GenerationState C };
 
-    ghost coded = { slot_map_state_code T.code };
+    ghost coded = { generation_state_code C.code };
 
     ghost view = { λ map. record { slots = map.slots; generations = map.generations } };
 
-    ghost invariant = { λ map. HasGenerations
+    ghost invariant = { λ map. HasGenerations C.nothing C.is_retired
         (record { slots = map.slots; generations = map.generations }) map.retired };
 }
 
-impl<T, S: Table<Option<T>>, L: Table<Link>, G: Table<u32>> MetaSlotMap<T, S, L, G> {
+impl<T, S: Table<Option<T>>, L: Table<Link>, G: Table<u32>> MetaSlotMap<Option<T>, S, L, G> {
     ghost use Rattle.ix_maps.specs.contracts.slotmap.meta_slot_map.MetaSlotMap.{the_row};
 
     /// Returns the number of places, free, held and retired.
@@ -153,7 +153,7 @@ impl<T, S: Table<Option<T>>, L: Table<Link>, G: Table<u32>> MetaSlotMap<T, S, L,
     #[inline]
     pub fn get_mut(&mut self, key: SlotMapKey) -> Option<&mut T>
         ensures* writes_back { sem 𝓛
-            (LendsIf (the_row T.row S.row L.row G.row S.Table L.Table G.Table)
+            (LendsIf (the_row (option.the_row T.row) S.row L.row G.row ⟦<Option<T> as Content>⟧ S.Table L.Table G.Table)
             T.row self.entry result (map_set self.old key) self.old) }
         ensures value { option_copied_mut result ≡ map_value self.old key }
         // Whatever is written, a dead key stays dead.
@@ -377,7 +377,7 @@ impl<T, S: Table<Option<T>>, L: Table<Link>, G: Table<u32>> MetaSlotMap<T, S, L,
     fn value_mut(&mut self, index: usize) -> &mut T
         requires { IsSome (place_value self.old index) }
         ensures* writes_back { sem 𝓛
-            (Lends (the_row T.row S.row L.row G.row S.Table L.Table G.Table)
+            (Lends (the_row (option.the_row T.row) S.row L.row G.row ⟦<Option<T> as Content>⟧ S.Table L.Table G.Table)
             T.row self.entry result (map_set_at self.old index)) }
         ensures value { place_value self.old index ≡ Some result.now }
     {
@@ -400,7 +400,7 @@ fn content_mut<T>(content: &mut Option<T>) -> &mut T
 
 /// Prints a map from the held keys, each its index and its generation, to their values, in rising order. O(capacity).
 impl<T: Debug, S: Table<Option<T>>, L: Table<Link>, G: Table<u32>> Debug
-    for MetaSlotMap<T, S, L, G> {
+    for MetaSlotMap<Option<T>, S, L, G> {
     fn fmt<W: Write>(&self, f: &mut Formatter<W>) -> fmt::Result {
         let mut map = f.debug_map();
         for (key, value) in self.iter() {

@@ -1,0 +1,27 @@
+use Rattle.std.proofs.Common.{◌≡◌, ◌+◌, ◌*◌, subst, sym, ap, ◌∙◌, arith}
+use Rattle.ix_maps.specs.SlotState.{value_at}
+use Rattle.ix_maps.specs.FlatState.{HasDistinctKeys}
+use Rattle.ix_maps.specs.inner.FlatSearch.{is_key_at, HasNoKeyIn}
+use Rattle.ix_maps.proofs.FlatEntries.{flat_entry-is_key_at, HasNoKeyIn-more}
+use Rattle.ix_maps.proofs.flatmap.meta_flat_map.MetaFlatMap+Pair+K+V+S+L.find_in_full.Goals as goal
+
+pub returns-then-index-lt-BLOCK_LEN-clause-value : goal.returns-then-index-lt-BLOCK_LEN-clause-value
+returns-then-index-lt-BLOCK_LEN-clause-value g c =
+    let eq = g.K.PartialEq.eq in
+    let map = c.args.self.now in
+    let key = c.args.key.now in
+    let place = c.new.result in
+    let distinct = subst (HasDistinctKeys eq) c.self.view_is c.self.invariant in
+    let at = ap (λ s. value_at s place) (sym c.self.view_is) ∙ (ap (value_at c.self.inside.pairs) c.new.ensures ∙ c.held_value.ensures) in
+    let equal = ap (is_key_at eq map key) c.new.ensures ∙ c.index_in_block-index.ensures.found c.if-index-lt-BLOCK_LEN.true in
+    sym (flat_entry-is_key_at eq g.met.K.Eq.laws map key place c.held_value.result.now distinct at equal)
+
+pub loop-block-preserved : goal.loop-block-preserved
+loop-block-preserved g c =
+    let map = c.args.self.now in
+    let key = c.args.key.now in
+    let least = c.if-index-lt-BLOCK_LEN.false in
+    let most = c.index_in_block-index.ensures.within in
+    let none = c.index_in_block-index.ensures.absent (omega (arith, least, most)) in
+    let next : c.loop-block.block * 8 + 8 ≡ (c.loop-block.block + 1) * 8 = omega arith in
+    subst (HasNoKeyIn g.K.PartialEq.eq map key 0) next (HasNoKeyIn-more g.K.PartialEq.eq map key (c.loop-block.block * 8) 8 c.loop-block.invariant none)

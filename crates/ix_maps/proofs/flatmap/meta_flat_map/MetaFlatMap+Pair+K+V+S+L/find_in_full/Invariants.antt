@@ -1,0 +1,8 @@
+use Rattle.std.proofs.Common.{◌*◌}
+use Rattle.ix_maps.specs.inner.FlatSearch.{HasNoKeyIn}
+use Rattle.ix_maps.specs.declared.flatmap.meta_flat_map.TheConstants.{BLOCK_LEN}
+use Rattle.ix_maps.proofs.flatmap.meta_flat_map.MetaFlatMap+Pair+K+V+S+L.find_in_full.Given as goal
+
+-- no place of the blocks so far has the key
+abbrev pub invariant-loop-block : goal.invariant-loop-block
+invariant-loop-block g l = HasNoKeyIn g.K.PartialEq.eq l.self l.key 0 (l.block * BLOCK_LEN)

@@ -1,0 +1,10 @@
+use Rattle.std.proofs.Common.{sym, subst}
+use Rattle.ix_maps.specs.Generations.{KeysRise, ListsExactly}
+use Rattle.ix_maps.proofs.MapEntries.{KeysRise-map_entries, ListsExactly-map_entries}
+use Rattle.ix_maps.proofs.slotmap.meta_slot_map.MetaSlotMap+Option+T+S+L+G.iter.Goals as goal
+
+pub returns-clause-rising : goal.returns-clause-rising
+returns-clause-rising g c = subst KeysRise (sym c.new.ensures) (KeysRise-map_entries c.args.self.now)
+
+pub returns-clause-exactly : goal.returns-clause-exactly
+returns-clause-exactly g c = subst (λ items. ListsExactly items c.args.self.now) (sym c.new.ensures) (ListsExactly-map_entries c.args.self.now)
