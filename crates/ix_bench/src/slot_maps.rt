@@ -24,7 +24,7 @@ pub fn allocated_churn(alloc: Global, rounds: u64, capacity: usize) -> u64 {
 
 /// Writes the key of each inserted number to `keys`.
 fn insert_under<S: Table<Option<u64>>, L: Table<Link>, G: Table<u32>>(
-    map: &mut MetaSlotMap<u64, S, L, G>,
+    map: &mut MetaSlotMap<Option<u64>, S, L, G>,
     keys: &mut [SlotMapKey],
 ) {
     for i in 0..keys.len() {
@@ -36,7 +36,7 @@ fn insert_under<S: Table<Option<u64>>, L: Table<Link>, G: Table<u32>>(
 
 /// A round removes the value of a key, inserts one, and gets a third.
 fn churn<S: Table<Option<u64>>, L: Table<Link>, G: Table<u32>>(
-    map: &mut MetaSlotMap<u64, S, L, G>,
+    map: &mut MetaSlotMap<Option<u64>, S, L, G>,
     keys: &mut [SlotMapKey],
     rounds: u64,
 ) -> u64 {
@@ -61,7 +61,7 @@ fn churn<S: Table<Option<u64>>, L: Table<Link>, G: Table<u32>>(
 
 #[inline]
 fn value_of<S: Table<Option<u64>>, L: Table<Link>, G: Table<u32>>(
-    map: &MetaSlotMap<u64, S, L, G>,
+    map: &MetaSlotMap<Option<u64>, S, L, G>,
     key: SlotMapKey,
 ) -> u64 {
     match map.get(key) {

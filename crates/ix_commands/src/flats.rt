@@ -14,7 +14,7 @@ use std::alloc::{AllocError, Global};
 
 /// The commands of a flat map, of any kind.
 impl<K: Eq + Copy, V: Copy, S: Table<Pair<K, V>>, L: Table<Link>> Runs<FlatCommand<K, V>>
-    for MetaFlatMap<K, V, S, L> {
+    for MetaFlatMap<Pair<K, V>, S, L> {
     ghost use Rattle.ix_maps.specs.SlotState.{SlotState};
     ghost use Rattle.ix_maps.specs.declared.flatmap.pair.Pair.{Pair};
     ghost use Rattle.ix_commands.specs.FlatRun.{flat_reply, flat_after};
@@ -50,7 +50,7 @@ impl<K: Eq + Copy, V: Copy, S: Table<Pair<K, V>>, L: Table<Link>> Runs<FlatComma
 /// Returns `AllocError` if there is no memory for the list. Then no command was run.
 pub fn run_flat<K: Eq + Copy, V: Copy, S: Table<Pair<K, V>>, L: Table<Link>>(
     alloc: Global,
-    map: &mut MetaFlatMap<K, V, S, L>,
+    map: &mut MetaFlatMap<Pair<K, V>, S, L>,
     commands: &[FlatCommand<K, V>],
 ) -> Result<Vec<Reply<K, V>>, AllocError>
     ensures value { IfOk result (λ replies.
@@ -75,7 +75,7 @@ fn reply_of_flat_result<K: Copy, V: Copy>(outcome: Result<(), FlatMapError>) -> 
 
 /// Overwrites the value of `key` and returns `true`, or returns `false` if the map has no equal key.
 fn overwrite<K: Eq + Copy, V: Copy, S: Table<Pair<K, V>>, L: Table<Link>>(
-    map: &mut MetaFlatMap<K, V, S, L>,
+    map: &mut MetaFlatMap<Pair<K, V>, S, L>,
     key: K,
     value: V,
 ) -> bool

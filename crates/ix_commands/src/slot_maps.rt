@@ -14,7 +14,7 @@ use std::alloc::{AllocError, Global};
 
 /// The commands of a slot map, of any kind.
 impl<T: Copy, S: Table<Option<T>>, L: Table<Link>, G: Table<u32>> Runs<SlotCommand<T>>
-    for MetaSlotMap<T, S, L, G> {
+    for MetaSlotMap<Option<T>, S, L, G> {
     ghost use Rattle.ix_maps.specs.Generations.{SlotMapState};
     ghost use Rattle.ix_commands.specs.SlotRun.{slot_reply, slot_after};
 
@@ -56,7 +56,7 @@ impl<T: Copy, S: Table<Option<T>>, L: Table<Link>, G: Table<u32>> Runs<SlotComma
 /// Returns `AllocError` if there is no memory for the list. Then no command was run.
 pub fn run_slot<T: Copy, S: Table<Option<T>>, L: Table<Link>, G: Table<u32>>(
     alloc: Global,
-    map: &mut MetaSlotMap<T, S, L, G>,
+    map: &mut MetaSlotMap<Option<T>, S, L, G>,
     commands: &[SlotCommand<T>],
 ) -> Result<Vec<Reply<SlotMapKey, T>>, AllocError>
     ensures value { IfOk result
@@ -79,7 +79,7 @@ pub fn dead_law<T>()
 
 /// Overwrites the value of `key` and returns `true`, or returns `false` if `key` is not held.
 fn overwrite<T: Copy, S: Table<Option<T>>, L: Table<Link>, G: Table<u32>>(
-    map: &mut MetaSlotMap<T, S, L, G>,
+    map: &mut MetaSlotMap<Option<T>, S, L, G>,
     key: SlotMapKey,
     value: T,
 ) -> bool
@@ -98,7 +98,7 @@ fn overwrite<T: Copy, S: Table<Option<T>>, L: Table<Link>, G: Table<u32>>(
 
 /// Returns the first held key whose index is not below `start`, with its value.
 fn first_entry_from<T: Copy, S: Table<Option<T>>, L: Table<Link>, G: Table<u32>>(
-    map: &MetaSlotMap<T, S, L, G>,
+    map: &MetaSlotMap<Option<T>, S, L, G>,
     start: usize,
 ) -> Option<(SlotMapKey, T)>
     ensures { result ≡ slot_from map.now start }

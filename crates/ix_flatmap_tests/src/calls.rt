@@ -46,7 +46,7 @@ type Listed = InlineText<160>;
 
 /// Replaces the value of `key` and returns the old one.
 fn write<K: Eq + Drop, V: Copy, S: Table<Pair<K, V>>, L: Table<Link>>(
-    map: &mut MetaFlatMap<K, V, S, L>,
+    map: &mut MetaFlatMap<Pair<K, V>, S, L>,
     key: &K,
     value: V,
 ) -> Option<V> {
@@ -58,7 +58,7 @@ fn write<K: Eq + Drop, V: Copy, S: Table<Pair<K, V>>, L: Table<Link>>(
 
 /// Writes the listed keys to `listed`. The call of number `last` returns `Stop`.
 fn list<K: Eq + Debug + Drop, V: Drop, S: Table<Pair<K, V>>, L: Table<Link>>(
-    map: &MetaFlatMap<K, V, S, L>,
+    map: &MetaFlatMap<Pair<K, V>, S, L>,
     last: Option<u64>,
     listed: &mut Listed,
 ) {
@@ -76,7 +76,7 @@ fn list<K: Eq + Debug + Drop, V: Drop, S: Table<Pair<K, V>>, L: Table<Link>>(
 
 /// Makes a call and returns its result. The text of the listed keys is written to `listed`.
 fn outcome_of<'a, K: Key, V: Copy, S: Table<Pair<K, V>>, L: Table<Link>>(
-    map: &mut MetaFlatMap<K, V, S, L>,
+    map: &mut MetaFlatMap<Pair<K, V>, S, L>,
     call: &Call<K::Name, V>,
     listed: &'a mut Listed,
 ) -> Outcome<'a, V>
@@ -105,7 +105,7 @@ fn outcome_of<'a, K: Key, V: Copy, S: Table<Pair<K, V>>, L: Table<Link>>(
 /// Makes each call on an empty map, and compares its result.
 pub fn check_calls<K: Key, V: Copy + PartialEq + Debug, S: Table<Pair<K, V>>, L: Table<Link>>(
     findings: &Findings,
-    map: &mut MetaFlatMap<K, V, S, L>,
+    map: &mut MetaFlatMap<Pair<K, V>, S, L>,
     lines: &[Line<K::Name, V>],
     place: &str,
 )

@@ -35,7 +35,7 @@ const ROWS: &[(Call, u64)] = &[
 /// Makes the calls in turn on an empty map, whose making did not fail.
 fn check_made<'a, S: Table<Pair<NotedKey<'a>, Noted<'a>>>, L: Table<Link>, E: Drop>(
     findings: &Findings,
-    made: Result<MetaFlatMap<NotedKey<'a>, Noted<'a>, S, L>, E>,
+    made: Result<MetaFlatMap<Pair<NotedKey<'a>, Noted<'a>>, S, L>, E>,
     notes: &'a AllNotes,
 ) {
     let Ok(mut map) = made else {

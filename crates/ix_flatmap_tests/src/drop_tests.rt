@@ -72,7 +72,7 @@ fn name_of(value: Option<Noted>) -> Option<u64> {
 /// Makes the calls in turn on `map`, which is empty at first.
 fn check_rows<'a, S: Table<Pair<NotedKey<'a>, Noted<'a>>>, L: Table<Link>>(
     findings: &Findings,
-    map: &mut MetaFlatMap<NotedKey<'a>, Noted<'a>, S, L>,
+    map: &mut MetaFlatMap<Pair<NotedKey<'a>, Noted<'a>>, S, L>,
     notes: &'a AllNotes,
     rows: &[Row],
 ) {
@@ -88,7 +88,7 @@ fn check_rows<'a, S: Table<Pair<NotedKey<'a>, Noted<'a>>>, L: Table<Link>>(
 /// Makes the calls on a map whose making did not fail, and drops it.
 fn check_made<'a, S: Table<Pair<NotedKey<'a>, Noted<'a>>>, L: Table<Link>, E: Drop>(
     findings: &Findings,
-    made: Result<MetaFlatMap<NotedKey<'a>, Noted<'a>, S, L>, E>,
+    made: Result<MetaFlatMap<Pair<NotedKey<'a>, Noted<'a>>, S, L>, E>,
     notes: &'a AllNotes,
     (rows, keys, values): &Example,
 ) {

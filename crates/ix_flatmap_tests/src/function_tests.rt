@@ -26,7 +26,9 @@ fn check_display<T: Display>(findings: &Findings, value: &T, text: &str) {
 }
 
 /// Changes an empty map of 3, so that slot order is not the order of the insertions.
-fn insert_two<S: Table<Pair<u64, u64>>, L: Table<Link>>(map: &mut MetaFlatMap<u64, u64, S, L>) {
+fn insert_two<S: Table<Pair<u64, u64>>, L: Table<Link>>(
+    map: &mut MetaFlatMap<Pair<u64, u64>, S, L>,
+) {
     let _ = map.insert(80, 1);
     let _ = map.insert(443, 2);
     let _ = map.remove(&80);
@@ -61,7 +63,7 @@ fn texts_of_maps(rt: HostRuntime) -> Result<(), Fail> {
 
 /// Returns the values in slot order, up to the first that is `last`, as digits.
 fn values_up_to<S: Table<Pair<u64, u64>>, L: Table<Link>>(
-    map: &MetaFlatMap<u64, u64, S, L>,
+    map: &MetaFlatMap<Pair<u64, u64>, S, L>,
     last: u64,
 ) -> u64 {
     let mut digits = 0u64;

@@ -10,7 +10,7 @@ use std::test::Fail;
 /// Checks that an empty map has room for just `capacity` keys.
 fn check_room<S: Table<Pair<u64, u64>>, L: Table<Link>>(
     findings: &Findings,
-    map: &mut MetaFlatMap<u64, u64, S, L>,
+    map: &mut MetaFlatMap<Pair<u64, u64>, S, L>,
     capacity: usize,
 ) {
     findings.expect(map.is_empty(), "an empty map");
@@ -25,7 +25,7 @@ fn check_made<S: Table<Pair<u64, u64>>, L: Table<Link>, E: Drop>(
     findings: &Findings,
     heap: &LocalHeap,
     used: usize,
-    made: Result<MetaFlatMap<u64, u64, S, L>, E>,
+    made: Result<MetaFlatMap<Pair<u64, u64>, S, L>, E>,
     (capacity, found): (usize, bool),
 ) {
     match made {

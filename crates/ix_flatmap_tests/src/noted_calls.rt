@@ -89,7 +89,7 @@ pub enum Call {
 
 /// Replaces the value of `key`.
 fn write<'a, S: Table<Pair<NotedKey<'a>, Noted<'a>>>, L: Table<Link>>(
-    map: &mut MetaFlatMap<NotedKey<'a>, Noted<'a>, S, L>,
+    map: &mut MetaFlatMap<Pair<NotedKey<'a>, Noted<'a>>, S, L>,
     key: &NotedKey<'a>,
     value: Noted<'a>,
 ) {
@@ -100,7 +100,7 @@ fn write<'a, S: Table<Pair<NotedKey<'a>, Noted<'a>>>, L: Table<Link>>(
 
 /// Makes a call that hands out no value and takes none.
 fn read<'a, S: Table<Pair<NotedKey<'a>, Noted<'a>>>, L: Table<Link>>(
-    map: &MetaFlatMap<NotedKey<'a>, Noted<'a>, S, L>,
+    map: &MetaFlatMap<Pair<NotedKey<'a>, Noted<'a>>, S, L>,
     call: &Call,
     notes: &'a AllNotes,
 ) {
@@ -126,7 +126,7 @@ fn read<'a, S: Table<Pair<NotedKey<'a>, Noted<'a>>>, L: Table<Link>>(
 
 /// Makes a call and returns the value that it returns, if any.
 pub fn returned_by<'a, S: Table<Pair<NotedKey<'a>, Noted<'a>>>, L: Table<Link>>(
-    map: &mut MetaFlatMap<NotedKey<'a>, Noted<'a>, S, L>,
+    map: &mut MetaFlatMap<Pair<NotedKey<'a>, Noted<'a>>, S, L>,
     call: &Call,
     notes: &'a AllNotes,
 ) -> Option<Noted<'a>> {

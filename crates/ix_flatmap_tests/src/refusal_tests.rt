@@ -80,7 +80,7 @@ fn number_of(value: &Option<Boxed>) -> Option<u64> {
 
 /// Makes the call, and returns the number of what `get` returned.
 fn make<'a, S: Table<Pair<u64, Boxed<'a>>>, L: Table<Link>>(
-    map: &MetaFlatMap<u64, Boxed<'a>, S, L>,
+    map: &MetaFlatMap<Pair<u64, Boxed<'a>>, S, L>,
     call: &Call,
     kept: &mut Option<Boxed<'a>>,
 ) -> Result<Option<u64>, AllocError> {
@@ -100,7 +100,7 @@ fn make<'a, S: Table<Pair<u64, Boxed<'a>>>, L: Table<Link>>(
 /// Checks that the map has the keys 2, 1 and 3 in this order, each with its value.
 fn check_content<'a, S: Table<Pair<u64, Boxed<'a>>>, L: Table<Link>>(
     findings: &Findings,
-    map: &MetaFlatMap<u64, Boxed<'a>, S, L>,
+    map: &MetaFlatMap<Pair<u64, Boxed<'a>>, S, L>,
 ) {
     let mut keys = 0u64;
     map.list_keys(|key| {
@@ -118,7 +118,7 @@ fn check_content<'a, S: Table<Pair<u64, Boxed<'a>>>, L: Table<Link>>(
 
 /// Inserts the key 2, 1 and 3, each with its tenfold. Returns `None` if that fails.
 fn insert_three<'a, S: Table<Pair<u64, Boxed<'a>>>, L: Table<Link>>(
-    map: &mut MetaFlatMap<u64, Boxed<'a>, S, L>,
+    map: &mut MetaFlatMap<Pair<u64, Boxed<'a>>, S, L>,
     heap: &'a LocalHeap,
 ) -> Option<()> {
     for key in [2u64, 1, 3] {
@@ -131,7 +131,7 @@ fn insert_three<'a, S: Table<Pair<u64, Boxed<'a>>>, L: Table<Link>>(
 /// Makes the calls in turn on an empty map, whose making did not fail, with values in a heap of four blocks.
 fn check_made<'a, S: Table<Pair<u64, Boxed<'a>>>, L: Table<Link>, E: Drop>(
     findings: &Findings,
-    made: Result<MetaFlatMap<u64, Boxed<'a>, S, L>, E>,
+    made: Result<MetaFlatMap<Pair<u64, Boxed<'a>>, S, L>, E>,
     heap: &'a LocalHeap,
 ) {
     let Ok(mut map) = made else {

@@ -30,7 +30,7 @@ impl Numbers {
 
 /// Replaces the value of `key` and returns the old one.
 fn write<S: Table<Pair<u64, u64>>, L: Table<Link>>(
-    map: &mut MetaFlatMap<u64, u64, S, L>,
+    map: &mut MetaFlatMap<Pair<u64, u64>, S, L>,
     key: u64,
     value: u64,
 ) -> Option<u64> {
@@ -43,7 +43,7 @@ fn write<S: Table<Pair<u64, u64>>, L: Table<Link>>(
 /// Makes one call on both maps and compares the results.
 fn check_call<S: Table<Pair<u64, u64>>, L: Table<Link>>(
     findings: &Findings,
-    map: &mut MetaFlatMap<u64, u64, S, L>,
+    map: &mut MetaFlatMap<Pair<u64, u64>, S, L>,
     slow: &mut SlowMap,
     kind: u64,
     (key, value): (u64, u64),
@@ -67,7 +67,7 @@ fn check_call<S: Table<Pair<u64, u64>>, L: Table<Link>>(
 /// Lists the keys up to the call of number `last`, the first being 0, and compares each with that of the slow map.
 fn check_keys<S: Table<Pair<u64, u64>>, L: Table<Link>>(
     findings: &Findings,
-    map: &MetaFlatMap<u64, u64, S, L>,
+    map: &MetaFlatMap<Pair<u64, u64>, S, L>,
     slow: &SlowMap,
     last: u64,
 ) {
@@ -91,7 +91,7 @@ fn check_keys<S: Table<Pair<u64, u64>>, L: Table<Link>>(
 /// Compares what the iterators return with the keys and values of the slow map.
 fn check_iterators<S: Table<Pair<u64, u64>>, L: Table<Link>>(
     findings: &Findings,
-    map: &MetaFlatMap<u64, u64, S, L>,
+    map: &MetaFlatMap<Pair<u64, u64>, S, L>,
     slow: &SlowMap,
 ) {
     let len = slow.len();
@@ -115,7 +115,7 @@ fn check_iterators<S: Table<Pair<u64, u64>>, L: Table<Link>>(
 /// Compares the contents of both maps, of which no key reaches `keys`.
 fn check_content<S: Table<Pair<u64, u64>>, L: Table<Link>>(
     findings: &Findings,
-    map: &MetaFlatMap<u64, u64, S, L>,
+    map: &MetaFlatMap<Pair<u64, u64>, S, L>,
     slow: &SlowMap,
     keys: u64,
 ) {
@@ -135,7 +135,7 @@ fn check_content<S: Table<Pair<u64, u64>>, L: Table<Link>>(
 /// Makes random calls on both maps, which are empty. There are half as many keys again as places, and two more.
 fn walk_both<S: Table<Pair<u64, u64>>, L: Table<Link>>(
     findings: &Findings,
-    map: &mut MetaFlatMap<u64, u64, S, L>,
+    map: &mut MetaFlatMap<Pair<u64, u64>, S, L>,
     slow: &mut SlowMap,
     capacity: u64,
 ) {
@@ -154,7 +154,7 @@ fn walk<S: Table<Pair<u64, u64>>, L: Table<Link>>(
     findings: &Findings,
     alloc: Global,
     capacity: usize,
-    made: Result<MetaFlatMap<u64, u64, S, L>, AllocError>,
+    made: Result<MetaFlatMap<Pair<u64, u64>, S, L>, AllocError>,
 ) {
     if let Ok(mut map) = made {
         if let Ok(mut slow) = SlowMap::new(alloc, capacity) {

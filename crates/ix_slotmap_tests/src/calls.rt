@@ -57,7 +57,7 @@ pub fn numbers_of(key: Option<SlotMapKey>) -> Option<Numbers> {
 
 /// Replaces the value of `key` and returns the old one.
 fn write<T: Copy, S: Table<Option<T>>, L: Table<Link>, G: Table<u32>>(
-    map: &mut MetaSlotMap<T, S, L, G>,
+    map: &mut MetaSlotMap<Option<T>, S, L, G>,
     key: SlotMapKey,
     value: T,
 ) -> Option<T> {
@@ -69,7 +69,7 @@ fn write<T: Copy, S: Table<Option<T>>, L: Table<Link>, G: Table<u32>>(
 
 /// Returns the item of the iterator after `before` others.
 fn item_of<T: Copy, S: Table<Option<T>>, L: Table<Link>, G: Table<u32>>(
-    map: &MetaSlotMap<T, S, L, G>,
+    map: &MetaSlotMap<Option<T>, S, L, G>,
     before: usize,
 ) -> Option<(usize, u32, T)> {
     let mut left = before;
@@ -84,7 +84,7 @@ fn item_of<T: Copy, S: Table<Option<T>>, L: Table<Link>, G: Table<u32>>(
 
 /// Makes a call and returns its result.
 pub fn outcome_of<T: Copy, S: Table<Option<T>>, L: Table<Link>, G: Table<u32>>(
-    map: &mut MetaSlotMap<T, S, L, G>,
+    map: &mut MetaSlotMap<Option<T>, S, L, G>,
     call: &Call<T>,
 ) -> Outcome<T> {
     match call {
@@ -107,7 +107,7 @@ pub fn outcome_of<T: Copy, S: Table<Option<T>>, L: Table<Link>, G: Table<u32>>(
 /// Makes each call and compares its result.
 pub fn check_calls<T: Copy + PartialEq + Debug, S: Table<Option<T>>, L: Table<Link>, G: Table<u32>>(
     findings: &Findings,
-    map: &mut MetaSlotMap<T, S, L, G>,
+    map: &mut MetaSlotMap<Option<T>, S, L, G>,
     lines: &[Line<T>],
     place: &str,
 ) {

@@ -10,7 +10,7 @@ use std::test::Fail;
 
 /// Makes the counted form of a call, if it has one, and returns its result.
 fn counted<S: Table<Option<u64>>, L: Table<Link>, G: Table<u32>>(
-    map: &mut MetaSlotMap<u64, S, L, G>,
+    map: &mut MetaSlotMap<Option<u64>, S, L, G>,
     call: &Call<u64>,
 ) -> Outcome<u64> {
     let mut touches = Touches::new();

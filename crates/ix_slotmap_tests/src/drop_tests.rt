@@ -23,7 +23,7 @@ type Example = (u32, &'static [Row], u64);
 
 /// Makes a call and returns the value that it returns.
 fn returned_by<'a, S: Table<Option<Noted<'a>>>, L: Table<Link>, G: Table<u32>>(
-    map: &mut MetaSlotMap<Noted<'a>, S, L, G>,
+    map: &mut MetaSlotMap<Option<Noted<'a>>, S, L, G>,
     call: &Call,
     notes: &'a Notes,
 ) -> Option<Noted<'a>> {
@@ -48,7 +48,7 @@ fn name_of(value: Option<Noted>) -> Option<u64> {
 /// Makes the calls in turn on `map`, which is empty at first.
 fn check_rows<'a, S: Table<Option<Noted<'a>>>, L: Table<Link>, G: Table<u32>>(
     findings: &Findings,
-    map: &mut MetaSlotMap<Noted<'a>, S, L, G>,
+    map: &mut MetaSlotMap<Option<Noted<'a>>, S, L, G>,
     notes: &'a Notes,
     rows: &[Row],
 ) {
@@ -64,7 +64,7 @@ fn check_rows<'a, S: Table<Option<Noted<'a>>>, L: Table<Link>, G: Table<u32>>(
 /// Makes the calls on a map whose making did not fail. `end` has the names that are dropped with the map.
 fn check_made<'a, S: Table<Option<Noted<'a>>>, L: Table<Link>, G: Table<u32>, E: Drop>(
     findings: &Findings,
-    made: Result<MetaSlotMap<Noted<'a>, S, L, G>, E>,
+    made: Result<MetaSlotMap<Option<Noted<'a>>, S, L, G>, E>,
     notes: &'a Notes,
     (rows, end): (&[Row], u64),
 ) {

@@ -68,7 +68,7 @@ fn check_text<T: Debug>(findings: &Findings, value: &T, text: &str) {
 /// Checks the texts of an empty map, of the map with the value 7 at index 0 and generation 1, and of its iterator.
 fn check_texts<S: Table<Option<u64>>, L: Table<Link>, G: Table<u32>>(
     findings: &Findings,
-    map: &mut MetaSlotMap<u64, S, L, G>,
+    map: &mut MetaSlotMap<Option<u64>, S, L, G>,
 ) {
     check_text(findings, &*map, "{}");
     let _ = map.insert(5);
@@ -97,7 +97,7 @@ fn texts(rt: HostRuntime) -> Result<(), Fail> {
 
 /// Returns the values in the order of their places, up to the first that is `last`, as digits.
 fn values_up_to<S: Table<Option<u64>>, L: Table<Link>, G: Table<u32>>(
-    map: &MetaSlotMap<u64, S, L, G>,
+    map: &MetaSlotMap<Option<u64>, S, L, G>,
     last: u64,
 ) -> u64 {
     let mut digits = 0u64;

@@ -13,7 +13,7 @@ const START: u32 = 4_294_967_290;
 /// Checks an empty map with `capacity` places that start at `START`.
 fn check_empty<S: Table<Option<u64>>, L: Table<Link>, G: Table<u32>>(
     findings: &Findings,
-    map: &MetaSlotMap<u64, S, L, G>,
+    map: &MetaSlotMap<Option<u64>, S, L, G>,
     capacity: usize,
 ) {
     let sizes = (map.capacity(), map.len(), map.retired());

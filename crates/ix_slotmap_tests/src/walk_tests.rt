@@ -54,7 +54,7 @@ fn key_by(slow: &SlowMap, capacity: usize, number: usize, kind: usize) -> Number
 /// Makes one call on both maps and compares the results.
 fn check_call<S: Table<Option<u64>>, L: Table<Link>, G: Table<u32>>(
     findings: &Findings,
-    map: &mut MetaSlotMap<u64, S, L, G>,
+    map: &mut MetaSlotMap<Option<u64>, S, L, G>,
     slow: &mut Slow,
     kind: usize,
     (key, value): (Numbers, u64),
@@ -88,7 +88,7 @@ fn check_call<S: Table<Option<u64>>, L: Table<Link>, G: Table<u32>>(
 /// Compares what both maps return for a key, and their first free keys.
 fn check_reads<S: Table<Option<u64>>, L: Table<Link>, G: Table<u32>>(
     findings: &Findings,
-    map: &MetaSlotMap<u64, S, L, G>,
+    map: &MetaSlotMap<Option<u64>, S, L, G>,
     slow: &SlowMap,
     key: Numbers,
 ) {
@@ -103,7 +103,7 @@ fn check_reads<S: Table<Option<u64>>, L: Table<Link>, G: Table<u32>>(
 /// Compares the entries of both maps.
 fn check_content<S: Table<Option<u64>>, L: Table<Link>, G: Table<u32>>(
     findings: &Findings,
-    map: &MetaSlotMap<u64, S, L, G>,
+    map: &MetaSlotMap<Option<u64>, S, L, G>,
     slow: &SlowMap,
 ) {
     let (held, retired) = slow.counts();
@@ -129,7 +129,7 @@ fn check_content<S: Table<Option<u64>>, L: Table<Link>, G: Table<u32>>(
 /// Checks that no dead key is held.
 fn check_dead<S: Table<Option<u64>>, L: Table<Link>, G: Table<u32>>(
     findings: &Findings,
-    map: &MetaSlotMap<u64, S, L, G>,
+    map: &MetaSlotMap<Option<u64>, S, L, G>,
     dead: &[Numbers],
 ) {
     for key in dead {
@@ -140,7 +140,7 @@ fn check_dead<S: Table<Option<u64>>, L: Table<Link>, G: Table<u32>>(
 /// Makes random calls on both maps, which are empty.
 fn walk_both<S: Table<Option<u64>>, L: Table<Link>, G: Table<u32>>(
     findings: &Findings,
-    map: &mut MetaSlotMap<u64, S, L, G>,
+    map: &mut MetaSlotMap<Option<u64>, S, L, G>,
     slow: &mut Slow,
 ) -> Result<(), AllocError> {
     let capacity = map.capacity();
@@ -164,7 +164,7 @@ fn walk_both<S: Table<Option<u64>>, L: Table<Link>, G: Table<u32>>(
 fn walk<S: Table<Option<u64>>, L: Table<Link>, G: Table<u32>, E: Drop>(
     findings: &Findings,
     alloc: Global,
-    made: Result<MetaSlotMap<u64, S, L, G>, E>,
+    made: Result<MetaSlotMap<Option<u64>, S, L, G>, E>,
 ) {
     if let Ok(mut map) = made {
         if let Ok(slow) = SlowMap::new(alloc, map.capacity(), START) {

@@ -272,7 +272,7 @@ const FLAT_REPLIES: &[Reply<u64, u64>] = &[
 fn check_flat<S: Table<Pair<u64, u64>>, L: Table<Link>>(
     findings: &Findings,
     alloc: Global,
-    map: &mut MetaFlatMap<u64, u64, S, L>,
+    map: &mut MetaFlatMap<Pair<u64, u64>, S, L>,
     kind: &str,
 ) {
     let found = run_flat(alloc, map, FLAT_COMMANDS);

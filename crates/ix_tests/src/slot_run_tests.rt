@@ -15,7 +15,7 @@ type Step = (SlotCommand<u64>, Reply<SlotMapKey, u64>);
 fn check_steps<S: Table<Option<u64>>, L: Table<Link>, G: Table<u32>>(
     findings: &Findings,
     alloc: Global,
-    map: &mut MetaSlotMap<u64, S, L, G>,
+    map: &mut MetaSlotMap<Option<u64>, S, L, G>,
     steps: &[Step],
     kind: &str,
 ) {
@@ -36,7 +36,7 @@ fn check_steps<S: Table<Option<u64>>, L: Table<Link>, G: Table<u32>>(
 fn check_generations<S: Table<Option<u64>>, L: Table<Link>, G: Table<u32>>(
     findings: &Findings,
     alloc: Global,
-    map: &mut MetaSlotMap<u64, S, L, G>,
+    map: &mut MetaSlotMap<Option<u64>, S, L, G>,
     kind: &str,
 ) {
     let key = |generation: u32| SlotMapKey::new(0, generation);
@@ -86,7 +86,7 @@ fn check_generations<S: Table<Option<u64>>, L: Table<Link>, G: Table<u32>>(
 fn check_retirement<S: Table<Option<u64>>, L: Table<Link>, G: Table<u32>>(
     findings: &Findings,
     alloc: Global,
-    map: &mut MetaSlotMap<u64, S, L, G>,
+    map: &mut MetaSlotMap<Option<u64>, S, L, G>,
     kind: &str,
 ) {
     let first = SlotMapKey::new(0, u32::MAX);

@@ -20,7 +20,7 @@ use std::io::Write;
 /// Appends the keys, separated by single spaces, or a dash if there are none.
 fn append_keys<S: Table<Pair<u64, u64>>, L: Table<Link>, W: Write>(
     replies: &mut ReplyWriter<'_, W>,
-    map: &MetaFlatMap<u64, u64, S, L>,
+    map: &MetaFlatMap<Pair<u64, u64>, S, L>,
 ) -> Result<(), ScriptFault>
     ensures { WriteResult W.contents replies.old (items_text decimal (flat_keys map.now))
         replies.new result }
@@ -40,7 +40,7 @@ fn append_keys<S: Table<Pair<u64, u64>>, L: Table<Link>, W: Write>(
     Ok(())
 }
 
-impl<S: Table<Pair<u64, u64>>, L: Table<Link>> Served for MetaFlatMap<u64, u64, S, L> {
+impl<S: Table<Pair<u64, u64>>, L: Table<Link>> Served for MetaFlatMap<Pair<u64, u64>, S, L> {
     ghost use Rattle.std.specs.Prelude.{ℕ, nat_eq};
     ghost use Rattle.ix_maps.specs.SlotState.{SlotState};
     ghost use Rattle.ix_maps.specs.declared.flatmap.pair.Pair.{Pair};

@@ -44,7 +44,7 @@ impl Piece for ListedKeyEntry {
 /// Appends the keys with their values, separated by single spaces, or a dash if there are none.
 fn append_key_entries<S: Table<Option<u64>>, L: Table<Link>, G: Table<u32>, W: Write>(
     replies: &mut ReplyWriter<'_, W>,
-    map: &MetaSlotMap<u64, S, L, G>,
+    map: &MetaSlotMap<Option<u64>, S, L, G>,
 ) -> Result<(), ScriptFault>
     ensures { WriteResult W.contents replies.old (items_text key_entry_text (map_entries map.now))
         replies.new result }
@@ -65,7 +65,8 @@ fn append_key_entries<S: Table<Option<u64>>, L: Table<Link>, G: Table<u32>, W: W
     Ok(())
 }
 
-impl<S: Table<Option<u64>>, L: Table<Link>, G: Table<u32>> Served for MetaSlotMap<u64, S, L, G> {
+impl<S: Table<Option<u64>>, L: Table<Link>, G: Table<u32>> Served
+    for MetaSlotMap<Option<u64>, S, L, G> {
     ghost use Rattle.std.specs.Prelude.{ℕ};
     ghost use Rattle.ix_maps.specs.Generations.{SlotMapState};
     ghost use Rattle.ix_run.specs.Script.{slot_line_reply, slot_line_after, slot_shown};

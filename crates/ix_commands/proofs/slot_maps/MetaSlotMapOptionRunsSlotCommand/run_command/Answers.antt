@@ -3,7 +3,7 @@ use Rattle.std.proofs.Common.{◌≡◌, ◌==◌, ◌↔◌, ℕ, List, [], ◌
 use Rattle.std.specs.Prelude.{IsTrue}
 use Rattle.std.proofs.lemmas.Grind.{common_steps}
 use Rattle.ix_commands.specs.declared.reply.Reply.TheVariants as reply
-use Rattle.ix_commands.proofs.slot_maps.MetaSlotMapRunsSlotCommand.run_command.Goals as goal
+use Rattle.ix_commands.proofs.slot_maps.MetaSlotMapOptionRunsSlotCommand.run_command.Goals as goal
 
 full-free : (listed : List ℕ) (full : Bool) → IsTrue full ↔ (listed ≡ []) → full ≡ (length listed == 0)
 full-free [] full h = h.1 refl

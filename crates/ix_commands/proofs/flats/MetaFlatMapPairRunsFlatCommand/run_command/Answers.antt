@@ -1,6 +1,6 @@
 -- One answer a clause: where an arm is wrong, nothing else is tried.
 use Rattle.std.proofs.Common.{rules}
-use Rattle.ix_commands.proofs.flats.MetaFlatMapRunsFlatCommand.run_command.Goals as goal
+use Rattle.ix_commands.proofs.flats.MetaFlatMapPairRunsFlatCommand.run_command.Goals as goal
 
 pub returns-in-Insert-clause-value : goal.returns-in-Insert-clause-value
 returns-in-Insert-clause-value g c = search rules
