@@ -1,14 +1,15 @@
 -- Lemmas on slot maps with generations.
 use Rattle.std.proofs.Common.{◌≡◌, ℕ, ◌+◌, ◌<◌, ◌≤◌, inl, inr, List, [], ◌∷◌, length, set, Option, Some, None, IsSome, refl, sym, ap, ◌∙◌, arith}
-use Rattle.std.specs.Prelude.{if◌then◌else◌, is_some, count_by, replicate}
+use Rattle.std.specs.Prelude.{if◌then◌else◌, is_some, count_by, replicate, nat_eq, Bool, true, false}
 use Rattle.std.specs.Option.{option_flatten}
 use Rattle.std.proofs.lemmas.Bool.{cases_lt}
+use Rattle.std.proofs.lemmas.Bool.Decides.{nat_tests}
 use Rattle.std.proofs.lemmas.List.{length-replicate, length-set, get_or-replicate}
 use Rattle.std.proofs.lemmas.List.Sums.{sum_by-cons, sum_by-set, count_by-le-length}
 use Rattle.std.proofs.lemmas.List.Folds.{sum_by-replicate}
 use Rattle.ix_cells.specs.Places.{place_at}
 use Rattle.ix_maps.specs.SlotState.{SlotState, value_at, IsWellFormed, slot_new, entries_from, entries}
-use Rattle.ix_maps.specs.Generations.{SlotMapState, is_retired, IsMapFormed}
+use Rattle.ix_maps.specs.Generations.{SlotMapState, generation_at, place_value, is_retired, IsMapFormed, DeadAreNotHeld}
 use Rattle.ix_maps.specs.inner.GenerationTable.{HasGenerations, AreEntriesBelow}
 use Rattle.ix_maps.proofs.SlotTables.{place_at_past}
 
@@ -48,6 +49,17 @@ module _ {T : Type 0} where
       let was : one_if_retired (place_at values place) ≡ 0 = ap one_if_retired at in
       let most = count_by-le-length is_retired (set values place (Some None)) in
       let same = length-set values place (Some None) in omega arith
+
+  if_none : (b : Bool) (value : Option T) → value ≡ None → (if b then value else None) ≡ None
+  if_none true value is = is
+  if_none false value is = refl
+
+  pub map_value-dead : (s : SlotMapState T) → DeadAreNotHeld s
+  map_value-dead s key (inl past) = if_none _ _ (ap option_flatten (place_at_past s.slots.values key.index past))
+  map_value-dead s key (inr (inl retired)) = if_none _ _ (ap option_flatten retired)
+  map_value-dead s key (inr (inr lower)) =
+      let no : nat_eq (generation_at s key.index) key.generation ≡ false = grind (arith, nat_tests) in
+      ap (λ b. if b then place_value s key.index else None) no
 
   free_of_usable : (content : Option (Option T)) → option_flatten content ≡ None → (content ≡ Some None → ⊥) → content ≡ None
   free_of_usable None empty unretired = refl

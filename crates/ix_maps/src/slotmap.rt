@@ -24,5 +24,5 @@ pub use content::Content;
 pub(crate) use generation_table::GenerationTable;
 pub use iter::Iter;
 pub use kinds::{FixedSizeSlotMap, RelocatableSlotMap, SlotMap, UninitSlotMap};
-pub use meta_slot_map::MetaSlotMap;
-pub use slot_map_key::SlotMapKey;
+pub use meta_slot_map::{MetaSlotMap, dead_keys_law};
+pub use slot_map_key::{SlotMapKey, key_order_law};

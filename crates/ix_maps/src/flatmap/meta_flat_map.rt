@@ -298,8 +298,8 @@ impl<K: Eq + Drop, V: Drop, S: Table<Pair<K, V>>, L: Table<Link>> MetaFlatMap<Pa
             let start = block * BLOCK_LEN;
             let index = self.index_in_block(start, key);
             if index < BLOCK_LEN {
-                let place = start + index;
-                return Some((SlotTableKey::new(place), self.pairs.held_value(place)));
+                let place = SlotTableKey::new(start + index);
+                return Some((place, self.pairs.get_unchecked(place)));
             }
         }
         self.find_from(blocks * BLOCK_LEN, key)
@@ -320,7 +320,8 @@ impl<K: Eq + Drop, V: Drop, S: Table<Pair<K, V>>, L: Table<Link>> MetaFlatMap<Pa
         let _capacity = self.pairs.capacity();
         let mut found = BLOCK_LEN;
         for i in 0..BLOCK_LEN {
-            if self.pairs.held_value(start + i).key == *key {
+            let pair = self.pairs.get_unchecked(SlotTableKey::new(start + i));
+            if pair.key == *key {
                 found = i;
             }
         }

@@ -1,10 +1,11 @@
 //! The slot map over any three tables.
-ghost use Rattle.std.specs.Prelude.{◌≡◌, ◌+◌, ◌<◌, ◌≤◌, ◌↔◌, [], length, Some, None, IsTrue, IsSome, IsNone, IfSome, is_some, option_copied, option_map, slice_get, if◌then◌else◌};
+ghost use Rattle.std.specs.Prelude.{◌≡◌, ◌≢◌, false, ◌+◌, ◌<◌, ◌≤◌, ◌↔◌, [], length, Some, None, IsTrue, IsSome, IsNone, IfSome, is_some, option_copied, option_map, slice_get, if◌then◌else◌};
 ghost use Rattle.std.specs.Borrow.{sem, Lends, LendsIf};
+ghost use Rattle.std.specs.Map.{lookup};
 ghost use Rattle.std.specs.Option.{option_copied_mut};
 ghost use Rattle.std.specs.contracts.option.Option as option;
 ghost use Rattle.ix_maps.specs.SlotState.{IsFree, entries};
-ghost use Rattle.ix_maps.specs.Generations.{SlotKey, greatest_generation, generation_at, key_at, place_value, map_value, IsDead, retired_count, map_len, map_entries, IsMapFormed, DeadAreNotHeld, KeysRise, ListsExactly};
+ghost use Rattle.ix_maps.specs.Generations.{SlotKey, SlotMapState, greatest_generation, generation_at, key_at, slot_key_eq, place_value, map_value, IsDead, retired_count, map_len, map_entries, IsMapFormed, DeadAreNotHeld, KeysRise, ListsExactly};
 ghost use Rattle.ix_maps.specs.SlotMapSteps.{map_set, map_set_at, map_replace, map_retire, MapInsert, MapInsertAt, MapRemove};
 
 use crate::slotmap::{Content, GenerationTable, Iter, SlotMapKey};
@@ -68,7 +69,6 @@ impl<T, S: Table<Option<T>>, L: Table<Link>, G: Table<u32>> MetaSlotMap<Option<T
     #[inline]
     pub fn capacity(&self) -> usize
         ensures value { result ≡ length self.now.slots.values }
-        ensures dead { DeadAreNotHeld self.now }
     {
         self.slots.capacity()
     }
@@ -77,7 +77,6 @@ impl<T, S: Table<Option<T>>, L: Table<Link>, G: Table<u32>> MetaSlotMap<Option<T
     #[inline]
     pub fn retired(&self) -> usize
         ensures value { result ≡ retired_count self.now }
-        ensures dead { DeadAreNotHeld self.now }
     {
         self.retired
     }
@@ -90,7 +89,6 @@ impl<T, S: Table<Option<T>>, L: Table<Link>, G: Table<u32>> MetaSlotMap<Option<T
             ≡ length self.now.slots.values }
         // These hold of every map, whatever calls were made.
         ensures formed { IsMapFormed self.now }
-        ensures dead { DeadAreNotHeld self.now }
     {
         self.slots.len() - self.retired
     }
@@ -99,7 +97,6 @@ impl<T, S: Table<Option<T>>, L: Table<Link>, G: Table<u32>> MetaSlotMap<Option<T
     #[inline]
     pub fn is_empty(&self) -> bool
         ensures value { IsTrue result ↔ (map_len self.now ≡ 0) }
-        ensures dead { DeadAreNotHeld self.now }
     {
         self.len() == 0
     }
@@ -108,7 +105,6 @@ impl<T, S: Table<Option<T>>, L: Table<Link>, G: Table<u32>> MetaSlotMap<Option<T
     #[inline]
     pub fn is_full(&self) -> bool
         ensures value { IsTrue result ↔ (self.now.slots.free ≡ []) }
-        ensures dead { DeadAreNotHeld self.now }
     {
         self.slots.is_full()
     }
@@ -119,7 +115,7 @@ impl<T, S: Table<Option<T>>, L: Table<Link>, G: Table<u32>> MetaSlotMap<Option<T
         ensures value { result ≡ option_map (key_at self.now) (slice_get self.now.slots.free 0) }
         ensures free { IfSome result (λ key. IsFree self.now.slots key.index) }
         ensures full { IsNone result ↔ (self.now.slots.free ≡ []) }
-        ensures dead { DeadAreNotHeld self.now }
+        ensures alive { IfSome result (λ key. IsDead self.now key → ⊥) }
     {
         let place = self.slots.next_free_key()?;
         Some(self.key_of(place, &mut Touches::new()))
@@ -129,7 +125,7 @@ impl<T, S: Table<Option<T>>, L: Table<Link>, G: Table<u32>> MetaSlotMap<Option<T
     #[inline]
     pub fn contains(&self, key: SlotMapKey) -> bool
         ensures value { IsTrue result ↔ IsSome (map_value self.now key) }
-        ensures dead { DeadAreNotHeld self.now }
+        ensures dead { IsDead self.now key → result ≡ false }
     {
         self.get(key).is_some()
     }
@@ -138,7 +134,7 @@ impl<T, S: Table<Option<T>>, L: Table<Link>, G: Table<u32>> MetaSlotMap<Option<T
     #[inline]
     pub fn get(&self, key: SlotMapKey) -> Option<&T>
         ensures value { option_copied result ≡ map_value self.now key }
-        ensures dead { DeadAreNotHeld self.now }
+        ensures dead { IsDead self.now key → IsNone result }
     {
         if !self.has_generation(key, &mut Touches::new()) {
             return None;
@@ -156,10 +152,14 @@ impl<T, S: Table<Option<T>>, L: Table<Link>, G: Table<u32>> MetaSlotMap<Option<T
             (LendsIf (the_row (option.the_row T.row) S.row L.row G.row ⟦<Option<T> as Content>⟧ S.Table L.Table G.Table)
             T.row self.entry result (map_set self.old key) self.old) }
         ensures value { option_copied_mut result ≡ map_value self.old key }
-        // Whatever is written, a dead key stays dead.
+        // Whatever value is written, the key has it, any other key keeps its own, and a dead key stays dead.
+        ensures holds { (written : T) → IsSome (map_value self.old key)
+            → map_value (map_set self.old key written) key ≡ Some written }
+        ensures kept { (written : T) (other : SlotKey) → IsSome (map_value self.old key)
+            → other ≢ key → map_value (map_set self.old key written) other ≡ map_value self.old other }
         ensures dead { (written : T) (other : SlotKey) → IsSome (map_value self.old key)
             → IsDead self.old other → IsDead (map_set self.old key written) other }
-        ensures not_held { DeadAreNotHeld self.old }
+        ensures not_held { IsDead self.old key → IsNone result }
     {
         if self.contains(key) {
             Some(self.value_mut(key.index()))
@@ -175,7 +175,8 @@ impl<T, S: Table<Option<T>>, L: Table<Link>, G: Table<u32>> MetaSlotMap<Option<T
         ensures entries { result ≡ map_entries self.now }
         ensures rising { KeysRise result }
         ensures exactly { ListsExactly result self.now }
-        ensures dead { DeadAreNotHeld self.now }
+        ensures dead { (key : SlotKey) → IsDead self.now key
+            → lookup (slot_key_eq key) result ≡ None }
     {
         Iter::new(self)
     }
@@ -384,6 +385,11 @@ impl<T, S: Table<Option<T>>, L: Table<Link>, G: Table<u32>> MetaSlotMap<Option<T
         content_mut(held_mut(&mut self.slots, SlotTableKey::new(index)))
     }
 }
+
+/// A dead key is not held, whatever the map. This function does nothing: its contract is the law.
+pub fn dead_keys_law<T>()
+    ensures { (map : SlotMapState T) → DeadAreNotHeld map }
+{}
 
 /// Returns a mutable reference to the value of a place that holds one.
 #[inline]

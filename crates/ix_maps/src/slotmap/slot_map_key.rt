@@ -1,5 +1,5 @@
 //! The keys of slot maps.
-ghost use Rattle.std.specs.Prelude.{◌≡◌};
+ghost use Rattle.std.specs.Prelude.{◌≡◌, ◌<◌, ◌⊎◌, ◌↔◌, IsTrue};
 
 use std::marker::Model;
 
@@ -57,4 +57,13 @@ impl SlotMapKey {
     {
         self.generation
     }
+}
+
+/// Returns `key < other`. Keys are ordered by their index, and then by their generation: that is the contract of this function.
+/// O(1).
+pub fn key_order_law(key: SlotMapKey, other: SlotMapKey) -> bool
+    ensures { IsTrue result ↔ ((key.index < other.index)
+        ⊎ ((key.index ≡ other.index) × (key.generation < other.generation))) }
+{
+    key < other
 }

@@ -86,7 +86,8 @@ impl<'a, T, S: Table<T>, L: Table<Link>> Iterator for Iter<'a, T, S, L> {
         let key = self.map.held_from(self.key);
         self.key = key + 1;
         self.left -= 1;
-        Some((SlotTableKey::new(key), self.map.held_value(key)))
+        let key = SlotTableKey::new(key);
+        Some((key, self.map.get_unchecked(key)))
     }
 
     /// Returns the number of items that are still to come, as both bounds. O(1).

@@ -18,7 +18,7 @@ use std::marker::PhantomData;
 /// map.insert_at(SlotTableKey::new(2), 'c');   // true
 /// ```
 ///
-/// This is `FixedSizeSlotTable` of iceoryx2-bb-container.
+/// This is `FixedSizeSlotMap` of iceoryx2-bb-container, whose keys have no generation.
 pub type FixedSizeSlotTable<T, const CAPACITY: usize> = MetaSlotTable<
     T,
     InlineTable<T, CAPACITY>,
@@ -44,7 +44,7 @@ impl<T: Drop, const CAPACITY: usize> FixedSizeSlotTable<T, CAPACITY> {
 /// map.insert('a');                          // Some: the key 0
 /// ```
 ///
-/// This is `SlotTable` of iceoryx2-bb-container.
+/// This is `SlotMap` of iceoryx2-bb-container, whose keys have no generation.
 pub type SlotTable<T, A = Global> = MetaSlotTable<T, HeapTable<T, A>, HeapTable<Link, A>>;
 
 impl<T: Drop, A: Allocator + Copy> SlotTable<T, A> {
@@ -76,7 +76,7 @@ impl<T: Drop, A: Allocator + Copy> SlotTable<T, A> {
 /// map.insert('a');                          // Some: the key 0
 /// ```
 ///
-/// This is `RelocatableSlotTable` of iceoryx2-bb-container.
+/// This is `RelocatableSlotMap` of iceoryx2-bb-container, whose keys have no generation.
 pub type RelocatableSlotTable<T, A = Global> = SlotTable<T, A>;
 
 impl<T: Drop, A: Allocator + Copy> RelocatableSlotTable<T, A> {

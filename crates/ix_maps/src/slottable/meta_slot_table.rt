@@ -38,7 +38,7 @@ use std::marker::{Model, PhantomData};
 /// }
 /// ```
 ///
-/// This is `MetaSlotTable` of iceoryx2-bb-container.
+/// This is `MetaSlotMap` of iceoryx2-bb-container, whose keys have no generation.
 pub struct MetaSlotTable<T, S: Table<T>, L: Table<Link>> {
     values: Counted<S>,
     links: Counted<L>,
@@ -158,12 +158,33 @@ impl<T, S: Table<T>, L: Table<Link>> MetaSlotTable<T, S, L> {
         self.get_counted(key, &mut Touches::new())
     }
 
+    /// Returns the value at `key`, which has one.
+    ///
+    /// ```text
+    /// let mut map = FixedSizeSlotTable::<char, 1>::new();
+    /// if let Some(key) = map.insert('a') {
+    ///     map.get_unchecked(key);           // 'a'
+    /// }
+    /// ```
+    #[inline]
+    pub fn get_unchecked(&self, key: SlotTableKey) -> &T
+        requires { IsHeld self.now key }
+        ensures { value_at self.now key ≡ Some result.now }
+    {
+        self.values.get(key.value(), &mut Touches::new())
+    }
+
     /// Returns a mutable reference to the value at `key`, or `None` if `key` is free or out of range.
     #[inline]
     pub fn get_mut(&mut self, key: SlotTableKey) -> Option<&mut T>
         ensures* writes_back { sem 𝓛 (LendsIf (the_row T.row S.row L.row S.Table L.Table)
             T.row self.entry result (slot_set self.old key) self.old) }
         ensures value { option_copied_mut result ≡ value_at self.old key }
+        // Whatever value is written, the key has it, and any other key keeps its own.
+        ensures holds { (written : T) → IsHeld self.old key
+            → value_at (slot_set self.old key written) key ≡ Some written }
+        ensures kept { (written : T) (other : ℕ) → other ≢ key
+            → value_at (slot_set self.old key written) other ≡ value_at self.old other }
     {
         self.get_mut_counted(key, &mut Touches::new())
     }
@@ -251,6 +272,10 @@ impl<T, S: Table<T>, L: Table<Link>> MetaSlotTable<T, S, L> {
         ensures* writes_back { sem 𝓛 (LendsIf (the_row T.row S.row L.row S.Table L.Table)
             T.row self.entry result (slot_set self.old key) self.old) }
         ensures value { option_copied_mut result ≡ value_at self.old key }
+        ensures holds { (written : T) → IsHeld self.old key
+            → value_at (slot_set self.old key written) key ≡ Some written }
+        ensures kept { (written : T) (other : ℕ) → other ≢ key
+            → value_at (slot_set self.old key written) other ≡ value_at self.old other }
         ensures touches { touches.new ≤ touches.old + 4 }
         ensures rises { touches.old ≤ touches.new }
     {
@@ -325,15 +350,6 @@ impl<T, S: Table<T>, L: Table<Link>> MetaSlotTable<T, S, L> {
         ensures touches { touches.new ≡ touches.old + 1 }
     {
         self.links.get(key, touches).is_free
-    }
-
-    /// Returns the value at a held key.
-    #[inline]
-    pub(crate) fn held_value(&self, key: usize) -> &T
-        requires { IsHeld self.now key }
-        ensures { value_at self.now key ≡ Some result.now }
-    {
-        self.values.get(key, &mut Touches::new())
     }
 
     /// Returns a mutable reference to the value at a held key.

@@ -12,7 +12,7 @@ use std::marker::Model;
 /// key.value();                              // 3
 /// ```
 ///
-/// This is `SlotTableKey` of iceoryx2-bb-container.
+/// This is `SlotMapKey` of iceoryx2-bb-container.
 #[derive(Clone, Copy, Debug, PartialEq, Eq, PartialOrd, Ord, Hash)]
 pub struct SlotTableKey {
     number: usize,

@@ -10,11 +10,11 @@ returns-then-index-lt-BLOCK_LEN-clause-value g c =
     let eq = g.K.PartialEq.eq in
     let map = c.args.self.now in
     let key = c.args.key.now in
-    let place = c.new.result in
+    let place = c.new-place.result in
     let distinct = subst (HasDistinctKeys eq) c.self.view_is c.self.invariant in
-    let at = ap (λ s. value_at s place) (sym c.self.view_is) ∙ (ap (value_at c.self.inside.pairs) c.new.ensures ∙ c.held_value.ensures) in
-    let equal = ap (is_key_at eq map key) c.new.ensures ∙ c.index_in_block-index.ensures.found c.if-index-lt-BLOCK_LEN.true in
-    sym (flat_entry-is_key_at eq g.met.K.Eq.laws map key place c.held_value.result.now distinct at equal)
+    let at = ap (λ s. value_at s place) (sym c.self.view_is) ∙ c.get_unchecked.ensures in
+    let equal = ap (is_key_at eq map key) c.new-place.ensures ∙ c.index_in_block-index.ensures.found c.if-index-lt-BLOCK_LEN.true in
+    sym (flat_entry-is_key_at eq g.met.K.Eq.laws map key place c.get_unchecked.result.now distinct at equal)
 
 pub loop-block-preserved : goal.loop-block-preserved
 loop-block-preserved g c =

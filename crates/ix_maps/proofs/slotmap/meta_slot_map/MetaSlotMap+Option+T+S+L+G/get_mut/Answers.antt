@@ -9,7 +9,9 @@ returns-else-contains g c = (
   record {
     writes_back = tt;
     value = sym (none_of_not_some _ (iff_false c.contains.ensures.value c.if-contains.false));
+    holds = λ written held. absurd (iff_false c.contains.ensures.value c.if-contains.false held);
+    kept = λ written other held. absurd (iff_false c.contains.ensures.value c.if-contains.false held);
     dead = λ written other held. absurd (iff_false c.contains.ensures.value c.if-contains.false held);
-    not_held = c.contains.ensures.dead;
+    not_held = λ dead. refl;
   },
 )

@@ -1,5 +1,7 @@
-use Rattle.std.proofs.Common.{sym, subst}
-use Rattle.ix_maps.specs.Generations.{KeysRise, ListsExactly}
+use Rattle.std.proofs.Common.{◌≡◌, None, sym, subst, ◌∙◌}
+use Rattle.std.specs.Map.{lookup}
+use Rattle.ix_maps.specs.Generations.{slot_key_eq, KeysRise, ListsExactly}
+use Rattle.ix_maps.proofs.Generations.{map_value-dead}
 use Rattle.ix_maps.proofs.MapEntries.{KeysRise-map_entries, ListsExactly-map_entries}
 use Rattle.ix_maps.proofs.slotmap.meta_slot_map.MetaSlotMap+Option+T+S+L+G.iter.Goals as goal
 
@@ -8,3 +10,8 @@ returns-clause-rising g c = subst KeysRise (sym c.new.ensures) (KeysRise-map_ent
 
 pub returns-clause-exactly : goal.returns-clause-exactly
 returns-clause-exactly g c = subst (λ items. ListsExactly items c.args.self.now) (sym c.new.ensures) (ListsExactly-map_entries c.args.self.now)
+
+pub returns-clause-dead : goal.returns-clause-dead
+returns-clause-dead g c = λ key dead.
+    subst (λ items. lookup (slot_key_eq key) items ≡ None) (sym c.new.ensures)
+    (ListsExactly-map_entries c.args.self.now key ∙ map_value-dead c.args.self.now key dead)
