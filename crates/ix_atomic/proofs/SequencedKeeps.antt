@@ -32,9 +32,10 @@ stored_by (Writing stored) = stored
 stored_by stage = []
 
 -- the last value of a history that the seat's list begins, and its encoding, which the words have
-pub record Finished {T : Type 0} (IsEncoding : T → List ℕ → Type 0) (known : List T) (words : List ℕ) : Type 0 where
+pub record Finished {T : Type 0} (IsEncoding : T → List ℕ → Type 0) (view : SeatView T) (words : List ℕ) : Type 0 where
   pub history : List T
-  pub begins : Begins known history
+  pub begins : Begins view.known history
+  pub whole : IsWhole view.share → HoldsEach (length history) view.places
   pub value : T
   pub bytes : List ℕ
   pub has : words ≡ words_of bytes
@@ -458,7 +459,15 @@ module _ {T : Type 0} (IsEncoding : T → List ℕ → Type 0) where
       one seat view at = subst (Knows 0 content seat) (only seat view at)
           record { known = ([], refl); joined = (value ∷ [], refl); seen = λ k default inside. absurd (omega arith); rising = IsRising-nil; places = λ place has. absurd (no_place place has); wrote = λ place has. absurd (no_place place has); writes = λ is. absurd (omega (arith, is)); stage = tt }
 
-  pub finished : (id : ℕ) (view : SeatView T) (words : List ℕ) (slots : List (Unit {0})) → Final (Seen Rule id view) words slots → IsEven (get_or words 0 0) → Finished IsEncoding view.known (drop 1 words)
+  -- beside a closed seat that has the whole right to write no write is in progress, and each place but the first is its own
+  pub closed-whole : (id : ℕ) (view : SeatView T) (words : List ℕ) (slots : List (Unit {0})) → Final (Seen Rule id view) words slots → parity view.stage ≡ 0 → IsWhole view.share → IsOdd (get_or words 0 0) → ⊥
+  closed-whole id view words slots final idle whole odd = let table = final.0 in let rule = final.1.0 in let at = final.1.1 in
+      let writing = rule.writing (ap (λ (l : List ℕ). get_or l 0 0 % 2) final.2 ∙ odd) in let writer = rule.content.writer in dite (ℕ_discrete writer id)
+      (λ same. let is = ap (λ (v : SeatView T). parity v.stage) (one_view table.views id view writing.0 at (subst (λ s. get_elem? table.views s ≡ some writing.0) same writing.1)) in
+      let one = writing.2 in absurd (omega (arith, idle, is, one)))
+      (λ differs. whole-alone table.views id writer view writing.0 rule.dealt whole at writing.1 differs ((rule.seats writer writing.0 writing.1).writes writing.2))
+
+  pub finished : (id : ℕ) (view : SeatView T) (words : List ℕ) (slots : List (Unit {0})) → Final (Seen Rule id view) words slots → IsEven (get_or words 0 0) → Finished IsEncoding view (drop 1 words)
   finished id view words slots final even = let table = final.0 in let rule = final.1.0 in let content = rule.content in
       let knows = rule.seats id view final.1.1 in
       let rest = cell_bytes-rest content (rule.between_writes (ap (λ (l : List ℕ). get_or l 0 0 % 2) final.2 ∙ even)) in
@@ -468,6 +477,7 @@ module _ {T : Type 0} (IsEncoding : T → List ℕ → Type 0) where
         value = content.last;
         bytes = content.bytes;
         has = ap (λ (l : List ℕ). drop 1 l) (sym final.2) ∙ words-tail table rule ∙ ap words_of rest;
+        whole = holds_each table rule id view final.1.1;
         is_last = slice_get-push content.earlier content.last (length (history content) - 1) (omega arith);
         encoding = rule.last;
         byte_range = subst (AreBelow 256) rest rule.byte_range;

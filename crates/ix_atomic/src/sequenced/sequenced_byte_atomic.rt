@@ -286,6 +286,9 @@ impl<T: AtomicCopy, const SIZE: usize> SequencedByteAtomic<T, SIZE> {
         requires { seat.cell ≡ self }
         ensures value { IfOk result (λ value. (history : List T) × Begins seat.known history
             × (last_value history ≡ Some value)) }
+        ensures whole { IsWhole seat.share → (value : T) × (result ≡ Ok value)
+            × (history : List T) × Begins seat.known history × (last_value history ≡ Some value)
+            × HoldsEach (length history) seat.places }
     {
         let SequencedByteAtomic { table } = self;
         let WriterSeat { seat } = seat;
