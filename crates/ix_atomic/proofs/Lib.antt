@@ -20,6 +20,8 @@ pub mod DataWords
 pub mod Encodes
 pub mod OwnPlaces
 pub mod Owners
+pub mod EveryValue
+pub mod Shares
 pub mod SequencedKeeps
 pub mod SequencedCalls
 mod WorkedHistory

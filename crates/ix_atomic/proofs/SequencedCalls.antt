@@ -7,7 +7,8 @@ use Rattle.ix_atomic.specs.declared.sequenced.rule.SeatView.{SeatView}
 use Rattle.ix_atomic.specs.declared.sequenced.rule.Stage.TheVariants.{Reading, Writing}
 use Rattle.ix_atomic.specs.History.{Begins, IsEven, Loads, LoadsTwice, version_of, value_at, data_words, all_words}
 use Rattle.ix_atomic.specs.Versions.{last_version}
-use Rattle.ix_atomic.specs.Writers.{IsRising, AreOwn, Writes}
+use Rattle.ix_atomic.specs.Shares.{IsWhole}
+use Rattle.ix_atomic.specs.Writers.{IsRising, AreOwn, HoldsEach, Writes}
 use Rattle.ix_atomic.specs.inner.SequencedSteps.{Seated, stage_bytes, bytes_at, view_stage, view_bytes, seated_stage, view_end, reader_of, writer_of, ViewLoads, ViewClaims}
 use Rattle.ix_atomic.specs.Words.{word_of, bytes_of_word, word_count}
 use Rattle.ix_atomic.proofs.Beginnings.{Begins-trans, Begins-length, length-push, All-last, AreBelow}
@@ -111,6 +112,10 @@ module _ {T : Type 0} (IsEncoding : T → List ℕ → Type 0) where
   -- a version load shows the places of a seat
   pub loaded-AreOwn : (cell : TableId) (view after : SeatView T) (version : ℕ) → ViewLoads IsEncoding view after version → AreOwn (writer_of cell after)
   loaded-AreOwn cell view after version load = subst (λ places. IsRising places × All (λ place. (0 < place) × (place < length after.known)) places) (sym load.places) (load.rising, load.inside)
+
+  -- and that a seat which has the whole right to write has each place but the first
+  pub loaded-HoldsEach : (view after : SeatView T) (version : ℕ) → ViewLoads IsEncoding view after version → IsWhole after.share → HoldsEach (length after.known) after.places
+  loaded-HoldsEach view after version load whole = subst (HoldsEach (length after.known)) (sym load.places) (load.whole (subst IsWhole load.share whole))
 
   -- a whole read: the version, the bytes, and the version again
   pub record Read (size : ℕ) (view after : SeatView T) (first last : ℕ) (bytes : List ℕ) : Type 0 where

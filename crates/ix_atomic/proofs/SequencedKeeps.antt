@@ -2,7 +2,7 @@
 use Rattle.std.proofs.Common.{◌≡◌, ◌≢◌, ◌⊎◌, ℕ, zero, suc, ◌+◌, ◌-◌, ◌*◌, ◌/◌, ◌%◌, ◌<◌, ◌≤◌, eqb, min, List, [], ◌∷◌, ◌++◌, length, take, drop, get_or, set, refl, sym, ap, ◌∙◌, subst, inl, inr, ⊎_elim, arith, le_refl, le_trans, append-nil, length-append, All, Some}
 use mathlib.Core.Option.{none, some, some-injective, some-ne-none}
 use mathlib.Core.Logic.{dite}
-use native.Mathlib.Decide.{dec_le}
+use native.Mathlib.Decide.{dec_le, ℕ_discrete}
 use lib.ListN.{get_elem?}
 use lib.Seq.{set-get_or}
 use prog.Atomic.{either}
@@ -16,23 +16,26 @@ use Rattle.ix_atomic.specs.declared.sequenced.rule.Stage.{Stage}
 use Rattle.ix_atomic.specs.declared.sequenced.rule.Stage.TheVariants.{Idle, Reading, Writing}
 use Rattle.ix_atomic.specs.History.{Begins, IsEven, IsOdd, last_value}
 use Rattle.ix_atomic.specs.Words.{word_of, bytes_of_word, words_of}
-use Rattle.ix_atomic.specs.Writers.{IsRising, AreApart}
-use Rattle.ix_atomic.specs.inner.SequencedRule.{Content, history, cell_bytes, parity, Holds, Knows, ApartSeats, HaveOwners, SequencedRule}
-use Rattle.ix_atomic.specs.inner.SequencedSteps.{Seated, stage_bytes, bytes_at, view_new, view_bytes, view_end, view_further, view_merged, view_spent, view_stage, WordStep, EndStep, ViewLoads, LoadVersionStep, ClaimStep, IsFrontOf}
+use Rattle.ix_atomic.specs.Shares.{IsWhole, halved}
+use Rattle.ix_atomic.specs.Writers.{IsRising, AreApart, HoldsEach}
+use Rattle.ix_atomic.specs.inner.SequencedRule.{Content, history, cell_bytes, parity, Holds, Knows, ApartSeats, HaveOwners, AreDealt, SequencedRule}
+use Rattle.ix_atomic.specs.inner.SequencedSteps.{Seated, stage_bytes, bytes_at, view_new, view_bytes, view_end, view_further, view_split, view_merged, view_spent, view_stage, WordStep, EndStep, ViewLoads, LoadVersionStep, ClaimStep, IsFrontOf}
 use Rattle.ix_atomic.proofs.Beginnings.{Begins-refl, Begins-append, length-push, slice_get-push, front-whole, set-tail, get_or-tail, AreBelow, AreBelow-take, All-weaken}
 use Rattle.ix_atomic.proofs.DataWords.{chunk_at, length-chunk_at, chunk_at-more, load-more, stored-chunk, grown-below, words_of-set}
 use Rattle.ix_atomic.proofs.StageBytes.{parity-stage_bytes, stage_bytes-Reading, stage_bytes-Writing, bytes_at-next}
 use Rattle.ix_atomic.proofs.OwnPlaces.{no_place, IsRising-nil, IsRising-push, merge-cases, merge-rises}
 use Rattle.ix_atomic.proofs.Owners.{at_itself, one_view, ApartSeats-set, HaveOwners-set, ApartSeats-push, HaveOwners-push, ApartSeats-merge, HaveOwners-merge}
+use Rattle.ix_atomic.proofs.Shares.{AreDealt-set, AreDealt-push, AreDealt-halved, AreDealt-merge, whole-alone, halved-some, some-append, some-append_right}
 
 abbrev stored_by : Stage → List ℕ
 stored_by (Writing stored) = stored
 stored_by stage = []
 
 -- the last value of a history that the seat's list begins, and its encoding, which the words have
-pub record Finished {T : Type 0} (IsEncoding : T → List ℕ → Type 0) (known : List T) (words : List ℕ) : Type 0 where
+pub record Finished {T : Type 0} (IsEncoding : T → List ℕ → Type 0) (view : SeatView T) (words : List ℕ) : Type 0 where
   pub history : List T
-  pub begins : Begins known history
+  pub begins : Begins view.known history
+  pub whole : IsWhole view.share → HoldsEach (length history) view.places
   pub value : T
   pub bytes : List ℕ
   pub has : words ≡ words_of bytes
@@ -99,9 +102,9 @@ module _ {T : Type 0} (IsEncoding : T → List ℕ → Type 0) where
 
   -- other views of the same words keep the rule
   views-keep : (table : Table) (rule : Rule table) (views : List (SeatView T)) → ((seat : ℕ) (view : SeatView T) → get_elem? views seat ≡ some view → Knows (version table) rule.content seat view)
-      → (IsOdd (version table) → WritesAt views rule.content.writer) → ApartSeats views → HaveOwners (length (history rule.content)) views
+      → (IsOdd (version table) → WritesAt views rule.content.writer) → ApartSeats views → HaveOwners (length (history rule.content)) views → AreDealt views
       → Rule (record { words = table.words; homes = table.homes; views = views })
-  views-keep table rule views seats writing apart owners = record {
+  views-keep table rule views seats writing apart owners dealt = record {
     content = rule.content;
     words = rule.words;
     version = rule.version;
@@ -113,16 +116,24 @@ module _ {T : Type 0} (IsEncoding : T → List ℕ → Type 0) where
     seats = seats;
     apart = apart;
     owners = owners;
+    dealt = dealt;
   }
 
+  -- a seat that has the whole right to write has each place but the first
+  holds_each : (table : Table) (rule : Rule table) (seat : ℕ) (view : SeatView T) → get_elem? table.views seat ≡ some view → IsWhole view.share → HoldsEach (length (history rule.content)) view.places
+  holds_each table rule seat view at whole place above below = let owner = rule.owners place above below in dite (ℕ_discrete owner.0 seat)
+      (λ same. subst (λ (v : SeatView T). Contains v.places place) (one_view table.views seat owner.1 view (subst (λ s. get_elem? table.views s ≡ some owner.1) same owner.2) at) owner.3)
+      (λ differs. absurd (whole-alone table.views seat owner.0 view owner.1 rule.dealt whole at owner.2 differs ((rule.seats owner.0 owner.1 owner.2).wrote place owner.3)))
+
   -- a load by a seat that does not write keeps the rule
-  load-keeps : (table : Table) (rule : Rule table) (word seat : ℕ) (held : List (ℕ × Unit {0})) (view view' : SeatView T) → get_elem? table.views seat ≡ some view → parity view.stage ≡ 0 → view'.places ≡ view.places
+  load-keeps : (table : Table) (rule : Rule table) (word seat : ℕ) (held : List (ℕ × Unit {0})) (view view' : SeatView T) → get_elem? table.views seat ≡ some view → parity view.stage ≡ 0 → view'.places ≡ view.places → view'.share ≡ view.share
       → Knows (version table) rule.content seat view' → Rule (stepped table word (get_or table.words word 0) seat held view' keeps)
-  load-keeps table rule word seat held view view' at idle same knows = subst (λ (words : List ℕ). Rule (changed table words seat view')) (sym (set-get_or table.words word 0))
+  load-keeps table rule word seat held view view' at idle same share knows = subst (λ (words : List ℕ). Rule (changed table words seat view')) (sym (set-get_or table.words word 0))
       (views-keep table rule (set table.views seat view') (seats-set (Knows (version table) rule.content) table.views seat view' knows (λ other v _. rule.seats other v))
       (λ odd. WritesAt-set table.views rule.content.writer seat view view' at idle (rule.writing odd))
       (ApartSeats-set table.views seat view view' at rule.apart (λ place has. inl (subst (λ places. Contains places place) same has)))
-      (HaveOwners-set (length (history rule.content)) table.views seat view view' at rule.owners (λ place has. subst (λ places. Contains places place) (sym same) has)))
+      (HaveOwners-set (length (history rule.content)) table.views seat view view' at rule.owners (λ place has. subst (λ places. Contains places place) (sym same) has))
+      (AreDealt-set table.views seat view view' at share rule.dealt))
 
   front_of_last : (table : Table) (rule : Rule table) (seat : ℕ) (known : List T) (stage : Stage) → Holds (version table) rule.content seat known stage → IsFrontOf IsEncoding (history rule.content) (version table) stage
   front_of_last table rule seat known Idle holds = tt
@@ -140,12 +151,14 @@ module _ {T : Type 0} (IsEncoding : T → List ℕ → Type 0) where
       → Rule (stepped table 0 (version table) id seat.1 (view_loaded (history rule.content) (version table) seat.0) keeps) × ViewLoads IsEncoding seat.0 (view_loaded (history rule.content) (version table) seat.0) (version table)
   load-step table rule id seat at idle = let knows = rule.seats id seat.0 at in let n : ℕ = version table in
       let after : SeatView T = view_loaded (history rule.content) n seat.0 in (
-        load-keeps table rule 0 id seat.1 seat.0 after at idle refl record {
+        load-keeps table rule 0 id seat.1 seat.0 after at idle refl refl record {
           known = Begins-refl (history rule.content);
           joined = knows.joined;
           seen = All-push (λ earlier. earlier ≤ n) seat.0.seen n knows.seen (le_refl n);
           rising = knows.rising;
           places = knows.places;
+          wrote = knows.wrote;
+          writes = λ is. absurd (omega (arith, is));
           stage = (le_refl n, λ _ _. refl);
         },
         record {
@@ -157,6 +170,8 @@ module _ {T : Type 0} (IsEncoding : T → List ℕ → Type 0) where
           places = refl;
           rising = knows.rising;
           inside = λ k d inside. knows.places (get_or seat.0.places k d) (Contains-get_or seat.0.places k d inside);
+          share = refl;
+          whole = holds_each table rule id seat.0 at;
           stage = refl;
           touched = refl;
           front = front_of_last table rule id seat.0.known seat.0.stage knows.stage;
@@ -185,12 +200,14 @@ module _ {T : Type 0} (IsEncoding : T → List ℕ → Type 0) where
         after,
         keeps,
         tt,
-        load-keeps table rule (k + 1) id seat.1 seat.0 after at (ap parity is) refl record {
+        load-keeps table rule (k + 1) id seat.1 seat.0 after at (ap parity is) refl refl record {
           known = knows.known;
           joined = knows.joined;
           seen = knows.seen;
           rising = knows.rising;
           places = knows.places;
+          wrote = knows.wrote;
+          writes = λ writing. knows.writes (sym (parity-stage_bytes got seat.0.stage) ∙ writing);
           stage = subst (λ stage. Holds (version table) content id seat.0.known (stage_bytes got stage)) (sym is) (subst (Holds (version table) content id seat.0.known) (sym (stage_bytes-Reading got first loaded)) next);
         },
         refl,
@@ -215,12 +232,12 @@ module _ {T : Type 0} (IsEncoding : T → List ℕ → Type 0) where
   store-keeps : (table : Table) (rule : Rule table) (seat : ℕ) (view view' : SeatView T) (n : ℕ) (content : Content T) (more : List T) → get_elem? table.views seat ≡ some view
       → ((other : ℕ) (v : SeatView T) → other ≢ seat → get_elem? table.views other ≡ some v → parity v.stage ≡ 0)
       → version table ≤ n → ((first : ℕ) → first ≤ version table → first ≡ n → IsEven first → ⊥)
-      → view'.seen ≡ view.seen → view'.joined ≡ view.joined → view'.known ≡ history content → history content ≡ history rule.content ++ more → content.writer ≡ seat
+      → view'.seen ≡ view.seen → view'.joined ≡ view.joined → view'.share ≡ view.share → 0 < length view.share → view'.known ≡ history content → history content ≡ history rule.content ++ more → content.writer ≡ seat
       → (IsOdd n → parity view'.stage ≡ 1) → Holds n content seat view'.known view'.stage → NewPlaces (history rule.content) view view' more → length (history content) ≡ n / 2 + 1 → IsEncoding content.last content.bytes
       → (IsEven n → content.front ≡ []) → (IsOdd n → (value : T) × (bytes : List ℕ) × IsEncoding value bytes × Begins content.front bytes)
       → AreBelow 256 (cell_bytes content)
       → Rule (changed table (n ∷ words_of (cell_bytes content)) seat view')
-  store-keeps table rule seat view view' n content more at others_idle up passed seen joined known longer writer writing holds own count last between during byte_range =
+  store-keeps table rule seat view view' n content more at others_idle up passed seen joined share some_share known longer writer writing holds own count last between during byte_range =
       let old : List T = history rule.content in let knows = rule.seats seat view at in
       let grown : length (history content) ≡ length (old ++ more) = ap length longer in let long = length-append old more in record {
         content = content;
@@ -238,6 +255,8 @@ module _ {T : Type 0} (IsEncoding : T → List ℕ → Type 0) where
               seen = subst (λ list. All (λ earlier. earlier ≤ n) list) (sym seen) (All-weaken (version table) n view.seen up knows.seen);
               rising = own.rising;
               places = λ place has. let t = own.inside place has in (t.0, subst (λ count. place < count) (sym grown) t.1);
+              wrote = λ _ _. subst (λ parts. 0 < length parts) (sym share) some_share;
+              writes = λ _. subst (λ parts. 0 < length parts) (sym share) some_share;
               stage = holds;
             }
             (λ other v differs here. let theirs = rule.seats other v here in record {
@@ -246,6 +265,8 @@ module _ {T : Type 0} (IsEncoding : T → List ℕ → Type 0) where
               seen = All-weaken (version table) n v.seen up theirs.seen;
               rising = theirs.rising;
               places = λ place has. let t = theirs.places place has in (t.0, let inside = t.1 in omega arith);
+              wrote = theirs.wrote;
+              writes = theirs.writes;
               stage = Holds-others (version table) n rule.content content other v.known up passed v.stage (others_idle other v differs here) theirs.stage;
             });
         apart = ApartSeats-set table.views seat view view' at rule.apart (λ place has. ⊎_elim (λ (t : Contains view.places place). inl t)
@@ -253,6 +274,7 @@ module _ {T : Type 0} (IsEncoding : T → List ℕ → Type 0) where
         owners = λ place above below. dite (dec_le (length old) place)
             (λ past. (seat, view', at_itself table.views seat view view' at, own.all place past (omega arith)))
             (λ inside. HaveOwners-set (length old) table.views seat view view' at rule.owners own.kept place above (omega arith));
+        dealt = AreDealt-set table.views seat view view' at share rule.dealt;
       }
 
   same_places : (rule_history : List T) (view view' : SeatView T) → view'.places ≡ view.places → IsRising view.places → ((place : ℕ) → Contains view.places place → (0 < place) × (place < length rule_history)) → NewPlaces rule_history view view' []
@@ -277,28 +299,28 @@ module _ {T : Type 0} (IsEncoding : T → List ℕ → Type 0) where
       }
 
   -- the compare-and-exchange of an even version
-  claim-step : (table : Table) (rule : Rule table) (id : ℕ) (seat : Seated T) (n : ℕ) (value : T) (bytes : List ℕ) → IsEncoding value bytes → get_elem? table.views id ≡ some seat.0 → IsEven (version table) → n ≡ version table + 1
+  claim-step : (table : Table) (rule : Rule table) (id : ℕ) (seat : Seated T) (n : ℕ) (value : T) (bytes : List ℕ) → IsEncoding value bytes → get_elem? table.views id ≡ some seat.0 → 0 < length seat.0.share → IsEven (version table) → n ≡ version table + 1
       → Rule (stepped table 0 n id seat.1 (view_stage (0 ∷ []) (Writing []) (record seat.0 { known = history rule.content })) keeps)
-  claim-step table rule id seat n value bytes encodes at even next = let knows = rule.seats id seat.0 at in
+  claim-step table rule id seat n value bytes encodes at some_share even next = let knows = rule.seats id seat.0 at in
       let old = rule.content in let rest = cell_bytes-rest old (rule.between_writes even) in let count = rule.version in
       let content : Content T = record { earlier = old.earlier; last = old.last; bytes = old.bytes; front = []; writer = id } in
       let words : set table.words 0 n ≡ n ∷ words_of (cell_bytes content) = ap (λ (l : List ℕ). set l 0 n) rule.words ∙ ap (λ (l : List ℕ). n ∷ words_of l) rest in
       let after : SeatView T = view_stage (0 ∷ []) (Writing []) (record seat.0 { known = history old }) in
       subst (λ (words : List ℕ). Rule (changed table words id after)) (sym words)
       (store-keeps table rule id seat.0 after n content [] at (λ other v _ there. idle-at_rest (version table) old other v.known v.stage even (rule.seats other v there).stage)
-      (omega arith) (λ first low same is_even. omega arith) refl refl refl (sym (append-nil (history old))) refl (λ _. refl) (refl, omega arith, refl, refl)
+      (omega arith) (λ first low same is_even. omega arith) refl refl refl some_share refl (sym (append-nil (history old))) refl (λ _. refl) (refl, omega arith, refl, refl)
       (same_places (history old) seat.0 after refl knows.rising knows.places) (omega arith) rule.last (λ _. refl) (λ _. (value, bytes, encodes, (bytes, refl))) (subst (AreBelow 256) rest rule.byte_range))
 
-  pub claim : (slots id : ℕ) (seat : Seated T) (loaded next : ℕ) (value : T) (bytes : List ℕ) → IsEncoding value bytes → parity seat.0.stage ≡ 0 → IsEven loaded → next ≡ loaded + 1
+  pub claim : (slots id : ℕ) (seat : Seated T) (loaded next : ℕ) (value : T) (bytes : List ℕ) → IsEncoding value bytes → parity seat.0.stage ≡ 0 → 0 < length seat.0.share → IsEven loaded → next ≡ loaded + 1
       → Allows Rule slots id seat 0 (λ n. either (eqb n loaded) next n) (ClaimStep IsEncoding (step slots 0 loaded next none) seat)
-  claim slots id seat loaded next value bytes encodes idle even is_next table rule _ at _ = let n : ℕ = version table in let knows = rule.seats id seat.0 at in
+  claim slots id seat loaded next value bytes encodes idle some_share even is_next table rule _ at _ = let n : ℕ = version table in let knows = rule.seats id seat.0 at in
       let begun : SeatView T = view_stage (0 ∷ []) (Writing []) (record seat.0 { known = history rule.content }) in
       exchanged n loaded next (λ z. (view : SeatView T) × (act : _) × Valid table.homes seat.1 act × Rule (stepped table 0 z id seat.1 view act) × ClaimStep IsEncoding (step slots 0 loaded next none) seat n (view, carried_after seat.1 act))
       (λ hit. (
         begun,
         keeps,
         tt,
-        claim-step table rule id seat next value bytes encodes at (ap (λ z. z % 2) hit ∙ even) (is_next ∙ ap (λ z. z + 1) (sym hit)),
+        claim-step table rule id seat next value bytes encodes at some_share (ap (λ z. z % 2) hit ∙ even) (is_next ∙ ap (λ z. z + 1) (sym hit)),
         ((λ _. record { history = history rule.content; known = knows.known; up_to = rule.version; begun = refl }), (λ miss. absurd (miss hit)), refl),
       ))
       (λ miss. let t = load-step table rule id seat at idle in (view_loaded (history rule.content) n seat.0, keeps, tt, t.0, ((λ hit. absurd (miss hit)), (λ _. t.1), refl)))
@@ -331,7 +353,7 @@ module _ {T : Type 0} (IsEncoding : T → List ℕ → Type 0) where
         keeps,
         tt,
         subst (λ (words : List ℕ). Rule (changed table words id after)) (sym words)
-            (store-keeps table rule id seat.0 after n content [] at (others-idle table rule id mine.0) (le_refl n) (λ first low e is_even. omega arith) refl refl all (sym (append-nil (history old))) refl
+            (store-keeps table rule id seat.0 after n content [] at (others-idle table rule id mine.0) (le_refl n) (λ first low e is_even. omega arith) refl refl refl (knows.writes (ap parity is)) all (sym (append-nil (history old))) refl
             (λ _. parity-stage_bytes got seat.0.stage ∙ ap parity is) (subst (Holds n content id seat.0.known) (sym stage) (refl, odd, refl, all))
             (same_places (history old) seat.0 after refl knows.rising knows.places) rule.version rule.last (λ even. absurd (omega arith))
             (λ _. (value, bytes, encodes, begins)) (grown-below old.front chunk old.bytes (subst (AreBelow 256) (sym front) (AreBelow-take 256 (8 * (k + 1)) bytes (omega arith) below)) rule.byte_range)),
@@ -353,22 +375,37 @@ module _ {T : Type 0} (IsEncoding : T → List ℕ → Type 0) where
         keeps,
         tt,
         subst (λ (words : List ℕ). Rule (changed table words id after)) (sym words)
-            (store-keeps table rule id seat.0 after n content (value ∷ []) at (others-idle table rule id mine.0) (omega arith) (λ first low e is_even. omega arith) refl refl refl (ap (λ (l : List T). l ++ value ∷ []) all) refl
+            (store-keeps table rule id seat.0 after n content (value ∷ []) at (others-idle table rule id mine.0) (omega arith) (λ first low e is_even. omega arith) refl refl refl (knows.writes (ap parity is)) refl (ap (λ (l : List T). l ++ value ∷ []) all) refl
             (λ is_odd. absurd (omega arith)) tt (next_place (history old) seat.0 value all (let some_value = rule.version in omega arith) knows.rising knows.places) (omega arith) encodes (λ _. refl) (λ is_odd. absurd (omega arith)) (subst (AreBelow 256) tail rule.byte_range)),
         λ other bytes' encodes' is'.
             ap (λ (v : T). (view_end v seat.0, seat.1)) (one_value value other bytes encodes (subst (IsEncoding other) (ap stored_by (sym is' ∙ is)) encodes')),
       )
 
-  -- a further seat keeps the rule
-  pub further : (id : ℕ) (view : SeatView T) → Splits Rule id view view (view_further view)
-  further id view table rule at = let knows = rule.seats id view at in let Is = Knows (version table) rule.content in
-      subst (λ (views : List (SeatView T)). Rule (record { words = table.words; homes = table.homes; views = views ++ view_further view ∷ [] })) (sym (set_again table.views id view at))
-      (views-keep table rule (table.views ++ view_further view ∷ []) (λ seat v here. ⊎_elim (rule.seats seat v)
-      (λ (t : view_further view ≡ v). subst (Is seat) t
-      record { known = knows.known; joined = (history rule.content, refl); seen = λ k default inside. absurd (omega arith); rising = IsRising-nil; places = λ place has. absurd (no_place place has); stage = tt })
-      (at_snoc table.views (view_further view) v seat here))
-      (λ odd. let writes = rule.writing odd in (writes.0, at_longer table.views (view_further view ∷ []) rule.content.writer writes.0 writes.1, writes.2))
-      (ApartSeats-push table.views (view_further view) rule.apart no_place) (HaveOwners-push (length (history rule.content)) table.views (view_further view) rule.owners))
+  -- a further seat keeps the rule, if the shares still add up
+  further : (id : ℕ) (view : SeatView T) (left right : List ℕ) → parity view.stage ≡ 0 → (0 < length view.share → 0 < length left)
+      → ((views : List (SeatView T)) → get_elem? views id ≡ some view → AreDealt views → AreDealt (set views id (view_split left view) ++ view_further right view ∷ []))
+      → Splits Rule id view (view_split left view) (view_further right view)
+  further id view left right idle some_share deals table rule at = let knows = rule.seats id view at in let Is = Knows (version table) rule.content in
+      let kept : SeatView T = view_split left view in let new : SeatView T = view_further right view in let views : List (SeatView T) = set table.views id kept in
+      views-keep table rule (views ++ new ∷ []) (λ seat v here. ⊎_elim
+      (seats-set Is table.views id kept
+      record { known = knows.known; joined = knows.joined; seen = knows.seen; rising = knows.rising; places = knows.places; wrote = λ place has. some_share (knows.wrote place has); writes = λ is. some_share (knows.writes is); stage = knows.stage }
+      (λ other u _. rule.seats other u) seat v)
+      (λ (t : new ≡ v). subst (Is seat) t
+      record { known = knows.known; joined = (history rule.content, refl); seen = λ k default inside. absurd (omega arith); rising = IsRising-nil; places = λ place has. absurd (no_place place has); wrote = λ place has. absurd (no_place place has); writes = λ is. absurd (omega (arith, is)); stage = tt })
+      (at_snoc views new v seat here))
+      (λ odd. let writes = WritesAt-set table.views rule.content.writer id view kept at idle (rule.writing odd) in (writes.0, at_longer views (new ∷ []) rule.content.writer writes.0 writes.1, writes.2))
+      (ApartSeats-push views new (ApartSeats-set table.views id view kept at rule.apart (λ place has. inl has)) no_place)
+      (HaveOwners-push (length (history rule.content)) views new (HaveOwners-set (length (history rule.content)) table.views id view kept at rule.owners (λ place has. has)))
+      (deals table.views at rule.dealt)
+
+  pub new_reader : (id : ℕ) (view : SeatView T) → parity view.stage ≡ 0 → Splits Rule id view (view_split view.share view) (view_further [] view)
+  new_reader id view idle = further id view view.share [] idle (λ some_share. some_share)
+      (λ views at dealt. AreDealt-push (set views id (view_split view.share view)) (view_further [] view) refl (AreDealt-set views id view (view_split view.share view) at refl dealt))
+
+  pub new_writer : (id : ℕ) (view : SeatView T) → parity view.stage ≡ 0 → Splits Rule id view (view_split (halved view.share) view) (view_further (halved view.share) view)
+  new_writer id view idle = further id view (halved view.share) (halved view.share) idle (halved-some view.share)
+      (λ views at dealt. AreDealt-halved views id view (view_split (halved view.share) view) (view_further (halved view.share) view) at refl refl dealt)
 
   -- a merge of two seats that do not write keeps the rule
   pub merge : (id : ℕ) (view : SeatView T) (other : ℕ) (view' : SeatView T) → parity view.stage ≡ 0 → parity view'.stage ≡ 0 → Joins Rule id view other view' (view_merged view view') view_spent
@@ -378,7 +415,7 @@ module _ {T : Type 0} (IsEncoding : T → List ℕ → Type 0) where
       let apart : AreApart view.places view'.places = λ place has has'. differs (sym (rule.apart id other view view' place at there has has')) in
       views-keep table rule (set (set table.views id merged) other view_spent)
       (seats-set Is (set table.views id merged) other view_spent
-      record { known = (history rule.content, refl); joined = (history rule.content, refl); seen = λ k default inside. absurd (omega arith); rising = IsRising-nil; places = λ place has. absurd (no_place place has); stage = tt }
+      record { known = (history rule.content, refl); joined = (history rule.content, refl); seen = λ k default inside. absurd (omega arith); rising = IsRising-nil; places = λ place has. absurd (no_place place has); wrote = λ place has. absurd (no_place place has); writes = λ is. absurd (omega (arith, is)); stage = tt }
       (λ seat v _ here. seats-set Is table.views id merged
       record {
         known = knows.known;
@@ -386,11 +423,14 @@ module _ {T : Type 0} (IsEncoding : T → List ℕ → Type 0) where
         seen = All-append (λ earlier. earlier ≤ version table) view.seen view'.seen knows.seen theirs.seen;
         rising = merge-rises view.places view'.places knows.rising theirs.rising apart;
         places = λ place has. ⊎_elim (λ (t : Contains view.places place). knows.places place t) (λ (t : Contains view'.places place). theirs.places place t) (merge-cases view.places view'.places place has);
+        wrote = λ place has. ⊎_elim (λ (t : Contains view.places place). some-append view.share view'.share (knows.wrote place t)) (λ (t : Contains view'.places place). some-append_right view.share view'.share (theirs.wrote place t)) (merge-cases view.places view'.places place has);
+        writes = λ is. absurd (omega (arith, is, idle));
         stage = knows.stage;
       }
       (λ any u _. rule.seats any u) seat v here))
       (λ odd. WritesAt-set (set table.views id merged) rule.content.writer other view' view_spent there' idle' (WritesAt-set table.views rule.content.writer id view merged at idle (rule.writing odd)))
       (ApartSeats-merge table.views id other view view' at there differs rule.apart) (HaveOwners-merge (length (history rule.content)) table.views id other view view' at there differs rule.owners)
+      (AreDealt-merge table.views id other view view' at there' there rule.dealt)
 
   pub new : (value : T) (bytes : List ℕ) → IsEncoding value bytes → AreBelow 256 bytes → Rule (opening (0 ∷ words_of bytes) [] (view_new value))
   new value bytes encodes below = record {
@@ -405,6 +445,7 @@ module _ {T : Type 0} (IsEncoding : T → List ℕ → Type 0) where
     seats = one;
     apart = λ seat other view view' place at at' has has'. absurd (no_place place (subst (λ (v : SeatView T). Contains v.places place) (sym (only seat view at)) has));
     owners = λ place above below. absurd (omega arith);
+    dealt = (0, ((le_refl 0, tt), tt), refl);
   }
     where
       content : Content T
@@ -416,9 +457,17 @@ module _ {T : Type 0} (IsEncoding : T → List ℕ → Type 0) where
 
       one : (seat : ℕ) (view : SeatView T) → get_elem? (view_new value ∷ []) seat ≡ some view → Knows 0 content seat view
       one seat view at = subst (Knows 0 content seat) (only seat view at)
-          record { known = ([], refl); joined = (value ∷ [], refl); seen = λ k default inside. absurd (omega arith); rising = IsRising-nil; places = λ place has. absurd (no_place place has); stage = tt }
+          record { known = ([], refl); joined = (value ∷ [], refl); seen = λ k default inside. absurd (omega arith); rising = IsRising-nil; places = λ place has. absurd (no_place place has); wrote = λ place has. absurd (no_place place has); writes = λ is. absurd (omega (arith, is)); stage = tt }
 
-  pub finished : (id : ℕ) (view : SeatView T) (words : List ℕ) (slots : List (Unit {0})) → Final (Seen Rule id view) words slots → IsEven (get_or words 0 0) → Finished IsEncoding view.known (drop 1 words)
+  -- beside a closed seat that has the whole right to write no write is in progress, and each place but the first is its own
+  pub closed-whole : (id : ℕ) (view : SeatView T) (words : List ℕ) (slots : List (Unit {0})) → Final (Seen Rule id view) words slots → parity view.stage ≡ 0 → IsWhole view.share → IsOdd (get_or words 0 0) → ⊥
+  closed-whole id view words slots final idle whole odd = let table = final.0 in let rule = final.1.0 in let at = final.1.1 in
+      let writing = rule.writing (ap (λ (l : List ℕ). get_or l 0 0 % 2) final.2 ∙ odd) in let writer = rule.content.writer in dite (ℕ_discrete writer id)
+      (λ same. let is = ap (λ (v : SeatView T). parity v.stage) (one_view table.views id view writing.0 at (subst (λ s. get_elem? table.views s ≡ some writing.0) same writing.1)) in
+      let one = writing.2 in absurd (omega (arith, idle, is, one)))
+      (λ differs. whole-alone table.views id writer view writing.0 rule.dealt whole at writing.1 differs ((rule.seats writer writing.0 writing.1).writes writing.2))
+
+  pub finished : (id : ℕ) (view : SeatView T) (words : List ℕ) (slots : List (Unit {0})) → Final (Seen Rule id view) words slots → IsEven (get_or words 0 0) → Finished IsEncoding view (drop 1 words)
   finished id view words slots final even = let table = final.0 in let rule = final.1.0 in let content = rule.content in
       let knows = rule.seats id view final.1.1 in
       let rest = cell_bytes-rest content (rule.between_writes (ap (λ (l : List ℕ). get_or l 0 0 % 2) final.2 ∙ even)) in
@@ -428,6 +477,7 @@ module _ {T : Type 0} (IsEncoding : T → List ℕ → Type 0) where
         value = content.last;
         bytes = content.bytes;
         has = ap (λ (l : List ℕ). drop 1 l) (sym final.2) ∙ words-tail table rule ∙ ap words_of rest;
+        whole = holds_each table rule id view final.1.1;
         is_last = slice_get-push content.earlier content.last (length (history content) - 1) (omega arith);
         encoding = rule.last;
         byte_range = subst (AreBelow 256) rest rule.byte_range;

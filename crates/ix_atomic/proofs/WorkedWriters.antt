@@ -18,13 +18,13 @@ places_merge-none : places_merge (2 ∷ []) [] ≡ 2 ∷ []
 places_merge-none = refl
 
 abbrev opened : TableId → Writer ℕ
-opened cell = record { cell = cell; known = 0 ∷ []; seen = []; places = []; touched = [] }
+opened cell = record { cell = cell; known = 0 ∷ []; seen = []; places = []; share = 0 ∷ []; touched = [] }
 
 abbrev first : TableId → Writer ℕ
-first cell = record { cell = cell; known = 0 ∷ 7 ∷ []; seen = 0 ∷ []; places = 1 ∷ []; touched = 0 ∷ 0 ∷ 1 ∷ 0 ∷ [] }
+first cell = record { cell = cell; known = 0 ∷ 7 ∷ []; seen = 0 ∷ []; places = 1 ∷ []; share = 0 ∷ []; touched = 0 ∷ 0 ∷ 1 ∷ 0 ∷ [] }
 
 abbrev second : TableId → Writer ℕ
-second cell = record { cell = cell; known = 0 ∷ 7 ∷ 9 ∷ []; seen = 2 ∷ []; places = 2 ∷ []; touched = 0 ∷ 0 ∷ 1 ∷ 0 ∷ [] }
+second cell = record { cell = cell; known = 0 ∷ 7 ∷ 9 ∷ []; seen = 2 ∷ []; places = 2 ∷ []; share = 0 ∷ []; touched = 0 ∷ 0 ∷ 1 ∷ 0 ∷ [] }
 
 Writes-first : (cell : TableId) → Writes (opened cell) (first cell) 7
 Writes-first cell = record { earlier = 0 ∷ []; begins = ([], refl); known = refl; places = refl; seen = refl; later = All-nil _; not_used_up = omega arith }
@@ -46,7 +46,7 @@ AreApart-both : (cell : TableId) → AreApart (first cell).places (second cell).
 AreApart-both cell place one two = let is_first = only_place 1 place one in let is_second = only_place 2 place two in omega (arith, is_first, is_second)
 
 -- the second seat finds the first one's write in progress
-Refuses-odd : (cell : TableId) → Refuses (opened cell) (record { cell = cell; known = 0 ∷ []; seen = 1 ∷ []; places = []; touched = 0 ∷ [] }) (Busy 1 1)
+Refuses-odd : (cell : TableId) → Refuses (opened cell) (record { cell = cell; known = 0 ∷ []; seen = 1 ∷ []; places = []; share = 0 ∷ []; touched = 0 ∷ [] }) (Busy 1 1)
 Refuses-odd cell = inl (refl, refl, record { cell = refl; seen = refl; later = All-nil _; least = omega arith; known = ([], refl); up_to = refl }, refl)
 
 -- a refused write adds no value to what the seat knows of a cell at version 0

@@ -7,6 +7,7 @@ pub mod Operations
 pub mod Versions
 pub mod VersionedSteps
 pub mod History
+pub mod Shares
 pub mod Writers
 pub mod laws
 pub mod inner

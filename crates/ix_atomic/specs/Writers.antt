@@ -7,15 +7,16 @@ use Rattle.ix_atomic.specs.declared.sequenced.errors.TryWriteError.TheVariants.{
 use Rattle.ix_atomic.specs.Versions.{last_version, versions_used_up_text}
 use Rattle.ix_atomic.specs.History.{Begins, IsEven, IsOdd, Reader, Loads, LoadsTwice, version_of}
 
--- a writer's seat: as a reader's, and the places in the history of the values that were written with it
+-- a writer's seat: as a reader's, the places in the history of the values that were written with it, and its share of the right to write
 pub record Writer (T : Type 0) : Type 0 where
   pub cell : TableId
   pub known : List T
   pub seen : List ℕ
   pub places : List ℕ
+  pub share : List ℕ
   pub touched : List ℕ
 
--- the seat without its places
+-- the seat without its places and its share
 abbrev pub as_reader : {T : Type 0} → Writer T → Reader T
 as_reader writer = record { cell = writer.cell; known = writer.known; seen = writer.seen; touched = writer.touched }
 
@@ -25,6 +26,10 @@ IsRising places = AllPairs (λ earlier later. earlier < later) places
 -- the places of a seat rise, and it knows the values there; the opening value, at place 0, is nobody's
 abbrev pub AreOwn : {T : Type 0} → Writer T → Type 0
 AreOwn writer = IsRising writer.places × All (λ place. (0 < place) × (place < length writer.known)) writer.places
+
+-- each place of a history of so many values is in the list, but the opening value's
+abbrev pub HoldsEach : ℕ → List ℕ → Type 0
+HoldsEach count places = (place : ℕ) → 0 < place → place < count → Contains places place
 
 -- no place is in both lists
 abbrev pub AreApart : List ℕ → List ℕ → Type 0

@@ -1,16 +1,19 @@
 -- Values that stand in a history stay where they are, and a seat that wrote all of it knows it.
-use Rattle.std.proofs.Common.{◌≡◌, ℕ, zero, suc, ◌+◌, ◌-◌, ◌*◌, ◌/◌, ◌%◌, ◌<◌, ◌≤◌, List, [], ◌∷◌, ◌++◌, length, map, drop, get_or, Some, None, refl, sym, ap, ◌∙◌, subst, ⊎_elim, arith, add-one, le_refl, append_assoc, All}
+use Rattle.std.proofs.Common.{◌≡◌, ℕ, zero, suc, ◌+◌, ◌-◌, ◌*◌, ◌/◌, ◌%◌, ◌<◌, ◌≤◌, List, [], ◌∷◌, ◌++◌, length, map, drop, get_or, Some, None, refl, sym, ap, ◌∙◌, subst, ◌⊎◌, inl, inr, ⊎_elim, arith, add-one, le_refl, append_assoc, All}
 use Rattle.std.specs.Prelude.{slice_get}
 use Rattle.std.proofs.lemmas.Option.{slice_get_within, slice_get-get_or, get_or_from_slice_get}
 use Rattle.std.proofs.lemmas.List.Elements.{All-push}
 use Rattle.std.proofs.lemmas.List.Sorted.{IsNonDecreasingBy-push}
 use Rattle.std.proofs.lemmas.List.{get_or-map, get_or_push, get_or_append_left, ext_get_or, length-append, length-map, map-append}
+use Rattle.std.specs.List.{Contains}
 use Rattle.std.specs.List.Sorted.{IsNonDecreasing}
 use Rattle.ix_atomic.specs.declared.sequenced.errors.TryWriteError.{TryWriteError}
 use Rattle.ix_atomic.specs.declared.sequenced.errors.TryWriteError.TheVariants.{Busy, VersionsUsedUp}
 use Rattle.ix_atomic.specs.History.{Begins, IsEven, IsOdd, Loads, LoadsTwice, value_at}
 use Rattle.ix_atomic.specs.Versions.{last_version}
-use Rattle.ix_atomic.specs.Writers.{Writer, Writes, Refuses, AreOwn, IsRising, as_reader}
+use Rattle.ix_atomic.specs.Writers.{Writer, Writes, Refuses, AreOwn, HoldsEach, IsRising, as_reader, places_merge}
+use Rattle.ix_atomic.proofs.OwnPlaces.{merge-cases}
+use Rattle.ix_atomic.proofs.EveryValue.{every_value}
 use Rattle.ix_examples.specs.Written.{StandAt, HasWritten, HasSet, GrewTo}
 
 module _ {T : Type 0} where
@@ -112,6 +115,25 @@ module _ {T : Type 0} where
   set_more before after value values write stand = subst (λ places. StandAt after.known (0 ∷ places) (values ++ value ∷ [])) (sym write.places)
       (StandAt-push after.known (0 ∷ before.places) values (length write.earlier) value (StandAt-longer before.known after.known (0 ∷ before.places) values (begins_after before after value write) stand)
       (ap (λ list. slice_get list (length write.earlier)) write.known ∙ slice_get-last write.earlier value))
+
+  -- the value at one of these places is one of the values
+  StandAt-Contains : (history : List T) (places : List ℕ) (values : List T) → StandAt history places values → (place : ℕ) (value : T) → Contains places place → slice_get history place ≡ Some value → Contains values value
+  StandAt-Contains history places values stand place value has at =
+      let i = has.0 in let inside = has.1 in let long = StandAt-length history places values stand in
+      let here : slice_get history place ≡ Some (get_or values i value) = ap (slice_get history) (sym has.2) ∙ sym (get_or-map (slice_get history) places i place None inside)
+      ∙ ap (λ list. get_or list i None) stand ∙ get_or-map Some values i value None (omega (arith, inside, long)) in
+      let same : Some (get_or values i value) ≡ Some value = sym here ∙ at in
+      (i, omega (arith, inside, long), cc)
+
+  -- if two seats have all places but the first, each value is the opening one or one that they wrote
+  pub merged_values : (history : List T) (merged places places' : List ℕ) (values values' : List T) → merged ≡ places_merge places places' → HoldsEach (length history) merged
+      → StandAt history places values → StandAt history places' values'
+      → (version : ℕ) (value : T) → value_at history version ≡ Some value → (value_at history 0 ≡ Some value) ⊎ (Contains values value ⊎ Contains values' value)
+  merged_values history merged places places' values values' is each stand stand' =
+      every_value (λ value. (value_at history 0 ≡ Some value) ⊎ (Contains values value ⊎ Contains values' value)) history merged each (λ value at. inl at)
+      (λ place value has at. inr (⊎_elim (λ (mine : Contains places place). inl (StandAt-Contains history places values stand place value mine at))
+      (λ (theirs : Contains places' place). inr (StandAt-Contains history places' values' stand' place value theirs at))
+      (merge-cases places places' place (subst (λ list. Contains list place) is has))))
 
 -- a refused write leaves what the seat has written where it is
 refused_keeps : (before after : Writer ℕ) (error : TryWriteError) → Refuses before after error → Begins before.known after.known

@@ -1,5 +1,8 @@
 //! Positions of a log that two threads publish, neither of which waits for the other.
-ghost use Rattle.std.specs.Prelude.{◌≡◌, ◌++◌, ◌∷◌, ℕ, [], List, IfOk, IfErr};
+ghost use Rattle.std.specs.Prelude.{◌≡◌, ◌⊎◌, ◌++◌, ◌∷◌, ℕ, [], List, Some, IfOk, IfErr};
+ghost use Rattle.std.specs.List.{Contains};
+ghost use Rattle.ix_atomic.specs.History.{value_at};
+ghost use Rattle.ix_atomic.specs.Shares.{IsWhole};
 ghost use Rattle.ix_atomic.specs.Writers.{AreOwn, AreApart, IsRising, Refuses, places_merge};
 ghost use Rattle.ix_examples.specs.Written.{HasWritten, StandAt};
 
@@ -32,7 +35,8 @@ pub fn publish(
 }
 
 /// Takes back the seat of another thread. What was published with either seat stands in one history, each position once and in
-/// its order.
+/// its order. If no other thread has a seat, nothing else stands there but the first position: what holds of that and of each
+/// published one holds of all that any reader read.
 pub fn take_back(position: &Position, seat: &mut WriterSeat<u64>, other: WriterSeat<u64>)
     requires seat { (seat.old.cell ≡ position.now) × AreOwn seat.old }
     requires other { (other.cell ≡ position.now) × AreOwn other }
@@ -45,6 +49,10 @@ pub fn take_back(position: &Position, seat: &mut WriterSeat<u64>, other: WriterS
     ensures places { seat.new.places ≡ places_merge seat.old.places other.places }
     ensures once { AreApart seat.old.places other.places }
     ensures order { IsRising seat.old.places × IsRising other.places }
+    ensures all { IsWhole (seat.old.share ++ other.share) → (values others : List ℕ)
+        → HasWritten seat.old values → HasWritten other others
+        → (version value : ℕ) → value_at seat.new.known version ≡ Some value
+        → (value_at seat.new.known 0 ≡ Some value) ⊎ (Contains values value ⊎ Contains others value) }
 {
     position.merge(seat, other);
 }

@@ -1,5 +1,5 @@
 -- The rule of a sequenced cell: what its words and its seats are between any two steps. Word 0 is the version, each other word eight bytes.
-use Rattle.std.specs.Prelude.{◌≡◌, ℕ, ◌+◌, ◌/◌, ◌<◌, ◌≤◌, List, [], ◌∷◌, ◌++◌, All, length, take, drop, slice_index}
+use Rattle.std.specs.Prelude.{◌≡◌, ℕ, ◌+◌, ◌/◌, ◌<◌, ◌≤◌, ◌^◌, List, [], ◌∷◌, ◌++◌, All, length, take, drop, slice_index}
 use Rattle.std.specs.List.{Contains}
 use mathlib.Core.Option.{some}
 use lib.ListN.{get_elem?}
@@ -9,6 +9,7 @@ use Rattle.ix_atomic.specs.declared.sequenced.rule.Stage.{Stage}
 use Rattle.ix_atomic.specs.declared.sequenced.rule.Stage.TheVariants.{Idle, Reading, Writing}
 use Rattle.ix_atomic.specs.History.{Begins, IsEven, IsOdd}
 use Rattle.ix_atomic.specs.Writers.{IsRising}
+use Rattle.ix_atomic.specs.Shares.{AreWithin, units}
 use Rattle.ix_atomic.specs.Words.{words_of}
 
 -- the bytes are the encoding of the value
@@ -50,6 +51,8 @@ pub record Knows {T : Type 0} (version : ℕ) (content : Content T) (seat : ℕ)
   pub seen : All (λ earlier. earlier ≤ version) view.seen
   pub rising : IsRising view.places
   pub places : (place : ℕ) → Contains view.places place → (0 < place) × (place < length (history content))
+  pub wrote : (place : ℕ) → Contains view.places place → 0 < length view.share
+  pub writes : parity view.stage ≡ 1 → 0 < length view.share
   pub stage : Holds version content seat view.known view.stage
 
 -- no place is of two seats
@@ -59,6 +62,19 @@ ApartSeats {T} views = (seat other : ℕ) (view view' : SeatView T) (place : ℕ
 -- each of so many places but the first is of a seat
 abbrev pub HaveOwners : {T : Type 0} → ℕ → List (SeatView T) → Type 0
 HaveOwners {T} count views = (place : ℕ) → 0 < place → place < count → (seat : ℕ) × (view : SeatView T) × (get_elem? views seat ≡ some view) × Contains view.places place
+
+-- the shares of all seats, in units that are the whole right halved so often
+abbrev pub AllWithin : {T : Type 0} → ℕ → List (SeatView T) → Type 0
+AllWithin depth [] = Unit {0}
+AllWithin depth (view ∷ views) = AreWithin depth view.share × AllWithin depth views
+
+abbrev pub all_units : {T : Type 0} → ℕ → List (SeatView T) → ℕ
+all_units depth [] = 0
+all_units depth (view ∷ views) = units depth view.share + all_units depth views
+
+-- together the seats have the whole right to write
+abbrev pub AreDealt : {T : Type 0} → List (SeatView T) → Type 0
+AreDealt views = (depth : ℕ) × AllWithin depth views × (all_units depth views ≡ 2 ^ depth)
 
 pub record SequencedRule {T : Type 0} (IsEncoding : T → List ℕ → Type 0) (table : State (Unit {0}) (SeatView T)) : Type 0 where
   pub content : Content T
@@ -72,3 +88,4 @@ pub record SequencedRule {T : Type 0} (IsEncoding : T → List ℕ → Type 0) (
   pub seats : (seat : ℕ) (view : SeatView T) → get_elem? table.views seat ≡ some view → Knows (slice_index table.words 0) content seat view
   pub apart : ApartSeats table.views
   pub owners : HaveOwners (length (history content)) table.views
+  pub dealt : AreDealt table.views

@@ -6,7 +6,8 @@ use Rattle.ix_atomic.specs.declared.sequenced.rule.SeatView.{SeatView}
 use Rattle.ix_atomic.specs.declared.sequenced.rule.Stage.{Stage}
 use Rattle.ix_atomic.specs.declared.sequenced.rule.Stage.TheVariants.{Idle, Reading, Writing}
 use Rattle.ix_atomic.specs.History.{Begins, IsEven, value_at, Reader}
-use Rattle.ix_atomic.specs.Writers.{Writer, IsRising, places_merge}
+use Rattle.ix_atomic.specs.Shares.{halved, IsWhole}
+use Rattle.ix_atomic.specs.Writers.{Writer, IsRising, HoldsEach, places_merge}
 use Rattle.ix_atomic.specs.Words.{bytes_of_word}
 use Rattle.atomic_table.specs.Seated.{TableId}
 
@@ -31,7 +32,7 @@ bytes_at size index = min 8 (size - 8 * (index - 1))
 module _ {T : Type 0} where
   -- the seat of a new cell
   abbrev pub view_new : T → SeatView T
-  view_new value = record { known = value ∷ []; joined = []; seen = []; places = []; stage = Idle; touched = [] }
+  view_new value = record { known = value ∷ []; joined = []; seen = []; places = []; share = 0 ∷ []; stage = Idle; touched = [] }
 
   -- these words are touched, and then the stage is this one
   abbrev pub view_stage : List ℕ → Stage → SeatView T → SeatView T
@@ -44,16 +45,20 @@ module _ {T : Type 0} where
   abbrev pub view_end : T → SeatView T → SeatView T
   view_end value view = record view { known = view.known ++ value ∷ []; places = view.places ++ length view.known ∷ []; stage = Idle; touched = view.touched ++ 0 ∷ [] }
 
-  -- a further seat, which knows what this one knows and has no places
-  abbrev pub view_further : SeatView T → SeatView T
-  view_further view = record { known = view.known; joined = []; seen = []; places = []; stage = Idle; touched = [] }
+  -- A further seat with this share, which knows what this one knows and has no places.
+  abbrev pub view_further : List ℕ → SeatView T → SeatView T
+  view_further share view = record { known = view.known; joined = []; seen = []; places = []; share = share; stage = Idle; touched = [] }
 
-  -- a seat that takes in another one, but for what the other knows
+  -- a seat of which a further one was made, by a load of the version; this share is left to it
+  abbrev pub view_split : List ℕ → SeatView T → SeatView T
+  view_split share view = record view { share = share; touched = view.touched ++ 0 ∷ [] }
+
+  -- a seat that takes in another one by a load of the version, but for what the other knows
   abbrev pub view_merged : SeatView T → SeatView T → SeatView T
-  view_merged view other = record view { joined = other.known; seen = view.seen ++ other.seen; places = places_merge view.places other.places; touched = view.touched ++ other.touched }
+  view_merged view other = record view { joined = other.known; seen = view.seen ++ other.seen; places = places_merge view.places other.places; share = view.share ++ other.share; touched = (view.touched ++ other.touched) ++ 0 ∷ [] }
 
   abbrev pub view_spent : SeatView T
-  view_spent = record { known = []; joined = []; seen = []; places = []; stage = Idle; touched = [] }
+  view_spent = record { known = []; joined = []; seen = []; places = []; share = []; stage = Idle; touched = [] }
 
   abbrev pub seated_stage : List ℕ → Stage → Seated T → Seated T
   seated_stage words stage seat = (view_stage words stage seat.0, seat.1)
@@ -62,7 +67,7 @@ module _ {T : Type 0} where
   reader_of cell view = record { cell = cell; known = view.known; seen = view.seen; touched = view.touched }
 
   abbrev pub writer_of : TableId → SeatView T → Writer T
-  writer_of cell view = record { cell = cell; known = view.known; seen = view.seen; places = view.places; touched = view.touched }
+  writer_of cell view = record { cell = cell; known = view.known; seen = view.seen; places = view.places; share = view.share; touched = view.touched }
 
   -- The store or load of a word of bytes stands for those of its bytes, in rising order with nothing between.
   abbrev pub WordStep : ℕ → Step (Unit {0}) → Seated T → ℕ → Seated T → Type 0
@@ -88,6 +93,8 @@ pub record ViewLoads {T : Type 0} (IsEncoding : T → List ℕ → Type 0) (befo
   pub places : after.places ≡ before.places
   pub rising : IsRising before.places
   pub inside : All (λ place. (0 < place) × (place < length after.known)) before.places
+  pub share : after.share ≡ before.share
+  pub whole : IsWhole before.share → HoldsEach (length after.known) before.places
   pub stage : after.stage ≡ Reading version []
   pub touched : after.touched ≡ before.touched ++ 0 ∷ []
   pub front : IsFrontOf IsEncoding after.known version before.stage

@@ -23,6 +23,8 @@ pub(crate) struct SeatView<T> {
     seen: LinkedList<u64>,
     /// The places in the history of the values that this seat wrote, rising.
     places: LinkedList<usize>,
+    /// The seat's share of the right to write: how often each part of it was halved.
+    share: LinkedList<usize>,
     stage: Stage,
     /// The words that were loaded or stored, in order.
     touched: LinkedList<usize>,
@@ -90,18 +92,31 @@ impl<T: AtomicCopy> Play<(), SeatView<T>> for LoadWord {
     ghost then = { WordStep T.SIZE };
 }
 
-/// A further seat, which knows what this one knows.
-pub(crate) struct NewSeat;
+/// A further reader's seat, which knows what this one knows. It is made by a load of the version.
+pub(crate) struct NewReader;
 
-impl<T> Split<SeatView<T>> for NewSeat {
-    ghost use Rattle.ix_atomic.specs.inner.SequencedSteps.{view_further};
+impl<T> Split<SeatView<T>> for NewReader {
+    ghost use Rattle.std.specs.Prelude.{[]};
+    ghost use Rattle.ix_atomic.specs.inner.SequencedSteps.{view_further, view_split};
 
-    ghost left = { λ view. view };
+    ghost left = { λ view. view_split view.share view };
 
-    ghost right = { view_further };
+    ghost right = { view_further [] };
 }
 
-/// A seat that takes in another one, which is spent.
+/// A further writer's seat, which knows what this one knows, and takes half of its share. It is made by a load of the version.
+pub(crate) struct NewWriter;
+
+impl<T> Split<SeatView<T>> for NewWriter {
+    ghost use Rattle.ix_atomic.specs.Shares.{halved};
+    ghost use Rattle.ix_atomic.specs.inner.SequencedSteps.{view_further, view_split};
+
+    ghost left = { λ view. view_split (halved view.share) view };
+
+    ghost right = { λ view. view_further (halved view.share) view };
+}
+
+/// A seat that takes in another one, which is spent, by a load of the version.
 pub(crate) struct Merge;
 
 impl<T> Join<SeatView<T>> for Merge {

@@ -23,7 +23,7 @@ impl<T> Model for ReaderSeat<T> {
     ghost view = { λ reader. reader_of reader.seat.table_id reader.seat.me.0 };
 
     ghost invariant = { λ reader. (reader.seat.me.1 ≡ []) × (parity reader.seat.me.0.stage ≡ 0)
-        × (reader.seat.me.0.places ≡ []) };
+        × (reader.seat.me.0.places ≡ []) × (reader.seat.me.0.share ≡ []) };
 }
 
 /// Lets its holder write to one cell, and read from it. A cell may have any number of them, made by
@@ -32,13 +32,14 @@ impl<T> Model for ReaderSeat<T> {
 /// [`SequencedByteAtomic::close`](crate::SequencedByteAtomic::close).
 ///
 /// Contracts see the cell, the beginning of the history that the holder knows, the versions that it has loaded, the places in the
-/// history of the values that it has written, and the words that it has loaded or stored.
+/// history of the values that it has written, its share of the right to write, and the words that it has loaded or stored. The
+/// seat that `new` returns has the whole right; each further one takes half of its maker's share.
 pub struct WriterSeat<T> {
     pub(crate) seat: Seat<(), SeatView<T>>,
 }
 
 impl<T> Model for WriterSeat<T> {
-    ghost use Rattle.std.specs.Prelude.{◌≡◌, []};
+    ghost use Rattle.std.specs.Prelude.{◌≡◌, ◌<◌, [], length};
     ghost use Rattle.ix_atomic.specs.Writers.{Writer};
     ghost use Rattle.ix_atomic.specs.inner.SequencedRule.{parity};
     ghost use Rattle.ix_atomic.specs.inner.SequencedSteps.{writer_of};
@@ -47,5 +48,6 @@ impl<T> Model for WriterSeat<T> {
 
     ghost view = { λ writer. writer_of writer.seat.table_id writer.seat.me.0 };
 
-    ghost invariant = { λ writer. (writer.seat.me.1 ≡ []) × (parity writer.seat.me.0.stage ≡ 0) };
+    ghost invariant = { λ writer. (writer.seat.me.1 ≡ []) × (parity writer.seat.me.0.stage ≡ 0)
+        × (0 < length writer.seat.me.0.share) };
 }

@@ -1,8 +1,9 @@
 //! The cell, its calls, and the walks over its words.
-ghost use Rattle.std.specs.Prelude.{◌≡◌, ℕ, ◌+◌, ◌/◌, ◌<◌, ◌⊎◌, [], ◌∷◌, ◌++◌, List, length, Some, Ok, Err, IsOk, IfOk, IfErr};
+ghost use Rattle.std.specs.Prelude.{◌≡◌, ℕ, ◌+◌, ◌/◌, ◌<◌, ◌≤◌, ◌⊎◌, [], ◌∷◌, ◌++◌, List, All, length, Some, Ok, Err, IsOk, IfOk, IfErr};
 ghost use Rattle.ix_atomic.specs.Words.{word_count};
 ghost use Rattle.ix_atomic.specs.History.{Begins, Loads, LoadsTwice, value_at, last_value, IsEven, IsOdd, data_words, all_words};
-ghost use Rattle.ix_atomic.specs.Writers.{Writes, Refuses, AreOwn, AreApart, as_reader, places_merge};
+ghost use Rattle.ix_atomic.specs.Shares.{halved, IsWhole};
+ghost use Rattle.ix_atomic.specs.Writers.{Writes, Refuses, AreOwn, AreApart, HoldsEach, as_reader, places_merge};
 ghost use Rattle.ix_atomic.specs.inner.SequencedRule.{Encodes, parity};
 ghost use Rattle.ix_atomic.specs.inner.SequencedSteps.{seated_stage, reader_of, writer_of, view_merged, ViewLoads};
 ghost use Rattle.ix_atomic.specs.declared.sequenced.rule.Stage.TheVariants.{Reading, Writing};
@@ -12,7 +13,7 @@ use crate::byte_atomic::steps::next_versions;
 use crate::sequenced::data_words::{new_words, set_word_at, word_at};
 use crate::sequenced::errors::{Interfered, TryWriteError, Unfinished};
 use crate::sequenced::rule::{
-    CellRule, Claim, End, LoadVersion, LoadWord, Merge, NewSeat, SeatView, Store,
+    CellRule, Claim, End, LoadVersion, LoadWord, Merge, NewReader, NewWriter, SeatView, Store,
 };
 use crate::sequenced::seats::{ReaderSeat, WriterSeat};
 use atomic_table::{Seat, Table};
@@ -69,7 +70,8 @@ impl<T: AtomicCopy, const SIZE: usize> SequencedByteAtomic<T, SIZE> {
         ensures own { IfOk result (λ made. AreOwn made.1) }
         ensures reader { IfOk result (λ made.
             (made.2.cell ≡ made.0) × (made.2.known ≡ value ∷ []) × (made.2.seen ≡ [])) }
-        ensures touches { IfOk result (λ made. (made.1.touched ≡ []) × (made.2.touched ≡ [])) }
+        ensures share { IfOk result (λ made. made.1.share ≡ 0 ∷ []) }
+        ensures touches { IfOk result (λ made. (made.1.touched ≡ 0 ∷ []) × (made.2.touched ≡ [])) }
     {
         if SIZE > MAX_SIZE {
             return Err(AllocError);
@@ -79,7 +81,7 @@ impl<T: AtomicCopy, const SIZE: usize> SequencedByteAtomic<T, SIZE> {
         let words = new_words(alloc, &bytes)?;
         let (table, mut seat) = Table::of_words(alloc, words.as_slice(), &value)?;
         let reader = ReaderSeat {
-            seat: table.shared.split_seat::<NewSeat>(&mut seat),
+            seat: table.shared.split_seat::<NewReader>(&mut seat),
         };
         Ok((SequencedByteAtomic { table }, WriterSeat { seat }, reader))
     }
@@ -101,6 +103,7 @@ impl<T: AtomicCopy, const SIZE: usize> SequencedByteAtomic<T, SIZE> {
         ensures written { IfOk result (λ _. Writes seat.old seat.new value) }
         ensures refused { IfErr result (λ error. Refuses seat.old seat.new error) }
         ensures no_place { IfErr result (λ _. seat.new.places ≡ seat.old.places) }
+        ensures share { seat.new.share ≡ seat.old.share }
         ensures own { AreOwn seat.new }
         ensures touches { IfOk result
             (λ _. seat.new.touched ≡ seat.old.touched ++ 0 ∷ all_words SIZE) }
@@ -180,7 +183,10 @@ impl<T: AtomicCopy, const SIZE: usize> SequencedByteAtomic<T, SIZE> {
             LoadsTwice (as_reader seat.old) (as_reader seat.new) error.first error.last
             × (IsOdd error.first ⊎ (error.first < error.last))) }
         ensures places { seat.new.places ≡ seat.old.places }
+        ensures share { seat.new.share ≡ seat.old.share }
         ensures own { AreOwn seat.new }
+        ensures all { IsWhole seat.new.share
+            → HoldsEach (length seat.new.known) seat.new.places }
         ensures touches { seat.new.touched ≡ seat.old.touched ++ all_words SIZE }
     {
         self.read(&mut seat.seat)
@@ -196,11 +202,11 @@ impl<T: AtomicCopy, const SIZE: usize> SequencedByteAtomic<T, SIZE> {
         requires { seat.old.cell ≡ self.now }
         ensures reader { IfOk result (λ reader.
             (reader.cell ≡ seat.old.cell) × (reader.known ≡ seat.old.known) × (reader.seen ≡ [])) }
-        ensures seat { seat.new ≡ seat.old }
+        ensures seat { seat.new ≡ record seat.old { touched = seat.old.touched ++ 0 ∷ [] } }
         ensures touches { IfOk result (λ reader. reader.touched ≡ []) }
         ensures memory { IsOk result }
     {
-        let reader = self.table.shared.split_seat::<NewSeat>(&mut seat.seat);
+        let reader = self.table.shared.split_seat::<NewReader>(&mut seat.seat);
         Ok(ReaderSeat { seat: reader })
     }
 
@@ -217,11 +223,13 @@ impl<T: AtomicCopy, const SIZE: usize> SequencedByteAtomic<T, SIZE> {
             (λ writer. (writer.cell ≡ seat.old.cell) × (writer.known ≡ seat.old.known)
             × (writer.seen ≡ []) × (writer.places ≡ [])) }
         ensures own { IfOk result AreOwn }
-        ensures seat { seat.new ≡ seat.old }
+        ensures share { IfOk result (λ writer. writer.share ≡ halved seat.old.share) }
+        ensures seat { seat.new
+            ≡ record seat.old { share = halved seat.old.share; touched = seat.old.touched ++ 0 ∷ [] } }
         ensures touches { IfOk result (λ writer. writer.touched ≡ []) }
         ensures memory { IsOk result }
     {
-        let writer = self.table.shared.split_seat::<NewSeat>(&mut seat.seat);
+        let writer = self.table.shared.split_seat::<NewWriter>(&mut seat.seat);
         Ok(WriterSeat { seat: writer })
     }
 
@@ -237,8 +245,12 @@ impl<T: AtomicCopy, const SIZE: usize> SequencedByteAtomic<T, SIZE> {
         ensures apart { AreApart seat.old.places other.places }
         ensures seen { (version : ℕ)
             × (seat.new.seen ≡ (seat.old.seen ++ other.seen) ++ version ∷ [])
+            × All (λ earlier. earlier ≤ version) (seat.old.seen ++ other.seen)
             × (length seat.new.known ≡ version / 2 + 1) }
-        ensures touches { seat.new.touched ≡ (seat.old.touched ++ other.touched) ++ 0 ∷ [] }
+        ensures share { seat.new.share ≡ seat.old.share ++ other.share }
+        ensures all { IsWhole seat.new.share
+            → HoldsEach (length seat.new.known) seat.new.places }
+        ensures touches { seat.new.touched ≡ (seat.old.touched ++ other.touched) ++ 0 ∷ 0 ∷ [] }
     {
         let WriterSeat { seat: other } = other;
         self.take_in(&mut seat.seat, other);
@@ -254,8 +266,12 @@ impl<T: AtomicCopy, const SIZE: usize> SequencedByteAtomic<T, SIZE> {
         ensures own { AreOwn seat.new }
         ensures seen { (version : ℕ)
             × (seat.new.seen ≡ (seat.old.seen ++ reader.seen) ++ version ∷ [])
+            × All (λ earlier. earlier ≤ version) (seat.old.seen ++ reader.seen)
             × (length seat.new.known ≡ version / 2 + 1) }
-        ensures touches { seat.new.touched ≡ (seat.old.touched ++ reader.touched) ++ 0 ∷ [] }
+        ensures share { seat.new.share ≡ seat.old.share }
+        ensures all { IsWhole seat.new.share
+            → HoldsEach (length seat.new.known) seat.new.places }
+        ensures touches { seat.new.touched ≡ (seat.old.touched ++ reader.touched) ++ 0 ∷ 0 ∷ [] }
     {
         let ReaderSeat { seat: reader } = reader;
         self.take_in(&mut seat.seat, reader);
@@ -270,6 +286,9 @@ impl<T: AtomicCopy, const SIZE: usize> SequencedByteAtomic<T, SIZE> {
         requires { seat.cell ≡ self }
         ensures value { IfOk result (λ value. (history : List T) × Begins seat.known history
             × (last_value history ≡ Some value)) }
+        ensures whole { IsWhole seat.share → (value : T) × (result ≡ Ok value)
+            × (history : List T) × Begins seat.known history × (last_value history ≡ Some value)
+            × HoldsEach (length history) seat.places }
     {
         let SequencedByteAtomic { table } = self;
         let WriterSeat { seat } = seat;
@@ -303,6 +322,9 @@ impl<T: AtomicCopy, const SIZE: usize> SequencedByteAtomic<T, SIZE> {
             (reader_of seat.new.table_id seat.new.me.0) error.first error.last
             × (IsOdd error.first ⊎ (error.first < error.last))) }
         ensures places { seat.new.me.0.places ≡ seat.old.me.0.places }
+        ensures share { seat.new.me.0.share ≡ seat.old.me.0.share }
+        ensures all { IsWhole seat.new.me.0.share
+            → HoldsEach (length seat.new.me.0.known) seat.new.me.0.places }
         ensures own { AreOwn (writer_of seat.new.table_id seat.new.me.0) }
         ensures touches { seat.new.me.0.touched ≡ seat.old.me.0.touched ++ all_words SIZE }
         ensures seat { (seat.new.me.1 ≡ seat.old.me.1) × (parity seat.new.me.0.stage ≡ 0) }

@@ -1,13 +1,14 @@
-use Rattle.std.proofs.Common.{arith, ◌≡◌, ◌*◌, ◌<◌, ℕ, ◌+◌, ◌%◌, List, length, take, get_or, sym, ap, ◌∙◌, subst, Some}
+use Rattle.std.proofs.Common.{arith, ◌≡◌, ◌*◌, ◌<◌, ℕ, ◌+◌, ◌%◌, List, length, take, get_or, refl, sym, ap, ◌∙◌, subst, Some}
 use Rattle.std.specs.Slots.{slots_items}
 use Rattle.std.proofs.lemmas.List.{take_all}
 use Rattle.ix_atomic.specs.History.{Begins, IsEven, last_value}
-use Rattle.ix_atomic.specs.Writers.{Writer}
+use Rattle.ix_atomic.specs.Shares.{IsWhole}
+use Rattle.ix_atomic.specs.Writers.{Writer, HoldsEach}
 use Rattle.ix_atomic.specs.inner.SequencedRule.{Encodes}
 use Rattle.ix_atomic.proofs.Beginnings.{get_or-get_elem, get_elem-tail}
 use Rattle.ix_atomic.proofs.DataWords.{length-with_word, unpack-more}
 use Rattle.ix_atomic.proofs.Encodes.{Encodes-length}
-use Rattle.ix_atomic.proofs.SequencedKeeps.{finished}
+use Rattle.ix_atomic.proofs.SequencedKeeps.{finished, closed-whole}
 use Rattle.ix_atomic.proofs.sequenced.sequenced_byte_atomic.SequencedByteAtomic.close.Given.{Over}
 use Rattle.ix_atomic.proofs.sequenced.sequenced_byte_atomic.SequencedByteAtomic.close.Goals.{After-decode}
 use Rattle.ix_atomic.proofs.sequenced.sequenced_byte_atomic.SequencedByteAtomic.close.Goals as goal
@@ -28,6 +29,7 @@ loop-i-preserved g c =
 at_rest : (g : Over) (c : After-decode g) → IsEven c.word.result
     → (history : List g.row.T.Denot) × (value : g.row.T.Denot) × Begins c.seat.inside.seat.me.0.known history × (last_value history ≡ Some value)
     × Encodes g.T.AtomicCopy.is_value g.T.AtomicCopy.encoding value c.loop-i.bytes
+    × (IsWhole c.seat.inside.seat.me.0.share → HoldsEach (length history) c.seat.inside.seat.me.0.places)
 at_rest g c even =
     let is_value = g.T.AtomicCopy.is_value in let encoding = g.T.AtomicCopy.encoding in let size = g.T.AtomicCopy.SIZE in
     let words : List ℕ = slots_items c.close_with-closed.result.words in
@@ -37,7 +39,7 @@ at_rest g c even =
     let out = c.loop-i.bytes in let k = c.loop-i.i in let all : length out ≡ g.row.SIZE = kept.0 in
     let bytes : out ≡ last.bytes =
     sym (take_all (8 * k) out (omega arith)) ∙ kept.1 last.bytes last.byte_range (long ∙ sym same) last.has ∙ take_all (8 * k) last.bytes (omega arith) in
-    (last.history, last.value, last.begins, last.is_last, (last.encoding.0, bytes ∙ last.encoding.1))
+    (last.history, last.value, last.begins, last.is_last, (last.encoding.0, bytes ∙ last.encoding.1), last.whole)
 
 pub unreachable-requires : goal.unreachable-requires
 unreachable-requires g c =
@@ -49,4 +51,13 @@ returns g c =
     let not_odd = c.if-is_unfinished.false in
     let last = at_rest g c.before (omega arith) in
     let found = (c.in-Some.ensures last.1).1 last.4 in let value : c.in-Some.value ≡ last.1 = cc in
-    record { value = (last.0, subst (λ (w : Writer g.row.T.Denot). Begins w.known last.0) c.seat.view_is last.2, last.3 ∙ ap Some (sym value)) }
+    let begins = subst (λ (w : Writer g.row.T.Denot). Begins w.known last.0) c.seat.view_is last.2 in
+    let is_last = last.3 ∙ ap Some (sym value) in
+    let each = subst (λ (w : Writer g.row.T.Denot). IsWhole w.share → HoldsEach (length last.0) w.places) c.seat.view_is last.5 in
+    record { value = (last.0, begins, is_last); whole = λ whole. (c.in-Some.value, refl, last.0, begins, is_last, each whole) }
+
+pub returns-then-is_unfinished-clause-whole : goal.returns-then-is_unfinished-clause-whole
+returns-then-is_unfinished-clause-whole g c whole =
+    let words : List ℕ = slots_items c.close_with-closed.result.words in let odd = c.if-is_unfinished.true in
+    absurd (closed-whole (Encodes g.T.AtomicCopy.is_value g.T.AtomicCopy.encoding) _ _ words _ c.close_with-closed.ensures.values.2 c.seat.invariant.1
+    (subst (λ (w : Writer g.row.T.Denot). IsWhole w.share) (sym c.seat.view_is) whole) (ap (λ n. n % 2) (get_or-get_elem words 0 c.word.result c.word.ensures) ∙ odd))

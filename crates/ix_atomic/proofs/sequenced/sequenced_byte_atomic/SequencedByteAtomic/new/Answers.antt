@@ -1,6 +1,6 @@
 use Rattle.std.proofs.Common.{rules, arith, ◌≡◌, ◌+◌, ◌∷◌, ℕ, suc, List, [], length, sym, ap, ◌∙◌, subst}
 use Rattle.atomic_table.specs.Table.{opening}
-use Rattle.ix_atomic.specs.inner.SequencedRule.{SequencedRule, Encodes}
+use Rattle.ix_atomic.specs.inner.SequencedRule.{SequencedRule, Encodes, parity}
 use Rattle.ix_atomic.specs.inner.SequencedSteps.{view_new}
 use Rattle.ix_atomic.specs.Words.{word_count, words_of}
 use Rattle.ix_atomic.proofs.Beginnings.{AreBelow}
@@ -16,7 +16,7 @@ of_words-requires g c =
     (step.new IsEncoding c.args.value (g.T.AtomicCopy.encoding c.args.value) (search rules) (subst (AreBelow 256) (search rules) c.in_ok-words.ensures.byte_range))
 
 pub split_seat-requires : goal.split_seat-requires
-split_seat-requires g c = (search rules, search rules, step.further _ _ _)
+split_seat-requires g c = (search rules, search rules, step.new_reader _ _ _ (ap (λ me. parity me.0.stage) c.in_ok-table.ensures.4))
 
 pub invariant_of-result : goal.invariant_of-result
 invariant_of-result g c =

@@ -4,7 +4,7 @@ use Rattle.ix_atomic.specs.inner.SequencedRule.{Encodes, parity}
 use Rattle.ix_atomic.specs.inner.SequencedSteps.{reader_of}
 use Rattle.ix_atomic.proofs.Encodes.{Encodes-length}
 use Rattle.ix_atomic.proofs.SequencedKeeps.{load_version}
-use Rattle.ix_atomic.proofs.SequencedCalls.{Read, whole_read}
+use Rattle.ix_atomic.proofs.SequencedCalls.{Read, whole_read, loaded-HoldsEach}
 use Rattle.ix_atomic.proofs.sequenced.sequenced_byte_atomic.SequencedByteAtomic.read.Given.{Over}
 use Rattle.ix_atomic.proofs.sequenced.sequenced_byte_atomic.SequencedByteAtomic.read.Goals.{After-load-last, else-first-last-via-then-first-last+else-first-eq0, else-first-last-via-else-first-last}
 use Rattle.ix_atomic.proofs.sequenced.sequenced_byte_atomic.SequencedByteAtomic.read.Goals as goal
@@ -47,3 +47,9 @@ returns-else-first-last-clause-interfered g c =
       | else-first-last-via-else-first-last w ↦ let differ = w.if-first-last.false in let order = loads.order in inr (omega arith)
     ] in
     rw c.interfered.ensures (loads, odd_or_less)
+
+pub returns-then-first-eq0-clause-all : goal.returns-then-first-eq0-clause-all
+returns-then-first-eq0-clause-all g c = loaded-HoldsEach _ _ _ _ c.before.before.before.before.load-last.ensures.2.0
+
+pub returns-else-first-last-clause-all : goal.returns-else-first-last-clause-all
+returns-else-first-last-clause-all g c = loaded-HoldsEach _ _ _ _ c.load-last.ensures.2.0

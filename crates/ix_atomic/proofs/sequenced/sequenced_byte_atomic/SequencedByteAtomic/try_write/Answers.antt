@@ -1,4 +1,4 @@
-use Rattle.std.proofs.Common.{rules, arith, true≢false, ◌≡◌, [], ◌∷◌, ◌++◌, length, sym, ap, ◌∙◌, append_assoc, subst, inr}
+use Rattle.std.proofs.Common.{rules, arith, true≢false, ◌≡◌, ◌<◌, [], ◌∷◌, ◌++◌, length, sym, ap, ◌∙◌, append_assoc, subst, inr}
 use Rattle.ix_atomic.specs.History.{IsEven, LoadsTwice, all_words}
 use Rattle.ix_atomic.specs.Writers.{Writer, Writes, AreOwn, as_reader}
 use Rattle.ix_atomic.specs.inner.SequencedRule.{Encodes, parity}
@@ -18,7 +18,7 @@ compare_exchange-found-requires g c =
     let is_value = g.T.AtomicCopy.is_value in let encoding = g.T.AtomicCopy.encoding in
     let encodes : Encodes is_value encoding c.args.value c.encode.new.out = (c.encode.ensures.in_range, c.encode.ensures.out) in
     let not_odd = c.if-loaded-eq1.false in let even : IsEven c.load-loaded.result = omega arith in
-    (search rules, search rules, step.claim (Encodes is_value encoding) _ _ _ _ _ c.args.value c.encode.new.out encodes (ap parity c.load-loaded.ensures.2.0.stage) even (ap (λ next. next.0) c.in_ok-odd.ensures.value))
+    (search rules, search rules, step.claim (Encodes is_value encoding) _ _ _ _ _ c.args.value c.encode.new.out encodes (ap parity c.load-loaded.ensures.2.0.stage) (subst (λ share. 0 < length share) (sym c.load-loaded.ensures.2.0.share) c.seat.invariant.2) even (ap (λ next. next.0) c.in_ok-odd.ensures.value))
 
 pub returns-then-found-loaded-clause-refused : goal.returns-then-found-loaded-clause-refused
 returns-then-found-loaded-clause-refused g c =
@@ -61,10 +61,16 @@ wrote g c =
     whole_write (Encodes g.T.AtomicCopy.is_value g.T.AtomicCopy.encoding) g.row.SIZE c.load-loaded.result c.args.value c.encode.new.out _ _ _ _ _ _ _ even
     (below_last c.load-loaded.result c.load-loaded.type_inv not_odd (λ last. true≢false (sym (c.in_ok-odd.ensures.refused.1 last)))) c.load-loaded.ensures.2.0 claim c.store_bytes.ensures.seat (ended g c)
 
+share_kept : (g : Over) (c : After-store g) → c.store.new.seat.me.0.share ≡ c.seat.inside.seat.me.0.share
+share_kept g c =
+    let same : c.compare_exchange-found.result ≡ c.load-loaded.result = search rules in
+    ap (λ me. me.0.share) (ended g c) ∙ ap (λ me. me.0.share) c.store_bytes.ensures.seat ∙ ap (λ view. view.share) (c.compare_exchange-found.ensures.2.0 same).begun ∙ c.load-loaded.ensures.2.0.share
+
 pub invariant_of-seat-2 : goal.invariant_of-seat-2
 invariant_of-seat-2 g c = let end = ended g c in let stored = c.store_bytes.ensures.seat in (
   ap (λ me. me.1) end ∙ (ap (λ me. me.1) stored ∙ (c.compare_exchange-found.ensures.2.2 ∙ (c.load-loaded.ensures.2.1 ∙ c.seat.invariant.0))),
   ap (λ me. parity me.0.stage) end,
+  subst (λ share. 0 < length share) (sym (share_kept g c)) c.seat.invariant.2,
 )
 
 pub returns-clause-written : goal.returns-clause-written
@@ -76,3 +82,6 @@ returns-clause-own g c = (wrote g c).1
 
 pub returns-clause-touches : goal.returns-clause-touches
 returns-clause-touches g c = (wrote g c).2 ∙ ap (λ writer. writer.touched ++ 0 ∷ all_words g.row.SIZE) c.seat.view_is
+
+pub returns-clause-share : goal.returns-clause-share
+returns-clause-share g c = share_kept g c ∙ ap (λ writer. writer.share) c.seat.view_is
