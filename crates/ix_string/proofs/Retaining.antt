@@ -4,7 +4,8 @@ use Rattle.std.specs.Prelude.{reverse, map, not, if◌then◌else◌}
 use Rattle.std.specs.List.{All, items_where_true}
 use Rattle.std.proofs.lemmas.List.{reverse-append, take-take, get_or-take, drop-set, drop_more}
 use Rattle.std.proofs.lemmas.List.Elements.{All-nil, All-cons, All-drop}
-use Rattle.ix_string.specs.Retain.{ResultsAt, retained_items, Retains}
+use Rattle.ix_string.specs.Retain.{ResultsAt, retained_items, Retains, IsCallableAtText}
+use Rattle.ix_string.specs.Text.{IsText, IsTextByte}
 
 module _ {F X : Type 0} (step : F → X → Bool → F → Type 0) where
   -- one more call, at the item x
@@ -70,3 +71,18 @@ module _ {X : Type 0} where
 
   pub All-Retains : {F : Type 0} (P : X → Type 0) (step : F → X → Bool → F → Type 0) (f : F) (xs kept : List X) → Retains step f xs kept → All P xs → All P kept
   All-Retains P step f xs kept (results, last, calls, is) all = rw is (All-items_where_true P (reverse results) xs all)
+
+module _ {F : Type 0} {step : F → ℕ → Bool → F → Type 0} {pre : F → ℕ → Type 0} {f : F}
+    (callable : IsCallableAtText step pre f) (byte : ℕ) (is : IsTextByte byte) where
+  -- the closure may be called at a byte of a text
+  pub IsCallableAtText-now : pre f byte
+  IsCallableAtText-now = callable [] f byte refl (All-nil (λ b. IsTextByte b)) is
+
+  -- and then again
+  pub IsCallableAtText-on : (b : Bool) (g : F) → step f byte b g → IsCallableAtText step pre g
+  IsCallableAtText-on b g called bytes h next calls text = callable (byte ∷ bytes) h next (g, (b, called), calls) (All-cons (λ x. IsTextByte x) byte bytes is text)
+
+-- byte i of a row that still has the first n bytes of a text
+pub IsTextByte-front : (row old : List ℕ) (i n d : ℕ) → i < n → n ≤ length old → take n row ≡ take n old → IsText old → IsTextByte (get_or row i d)
+IsTextByte-front row old i n d lt within front text =
+    subst IsTextByte (sym (get_or-front row old i n d lt front)) (text i d (omega arith))

@@ -5,7 +5,7 @@ ghost use Rattle.std.specs.Cmp.Lexicographic.{pointwise, lists_per, lists_equiv}
 ghost use Rattle.std.proofs.Common.{arith, ap};
 ghost use Rattle.std.proofs.lemmas.Grind.{common_steps};
 ghost use Rattle.ix_cells.specs.Bounded.{bounded_new, with_items, IsFull};
-ghost use Rattle.ix_cells.specs.Calls.{ResultsFrom};
+ghost use Rattle.ix_cells.specs.Calls.{IsCallableBelow, ResultsFrom};
 ghost use Rattle.ix_cells.specs.Cloning.{AreEqualClones};
 ghost use Rattle.ix_cells.specs.VectorSteps.{vec_refill};
 
@@ -71,7 +71,7 @@ impl<T: Drop, A: Allocator> PolymorphicVec<T, A> {
         capacity: usize,
         mut f: F,
     ) -> Result<Self, AllocError>
-        requires { F.IsAlwaysCallable f }
+        requires { IsCallableBelow F.step F.pre capacity f }
         ensures capacity { IfOk result (λ vector. vector.capacity ≡ capacity) }
         ensures full { IfOk result (λ vector. IsFull vector) }
         ensures items { IfOk result

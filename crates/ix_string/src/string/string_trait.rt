@@ -7,7 +7,7 @@ ghost use Rattle.ix_cells.specs.Bounded.{Bounded, IsWithin, IsFull, with_items};
 ghost use Rattle.ix_cells.specs.VectorSteps.{HasRoomFor, vec_remove, vec_pop, vec_last, vec_truncate};
 ghost use Rattle.ix_string.specs.Escape.{escaped_text};
 ghost use Rattle.ix_string.specs.Text.{IsText, MatchesAt, IsFirstMatch, IsLastMatch, EndsWith};
-ghost use Rattle.ix_string.specs.Retain.{Retains};
+ghost use Rattle.ix_string.specs.Retain.{IsCallableAtText, Retains};
 ghost use Rattle.ix_string.specs.TextSteps.{text_insert_slice, text_insert, text_insert_result, IsRangeOf, text_remove_range};
 
 use crate::string::StringModificationError;
@@ -261,7 +261,7 @@ pub trait String: Debug + Display + Eq + Ord + Hash {
     ///
     /// The `retain` of std keeps those bytes instead.
     fn retain<F: FnMut(u8) -> bool>(&mut self, f: F)
-        requires { F.IsAlwaysCallable f }
+        requires { IsCallableAtText F.step F.pre f }
         ensures string { Retains F.step f (bounded self.old).items (bounded self.new).items }
         ensures capacity { (bounded self.new).capacity ≡ (bounded self.old).capacity }
         ensures refused { (bounded self.new).items ≡ (bounded self.old).items

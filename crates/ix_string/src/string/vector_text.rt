@@ -1,7 +1,8 @@
 //! The changes of a text in a vector of bytes.
 ghost use Rattle.std.specs.Prelude.{◌≡◌, ◌+◌, ◌≤◌, ◌-◌, length, slice_range};
 ghost use Rattle.ix_cells.specs.VectorSteps.{HasRoomFor, vec_extend};
-ghost use Rattle.ix_string.specs.Retain.{Retains};
+ghost use Rattle.ix_string.specs.Retain.{IsCallableAtText, Retains};
+ghost use Rattle.ix_string.specs.Text.{IsText};
 ghost use Rattle.ix_string.specs.TextSteps.{text_insert_slice, text_remove_range};
 
 use crate::string::gaps::{close_gap, open_gap};
@@ -57,8 +58,9 @@ pub(crate) fn remove_from<V: Vector<u8>>(vector: &mut V, idx: usize, n: usize)
 
 /// Calls `f` at each byte, from the last to the first, and removes those for which it returns `true`.
 pub(crate) fn retain_in<V: Vector<u8>, F: FnMut(u8) -> bool>(vector: &mut V, f: F)
-    requires { F.IsAlwaysCallable f }
-    ensures text { Retains F.step f (V.bounded vector.old).items (V.bounded vector.new).items }
+    requires text { IsText (V.bounded vector.old).items }
+    requires callable { IsCallableAtText F.step F.pre f }
+    ensures kept { Retains F.step f (V.bounded vector.old).items (V.bounded vector.new).items }
     ensures capacity { (V.bounded vector.new).capacity ≡ (V.bounded vector.old).capacity }
 {
     let start = move_kept_back(vector.as_mut_slice(), f);

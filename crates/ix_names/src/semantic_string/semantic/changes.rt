@@ -4,7 +4,7 @@
 //! refused change; `remove_range` and `retain` change a copy.
 ghost use Rattle.std.specs.Prelude.{◌≡◌, ◌-◌, ◌≤◌, [], ◌∷◌, ◌++◌, List, ℕ, length, take, drop, remove, true, false, Some, Ok, OnOk, OnErr, slice_get};
 ghost use Rattle.std.specs.List.{insert_slice};
-ghost use Rattle.ix_string.specs.Retain.{Retains};
+ghost use Rattle.ix_string.specs.Retain.{IsCallableAtText, Retains};
 ghost use Rattle.ix_string.specs.Text.{MatchesAt, EndsWith};
 ghost use Rattle.ix_names.specs.Rules.{IsAccepted};
 ghost use Rattle.ix_names.specs.SemanticSteps.{SemanticResult, text_without_range};
@@ -141,7 +141,7 @@ impl<R: Rules<CAPACITY>, const CAPACITY: usize> Semantic<R, CAPACITY> {
     ///
     /// Returns [`SemanticStringError::InvalidContent`] if the rules do not accept the kept bytes.
     pub fn retain<F: FnMut(u8) -> bool>(&mut self, f: F) -> Result<(), SemanticStringError>
-        requires { F.IsAlwaysCallable f }
+        requires { IsCallableAtText F.step F.pre f }
         ensures string { (kept : List ℕ) × Retains F.step f self.old kept
             × SemanticResult CAPACITY R.rules kept tt result × OnOk result (self.new ≡ kept) }
         ensures refused { OnErr result (self.new ≡ self.old) }

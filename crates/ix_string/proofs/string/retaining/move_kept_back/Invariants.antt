@@ -1,13 +1,13 @@
 use Rattle.std.proofs.Common.{◌≡◌, ◌≤◌, List, Bool, length, take, drop}
 use Rattle.std.specs.Prelude.{reverse}
-use Rattle.ix_string.specs.Retain.{ResultsAt, retained_items}
+use Rattle.ix_string.specs.Retain.{ResultsAt, retained_items, IsCallableAtText}
 use Rattle.ix_string.proofs.string.retaining.move_kept_back.Given as goal
 
 abbrev pub invariant-loop-idx : goal.invariant-loop-idx
 invariant-loop-idx g l =
     let old = l.initial.row in
     record {
-      callable : goal.F-IsAlwaysCallable g l.f;
+      callable : IsCallableAtText (λ p x b q. goal.F-step g p x b q) (λ p x. goal.F-pre g p x) l.f;
       order : l.idx ≤ l.start;
       within : l.start ≤ length old;
       front : take l.idx l.row ≡ take l.idx old;

@@ -1,6 +1,9 @@
-use Rattle.std.proofs.Common.{of_calls, arith, ap, [], ◌∷◌, ◌++◌, ◌≡◌, length, length-append}
-use Rattle.ix_cells.proofs.Calls.{ResultsFrom-push}
+use Rattle.std.proofs.Common.{of_calls, arith, refl, ◌+◌, ap, [], ◌∷◌, ◌++◌, ◌≡◌, length, length-append}
+use Rattle.ix_cells.proofs.Calls.{ResultsFrom-push, Callable-now, Callable-on}
 use Rattle.ix_cells.proofs.vector.polymorphic_vec.PolymorphicVec.from_fn.Goals as goal
+
+pub f-requires : goal.f-requires
+f-requires g c = Callable-now c.loop-n.invariant.callable c.loop-n.n (c.loop-n.n + 1) (c.loop-n-test.true, refl, refl)
 
 pub loop-n-preserved : goal.loop-n-preserved
 loop-n-preserved g c =
@@ -11,7 +14,7 @@ loop-n-preserved g c =
     let items : c.push_unchecked.new.self.items ≡ vector.items ++ x ∷ [] = rw put in
     let kept : c.push_unchecked.new.self.capacity ≡ vector.capacity = rw put in
     record {
-      callable = search of_calls;
+      callable = Callable-on at.callable c.loop-n.n (c.loop-n.n + 1) (c.loop-n-test.true, refl, refl) c.f.new.self (x, search of_calls);
       capacity = rw kept at.capacity;
       len = omega (arith, ap length items, length-append vector.items (x ∷ []), at.len);
       answers = rw items (ResultsFrom-push _ 0 c.loop-n.n _ vector.items _ x _ (omega (arith, at.len)) at.answers (search of_calls));

@@ -4,4 +4,4 @@ use Rattle.ix_string.proofs.string.heap_string.HeapStringString.retain.Goals as 
 
 pub invariant_of-self : goal.invariant_of-self
 invariant_of-self g c =
-    All-Retains (λ b. IsTextByte b) (λ p x b q. goal.F-step g p x b q) c.args.f c.self.inside.bytes.items c.retain_in.new.vector.items c.retain_in.ensures.text c.self.invariant
+    All-Retains (λ b. IsTextByte b) (λ p x b q. goal.F-step g p x b q) c.args.f c.self.inside.bytes.items c.retain_in.new.vector.items c.retain_in.ensures.kept c.self.invariant
