@@ -1,6 +1,6 @@
 //! What the crates of tests share: [`Findings`], which note what a test did not expect, items that note their drops,
-//! [`fed_by`], which tells what a value feeds to a hasher, [`check_sizes`], which has heaps of a few blocks, and [`devices`]
-//! that fail.
+//! [`fed_by`], which tells what a value feeds to a hasher, [`check_sizes`], which has heaps of a few blocks,
+//! [`check_drawn_sizes`], which has ample memory, and [`devices`] that fail.
 //!
 //! ```text
 //! let notes = Notes::new(0);
@@ -12,11 +12,13 @@
 
 mod blocks;
 pub mod devices;
+mod drawn_sizes;
 mod findings;
 mod noted;
 mod recorder;
 
 pub use blocks::check_sizes;
+pub use drawn_sizes::check_drawn_sizes;
 pub use findings::Findings;
 pub use noted::{Noted, Notes, names_of};
 pub use recorder::fed_by;
