@@ -4,15 +4,18 @@ use Rattle.std.specs.Prelude.{nat_eq}
 use Rattle.std.specs.Borrow.{Bor}
 use Rattle.ix_cells.specs.Bounded.{bounded_new}
 use Rattle.ix_maps.specs.SlotState.{slot_new}
+use Rattle.ix_maps.specs.Generations.{SlotKey, map_new}
 use Rattle.ix_commands.specs.Run.{run_replies}
 use Rattle.ix_commands.specs.QueueRun.{queue_reply, queue_after}
 use Rattle.ix_commands.specs.VecRun.{vec_reply, vec_after}
 use Rattle.ix_commands.specs.TableRun.{table_reply, table_after}
+use Rattle.ix_commands.specs.SlotRun.{slot_reply, slot_after}
 use Rattle.ix_commands.specs.FlatRun.{flat_reply, flat_after}
 use Rattle.ix_commands.specs.TextRun.{text_reply, text_after}
 use Rattle.ix_commands.specs.declared.command.QueueCommand.TheVariants as queue
 use Rattle.ix_commands.specs.declared.command.VecCommand.TheVariants as vec
 use Rattle.ix_commands.specs.declared.command.TableCommand.TheVariants as table
+use Rattle.ix_commands.specs.declared.command.SlotCommand.TheVariants as slot
 use Rattle.ix_commands.specs.declared.command.FlatCommand.TheVariants as flat
 use Rattle.ix_commands.specs.declared.command.TextCommand.TheVariants as text
 use Rattle.ix_commands.specs.declared.reply.Reply.TheVariants as reply
@@ -31,6 +34,24 @@ queue-one = refl
 table-three : run_replies (table_reply {X = ℕ}) table_after (slot_new 3) (table.Insert 10 ∷ table.Insert 20 ∷ table.Remove 0 ∷ table.Next ∷ table.Insert 30 ∷ table.InsertAt 2 40 ∷ table.Insert 50 ∷ [])
     ≡ reply.Key 0 ∷ reply.Key 1 ∷ reply.Value 10 ∷ reply.Key 0 ∷ reply.Key 0 ∷ reply.Bool true ∷ reply.None ∷ []
 table-three = refl
+
+abbrev key : ℕ → ℕ → SlotKey
+key index generation = record { index = index; generation = generation }
+
+-- capacity 3: the key 0:0 is removed and stays dead, 0:1 is replaced and dead then, and 0:2 is removed
+slot-three : run_replies (slot_reply {X = ℕ}) slot_after (map_new 3 0) (slot.Insert 10 ∷ slot.Remove (key 0 0) ∷ slot.Insert 20 ∷ slot.Get (key 0 0) ∷ slot.Get (key 0 1) ∷ slot.InsertAt 0 30 ∷ slot.Get (key 0 1) ∷ slot.Remove (key 0 2) ∷ slot.Next ∷ [])
+    ≡ reply.Key (key 0 0) ∷ reply.Value 10 ∷ reply.Key (key 0 1) ∷ reply.None ∷ reply.Value 20 ∷ reply.Key (key 0 2) ∷ reply.None ∷ reply.Value 30 ∷ reply.Key (key 0 3) ∷ []
+slot-three = refl
+
+-- capacity 3: place 2 is taken by its index, place 3 is past the end; a key of another generation writes nothing
+slot-at : run_replies (slot_reply {X = ℕ}) slot_after (map_new 3 0) (slot.InsertAt 2 40 ∷ slot.InsertAt 3 50 ∷ slot.From 1 ∷ slot.Insert 10 ∷ slot.From 0 ∷ slot.Set (key 2 1) 60 ∷ slot.Set (key 2 0) 70 ∷ slot.From 1 ∷ slot.From 3 ∷ slot.Len ∷ [])
+    ≡ reply.Key (key 2 0) ∷ reply.None ∷ reply.Entry (key 2 0) 40 ∷ reply.Key (key 0 0) ∷ reply.Entry (key 0 0) 10 ∷ reply.Bool false ∷ reply.Bool true ∷ reply.Entry (key 2 0) 70 ∷ reply.None ∷ reply.Number 2 ∷ []
+slot-at = refl
+
+-- capacity 2, at the greatest generation: place 0 is retired and takes no value, nor does place 1 take another
+slot-last : run_replies (slot_reply {X = ℕ}) slot_after (map_new 2 4294967295) (slot.Insert 7 ∷ slot.Remove (key 0 4294967295) ∷ slot.Insert 8 ∷ slot.Insert 9 ∷ slot.InsertAt 0 9 ∷ slot.InsertAt 1 9 ∷ slot.Retired ∷ slot.Full ∷ slot.From 0 ∷ [])
+    ≡ reply.Key (key 0 4294967295) ∷ reply.Value 7 ∷ reply.Key (key 1 4294967295) ∷ reply.None ∷ reply.None ∷ reply.None ∷ reply.Number 1 ∷ reply.Bool true ∷ reply.Entry (key 1 4294967295) 8 ∷ []
+slot-last = refl
 
 -- capacity 1: key 1 keeps its value 2, and there is no room for key 2
 flat-one : run_replies (flat_reply {V = ℕ} nat_eq) (flat_after nat_eq) (slot_new 1) (flat.Insert 1 2 ∷ flat.Insert 1 3 ∷ flat.Insert 2 4 ∷ flat.Get 1 ∷ flat.Key 0 ∷ flat.Key 1 ∷ [])

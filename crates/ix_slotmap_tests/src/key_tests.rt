@@ -65,7 +65,8 @@ fn check_text<T: Debug>(findings: &Findings, value: &T, text: &str) {
     findings.expect_same(found.as_str(), text, "the text");
 }
 
-/// Checks the texts of an empty map, of the map with the value 7 at index 0 and generation 1, and of its iterator.
+/// Checks the texts of an empty map with three places, of one with a value, of a full one, and of its iterator as far as it has
+/// come.
 fn check_texts<S: Table<Option<u64>>, L: Table<Link>, G: Table<u32>>(
     findings: &Findings,
     map: &mut MetaSlotMap<Option<u64>, S, L, G>,
@@ -74,10 +75,15 @@ fn check_texts<S: Table<Option<u64>>, L: Table<Link>, G: Table<u32>>(
     let _ = map.insert(5);
     let _ = map.insert_at(0, 7);
     check_text(findings, &*map, "{(0, 1): 7}");
+    let _ = map.insert_at(2, 9);
+    let _ = map.insert(8);
+    check_text(findings, &*map, "{(0, 1): 7, (1, 0): 8, (2, 0): 9}");
     let mut walk = map.iter();
-    check_text(findings, &walk, "[(0, 1, 7)]");
+    check_text(findings, &walk, "[(0, 1, 7), (1, 0, 8), (2, 0, 9)]");
     let is_first = walk.next() == Some((SlotMapKey::new(0, 1), &7));
-    findings.expect(is_first, "the only item");
+    findings.expect(is_first, "the first item");
+    check_text(findings, &walk, "[(1, 0, 8), (2, 0, 9)]");
+    findings.expect(walk.nth(1).is_some(), "the last item");
     check_text(findings, &walk, "[]");
     findings.expect(walk.next().is_none(), "the end");
 }

@@ -1,8 +1,8 @@
 //! How many calls of its tables a call of a slot table makes, at capacity 1,000, and how many a counted table makes.
 ghost use Rattle.std.specs.Prelude.{◌≡◌, ℕ};
 
-use crate::counting_tests::Change::{Insert, InsertAt, Remove};
-use crate::counting_tests::Outcome::{Inserted, Key, Removed};
+use crate::counting_tests::Call::{Contains, Get, GetMut, Insert, InsertAt, NextFreeKey, Remove};
+use crate::counting_tests::Outcome::{Key, Truth, Value};
 use ix_cells::{Counted, HeapTable, InlineTable, Table, Touches};
 use ix_maps::{Link, MetaSlotTable, SlotTableKey};
 use ix_test_support::Findings;
@@ -110,38 +110,56 @@ fn map_with_values(
     Ok(map)
 }
 
-/// A call that changes a map. Keys are given by their numbers.
+/// A call of a map. Keys are given by their numbers.
 #[derive(Drop)]
-enum Change {
+enum Call {
     Insert,
     InsertAt(usize),
     Remove(usize),
+    NextFreeKey,
+    Contains(usize),
+    Get(usize),
+    GetMut(usize),
 }
 
-/// The result of such a call.
+/// The result of a call.
 #[derive(PartialEq, Debug, Drop)]
 enum Outcome {
     Key(Option<SlotTableKey>),
-    Inserted(bool),
-    Removed(Option<u64>),
+    Truth(bool),
+    Value(Option<u64>),
 }
 
 /// Makes a call and returns its result.
-fn plain(map: &mut CountingMap, change: &Change) -> Outcome {
-    match change {
+fn plain(map: &mut CountingMap, call: &Call) -> Outcome {
+    match call {
         Insert => Key(map.insert(7)),
-        InsertAt(key) => Inserted(map.insert_at(SlotTableKey::new(*key), 7)),
-        Remove(key) => Removed(map.remove(SlotTableKey::new(*key))),
+        InsertAt(key) => Truth(map.insert_at(SlotTableKey::new(*key), 7)),
+        Remove(key) => Value(map.remove(SlotTableKey::new(*key))),
+        NextFreeKey => Key(map.next_free_key()),
+        Contains(key) => Truth(map.contains(SlotTableKey::new(*key))),
+        Get(key) => Value(map.get(SlotTableKey::new(*key)).copied()),
+        GetMut(key) => Value(map.get_mut(SlotTableKey::new(*key)).copied()),
     }
 }
 
-/// Makes the counted form of a call and returns its result.
-fn counted(map: &mut CountingMap, change: &Change) -> Outcome {
+/// Makes the counted form of a call, if it has one, and returns its result.
+fn counted(map: &mut CountingMap, call: &Call) -> Outcome {
     let mut touches = Touches::new();
-    match change {
+    match call {
         Insert => Key(map.insert_counted(7, &mut touches)),
-        InsertAt(key) => Inserted(map.insert_at_counted(SlotTableKey::new(*key), 7, &mut touches)),
-        Remove(key) => Removed(map.remove_counted(SlotTableKey::new(*key), &mut touches)),
+        InsertAt(key) => Truth(map.insert_at_counted(SlotTableKey::new(*key), 7, &mut touches)),
+        Remove(key) => Value(map.remove_counted(SlotTableKey::new(*key), &mut touches)),
+        Contains(key) => Truth(map.contains_counted(SlotTableKey::new(*key), &mut touches)),
+        Get(key) => Value(
+            map.get_counted(SlotTableKey::new(*key), &mut touches)
+                .copied(),
+        ),
+        GetMut(key) => Value(
+            map.get_mut_counted(SlotTableKey::new(*key), &mut touches)
+                .copied(),
+        ),
+        NextFreeKey => plain(map, call),
     }
 }
 
@@ -167,22 +185,22 @@ const KEYS: &[(u64, usize, Option<u64>)] = &[
 const OUT_OF_RANGE: &[usize] = &[1000, 1001, usize::MAX];
 
 /// Makes the plain and the counted form of a call, each on a fresh map of which the first `held` keys have values. Each
-/// returns `wanted` and calls the tables `least` to 16 times, both equally often.
-fn check_change(
+/// returns `wanted` and calls the tables `least` to `most` times, both equally often.
+fn check_call(
     findings: &Findings,
     alloc: Global,
     held: u64,
-    change: &Change,
-    (least, wanted): (u64, &Outcome),
+    call: &Call,
+    (least, most, wanted): (u64, u64, &Outcome),
 ) {
     let calls = Cell::new(0);
     if let Ok(mut map) = map_with_values(alloc, held, &calls) {
-        findings.expect_same(&plain(&mut map, change), wanted, "the plain call");
+        findings.expect_same(&plain(&mut map, call), wanted, "the plain call");
         let plain_calls = calls.get();
         findings.expect(plain_calls >= least, "calls of tables, at least");
-        findings.expect(plain_calls <= 16, "calls of tables, at most");
+        findings.expect(plain_calls <= most, "calls of tables, at most");
         if let Ok(mut map) = map_with_values(alloc, held, &calls) {
-            findings.expect_same(&counted(&mut map, change), wanted, "the counted call");
+            findings.expect_same(&counted(&mut map, call), wanted, "the counted call");
             findings.expect_same(calls.get(), plain_calls, "calls of tables, counted");
             return;
         }
@@ -191,13 +209,21 @@ fn check_change(
 }
 
 #[test]
-fn inserts(rt: HostRuntime) -> Result<(), Fail> {
+fn calls_of_the_first_free_key(rt: HostRuntime) -> Result<(), Fail> {
     let findings = Findings::new();
     for (held, key) in INSERTS {
         let wanted = Key(Some(SlotTableKey::new(*key)));
-        check_change(&findings, rt.alloc(), *held, &Insert, (1, &wanted));
+        check_call(&findings, rt.alloc(), *held, &Insert, (1, 16, &wanted));
+        check_call(&findings, rt.alloc(), *held, &NextFreeKey, (0, 0, &wanted));
     }
-    check_change(&findings, rt.alloc(), 1000, &Insert, (0, &Key(None)));
+    check_call(&findings, rt.alloc(), 1000, &Insert, (0, 16, &Key(None)));
+    check_call(
+        &findings,
+        rt.alloc(),
+        1000,
+        &NextFreeKey,
+        (0, 0, &Key(None)),
+    );
     findings.verdict()
 }
 
@@ -205,10 +231,18 @@ fn inserts(rt: HostRuntime) -> Result<(), Fail> {
 fn calls_on_a_key(rt: HostRuntime) -> Result<(), Fail> {
     let findings = Findings::new();
     for (held, key, value) in KEYS {
-        let wanted = (1, &Inserted(true));
-        check_change(&findings, rt.alloc(), *held, &InsertAt(*key), wanted);
-        let wanted = (1, &Removed(*value));
-        check_change(&findings, rt.alloc(), *held, &Remove(*key), wanted);
+        let is_held = Truth(value.is_some());
+        let value = Value(*value);
+        let calls = [
+            (InsertAt(*key), 16, &Truth(true)),
+            (Remove(*key), 16, &value),
+            (Contains(*key), 2, &is_held),
+            (Get(*key), 3, &value),
+            (GetMut(*key), 4, &value),
+        ];
+        for (call, most, wanted) in &calls {
+            check_call(&findings, rt.alloc(), *held, call, (1, *most, *wanted));
+        }
     }
     findings.verdict()
 }
@@ -217,11 +251,17 @@ fn calls_on_a_key(rt: HostRuntime) -> Result<(), Fail> {
 fn calls_out_of_range(rt: HostRuntime) -> Result<(), Fail> {
     let findings = Findings::new();
     for key in OUT_OF_RANGE {
+        let calls = [
+            (InsertAt(*key), 16, &Truth(false)),
+            (Remove(*key), 16, &Value(None)),
+            (Contains(*key), 2, &Truth(false)),
+            (Get(*key), 3, &Value(None)),
+            (GetMut(*key), 4, &Value(None)),
+        ];
         for held in &[0, 500, 1000] {
-            let wanted = (0, &Inserted(false));
-            check_change(&findings, rt.alloc(), *held, &InsertAt(*key), wanted);
-            let wanted = (0, &Removed(None));
-            check_change(&findings, rt.alloc(), *held, &Remove(*key), wanted);
+            for (call, most, wanted) in &calls {
+                check_call(&findings, rt.alloc(), *held, call, (0, *most, *wanted));
+            }
         }
     }
     findings.verdict()
