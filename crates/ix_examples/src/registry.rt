@@ -3,6 +3,7 @@ ghost use Rattle.std.specs.Prelude.{◌≡◌, ◌≢◌, ◌↔◌, [], None, S
 ghost use Rattle.ix_maps.specs.Generations.{SlotKey, map_value, IsDead};
 ghost use Rattle.ix_maps.specs.SlotMapSteps.{map_insert, map_remove};
 
+use ix_maps::slotmap::dead_keys_law;
 use ix_maps::{FixedSizeSlotMap, SlotMapKey};
 use ix_string::StaticString;
 
@@ -60,5 +61,5 @@ pub fn hand_over(registry: &mut Registry, handle: SlotMapKey, services: &[Servic
     for service in services {
         register(registry, *service);
     }
-    registry.get(handle);
+    dead_keys_law::<Service>();
 }

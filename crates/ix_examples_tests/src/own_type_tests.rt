@@ -2,8 +2,10 @@
 use bumpalo::Bump;
 use ix_atomic::FixedSizeByteAtomic;
 use ix_examples::arena::connect;
+use ix_examples::station::{Station, add_station, empty_station};
 use ix_examples::temperature::{Temperature, through_bytes};
-use ix_names::{JsonFault, JsonForm};
+use ix_maps::FixedSizeQueue;
+use ix_names::{GroupName, JsonFault, JsonForm};
 use ix_string::String;
 use serde_json::Value;
 
@@ -41,4 +43,16 @@ fn a_connection_in_an_arena(rt: HostRuntime) {
     assert_eq!(rt; connection.path.capacity(), 64);
     assert_eq!(rt; connection.path.push_bytes(b"/dev"), Ok(()));
     assert_eq!(rt; connection.inbox.pop(), Some(7));
+}
+
+#[test]
+fn a_station_among_others(rt: HostRuntime) {
+    let name = GroupName::new(b"west").expect(&rt, "a name");
+    let mut stations = FixedSizeQueue::<Station, 4>::new();
+    let (station, writer) = empty_station(rt.alloc(), name).expect(&rt, "there is memory");
+    assert!(rt; add_station(&mut stations, station));
+    let station = stations.pop().expect(&rt, "the station is in the queue");
+    assert_eq!(rt; station.name, name);
+    assert!(rt; station.services.is_empty() && station.ports.is_empty());
+    assert_eq!(rt; station.limit.close(writer).ok(), Some(100));
 }

@@ -6,5 +6,5 @@ use Rattle.ix_examples.proofs.registry.hand_over.Given as goal
 -- the handle is dead, if it was held; and the first services are registered after it was removed
 abbrev pub invariant-loop-service : goal.invariant-loop-service
 invariant-loop-service l =
-    (IsSome (map_value l.fn.registry l.handle) → IsDead l.registry l.handle)
-    × (l.registry ≡ fold map_insert (map_remove l.fn.registry l.handle) (take l.service-index l.services))
+    (IsSome (map_value l.fn.registry l.fn.handle) → IsDead l.registry l.fn.handle)
+    × (l.registry ≡ fold map_insert (map_remove l.fn.registry l.fn.handle) (take l.service-index l.services))
