@@ -9,6 +9,7 @@ pub mod iteration;
 pub mod json_message;
 pub mod log_position;
 pub mod message;
+pub mod own_fields;
 pub mod queues;
 pub mod registry;
 pub mod rising_limit;

@@ -1,7 +1,8 @@
 //! A type of one's own in cells and in JSON, and two containers in one arena.
 use bumpalo::Bump;
-use ix_atomic::FixedSizeByteAtomic;
+use ix_atomic::{AtomicCopy, FixedSizeByteAtomic};
 use ix_examples::arena::connect;
+use ix_examples::own_fields::{Pose, Range, pose_through_bytes, range_through_bytes};
 use ix_examples::temperature::{Temperature, through_bytes};
 use ix_names::{JsonFault, JsonForm};
 use ix_string::String;
@@ -41,4 +42,29 @@ fn a_connection_in_an_arena(rt: HostRuntime) {
     assert_eq!(rt; connection.path.capacity(), 64);
     assert_eq!(rt; connection.path.push_bytes(b"/dev"), Ok(()));
     assert_eq!(rt; connection.inbox.pop(), Some(7));
+}
+
+#[test]
+fn fields_come_back(rt: HostRuntime) {
+    let range = Range {
+        low: 1,
+        high: u64::MAX,
+    };
+    let mut bytes = [0; 16];
+    range.encode(&mut bytes);
+    assert_eq!(rt;
+        bytes,
+        [
+            1, 0, 0, 0, 0, 0, 0, 0, 255, 255, 255, 255, 255, 255, 255, 255
+        ]
+    );
+    assert_eq!(rt; range_through_bytes(&range), Some(range));
+    let pose = Pose {
+        x: 258,
+        y: 3,
+        time: 65_536,
+    };
+    pose.encode(&mut bytes);
+    assert_eq!(rt; bytes, [2, 1, 0, 0, 3, 0, 0, 0, 0, 0, 1, 0, 0, 0, 0, 0]);
+    assert_eq!(rt; pose_through_bytes(&pose), Some(pose));
 }
