@@ -16,6 +16,7 @@ pub mod rising_limit;
 pub mod rolling_window;
 pub mod scripts;
 pub mod session_table;
+pub mod shared_range;
 pub mod strings;
 pub mod temperature;
 pub mod three_errors;
