@@ -18,6 +18,7 @@ pub mod Beginnings
 pub mod StageBytes
 pub mod DataWords
 pub mod Encodes
+pub mod Triples
 pub mod OwnPlaces
 pub mod Owners
 pub mod EveryValue

@@ -1,4 +1,4 @@
--- Versions of a value that one writer writes: even between two writes, and odd during one.
+-- Versions of a value: even between two writes, and odd during one.
 use Rattle.std.specs.Prelude.{ℕ, List, codes}
 
 -- the greatest even version, at which no write can begin

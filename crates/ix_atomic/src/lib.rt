@@ -17,8 +17,8 @@ pub mod sequenced;
 
 pub use byte_atomic::steps::VersionsUsedUp;
 pub use byte_atomic::{
-    AtomicCopy, FixedSizeByteAtomic, MaybeTorn, RelocatableByteAtomic, UninitByteAtomic, pack_word,
-    unpack_word,
+    AtomicCopy, FixedSizeByteAtomic, MaybeTorn, RelocatableByteAtomic, UninitByteAtomic,
+    decode_pair, decode_triple, encode_pair, encode_triple, pack_word, unpack_word,
 };
 pub use sequenced::{
     Interfered, ReaderSeat, SequencedByteAtomic, TryWriteError, Unfinished, WriterSeat,

@@ -20,7 +20,7 @@ pub fn check_fixed<T: AtomicCopy + PartialEq + Debug, const SIZE: usize>(
     place: &str,
 )
     requires size { SIZE ≡ T.SIZE }
-    requires fits { SIZE ≤ 256 }
+    requires fits { SIZE ≤ 1000 }
 {
     let cell = FixedSizeByteAtomic::<T, SIZE>::new(first);
     findings.expect_same(cell.read().assume_consistent(), Some(first), place);

@@ -11,7 +11,7 @@ use std::test::Fail;
 
 /// Checks a cell of each kind, of bytes that are all 7, and then 0, 1, 2, and so on. Sequenced ones have `words` words.
 fn check_cells<const SIZE: usize>(findings: &Findings, alloc: Global, words: usize, place: &str)
-    requires { SIZE ≤ 256 }
+    requires { SIZE ≤ 1000 }
 {
     let first = [7; SIZE];
     let second: [u8; SIZE] = array::from_fn(|i| (i & 0xff) as u8);
@@ -33,5 +33,6 @@ fn cells_of_each_size(rt: HostRuntime) -> Result<(), Fail> {
     check_cells::<17>(&findings, rt.alloc(), 4, "17 bytes");
     check_cells::<64>(&findings, rt.alloc(), 9, "64 bytes");
     check_cells::<256>(&findings, rt.alloc(), 33, "256 bytes");
+    check_cells::<1_000>(&findings, rt.alloc(), 126, "1,000 bytes");
     findings.verdict()
 }

@@ -66,13 +66,14 @@ fn check_two_writers<R: Threads + Sync>(
 fn bytes_of_two_writers(rt: HostRuntime) -> Result<(), Fail> {
     let findings = Findings::new();
     check_two_writers(&rt, &findings, 0, (0, u64::MAX), &[0, 255]);
-    // No bit is in both bytes that are written, and the first one is neither: 0 or a mixed byte is not expected.
+    // No bit is in both bytes that are written, neither is the other's complement, and the first one is neither: 0, a mixed byte
+    // or a complement is not expected.
     check_two_writers(
         &rt,
         &findings,
         0x3C3C_3C3C_3C3C_3C3C,
-        (0x0F0F_0F0F_0F0F_0F0F, 0xF0F0_F0F0_F0F0_F0F0),
-        &[0x3C, 0x0F, 0xF0],
+        (0x0F0F_0F0F_0F0F_0F0F, 0x7070_7070_7070_7070),
+        &[0x3C, 0x0F, 0x70],
     );
     findings.verdict()
 }

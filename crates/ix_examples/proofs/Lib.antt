@@ -1,3 +1,4 @@
 mod Appending
 mod Windows
 pub mod Written
+pub mod Ranges

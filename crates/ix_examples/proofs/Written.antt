@@ -17,7 +17,7 @@ use Rattle.ix_atomic.proofs.EveryValue.{every_value}
 use Rattle.ix_examples.specs.Written.{StandAt, HasWritten, HasSet, GrewTo}
 
 module _ {T : Type 0} where
-  slice_get-longer : (history more : List T) (place : ℕ) (value : T) → slice_get history place ≡ Some value → slice_get (history ++ more) place ≡ Some value
+  pub slice_get-longer : (history more : List T) (place : ℕ) (value : T) → slice_get history place ≡ Some value → slice_get (history ++ more) place ≡ Some value
   slice_get-longer history more place value at = let inside = slice_get_within history place value at in let long = length-append history more in
       slice_get-get_or (history ++ more) place value (omega (arith, inside, long))
       ∙ ap Some (get_or_append_left history more value place inside ∙ get_or_from_slice_get history place value value at)
@@ -41,10 +41,10 @@ module _ {T : Type 0} where
   Begins-length : (xs ys : List T) → Begins xs ys → length xs ≤ length ys
   Begins-length xs ys begins = let whole = ap length begins.1 in let parts = length-append xs begins.0 in omega (arith, whole, parts)
 
-  begins_after : (before after : Writer T) (value : T) → Writes before after value → Begins before.known after.known
+  pub begins_after : (before after : Writer T) (value : T) → Writes before after value → Begins before.known after.known
   begins_after before after value write = Begins-trans before.known write.earlier after.known write.begins (value ∷ [], write.known)
 
-  slice_get-last : (xs : List T) (x : T) → slice_get (xs ++ x ∷ []) (length xs) ≡ Some x
+  pub slice_get-last : (xs : List T) (x : T) → slice_get (xs ++ x ∷ []) (length xs) ≡ Some x
   slice_get-last xs x = let long = length-append xs (x ∷ []) in slice_get-get_or (xs ++ x ∷ []) (length xs) x (omega (arith, long)) ∙ ap Some (get_or_push xs x x (length xs) refl)
 
   StandAt-length : (history : List T) (places : List ℕ) (values : List T) → StandAt history places values → length places ≡ length values
@@ -136,12 +136,12 @@ module _ {T : Type 0} where
       (merge-cases places places' place (subst (λ list. Contains list place) is has))))
 
 -- a refused write leaves what the seat has written where it is
-refused_keeps : (before after : Writer ℕ) (error : TryWriteError) → Refuses before after error → Begins before.known after.known
-refused_keeps before after (Busy loaded found) refused = ⊎_elim
+pub refused_keeps : {T : Type 0} (before after : Writer T) (error : TryWriteError) → Refuses before after error → Begins before.known after.known
+refused_keeps {T} before after (Busy loaded found) refused = ⊎_elim
     (λ (odd : IsOdd loaded × (found ≡ loaded) × Loads (as_reader before) (as_reader after) loaded × (after.touched ≡ before.touched ++ 0 ∷ [])). odd.2.known)
     (λ (even : IsEven loaded × (loaded < last_version) × (loaded < found) × LoadsTwice (as_reader before) (as_reader after) loaded found × (after.touched ≡ before.touched ++ 0 ∷ 0 ∷ [])).
     Begins-trans before.known even.3.between.known after.known even.3.first_load.known even.3.last_load.known) refused
-refused_keeps before after VersionsUsedUp refused = refused.0.known
+refused_keeps {T} before after VersionsUsedUp refused = refused.0.known
 
 pub refused_written : (before after : Writer ℕ) (error : TryWriteError) (values : List ℕ) → Refuses before after error → after.places ≡ before.places → HasWritten before values → HasWritten after values
 refused_written before after error values refused same stand = subst (λ places. StandAt after.known places values) (sym same)

@@ -1,3 +1,4 @@
 pub mod UnitNames
 pub mod UnitNamesLaws
+pub mod Ranges
 pub mod Written

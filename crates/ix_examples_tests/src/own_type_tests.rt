@@ -1,8 +1,9 @@
 //! A type of one's own in cells and in JSON, and two containers in one arena.
 use bumpalo::Bump;
-use ix_atomic::FixedSizeByteAtomic;
+use ix_atomic::{AtomicCopy, FixedSizeByteAtomic};
 use ix_examples::arena::connect;
 use ix_examples::station::{Station, add_station, empty_station};
+use ix_examples::own_fields::{Pose, Range, pose_through_bytes, range_through_bytes};
 use ix_examples::temperature::{Temperature, through_bytes};
 use ix_maps::FixedSizeQueue;
 use ix_names::{GroupName, JsonFault, JsonForm};
@@ -55,4 +56,29 @@ fn a_station_among_others(rt: HostRuntime) {
     assert_eq!(rt; station.name, name);
     assert!(rt; station.services.is_empty() && station.ports.is_empty());
     assert_eq!(rt; station.limit.close(writer).ok(), Some(100));
+}
+
+#[test]
+fn fields_come_back(rt: HostRuntime) {
+    let range = Range {
+        low: 1,
+        high: u64::MAX,
+    };
+    let mut bytes = [0; 16];
+    range.encode(&mut bytes);
+    assert_eq!(rt;
+        bytes,
+        [
+            1, 0, 0, 0, 0, 0, 0, 0, 255, 255, 255, 255, 255, 255, 255, 255
+        ]
+    );
+    assert_eq!(rt; range_through_bytes(&range), Some(range));
+    let pose = Pose {
+        x: 258,
+        y: 3,
+        time: 65_536,
+    };
+    pose.encode(&mut bytes);
+    assert_eq!(rt; bytes, [2, 1, 0, 0, 3, 0, 0, 0, 0, 0, 1, 0, 0, 0, 0, 0]);
+    assert_eq!(rt; pose_through_bytes(&pose), Some(pose));
 }
