@@ -69,8 +69,11 @@ fn inserts_and_extends(rt: HostRuntime) -> Result<(), Fail> {
 fn check_static_clone(findings: &Findings, vector: &StaticVec<u64, 4>) {
     if let Ok(mut copy) = vector.clone() {
         findings.expect_same(copy.as_slice(), &[1, 2], "a static clone");
+        if copy.len() > 3 {
+            return findings.miss("a static clone");
+        }
         let pushed = copy.extend_from_slice_unchecked(&[3]);
-        findings.expect_same(pushed, Ok(()), "a static clone");
+        findings.expect(pushed.is_ok(), "a static clone");
         findings.expect_same(copy.as_slice(), &[1, 2, 3], "a static clone");
     } else {
         findings.miss("a static clone");
