@@ -80,6 +80,22 @@ fn texts(rt: HostRuntime) -> Result<(), Fail> {
     findings.verdict()
 }
 
+/// A text of many bytes is written where there is memory.
+#[test]
+fn a_long_text(rt: HostRuntime) -> Result<(), Fail> {
+    let findings = Findings::new();
+    if let Ok(string) = StaticString::<4000>::from_bytes(&[b'a'; 4000]) {
+        let written = string.to_value(rt.alloc());
+        let found = written.is_ok_and(|value| value
+            .as_str()
+            .is_some_and(|text| text.len() == 4000));
+        findings.expect(found, "a long text");
+    } else {
+        findings.miss("a long string");
+    }
+    findings.verdict()
+}
+
 #[test]
 fn semantic_strings(rt: HostRuntime) -> Result<(), Fail> {
     let findings = Findings::new();

@@ -65,6 +65,13 @@ fn check_retain_calls<S: String>(findings: &Findings, string: &mut S, place: &st
     }
 }
 
+/// A closure of `retain` is called at bytes from 1 to 127 alone: no other may be subtracted here.
+fn check_retain_of_text<S: String>(findings: &Findings, string: &mut S, place: &str) {
+    refill(string, "ab\u{1}\u{7f}");
+    string.retain(|byte: u8| 127 - byte > 29 && byte - 1 > 0);
+    findings.expect_same(string.as_str(), "b\u{1}\u{7f}", place);
+}
+
 /// Makes the examples for a string of capacity one, two, six or more.
 fn check_string<S: String>(findings: &Findings, string: &mut S, place: &str) {
     if string.capacity() <= 2 {
@@ -78,6 +85,7 @@ fn check_string<S: String>(findings: &Findings, string: &mut S, place: &str) {
     }
     check_tables(findings, string, OF_MORE, place);
     check_retain_calls(findings, string, place);
+    check_retain_of_text(findings, string, place);
     if string.capacity() == 6 {
         check_refused_bytes(findings, string, place);
     }

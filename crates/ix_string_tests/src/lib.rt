@@ -7,6 +7,8 @@ mod calls;
 #[cfg(test)]
 mod capacity_tests;
 #[cfg(test)]
+mod drawn_size_tests;
+#[cfg(test)]
 mod fixed_tests;
 #[cfg(test)]
 mod generic_tests;

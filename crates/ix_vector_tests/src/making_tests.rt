@@ -1,9 +1,10 @@
-//! Memory that is refused to each call that makes a vector or a table: nothing stays allocated.
+//! Memory that is refused to each call that makes a vector or a table: nothing stays allocated. Where there is memory, none
+//! is refused.
 use crate::items::ballast;
 use ix_cells::{
     HeapTable, PolymorphicVec, RawSlots, RelocatableContainer, Table, UninitVec, Vector,
 };
-use ix_test_support::Findings;
+use ix_test_support::{Findings, check_drawn_sizes};
 use linked_list_allocator::LocalHeap;
 use std::alloc::{AllocError, Allocator, Global};
 use std::cell::Cell;
@@ -164,12 +165,25 @@ fn each_allocation_refused(rt: HostRuntime) -> Result<(), Fail> {
     findings.verdict()
 }
 
+/// Makes a vector, fills half of it, and returns whether its clone is equal and has its capacity.
+fn is_half_cloned(alloc: Global, capacity: usize) -> bool {
+    let Ok(mut vector) = PolymorphicVec::<u64>::new(alloc, capacity) else {
+        return false;
+    };
+    let filled = vector.resize(capacity / 2, 7);
+    let copy = vector.try_clone();
+    filled.is_ok() && copy.is_ok_and(|copy| copy == vector && copy.capacity() == capacity)
+}
+
 #[test]
-fn large_ones(rt: HostRuntime) -> Result<(), Fail> {
+fn drawn_sizes(rt: HostRuntime) -> Result<(), Fail> {
     let findings = Findings::new();
+    let alloc = rt.alloc();
     for (making, name) in MAKINGS {
-        let found = made(&findings, *making, rt.alloc(), rt.alloc(), 70_000);
-        findings.expect_same(found, Some(70_000), name);
+        check_drawn_sizes(&findings, 100, name, |n| {
+            made(&findings, *making, alloc, alloc, n) == Some(n)
+        });
     }
+    check_drawn_sizes(&findings, 50, "a clone", |n| is_half_cloned(alloc, n));
     findings.verdict()
 }
