@@ -2,8 +2,8 @@
 use bumpalo::Bump;
 use ix_atomic::{AtomicCopy, FixedSizeByteAtomic};
 use ix_examples::arena::connect;
-use ix_examples::station::{Station, add_station, empty_station};
 use ix_examples::own_fields::{Pose, Range, pose_through_bytes, range_through_bytes};
+use ix_examples::station::{Station, add_station, empty_station};
 use ix_examples::temperature::{Temperature, through_bytes};
 use ix_maps::FixedSizeQueue;
 use ix_names::{GroupName, JsonFault, JsonForm};
