@@ -15,6 +15,7 @@ pub mod registry;
 pub mod rising_limit;
 pub mod rolling_window;
 pub mod scripts;
+pub mod service_sessions;
 pub mod session_table;
 pub mod shared_range;
 pub mod station;
