@@ -109,36 +109,23 @@ const JUDGED: &[(&[u8], bool, bool)] = &[
     (b"A", false, true),
     (b"a{", false, true),
     (b"`", false, true),
+    (b"1\xff", true, true),
+    (b"a\0", false, true),
 ];
 
-/// Returns what both predicates of group names return, or `None` if the bytes are no text, of which rules are not asked.
-fn judged_name(bytes: &[u8]) -> Option<(bool, bool)> {
-    let text = StaticString::<31>::from_bytes(bytes).ok()?;
-    let bytes = text.as_bytes_const();
-    Some((
-        <GroupNameRules as Rules<31>>::invalid_content(bytes),
-        <GroupNameRules as Rules<31>>::invalid_characters(bytes),
-    ))
-}
-
-/// As `judged_name`, of trailing slashes.
-fn judged_path(bytes: &[u8]) -> Option<(bool, bool)> {
-    let text = StaticString::<255>::from_bytes(bytes).ok()?;
-    let bytes = text.as_bytes_const();
-    Some((
-        <TrailingSlashRules as Rules<255>>::invalid_content(bytes),
-        <TrailingSlashRules as Rules<255>>::invalid_characters(bytes),
-    ))
+/// Returns what both predicates return.
+fn judged<R: Rules<CAPACITY>, const CAPACITY: usize>(bytes: &[u8]) -> (bool, bool) {
+    (R::invalid_content(bytes), R::invalid_characters(bytes))
 }
 
 #[test]
 fn predicates_of_the_sample_rules() -> Result<(), Fail> {
     let findings = Findings::new();
     for (row, (bytes, content, characters)) in JUDGED.iter().enumerate() {
-        let found = judged_name(bytes);
-        findings.expect_same_at(found, Some((*content, *characters)), row, "group names");
-        let found = judged_path(bytes);
-        findings.expect_same_at(found, Some((false, false)), row, "trailing slashes");
+        let found = judged::<GroupNameRules, 31>(bytes);
+        findings.expect_same_at(found, (*content, *characters), row, "group names");
+        let found = judged::<TrailingSlashRules, 255>(bytes);
+        findings.expect_same_at(found, (false, false), row, "trailing slashes");
     }
     findings.verdict()
 }

@@ -1,6 +1,5 @@
 //! The trait of rules.
-ghost use Rattle.std.specs.Prelude.{ℕ, ◌≡◌, ◌≤◌, List, length, IsTrue};
-ghost use Rattle.ix_string.specs.Text.{IsText};
+ghost use Rattle.std.specs.Prelude.{ℕ, ◌≡◌, List, IsTrue};
 ghost use Rattle.ix_names.specs.Rules.{TextRules, IsAccepted};
 
 use ix_string::StaticString;
@@ -19,14 +18,10 @@ pub trait Rules<const CAPACITY: usize> {
 
     /// Returns `true` if the whole text is not allowed.
     fn invalid_content(bytes: &[u8]) -> bool
-        requires fits { length bytes.now ≤ CAPACITY }
-        requires text { IsText bytes.now }
         ensures { result ≡ rules.invalid_content bytes.now };
 
     /// Returns `true` if the text has a byte that no text may have.
     fn invalid_characters(bytes: &[u8]) -> bool
-        requires fits { length bytes.now ≤ CAPACITY }
-        requires text { IsText bytes.now }
         ensures { result ≡ rules.invalid_characters bytes.now };
 
     /// Returns the normal form of an accepted text.
