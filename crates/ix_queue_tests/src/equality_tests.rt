@@ -1,4 +1,9 @@
 //! Equality of queues: of their items in order, wherever these lie in the ring.
+ghost use Rattle.std.proofs.Common.{rules};
+ghost use Rattle.std.specs.Cmp.Rules.{comparing};
+ghost use Rattle.std.specs.Ordering.{on};
+ghost use Rattle.std.specs.Prelude.{nat_eq};
+
 use crate::calls::Call::{self, Clear, Len, Pop, Push};
 use crate::calls::outcome_of;
 use crate::equality_tests::Side::{One, Other};
@@ -7,6 +12,7 @@ use ix_cells::{RelocatableContainer, Table};
 use ix_maps::{FixedSizeQueue, MetaQueue, Queue, RelocatableQueue};
 use ix_test_support::Findings;
 use std::alloc::AllocError;
+use std::cell::Cell;
 use std::test::Fail;
 
 /// One of two queues.
@@ -102,6 +108,65 @@ fn queues_in_memory(rt: HostRuntime) -> Result<(), Fail> {
         check_made(&findings, one, Queue::new(alloc, 3), EQUAL, turn);
         let other = RelocatableQueue::<u64>::new_uninit(5).init(alloc);
         check_made(&findings, Queue::new(alloc, 3), other, DIFFERENT, turn);
+    }
+    findings.verdict()
+}
+
+/// A number that counts its comparisons.
+#[derive(Drop)]
+struct Compared<'a> {
+    number: u64,
+    comparisons: &'a Cell<u64>,
+}
+
+impl PartialEq for Compared<'_> {
+    ghost eq = { on (λ item. item.number) nat_eq };
+
+    ghost laws = { Prim.search (comparing, rules) };
+
+    fn eq(&self, other: &Self) -> bool {
+        let comparisons = self.comparisons.get();
+        self.comparisons.set(comparisons.wrapping_add(1));
+        self.number == other.number
+    }
+}
+
+/// Returns a queue of these numbers, of which it keeps the last three.
+fn queue_of<'a>(numbers: &[u64], comparisons: &'a Cell<u64>) -> FixedSizeQueue<Compared<'a>, 3> {
+    let mut queue = FixedSizeQueue::new();
+    for number in numbers {
+        let item = Compared {
+            number: *number,
+            comparisons,
+        };
+        drop(queue.push_with_overflow(item));
+    }
+    queue
+}
+
+/// The numbers that are appended to two queues, and how many pairs of items are compared: up to the first that differs, and
+/// none if one queue has more items.
+const COMPARED: &[(&[u64], &[u64], u64)] = &[
+    (&[], &[], 0),
+    (&[1], &[], 0),
+    (&[1, 2], &[1, 2, 3], 0),
+    (&[1], &[1], 1),
+    (&[1, 2, 3], &[1, 2, 3], 3),
+    (&[9, 1, 2, 3], &[1, 2, 3], 3),
+    (&[1, 2, 3], &[1, 2, 4], 3),
+    (&[1, 2, 3], &[1, 9, 3], 2),
+    (&[1, 2, 3], &[8, 9, 9, 3], 1),
+];
+
+#[test]
+fn compared_items() -> Result<(), Fail> {
+    let findings = Findings::new();
+    let comparisons = Cell::new(0);
+    for (row, (one, other, wanted)) in COMPARED.iter().enumerate() {
+        let one = queue_of(*one, &comparisons);
+        let other = queue_of(*other, &comparisons);
+        let _ = one == other;
+        findings.expect_same_at(comparisons.replace(0), *wanted, row, "comparisons");
     }
     findings.verdict()
 }

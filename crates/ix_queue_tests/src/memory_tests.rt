@@ -2,7 +2,7 @@
 use bumpalo::Bump;
 use ix_cells::{InitError, RelocatableContainer, Table};
 use ix_maps::{MetaQueue, Queue, RelocatableQueue, UninitQueue};
-use ix_test_support::{Findings, check_sizes};
+use ix_test_support::{Findings, check_drawn_sizes, check_sizes};
 use linked_list_allocator::LocalHeap;
 use std::alloc::{Allocator, Global};
 use std::test::Fail;
@@ -127,5 +127,18 @@ fn too_little_memory(rt: HostRuntime) -> Result<(), Fail> {
         Ok(heap) => check_too_little(&findings, rt.alloc(), &heap),
         Err(_) => findings.miss("a heap"),
     }
+    findings.verdict()
+}
+
+#[test]
+fn ample_memory(rt: HostRuntime) -> Result<(), Fail> {
+    let findings = Findings::new();
+    let alloc = rt.alloc();
+    check_drawn_sizes(&findings, 200, "`new`", |capacity| {
+        Queue::<u64, Global>::new(alloc, capacity).is_ok()
+    });
+    check_drawn_sizes(&findings, 200, "`init`", |capacity| {
+        UninitQueue::<u64>::new_uninit(capacity).init(alloc).is_ok()
+    });
     findings.verdict()
 }

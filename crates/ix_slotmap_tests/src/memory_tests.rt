@@ -2,7 +2,7 @@
 use crate::calls::numbers_of;
 use ix_cells::{InitError, RelocatableContainer, Table};
 use ix_maps::{Link, MetaSlotMap, SlotMap, UninitSlotMap};
-use ix_test_support::{Findings, check_sizes};
+use ix_test_support::{Findings, check_drawn_sizes, check_sizes};
 use linked_list_allocator::LocalHeap;
 use std::alloc::{AllocError, Global};
 use std::test::Fail;
@@ -88,5 +88,21 @@ fn makings_refused(rt: HostRuntime) -> Result<(), Fail> {
             check_heap(&findings, heap, alloc, (capacity, has_room));
         },
     );
+    findings.verdict()
+}
+
+/// The size is the capacity and, up to 65,535, the generation.
+#[test]
+fn ample_memory(rt: HostRuntime) -> Result<(), Fail> {
+    let findings = Findings::new();
+    let alloc = rt.alloc();
+    check_drawn_sizes(&findings, 60, "`starting_at`", |size| {
+        SlotMap::<u64, Global>::starting_at(alloc, size, (size % 65_536) as u32).is_ok()
+    });
+    check_drawn_sizes(&findings, 60, "`init`", |size| {
+        UninitSlotMap::<u64>::starting_at(size, (size % 65_536) as u32)
+            .init(alloc)
+            .is_ok()
+    });
     findings.verdict()
 }

@@ -1,7 +1,7 @@
 //! Maps for which there is not enough memory, at each of the four allocations: nothing stays allocated.
 use ix_cells::{InitError, RelocatableContainer, Table};
 use ix_maps::{Link, MetaSlotTable, SlotTable, UninitSlotTable};
-use ix_test_support::{Findings, check_sizes};
+use ix_test_support::{Findings, check_drawn_sizes, check_sizes};
 use linked_list_allocator::LocalHeap;
 use std::alloc::Global;
 use std::test::Fail;
@@ -103,5 +103,20 @@ fn past_all_memory(rt: HostRuntime) -> Result<(), Fail> {
             }
         }
     }
+    findings.verdict()
+}
+
+#[test]
+fn ample_memory(rt: HostRuntime) -> Result<(), Fail> {
+    let findings = Findings::new();
+    let alloc = rt.alloc();
+    check_drawn_sizes(&findings, 60, "`new`", |capacity| {
+        SlotTable::<u64, Global>::new(alloc, capacity).is_ok()
+    });
+    check_drawn_sizes(&findings, 60, "`init`", |capacity| {
+        UninitSlotTable::<u64>::new_uninit(capacity)
+            .init(alloc)
+            .is_ok()
+    });
     findings.verdict()
 }
