@@ -192,7 +192,8 @@ impl<T: AtomicCopy, const SIZE: usize> SequencedByteAtomic<T, SIZE> {
         self.read(&mut seat.seat)
     }
 
-    /// Returns a new reader's seat, whose holder knows what the holder of `seat` knows. Takes no memory. O(1).
+    /// Returns a new reader's seat, whose holder knows what the holder of `seat` knows. Takes no memory, and loads the version
+    /// once, by `seat`. O(1).
     #[inline]
     pub fn reader(
         &self,
@@ -210,8 +211,8 @@ impl<T: AtomicCopy, const SIZE: usize> SequencedByteAtomic<T, SIZE> {
         Ok(ReaderSeat { seat: reader })
     }
 
-    /// Returns a new writer's seat, whose holder knows what the holder of `seat` knows, and has written nothing. Takes no
-    /// memory. O(1).
+    /// Returns a new writer's seat, whose holder knows what the holder of `seat` knows, and has written nothing. It takes half of
+    /// that seat's share of the right to write. Takes no memory, and loads the version once, by `seat`. O(1).
     #[inline]
     pub fn writer(
         &self,
@@ -233,8 +234,8 @@ impl<T: AtomicCopy, const SIZE: usize> SequencedByteAtomic<T, SIZE> {
         Ok(WriterSeat { seat: writer })
     }
 
-    /// Consumes `other`: the holder of `seat` then knows what both knew, and all that was written with either is its own. Takes no
-    /// memory. O(1).
+    /// Consumes `other`: the holder of `seat` then knows what both knew, and all that was written with either is its own, as is the
+    /// share of both of the right to write. Takes no memory, and loads the version twice. O(1).
     pub fn merge(&self, seat: &mut WriterSeat<T>, other: WriterSeat<T>)
         requires seat { seat.old.cell ≡ self.now }
         requires other { other.cell ≡ self.now }
@@ -256,7 +257,7 @@ impl<T: AtomicCopy, const SIZE: usize> SequencedByteAtomic<T, SIZE> {
         self.take_in(&mut seat.seat, other);
     }
 
-    /// Consumes `reader`: the holder of `seat` then knows what both knew. Takes no memory. O(1).
+    /// Consumes `reader`: the holder of `seat` then knows what both knew. Takes no memory, and loads the version twice. O(1).
     pub fn merge_reader(&self, seat: &mut WriterSeat<T>, reader: ReaderSeat<T>)
         requires seat { seat.old.cell ≡ self.now }
         requires reader { reader.cell ≡ self.now }
