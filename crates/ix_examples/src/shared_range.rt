@@ -1,4 +1,4 @@
-//! A range that two threads set while two others read it, none of which waits. Each range that is read is in order.
+//! A range that two threads set while two others read it, none of which waits. Each range that is set is in order.
 ghost use Rattle.std.specs.Prelude.{◌≡◌, ◌≤◌, IfOk, IfSome};
 ghost use Rattle.ix_examples.specs.Ranges.{IsInOrder, AreInOrder, KnowsOf};
 
