@@ -1,5 +1,6 @@
 //! Keys by their traits, and the texts of maps.
 use ix_cells::Table;
+use ix_maps::slotmap::key_order_law;
 use ix_maps::{FixedSizeSlotMap, Link, MetaSlotMap, SlotMap, SlotMapKey};
 use ix_test_support::Findings;
 use std::alloc::AllocError;
@@ -35,7 +36,12 @@ const RISING: &[(usize, u32)] = &[
 fn check_pair(findings: &Findings, key: &SlotMapKey, other: &SlotMapKey, order: Ordering) {
     let is_same = order == Ordering::Equal;
     findings.expect_same(order_of(key, other), order, "the order");
-    findings.expect_same(key < other, order == Ordering::Less, "less");
+    let is_less = order == Ordering::Less;
+    findings.expect_same(
+        (key < other, key_order_law(*key, *other)),
+        (is_less, is_less),
+        "less",
+    );
     findings.expect_same(key == other, is_same, "equality");
     findings.expect_same(
         hash_of(key) == hash_of(other),

@@ -230,3 +230,17 @@ fn counters_have_no_bytes() -> Result<(), Fail> {
     findings.expect_same(size_of::<Touches>(), 0, "the size of a counter");
     findings.verdict()
 }
+
+#[test]
+fn values_without_a_test() -> Result<(), Fail> {
+    let findings = Findings::new();
+    let mut map = FixedSizeSlotTable::<u64, 2>::new();
+    let (first, second) = (map.insert(7), map.insert(9));
+    if let (Some(first), Some(second)) = (first, second) {
+        findings.expect_same(*map.get_unchecked(first), 7, "the first value");
+        findings.expect_same(*map.get_unchecked(second), 9, "the second value");
+    } else {
+        findings.miss("there is room");
+    }
+    findings.verdict()
+}

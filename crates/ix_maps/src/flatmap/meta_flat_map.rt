@@ -29,9 +29,9 @@ const MAX_KEY_SIZE: usize = 8;
 /// Contracts see a slot table of pairs, in which no two keys are equal.
 ///
 /// A pair stays at its place until it is removed, and a new one takes the first free place: the one vacated last, or else
-/// the least that was never used. Slot order is that of the places. A call that looks for a key compares it with the keys of the map in
-/// slot order, up to the equal one. If the map is full and keys take at most eight bytes, it compares eight at a time, and so
-/// up to seven after that one; in any case it compares no key twice.
+/// the least that was never used. Slot order is that of the places. A call that looks for a key compares it with the keys
+/// of the map in slot order, up to the equal one. If the map is full and keys take at most eight bytes, it compares eight
+/// at a time, and so up to seven after that one; in any case it compares no key twice.
 ///
 /// Each call that looks for a key takes O(capacity) time, any other O(1), if nothing else is said. No call allocates.
 /// A map that is dropped drops its pairs in slot order, in O(capacity) time.
