@@ -2,7 +2,7 @@
 use ix_cells::{InitError, RelocatableContainer, Table};
 use ix_maps::FlatMapError::IsFull;
 use ix_maps::{FlatMap, Link, MetaFlatMap, Pair, UninitFlatMap};
-use ix_test_support::{Findings, check_sizes};
+use ix_test_support::{Findings, check_drawn_sizes, check_sizes};
 use linked_list_allocator::LocalHeap;
 use std::alloc::Global;
 use std::test::Fail;
@@ -38,7 +38,7 @@ fn check_made<S: Table<Pair<u64, u64>>, L: Table<Link>, E: Drop>(
     findings.expect_same(heap.used(), used, "bytes in use after it");
 }
 
-/// Checks that a refused value can be initialised from `ample`.
+/// Checks that a refused value can be initialised from `ample`, and how many keys a small map has room for then.
 fn check_again(
     findings: &Findings,
     refused: Option<InitError<UninitFlatMap<u64, u64>>>,
@@ -47,7 +47,9 @@ fn check_again(
 ) {
     if let Some(error) = refused {
         match error.into_uninit().init(ample) {
-            Ok(mut map) => check_room(findings, &mut map, capacity),
+            // A larger one is filled once, where its making succeeds: that takes O(capacity^2).
+            Ok(mut map) if capacity <= 33 => check_room(findings, &mut map, capacity),
+            Ok(map) => findings.expect(map.is_empty() && !map.is_full(), "an empty map"),
             Err(_) => findings.miss("from ample memory"),
         }
     }
@@ -112,5 +114,20 @@ fn past_all_memory(rt: HostRuntime) -> Result<(), Fail> {
             }
         }
     }
+    findings.verdict()
+}
+
+#[test]
+fn ample_memory(rt: HostRuntime) -> Result<(), Fail> {
+    let findings = Findings::new();
+    let alloc = rt.alloc();
+    check_drawn_sizes(&findings, 60, "`new`", |capacity| {
+        FlatMap::<u64, u64, Global>::new(alloc, capacity).is_ok()
+    });
+    check_drawn_sizes(&findings, 60, "`init`", |capacity| {
+        UninitFlatMap::<u64, u64>::new_uninit(capacity)
+            .init(alloc)
+            .is_ok()
+    });
     findings.verdict()
 }

@@ -6,6 +6,8 @@ mod command_tests;
 #[cfg(test)]
 mod container_script_tests;
 #[cfg(test)]
+mod drawn_run_tests;
+#[cfg(test)]
 mod findings_tests;
 #[cfg(test)]
 mod oracle;
