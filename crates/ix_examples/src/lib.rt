@@ -7,6 +7,7 @@ pub mod directory;
 pub mod groups;
 pub mod iteration;
 pub mod json_message;
+pub mod keep_even;
 pub mod log_position;
 pub mod message;
 pub mod own_fields;

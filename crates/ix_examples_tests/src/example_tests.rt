@@ -10,6 +10,7 @@ use ix_examples::directory::{
 use ix_examples::groups::{Groups, register as register_group, withdraw as withdraw_group};
 use ix_examples::iteration::{append, stored_inline};
 use ix_examples::json_message::{Samples, from_json, send, to_json};
+use ix_examples::keep_even::keep_even;
 use ix_examples::message::{Message, MessageError};
 use ix_examples::registry::{Registry, Service, hand_over, port_of, register, unregister};
 use ix_examples::rolling_window::last_samples;
@@ -55,6 +56,14 @@ fn vectors_of_each_kind(rt: HostRuntime) {
     assert_eq!(rt; squares.as_slice().last().copied(), Some(39_601));
     let relocatable = vectors::relocatable(rt.alloc(), rt.alloc(), 200);
     assert_eq!(rt; relocatable.map(|vector| vector.capacity()).ok(), Some(200));
+}
+
+#[test]
+fn even_numbers_are_kept(rt: HostRuntime) {
+    let mut vector = StaticVec::<u64, 6>::new();
+    assert_eq!(rt; vector.extend_from_slice(&[1, 2, 3, 5, 4, 7]), Ok(()));
+    keep_even(&mut vector);
+    assert!(rt; vector.as_slice() == [2, 4]);
 }
 
 #[test]
