@@ -5,7 +5,9 @@ ghost use Rattle.ix_atomic.specs.Writers.{AreOwn};
 use ix_atomic::{ReaderSeat, WriterSeat};
 use ix_examples::configuration::{Limit, limit_or};
 use ix_examples::log_position::{self, Position};
+use ix_examples::own_fields::Range;
 use ix_examples::rising_limit::{self, raise_limit};
+use ix_examples::shared_range;
 use std::thread;
 use std::thread::Threads;
 
@@ -125,4 +127,37 @@ fn a_limit_only_grows(rt: HostRuntime) {
     assert!(rt; rises);
     assert!(rt; rising_limit::take_back(&limit, rt.alloc(), &mut writer, reader, raises));
     assert_eq!(rt; limit.close(writer), Ok(200));
+}
+
+const FIRST_RANGE: Range = Range {
+    low: 5_000,
+    high: 6_000,
+};
+
+/// Returns whether nothing was read, or the first range, or one that a thread sets: its bounds are the number of a round.
+fn is_first_or_set(read: Option<Range>) -> bool {
+    match read {
+        Some(range) => range == FIRST_RANGE || (range.low == range.high && range.high < VALUES),
+        None => true,
+    }
+}
+
+#[test]
+fn two_threads_set_and_two_read(rt: HostRuntime) {
+    let (cell, mut seat, reader) = shared_range::make(rt.alloc(), FIRST_RANGE).expect(
+        &rt,
+        "there is memory",
+    );
+    let (one, other) = shared_range::set_and_read(
+        &rt,
+        rt.alloc(),
+        &cell,
+        &mut seat,
+        reader,
+        VALUES,
+    );
+    assert!(rt; is_first_or_set(one));
+    assert!(rt; is_first_or_set(other));
+    let last = cell.close(seat).expect(&rt, "nobody sets a range");
+    assert!(rt; last != FIRST_RANGE && is_first_or_set(Some(last)));
 }

@@ -1,6 +1,6 @@
 use Rattle.std.proofs.Common.{◌≡◌}
 use Rattle.std.specs.Prelude.{IfSome}
-use Rattle.ix_examples.specs.Ranges.{AreInOrder, KnowsOf}
+use Rattle.ix_examples.specs.Ranges.{KnowsOf}
 use Rattle.ix_examples.proofs.shared_range.read_ranges.Given as goal
 
 abbrev pub invariant-loop : goal.invariant-loop

@@ -1,6 +1,5 @@
 use Rattle.std.proofs.Common.{◌≡◌}
-use Rattle.std.specs.Prelude.{IfSome}
-use Rattle.ix_examples.specs.Ranges.{AreInOrder, KnowsOf}
+use Rattle.ix_examples.specs.Ranges.{AreInOrder}
 use Rattle.ix_examples.proofs.shared_range.set_ranges.Given as goal
 
 abbrev pub invariant-loop-i : goal.invariant-loop-i
