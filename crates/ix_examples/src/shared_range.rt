@@ -1,8 +1,8 @@
 //! A range that two threads set while two others read it, none of which waits. Each range that is set is in order.
-ghost use Rattle.std.specs.Prelude.{◌≡◌, ◌++◌, ◌∷◌, ℕ, [], Some, length, IfOk, IfSome};
+ghost use Rattle.std.specs.Prelude.{◌≡◌, ◌++◌, ◌∷◌, ℕ, [], Some, length, true, false, IfOk, IfSome};
 ghost use Rattle.ix_atomic.specs.History.{Begins, value_at};
 ghost use Rattle.ix_atomic.specs.Shares.{IsWhole};
-ghost use Rattle.ix_atomic.specs.Writers.{AreApart, HoldsEach, places_merge};
+ghost use Rattle.ix_atomic.specs.Writers.{Writes, AreApart, HoldsEach, places_merge};
 ghost use Rattle.ix_examples.specs.Ranges.{IsInOrder, AreInOrder, KnowsOf};
 
 use crate::own_fields::Range;
@@ -20,6 +20,8 @@ pub fn make(
 ) -> Result<(SharedRange, WriterSeat<Range>, ReaderSeat<Range>), AllocError>
     requires { IsInOrder range }
     ensures cells { IfOk result (λ made. (made.1.cell ≡ made.0) × (made.2.cell ≡ made.0)) }
+    ensures known { IfOk result
+        (λ made. (made.1.known ≡ range ∷ []) × (made.2.known ≡ range ∷ [])) }
     ensures in_order { IfOk result (λ made. AreInOrder made.1) }
     ensures share { IfOk result (λ made. made.1.share ≡ 0 ∷ []) }
 {
@@ -32,6 +34,8 @@ pub fn set_range(cell: &SharedRange, seat: &mut WriterSeat<Range>, range: Range)
     requires in_order { AreInOrder seat.old × IsInOrder range }
     ensures cell { seat.new.cell ≡ seat.old.cell }
     ensures share { seat.new.share ≡ seat.old.share }
+    ensures set { result ≡ true → Writes seat.old seat.new range }
+    ensures not_set { result ≡ false → seat.new.places ≡ seat.old.places }
     ensures in_order { AreInOrder seat.new }
 {
     match cell.try_write(seat, range) {
