@@ -63,7 +63,7 @@ fn even_numbers_are_kept(rt: HostRuntime) {
     let mut vector = StaticVec::<u64, 6>::new();
     assert_eq!(rt; vector.extend_from_slice(&[1, 2, 3, 5, 4, 7]), Ok(()));
     keep_even(&mut vector);
-    assert!(rt; vector.as_slice() == [2, 4]);
+    assert!(rt; vector.as_slice() == [2, 4].as_slice());
 }
 
 #[test]
