@@ -20,7 +20,7 @@ def repository_files():
 
 
 FILES = sorted(repository_files())
-DOCUMENTS = [path for path in FILES if re.fullmatch(r"(?:docs/)?[A-Z_]+\.md", path)]
+DOCUMENTS = [path for path in FILES if re.fullmatch(r"(?:docs/)?\w+\.md", path)]
 ENDS = {path.split("/", i)[i] for path in FILES for i in range(path.count("/") + 1)} | {"out"}
 
 
