@@ -8,7 +8,7 @@ import re
 from crates import ROOT, read
 
 LIBRARY = ("ix_cells", "ix_string", "ix_names", "ix_maps", "ix_atomic", "ix_commands", "ix_run")
-HEAD = re.compile(r"(pub )?(?:(?:const|unsafe|final) )*(fn|struct|enum|trait|type|const|impl)\b(.*)")
+HEAD = re.compile(r"(pub )?(?:pub\(\w+\) )?(?:(?:const|unsafe|final) )*(fn|struct|enum|trait|type|const|impl)\b(.*)")
 GENERICS = re.compile(r"^<(?:[^<>]|<(?:[^<>]|<[^<>]*>)*>)*>\s*")
 REEXPORT = re.compile(r"(#\[doc\(hidden\)\]\n)?^pub use (?:\w+::)+(?:\{([^}]*)\}|(\w+));", re.M)
 IMPORT = re.compile(r"ghost use Rattle\.(ix_\w+)\.specs\.((?!declared|contracts)[\w.]+)\.\{([^}]*)\};")
@@ -38,7 +38,7 @@ def extent(lines, first, indent):
             return i + 1, i
         is_impl = " for " in line and lines[first].startswith(indent + "impl")
         if line.endswith("{") and (at_margin or is_impl):
-            last = next(j for j in range(i, len(lines)) if lines[j] == indent + "}")
+            last = next(j for j in range(i, len(lines)) if lines[j] in (indent + "}", indent + "};"))
             return (i if line == indent + "{" else i + 1), last
     raise ValueError(f"an item without an end: {lines[first]}")
 
