@@ -19,7 +19,7 @@ Call = collections.namedtuple("Call", "path owners clauses")
 
 
 def of_library(path):
-    return path.split("/")[1] in (*LIBRARY, "ix_examples")
+    return path.split("/")[1] in (*LIBRARY, "examples")
 
 
 class Contracts:

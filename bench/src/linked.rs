@@ -1,4 +1,4 @@
-//! The kernels of the library `ix_bench`, beside their peers, and at any capacity.
+//! The kernels of the library `bench_kernels`, beside their peers, and at any capacity.
 use crate::{floors, plain, Kernel, Operation};
 
 /// The library's kernel of a name.

@@ -1,0 +1,208 @@
+//! A range that two threads set while two others read it, none of which waits. Each range that is set is in order.
+ghost use Rattle.std.specs.Prelude.{◌≡◌, ◌++◌, ◌∷◌, ℕ, [], Some, length, true, false, IfOk, IfSome};
+ghost use Rattle.ix_atomic.specs.History.{Begins, value_at};
+ghost use Rattle.ix_atomic.specs.Shares.{IsWhole};
+ghost use Rattle.ix_atomic.specs.Writers.{Writes, AreApart, HoldsEach, places_merge};
+ghost use Rattle.examples.specs.Ranges.{IsInOrder, AreInOrder, KnowsOf};
+
+use crate::own_fields::Range;
+use ix_atomic::{ReaderSeat, SequencedByteAtomic, WriterSeat};
+use std::alloc::{AllocError, Global};
+use std::thread::{Threads, join_mut};
+
+/// The range that the threads share.
+pub type SharedRange = SequencedByteAtomic<Range, 16>;
+
+/// Makes a cell of `range`, with a writer's seat and a reader's.
+pub fn make(
+    alloc: Global,
+    range: Range,
+) -> Result<(SharedRange, WriterSeat<Range>, ReaderSeat<Range>), AllocError>
+    requires { IsInOrder range }
+    ensures cells { IfOk result (λ made. (made.1.cell ≡ made.0) × (made.2.cell ≡ made.0)) }
+    ensures known { IfOk result
+        (λ made. (made.1.known ≡ range ∷ []) × (made.2.known ≡ range ∷ [])) }
+    ensures in_order { IfOk result (λ made. AreInOrder made.1) }
+    ensures share { IfOk result (λ made. made.1.share ≡ 0 ∷ []) }
+{
+    SharedRange::new(alloc, range)
+}
+
+/// Sets the range, unless another thread sets it right now. Returns whether it did.
+pub fn set_range(cell: &SharedRange, seat: &mut WriterSeat<Range>, range: Range) -> bool
+    requires cell { seat.old.cell ≡ cell.now }
+    requires in_order { AreInOrder seat.old × IsInOrder range }
+    ensures cell { seat.new.cell ≡ seat.old.cell }
+    ensures share { seat.new.share ≡ seat.old.share }
+    ensures set { result ≡ true → Writes seat.old seat.new range }
+    ensures not_set { result ≡ false → seat.new.places ≡ seat.old.places }
+    ensures in_order { AreInOrder seat.new }
+{
+    match cell.try_write(seat, range) {
+        Ok(()) => true,
+        Err(_) => false,
+    }
+}
+
+/// Sets `rounds` ranges, as far as no other thread sets one.
+fn set_ranges(cell: &SharedRange, seat: &mut WriterSeat<Range>, rounds: u64)
+    requires cell { seat.old.cell ≡ cell.now }
+    requires in_order { AreInOrder seat.old }
+    ensures cell { seat.new.cell ≡ seat.old.cell }
+    ensures share { seat.new.share ≡ seat.old.share }
+    ensures in_order { AreInOrder seat.new }
+{
+    for i in 0..rounds {
+        set_range(cell, seat, Range { low: i, high: i });
+    }
+}
+
+/// Reads the range `rounds` times. Returns the one that was read last, if any was.
+fn read_ranges(cell: &SharedRange, reader: &mut ReaderSeat<Range>, rounds: u64) -> Option<Range>
+    requires { reader.old.cell ≡ cell.now }
+    ensures cell { reader.new.cell ≡ reader.old.cell }
+    ensures known { IfSome result (KnowsOf reader.new) }
+{
+    let mut latest = None;
+    for _ in 0..rounds {
+        latest = match cell.try_read(reader) {
+            Ok(range) => Some(range),
+            Err(_) => None,
+        };
+    }
+    latest
+}
+
+/// Two threads set ranges.
+fn set_both<R: Threads>(
+    rt: &R,
+    cell: &SharedRange,
+    one: &mut WriterSeat<Range>,
+    other: &mut WriterSeat<Range>,
+    rounds: u64,
+)
+    requires cell { (one.old.cell ≡ cell.now) × (other.old.cell ≡ cell.now) }
+    requires in_order { AreInOrder one.old × AreInOrder other.old }
+    ensures cell { (one.new.cell ≡ one.old.cell) × (other.new.cell ≡ other.old.cell) }
+    ensures share { (one.new.share ≡ one.old.share) × (other.new.share ≡ other.old.share) }
+    ensures in_order { AreInOrder one.new × AreInOrder other.new }
+{
+    join_mut(
+        rt,
+        &mut || set_ranges(cell, one, rounds),
+        &mut || set_ranges(cell, other, rounds),
+    );
+}
+
+/// Two threads read the range. Returns what each read last.
+fn read_both<R: Threads>(
+    rt: &R,
+    cell: &SharedRange,
+    one: &mut ReaderSeat<Range>,
+    other: &mut ReaderSeat<Range>,
+    rounds: u64,
+) -> (Option<Range>, Option<Range>)
+    requires { (one.old.cell ≡ cell.now) × (other.old.cell ≡ cell.now) }
+    ensures cell { (one.new.cell ≡ one.old.cell) × (other.new.cell ≡ other.old.cell) }
+    ensures known { IfSome result.0 (KnowsOf one.new) × IfSome result.1 (KnowsOf other.new) }
+{
+    join_mut(
+        rt,
+        &mut || read_ranges(cell, one, rounds),
+        &mut || read_ranges(cell, other, rounds),
+    )
+}
+
+/// Two threads set ranges while two others read them. Returns what each of these read last.
+fn set_beside_reads<R: Threads + Sync>(
+    rt: &R,
+    cell: &SharedRange,
+    one: &mut WriterSeat<Range>,
+    other: &mut WriterSeat<Range>,
+    reader: &mut ReaderSeat<Range>,
+    further: &mut ReaderSeat<Range>,
+    rounds: u64,
+) -> (Option<Range>, Option<Range>)
+    requires writers { (one.old.cell ≡ cell.now) × (other.old.cell ≡ cell.now) }
+    requires in_order { AreInOrder one.old × AreInOrder other.old }
+    requires readers { (reader.old.cell ≡ cell.now) × (further.old.cell ≡ cell.now) }
+    ensures writers { (one.new.cell ≡ one.old.cell) × (other.new.cell ≡ other.old.cell) }
+    ensures share { (one.new.share ≡ one.old.share) × (other.new.share ≡ other.old.share) }
+    ensures in_order { AreInOrder one.new × AreInOrder other.new }
+    ensures readers { (reader.new.cell ≡ reader.old.cell) × (further.new.cell ≡ further.old.cell) }
+    ensures known { IfSome result.0 (KnowsOf reader.new) × IfSome result.1 (KnowsOf further.new) }
+{
+    let (_, latest) = join_mut(
+        rt,
+        &mut ||
+            requires { (one.now.cell ≡ cell.now) × (other.now.cell ≡ cell.now)
+                × AreInOrder one.now × AreInOrder other.now }
+            ensures { (one.exit.now.cell ≡ one.entry.now.cell)
+                × (other.exit.now.cell ≡ other.entry.now.cell)
+                × (one.exit.now.share ≡ one.entry.now.share)
+                × (other.exit.now.share ≡ other.entry.now.share)
+                × AreInOrder one.exit.now × AreInOrder other.exit.now }
+        { set_both(rt, cell, one, other, rounds) },
+        &mut ||
+            requires { (reader.now.cell ≡ cell.now) × (further.now.cell ≡ cell.now) }
+            ensures { (reader.exit.now.cell ≡ reader.entry.now.cell)
+                × (further.exit.now.cell ≡ further.entry.now.cell)
+                × IfSome result.0 (KnowsOf reader.exit.now)
+                × IfSome result.1 (KnowsOf further.exit.now) }
+        { read_both(rt, cell, reader, further, rounds) },
+    );
+    latest
+}
+
+/// Takes back the seat of another thread. What was set with either seat stands in one history, each range once; if no other
+/// thread has a seat, nothing else stands there but the first range.
+pub fn take_back(cell: &SharedRange, seat: &mut WriterSeat<Range>, other: WriterSeat<Range>)
+    requires cell { (seat.old.cell ≡ cell.now) × (other.cell ≡ cell.now) }
+    requires in_order { AreInOrder seat.old × AreInOrder other }
+    ensures cell { seat.new.cell ≡ seat.old.cell }
+    ensures known { Begins seat.old.known seat.new.known × Begins other.known seat.new.known }
+    ensures once { AreApart seat.old.places other.places }
+    ensures places { seat.new.places ≡ places_merge seat.old.places other.places }
+    ensures in_order { AreInOrder seat.new }
+    ensures share { seat.new.share ≡ seat.old.share ++ other.share }
+    ensures all { IsWhole seat.new.share → HoldsEach (length seat.new.known) seat.new.places }
+{
+    cell.merge(seat, other);
+}
+
+/// Sets ranges in two threads, one of which has a seat of its own, while two others read them. Returns what each of these read
+/// last. All that was ever set is known in the end, and it is in order, as is all that was read.
+pub fn set_and_read<R: Threads + Sync>(
+    rt: &R,
+    alloc: Global,
+    cell: &SharedRange,
+    seat: &mut WriterSeat<Range>,
+    mut reader: ReaderSeat<Range>,
+    rounds: u64,
+) -> (Option<Range>, Option<Range>)
+    requires cell { (seat.old.cell ≡ cell.now) × (reader.cell ≡ cell.now) }
+    requires in_order { AreInOrder seat.old }
+    requires share { seat.old.share ≡ 0 ∷ [] }
+    ensures cell { seat.new.cell ≡ seat.old.cell }
+    ensures share { IsWhole seat.new.share }
+    ensures all { HoldsEach (length seat.new.known) seat.new.places }
+    ensures in_order { (version : ℕ) (range : Range) → value_at seat.new.known version ≡ Some range
+        → IsInOrder range }
+    ensures read { IfSome result.0 IsInOrder × IfSome result.1 IsInOrder }
+{
+    let mut other = cell.writer(alloc, seat).unwrap();
+    let mut further = cell.reader(alloc, seat).unwrap();
+    let latest = set_beside_reads(
+        rt,
+        cell,
+        seat,
+        &mut other,
+        &mut reader,
+        &mut further,
+        rounds,
+    );
+    take_back(cell, seat, other);
+    cell.merge_reader(seat, reader);
+    cell.merge_reader(seat, further);
+    latest
+}

@@ -1,5 +1,0 @@
-use Rattle.std.proofs.Common.{◌≡◌}
-use Rattle.ix_atomic_tests.proofs.sequenced_threads.meet.Given as goal
-
-abbrev pub invariant-loop : goal.invariant-loop
-invariant-loop l = l.reader.cell ≡ l.initial.reader.cell

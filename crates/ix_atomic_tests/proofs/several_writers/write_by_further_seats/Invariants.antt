@@ -1,5 +1,0 @@
-use Rattle.std.proofs.Common.{◌≡◌}
-use Rattle.ix_atomic_tests.proofs.several_writers.write_by_further_seats.Given as goal
-
-abbrev pub invariant-loop : goal.invariant-loop
-invariant-loop l = l.writer.cell ≡ l.initial.writer.cell

@@ -1,7 +1,0 @@
-use Rattle.std.proofs.Common.{◌≡◌, take}
-use Rattle.ix_bench.specs.Fnv.{fnv_bytes}
-use Rattle.ix_bench.proofs.strings.FnvHasher.write.Given as goal
-
--- the bytes so far went in
-abbrev pub invariant-loop-byte : goal.invariant-loop-byte
-invariant-loop-byte l = l.state ≡ fnv_bytes l.fn.self.state (take l.byte-index l.bytes)

@@ -1,0 +1,126 @@
+//! The encoding of each type, both ways, and bytes that encode no value.
+ghost use Rattle.std.specs.Prelude.{◌≡◌, ◌<◌};
+
+use crate::foo::Foo;
+use ix_atomic::{AtomicCopy, MaybeTorn};
+use ix_string::StaticString;
+use std::fmt::Debug;
+use std::test::Fail;
+use test_support::Findings;
+
+/// Checks that `value` is encoded as `bytes`, and decoded from them.
+fn check<T: AtomicCopy + PartialEq + Debug, const SIZE: usize>(
+    findings: &Findings,
+    value: T,
+    bytes: [u8; SIZE],
+    place: &str,
+)
+    requires { SIZE ≡ T.SIZE }
+{
+    findings.expect_same(T::SIZE, SIZE, place);
+    let mut out = [9; SIZE];
+    value.encode(&mut out);
+    findings.expect_same(out.as_slice(), bytes.as_slice(), place);
+    findings.expect_same(T::decode(&bytes), Some(value), place);
+    let torn = MaybeTorn::<T, SIZE>::new(bytes);
+    findings.expect_same(torn.assume_consistent(), Some(value), place);
+}
+
+/// Checks that no value is decoded from `bytes`.
+fn check_none<T: AtomicCopy + PartialEq + Debug, const SIZE: usize>(
+    findings: &Findings,
+    bytes: [u8; SIZE],
+    place: &str,
+)
+    requires { SIZE ≡ T.SIZE }
+{
+    findings.expect_same(T::decode(&bytes), None, place);
+    let torn = MaybeTorn::<T, SIZE>::new(bytes);
+    findings.expect_same(torn.assume_consistent(), None, place);
+}
+
+#[test]
+fn integers() -> Result<(), Fail> {
+    let findings = Findings::new();
+    check(&findings, 0u8, [0], "u8");
+    check(&findings, 255u8, [255], "u8");
+    check(&findings, 0x1234u16, [0x34, 0x12], "u16");
+    check(&findings, 0x1234_5678u32, [0x78, 0x56, 0x34, 0x12], "u32");
+    check(&findings, 6u64, [6, 0, 0, 0, 0, 0, 0, 0], "u64");
+    check(&findings, u64::MAX, [255; 8], "u64");
+    check(
+        &findings,
+        0x0102_0304_0506_0708u64,
+        [8, 7, 6, 5, 4, 3, 2, 1],
+        "u64",
+    );
+    check(&findings, 5i64, [5, 0, 0, 0, 0, 0, 0, 0], "i64");
+    check(&findings, -1i64, [255; 8], "i64");
+    check(
+        &findings,
+        -256i64,
+        [0, 255, 255, 255, 255, 255, 255, 255],
+        "i64",
+    );
+    check(&findings, i64::MIN, [0, 0, 0, 0, 0, 0, 0, 128], "i64");
+    check(
+        &findings,
+        i64::MAX,
+        [255, 255, 255, 255, 255, 255, 255, 127],
+        "i64",
+    );
+    findings.verdict()
+}
+
+#[test]
+fn other_values() -> Result<(), Fail> {
+    let findings = Findings::new();
+    check(&findings, (), [], "()");
+    check(&findings, false, [0], "bool");
+    check(&findings, true, [1], "bool");
+    check_none::<bool, 1>(&findings, [2], "bool");
+    check_none::<bool, 1>(&findings, [255], "bool");
+    let foo = Foo { bar: 4, baz: 6 };
+    check(&findings, foo, [4, 6, 0, 0, 0, 0, 0, 0, 0], "Foo");
+    let foo = Foo {
+        bar: 255,
+        baz: 1 << 63,
+    };
+    check(&findings, foo, [255, 0, 0, 0, 0, 0, 0, 0, 128], "Foo");
+    check(&findings, [0u8; 0], [], "no bytes");
+    check(&findings, [7u8, 0, 255], [7, 0, 255], "bytes");
+    findings.verdict()
+}
+
+/// Checks that the string of `text` is encoded as `bytes`.
+fn check_string<const SIZE: usize>(findings: &Findings, text: &str, bytes: [u8; SIZE])
+    requires { SIZE < 256 }
+{
+    match StaticString::<SIZE>::try_from(text) {
+        Ok(string) => check(findings, string, bytes, text),
+        Err(_) => findings.miss(text),
+    }
+}
+
+#[test]
+fn strings() -> Result<(), Fail> {
+    let findings = Findings::new();
+    check_string(&findings, "ab", [97, 98, 0]);
+    check_string(&findings, "abc", [97, 98, 99]);
+    check_string(&findings, "", [0, 0, 0]);
+    check_string(&findings, "", []);
+    check_string(&findings, "\u{1}\u{7f}", [1, 127, 0, 0]);
+    let no_text: &[[u8; 3]] = &[
+        [97, 0, 98],
+        [0, 98, 0],
+        [0, 0, 1],
+        [97, 200, 0],
+        [128, 0, 0],
+        [97, 98, 255],
+        [97, 0, 200],
+    ];
+    for bytes in no_text {
+        check_none::<StaticString<3>, 3>(&findings, *bytes, "no text");
+    }
+    findings.verdict()
+}

@@ -1,0 +1,94 @@
+//! How often `retain` calls its closure, and at which bytes, whether the rules accept what is kept or not.
+ghost use Rattle.std.specs.Prelude.{◌<◌};
+
+use crate::own_rules::{EvenLengthRules, NonEmptyRules};
+use ix_names::{GroupNameRules, Rules, Semantic, SemanticStringError, TrailingSlashRules};
+use std::cell::Cell;
+use std::test::Fail;
+use test_support::Findings;
+
+/// A text, what the closure returns in the order of its calls, what `retain` returns, the bytes that are left, and the
+/// bytes at which the closure is called: three digits for each.
+type Row<'a> = (
+    &'a str,
+    &'a [bool],
+    Result<(), SemanticStringError>,
+    &'a str,
+    u64,
+);
+
+const INVALID: Result<(), SemanticStringError> = Err(SemanticStringError::InvalidContent);
+
+/// Of texts that may not be empty.
+const TEXTS: &[Row] = &[
+    ("abc", &[false, false, false], Ok(()), "abc", 99_098_097),
+    ("abc", &[true, true, true], INVALID, "abc", 99_098_097),
+    ("a", &[false], Ok(()), "a", 97),
+    ("a", &[true], INVALID, "a", 97),
+];
+
+/// Of group names, whose first byte is a letter.
+const NAMES: &[Row] = &[
+    ("a1", &[false, true], INVALID, "a1", 49_097),
+    ("a-c", &[true, false, false], Ok(()), "a-", 99_045_097),
+    ("a-c", &[false, true, false], Ok(()), "ac", 99_045_097),
+    ("a-c", &[false, false, true], INVALID, "a-c", 99_045_097),
+];
+
+/// Of texts of an even length.
+const PAIRS: &[Row] = &[
+    ("", &[], Ok(()), "", 0),
+    (
+        "abcd",
+        &[true, false, true, false],
+        Ok(()),
+        "ac",
+        100_099_098_097,
+    ),
+    (
+        "abcd",
+        &[false, true, false, false],
+        INVALID,
+        "abcd",
+        100_099_098_097,
+    ),
+];
+
+fn check_row<R: Rules<CAPACITY>, const CAPACITY: usize>(
+    findings: &Findings,
+    string: &mut Semantic<R, CAPACITY>,
+    (_, results, returned, left, digits): &Row,
+    row: usize,
+) {
+    let (calls, asked) = (Cell::new(0usize), Cell::new(0u64));
+    let found = string.retain(|byte: u8| {
+        asked.set(asked.get().wrapping_mul(1000).wrapping_add(byte as u64));
+        let call = calls.replace(calls.get().wrapping_add(1));
+        results.get(call).copied().unwrap_or(false)
+    });
+    findings.expect_same_at(found, *returned, row, "the result");
+    findings.expect_same_at(string.as_bytes(), left.as_bytes(), row, "the text");
+    let found = (calls.get(), asked.get());
+    findings.expect_same_at(found, (results.len(), *digits), row, "the calls");
+}
+
+fn check_rows<R: Rules<CAPACITY>, const CAPACITY: usize>(findings: &Findings, rows: &[Row])
+    requires { CAPACITY < 256 }
+{
+    for (number, row) in rows.iter().enumerate() {
+        match Semantic::<R, CAPACITY>::new(row.0.as_bytes()) {
+            Ok(mut string) => check_row(findings, &mut string, row, number),
+            Err(_) => findings.miss(row.0),
+        }
+    }
+}
+
+#[test]
+fn once_a_byte_from_the_last_to_the_first() -> Result<(), Fail> {
+    let findings = Findings::new();
+    check_rows::<NonEmptyRules, 200>(&findings, TEXTS);
+    check_rows::<GroupNameRules, 31>(&findings, NAMES);
+    check_rows::<EvenLengthRules, 4>(&findings, PAIRS);
+    check_rows::<TrailingSlashRules, 255>(&findings, &PAIRS[..2]);
+    findings.verdict()
+}

@@ -1,0 +1,175 @@
+//! Each function of options once, with a value and without one.
+use ix_names::RelocatableOption;
+use std::alloc::{AllocError, Global};
+use std::hash::{DefaultHasher, Hash, Hasher};
+use std::test::Fail;
+use test_support::Findings;
+
+const NOTHING: RelocatableOption<u64> = RelocatableOption::None;
+
+const FOUR: RelocatableOption<u64> = RelocatableOption::Some(4);
+
+#[test]
+fn conversions() -> Result<(), Fail> {
+    let findings = Findings::new();
+    findings.expect_same(FOUR.to_option(), Some(4), "to_option");
+    findings.expect_same(NOTHING.to_option(), None, "to_option of none");
+    findings.expect_same(RelocatableOption::from(Some(4u64)), FOUR, "from");
+    let none: Option<u64> = None;
+    findings.expect_same(RelocatableOption::from(none), NOTHING, "from none");
+    let option: Option<u64> = FOUR.into();
+    findings.expect_same(option, Some(4), "into");
+    let option: Option<u64> = NOTHING.into();
+    findings.expect_same(option, None, "none into");
+    findings.expect_same(RelocatableOption::default(), NOTHING, "the default");
+    findings.verdict()
+}
+
+#[test]
+fn references() -> Result<(), Fail> {
+    let findings = Findings::new();
+    let (four, nothing) = (FOUR, NOTHING);
+    findings.expect_same(four.as_option_ref(), Some(&4), "as_option_ref");
+    findings.expect_same(nothing.as_option_ref(), None, "as_option_ref of none");
+    findings.expect(four.as_ref() == RelocatableOption::Some(&4), "as_ref");
+    findings.expect(
+        nothing.as_ref() == RelocatableOption::None,
+        "as_ref of none",
+    );
+    findings.expect(four.is_some() && !four.is_none(), "a value");
+    findings.expect(nothing.is_none() && !nothing.is_some(), "no value");
+    findings.verdict()
+}
+
+#[test]
+fn writes() -> Result<(), Fail> {
+    let findings = Findings::new();
+    let mut option = FOUR;
+    if let Some(value) = option.as_option_mut() {
+        *value = 7;
+    }
+    findings.expect_same(option, RelocatableOption::Some(7), "as_option_mut");
+    if let RelocatableOption::Some(value) = option.as_mut() {
+        *value = 9;
+    }
+    findings.expect_same(option, RelocatableOption::Some(9), "as_mut");
+    let mut nothing = NOTHING;
+    findings.expect(nothing.as_option_mut().is_none(), "as_option_mut of none");
+    findings.expect(nothing.as_mut().is_none(), "as_mut of none");
+    findings.expect_same(nothing, NOTHING, "nothing is written");
+    findings.verdict()
+}
+
+/// Writes through `as_deref_mut` of a box of 4.
+fn check_box(findings: &Findings, alloc: Global) {
+    let Ok(boxed) = Box::new(alloc, 4u64) else {
+        return findings.miss("there is memory for a box");
+    };
+    let mut option = RelocatableOption::Some(boxed);
+    findings.expect(option.as_deref() == RelocatableOption::Some(&4), "as_deref");
+    if let RelocatableOption::Some(value) = option.as_deref_mut() {
+        *value = 9;
+    }
+    findings.expect(
+        option.as_deref() == RelocatableOption::Some(&9),
+        "as_deref_mut",
+    );
+}
+
+#[test]
+fn dereferenced(rt: HostRuntime) -> Result<(), Fail> {
+    let findings = Findings::new();
+    check_box(&findings, rt.alloc());
+    match String::from_str(rt.alloc(), "ab") {
+        Ok(text) => {
+            let text = RelocatableOption::Some(text);
+            findings.expect(text.as_deref() == RelocatableOption::Some("ab"), "a text");
+        }
+        Err(AllocError) => findings.miss("there is memory for a text"),
+    }
+    let mut nothing: RelocatableOption<Box<u64>> = RelocatableOption::None;
+    findings.expect(
+        nothing.as_deref() == RelocatableOption::None,
+        "as_deref of none",
+    );
+    findings.expect(nothing.as_deref_mut().is_none(), "as_deref_mut of none");
+    findings.verdict()
+}
+
+#[test]
+fn values() -> Result<(), Fail> {
+    let findings = Findings::new();
+    findings.expect_same(FOUR.unwrap(), 4, "unwrap");
+    findings.expect_same(FOUR.expect("it is four"), 4, "expect");
+    findings.expect_same(FOUR.unwrap_unchecked(), 4, "unwrap_unchecked");
+    findings.expect_same(FOUR.unwrap_or(5), 4, "unwrap_or");
+    findings.expect_same(NOTHING.unwrap_or(5), 5, "unwrap_or of none");
+    findings.expect_same(FOUR.unwrap_or_default(), 4, "unwrap_or_default");
+    findings.expect_same(NOTHING.unwrap_or_default(), 0, "unwrap_or_default of none");
+    findings.verdict()
+}
+
+#[test]
+fn replaced_and_taken() -> Result<(), Fail> {
+    let findings = Findings::new();
+    let mut option = NOTHING;
+    findings.expect_same(option.replace(4), NOTHING, "replace of none");
+    findings.expect_same(option.replace(5), FOUR, "replace");
+    findings.expect_same(option.take(), RelocatableOption::Some(5), "take");
+    findings.expect_same(option.take(), NOTHING, "take of none");
+    findings.expect_same(option, NOTHING, "after take");
+    findings.verdict()
+}
+
+#[test]
+fn taken_if() -> Result<(), Fail> {
+    let findings = Findings::new();
+    let mut option = FOUR;
+    let taken = option.take_if(|value| {
+        *value = value.saturating_add(1);
+        false
+    });
+    findings.expect_same(taken, NOTHING, "not taken");
+    findings.expect_same(option, RelocatableOption::Some(5), "the change stays");
+    let taken = option.take_if(|value| {
+        *value = value.saturating_add(1);
+        true
+    });
+    findings.expect_same(taken, RelocatableOption::Some(6), "taken");
+    findings.expect_same(option, NOTHING, "nothing stays");
+    findings.expect_same(option.take_if(|_| true), NOTHING, "take_if of none");
+    findings.verdict()
+}
+
+/// Returns the hash of a value.
+fn hash_of<T: Hash>(value: &T) -> u64 {
+    let mut hasher = DefaultHasher::new();
+    value.hash(&mut hasher);
+    hasher.finish()
+}
+
+#[test]
+fn comparisons() -> Result<(), Fail> {
+    let findings = Findings::new();
+    let (four, same, nothing) = (FOUR, FOUR, NOTHING);
+    findings.expect(four == same && nothing == NOTHING, "equal");
+    findings.expect(four != nothing && nothing != four, "a value and none");
+    findings.expect(four != RelocatableOption::Some(5), "other values");
+    findings.expect_same(hash_of(&four), hash_of(&same), "one hash");
+    findings.expect(hash_of(&four) != hash_of(&nothing), "two hashes");
+    let five = RelocatableOption::Some(5u64);
+    findings.expect(hash_of(&four) != hash_of(&five), "the value is hashed too");
+    findings.verdict()
+}
+
+#[test]
+fn items_of_size_zero() -> Result<(), Fail> {
+    let findings = Findings::new();
+    let mut option = RelocatableOption::Some(());
+    findings.expect(option.is_some(), "a value");
+    findings.expect_same(option.replace(()), RelocatableOption::Some(()), "replace");
+    findings.expect_same(option.take(), RelocatableOption::Some(()), "take");
+    findings.expect_same(option.to_option(), None, "none");
+    findings.expect_same(option.unwrap_or(()), (), "unwrap_or");
+    findings.verdict()
+}

@@ -1,0 +1,308 @@
+//! How JSON is read: rows of a text, and the value or the fault.
+use crate::forms::Empty;
+use ix_cells::{StaticVec, Vector};
+use ix_names::JsonFault::{BadByte, InvalidContent, TooLong, WrongKind};
+use ix_names::{GroupName, JsonFault, JsonForm, RelocatableOption};
+use ix_string::{StaticString, String};
+use serde_json::Value;
+use std::alloc::Global;
+use std::fmt::Debug;
+use std::test::Fail;
+use test_support::Findings;
+
+/// A text, and what is read.
+type Row<W> = (&'static str, Result<W, JsonFault>);
+
+/// Checks what each text is read as.
+fn check_rows<T: JsonForm + PartialEq + Debug + Copy>(
+    findings: &Findings,
+    alloc: Global,
+    rows: &[Row<T>],
+) {
+    for (text, wanted) in rows {
+        match Value::from_str(alloc, text) {
+            Ok(value) => findings.expect_same(T::from_value(&value), *wanted, text),
+            Err(_) => findings.miss(text),
+        }
+    }
+}
+
+const U64: &[Row<u64>] = &[
+    ("0", Ok(0)),
+    ("18446744073709551615", Ok(u64::MAX)),
+    ("18446744073709551616", Err(WrongKind)),
+    ("-1", Err(WrongKind)),
+    ("-0", Err(WrongKind)),
+    ("1.0", Err(WrongKind)),
+    ("1e2", Err(WrongKind)),
+    ("\"1\"", Err(WrongKind)),
+    ("true", Err(WrongKind)),
+    ("null", Err(WrongKind)),
+    ("[1]", Err(WrongKind)),
+    ("{}", Err(WrongKind)),
+];
+
+const I64: &[Row<i64>] = &[
+    ("-5", Ok(-5)),
+    ("0", Ok(0)),
+    ("9223372036854775807", Ok(i64::MAX)),
+    ("-9223372036854775808", Ok(i64::MIN)),
+    ("9223372036854775808", Err(WrongKind)),
+    ("18446744073709551615", Err(WrongKind)),
+    ("-9223372036854775809", Err(WrongKind)),
+    ("-1.0", Err(WrongKind)),
+    ("\"-5\"", Err(WrongKind)),
+    ("null", Err(WrongKind)),
+];
+
+const BOOL: &[Row<bool>] = &[
+    ("true", Ok(true)),
+    ("false", Ok(false)),
+    ("1", Err(WrongKind)),
+    ("\"true\"", Err(WrongKind)),
+    ("null", Err(WrongKind)),
+];
+
+#[test]
+fn numbers(rt: HostRuntime) -> Result<(), Fail> {
+    let findings = Findings::new();
+    check_rows(&findings, rt.alloc(), U64);
+    check_rows(&findings, rt.alloc(), I64);
+    check_rows(&findings, rt.alloc(), BOOL);
+    findings.verdict()
+}
+
+/// Of strings of capacity 3. A text is measured in bytes, and its length is tested before its bytes.
+const TEXTS: &[Row<&str>] = &[
+    ("\"abc\"", Ok("abc")),
+    ("\"\"", Ok("")),
+    ("\"\\u0001\\u007f\"", Ok("\u{1}\u{7f}")),
+    ("\"abcd\"", Err(TooLong)),
+    ("\"abc\\u0000\"", Err(TooLong)),
+    ("\"éé\"", Err(TooLong)),
+    ("\"\\u0000\"", Err(BadByte)),
+    ("\"ab\\u0000\"", Err(BadByte)),
+    ("\"é\"", Err(BadByte)),
+    ("\"\\u0080\"", Err(BadByte)),
+    ("5", Err(WrongKind)),
+    ("null", Err(WrongKind)),
+    ("true", Err(WrongKind)),
+    ("[\"a\"]", Err(WrongKind)),
+];
+
+/// Checks which string each text is read as.
+fn check_strings<S: JsonForm + String + Drop>(
+    findings: &Findings,
+    alloc: Global,
+    rows: &[Row<&str>],
+) {
+    for (text, wanted) in rows {
+        match Value::from_str(alloc, text) {
+            Ok(value) => match S::from_value(&value) {
+                Ok(string) => findings.expect_same(Ok(string.as_str()), *wanted, text),
+                Err(fault) => findings.expect_same(Err(fault), *wanted, text),
+            },
+            Err(_) => findings.miss(text),
+        }
+    }
+}
+
+/// Of strings of capacity 0.
+const TEXTS_WITHOUT_ROOM: &[Row<&str>] = &[
+    ("\"\"", Ok("")),
+    ("\"a\"", Err(TooLong)),
+    ("\"\\u0000\"", Err(TooLong)),
+    ("0", Err(WrongKind)),
+];
+
+/// Of strings of capacity 1.
+const SINGLE_BYTES: &[Row<&str>] = &[
+    ("\"\"", Ok("")),
+    ("\"a\"", Ok("a")),
+    ("\"ab\"", Err(TooLong)),
+    ("\"é\"", Err(TooLong)),
+    ("\"\\u0000\"", Err(BadByte)),
+];
+
+#[test]
+fn texts(rt: HostRuntime) -> Result<(), Fail> {
+    let findings = Findings::new();
+    check_strings::<StaticString<3>>(&findings, rt.alloc(), TEXTS);
+    check_strings::<StaticString<0>>(&findings, rt.alloc(), TEXTS_WITHOUT_ROOM);
+    check_strings::<StaticString<1>>(&findings, rt.alloc(), SINGLE_BYTES);
+    findings.verdict()
+}
+
+/// Of vectors of capacity 3. The number of entries is tested before any entry.
+const LISTS: &[Row<&[u64]>] = &[
+    ("[]", Ok(&[])),
+    ("[1, 2]", Ok(&[1, 2])),
+    ("[1, 2, 3]", Ok(&[1, 2, 3])),
+    ("[1, 2, 3, 4]", Err(TooLong)),
+    ("[\"a\", 1, 2, 3]", Err(TooLong)),
+    ("[1, \"a\"]", Err(WrongKind)),
+    ("[-1]", Err(WrongKind)),
+    ("[null]", Err(WrongKind)),
+    ("[[1]]", Err(WrongKind)),
+    ("5", Err(WrongKind)),
+    ("\"abc\"", Err(WrongKind)),
+    ("null", Err(WrongKind)),
+    ("{}", Err(WrongKind)),
+];
+
+/// Of vectors of capacity 3, of strings of capacity 2. The first fault of an entry is returned.
+const LISTS_OF_TEXTS: &[(&str, JsonFault)] = &[
+    ("[\"abc\", 5]", TooLong),
+    ("[5, \"abc\"]", WrongKind),
+    ("[\"a\", \"\\u0000\", \"abc\"]", BadByte),
+    ("[\"ab\", \"abc\", \"\\u0000\"]", TooLong),
+    ("[\"a\", \"b\", 5]", WrongKind),
+    ("[5, \"\\u0000\", \"a\", \"b\"]", TooLong),
+];
+
+/// Of vectors of capacity 0.
+const LISTS_WITHOUT_ROOM: &[Row<&[u64]>] = &[
+    ("[]", Ok(&[])),
+    ("[1]", Err(TooLong)),
+    ("[null]", Err(TooLong)),
+    ("0", Err(WrongKind)),
+];
+
+/// Of vectors of capacity 1.
+const SINGLE_ITEMS: &[Row<&[u64]>] = &[
+    ("[]", Ok(&[])),
+    ("[1]", Ok(&[1])),
+    ("[null]", Err(WrongKind)),
+    ("[1, 2]", Err(TooLong)),
+];
+
+/// Checks which vector each text is read as.
+fn check_vectors<V: JsonForm + Vector<u64> + Drop>(
+    findings: &Findings,
+    alloc: Global,
+    rows: &[Row<&[u64]>],
+) {
+    for (text, wanted) in rows {
+        match Value::from_str(alloc, text) {
+            Ok(value) => match V::from_value(&value) {
+                Ok(vector) => findings.expect_same(Ok(vector.as_slice()), *wanted, text),
+                Err(fault) => findings.expect_same(Err(fault), *wanted, text),
+            },
+            Err(_) => findings.miss(text),
+        }
+    }
+}
+
+#[test]
+fn lists(rt: HostRuntime) -> Result<(), Fail> {
+    let findings = Findings::new();
+    check_vectors::<StaticVec<u64, 3>>(&findings, rt.alloc(), LISTS);
+    check_vectors::<StaticVec<u64, 0>>(&findings, rt.alloc(), LISTS_WITHOUT_ROOM);
+    check_vectors::<StaticVec<u64, 1>>(&findings, rt.alloc(), SINGLE_ITEMS);
+    for (text, fault) in LISTS_OF_TEXTS {
+        check_fault::<StaticVec<StaticString<2>, 3>>(&findings, rt.alloc(), text, *fault);
+    }
+    findings.verdict()
+}
+
+/// One more than the greatest capacity of a vector that is stored inline.
+const TOO_MANY: usize = 4_294_967_296;
+
+/// Checks the fault of a text.
+fn check_fault<T: JsonForm + Drop>(
+    findings: &Findings,
+    alloc: Global,
+    text: &str,
+    wanted: JsonFault,
+) {
+    match Value::from_str(alloc, text) {
+        Ok(value) => findings.expect_same(T::from_value(&value).err(), Some(wanted), text),
+        Err(_) => findings.miss(text),
+    }
+}
+
+#[test]
+fn past_the_greatest_fixed_capacity(rt: HostRuntime) -> Result<(), Fail> {
+    let findings = Findings::new();
+    for (text, fault) in [("[]", TooLong), ("[5]", TooLong), ("5", WrongKind)] {
+        check_fault::<StaticVec<Empty, TOO_MANY>>(&findings, rt.alloc(), text, fault);
+    }
+    findings.verdict()
+}
+
+const OPTIONS: &[Row<RelocatableOption<u64>>] = &[
+    ("null", Ok(RelocatableOption::None)),
+    ("5", Ok(RelocatableOption::Some(5))),
+    ("\"5\"", Err(WrongKind)),
+    ("[]", Err(WrongKind)),
+    ("5.0", Err(WrongKind)),
+];
+
+const OPTIONS_OF_OPTIONS: &[Row<RelocatableOption<RelocatableOption<u64>>>] = &[
+    ("null", Ok(RelocatableOption::None)),
+    ("5", Ok(RelocatableOption::Some(RelocatableOption::Some(5)))),
+    ("true", Err(WrongKind)),
+];
+
+#[test]
+fn options(rt: HostRuntime) -> Result<(), Fail> {
+    let findings = Findings::new();
+    check_rows(&findings, rt.alloc(), OPTIONS);
+    check_rows(&findings, rt.alloc(), OPTIONS_OF_OPTIONS);
+    for (text, fault) in [
+        ("\"abcd\"", TooLong),
+        ("\"\\u0000\"", BadByte),
+        ("5", WrongKind),
+    ] {
+        check_fault::<RelocatableOption<StaticString<3>>>(&findings, rt.alloc(), text, fault);
+    }
+    for (text, fault) in [("[1, 2, 3, 4]", TooLong), ("[true]", WrongKind)] {
+        check_fault::<RelocatableOption<StaticVec<u64, 3>>>(&findings, rt.alloc(), text, fault);
+    }
+    findings.verdict()
+}
+
+/// Of group names, which have at most 31 bytes, none of which is empty, begins with a digit, or has a byte other than a
+/// lowercase letter, a digit or `-`.
+const GROUP_NAMES: &[Row<&str>] = &[
+    ("\"ab\"", Ok("ab")),
+    ("\"ab-1\"", Ok("ab-1")),
+    (
+        "\"abcdefghijklmnopqrstuvwxyzabcde\"",
+        Ok("abcdefghijklmnopqrstuvwxyzabcde"),
+    ),
+    ("\"1a\"", Err(InvalidContent)),
+    ("\"\"", Err(InvalidContent)),
+    ("\"aB\"", Err(InvalidContent)),
+    ("\"1\\u0000\"", Err(BadByte)),
+    ("\"1é\"", Err(BadByte)),
+    ("\"1bcdefghijklmnopqrstuvwxyz\\u0000bcdef\"", Err(TooLong)),
+    ("5", Err(WrongKind)),
+    ("null", Err(WrongKind)),
+];
+
+#[test]
+fn group_names(rt: HostRuntime) -> Result<(), Fail> {
+    let findings = Findings::new();
+    for (text, wanted) in GROUP_NAMES {
+        match Value::from_str(rt.alloc(), text) {
+            Ok(value) => match GroupName::from_value(&value) {
+                Ok(name) => findings.expect_same(Ok(name.as_string().as_str()), *wanted, text),
+                Err(fault) => findings.expect_same(Err(fault), *wanted, text),
+            },
+            Err(_) => findings.miss(text),
+        }
+    }
+    findings.verdict()
+}
+
+#[test]
+fn items_of_size_zero(rt: HostRuntime) -> Result<(), Fail> {
+    let findings = Findings::new();
+    check_rows(
+        &findings,
+        rt.alloc(),
+        &[("false", Ok(Empty)), ("0", Err(WrongKind))],
+    );
+    findings.verdict()
+}

@@ -1,0 +1,174 @@
+//! The counted forms of calls return what the plain forms return, at capacity 1,000, and calls of either form take as long on a
+//! map of 100,000 places as on one of 16.
+use crate::calls::Call::{Get, Insert, InsertAt, Len, NextFreeKey, Remove};
+use crate::calls::Outcome::{Key, Number, Value};
+use crate::calls::{Call, Line, Outcome, key_of, numbers_of, outcome_of};
+use ix_cells::{Table, Touches};
+use ix_maps::{Link, MetaSlotMap, SlotMap, SlotMapKey};
+use std::alloc::{AllocError, Global};
+use std::cmp::min;
+use std::test::Fail;
+use std::time::{CpuClock, Duration};
+use test_support::Findings;
+
+/// Makes the counted form of a call, if it has one, and returns its result.
+fn counted<S: Table<Option<u64>>, L: Table<Link>, G: Table<u32>>(
+    map: &mut MetaSlotMap<Option<u64>, S, L, G>,
+    call: &Call<u64>,
+) -> Outcome<u64> {
+    let mut touches = Touches::new();
+    match call {
+        Insert(value) => Key(numbers_of(map.insert_counted(*value, &mut touches))),
+        InsertAt(index, value) => {
+            Key(numbers_of(map.insert_at_counted(*index, *value, &mut touches)))
+        }
+        Remove(key) => Value(map.remove_counted(key_of(key), &mut touches)),
+        _ => outcome_of(map, call),
+    }
+}
+
+/// Returns a map of this capacity, of whose places the first half hold their own indexes.
+fn half_full(alloc: Global, capacity: usize) -> Result<SlotMap<u64>, AllocError> {
+    let mut map = SlotMap::new(alloc, capacity)?;
+    for value in 0..capacity as u64 / 2 {
+        let _ = map.insert(value);
+    }
+    Ok(map)
+}
+
+/// Calls on the half full map.
+const LINES: &[Line<u64>] = &[
+    (Len, Number(500)),
+    (NextFreeKey, Key(Some((500, 0)))),
+    (Remove((500, 0)), Value(None)),
+    (Insert(1), Key(Some((500, 0)))),
+    (InsertAt(250, 2), Key(Some((250, 1)))),
+    (Remove((250, 0)), Value(None)),
+    (Remove((250, 1)), Value(Some(2))),
+    (Insert(3), Key(Some((250, 2)))),
+    (InsertAt(501, 4), Key(Some((501, 0)))),
+    (InsertAt(999, 5), Key(Some((999, 0)))),
+    (Insert(6), Key(Some((502, 0)))),
+    (Remove((0, 0)), Value(Some(0))),
+    (InsertAt(0, 7), Key(Some((0, 1)))),
+    (Remove((499, 0)), Value(Some(499))),
+    (Remove((999, 0)), Value(Some(5))),
+    (InsertAt(1000, 8), Key(None)),
+    (InsertAt(usize::MAX, 8), Key(None)),
+    (Remove((1000, 0)), Value(None)),
+    (Remove((usize::MAX, 0)), Value(None)),
+    (Insert(9), Key(Some((999, 1)))),
+    (Insert(10), Key(Some((499, 1)))),
+    (Insert(11), Key(Some((503, 0)))),
+    (Get((250, 2)), Value(Some(3))),
+    (Len, Number(505)),
+];
+
+#[test]
+fn counted_calls(rt: HostRuntime) -> Result<(), Fail> {
+    let findings = Findings::new();
+    let plain = half_full(rt.alloc(), 1000);
+    if let (Ok(mut plain), Ok(mut map)) = (plain, half_full(rt.alloc(), 1000)) {
+        for (number, (call, outcome)) in LINES.iter().enumerate() {
+            let found = outcome_of(&mut plain, call);
+            findings.expect_same_at(&found, outcome, number, "the plain call");
+            let found = counted(&mut map, call);
+            findings.expect_same_at(&found, outcome, number, "the counted call");
+        }
+    } else {
+        findings.miss("there is memory");
+    }
+    findings.verdict()
+}
+
+/// Returns `true` if `key` is some key that has this value, and removes it.
+fn takes_out(map: &mut SlotMap<u64>, key: Option<SlotMapKey>, value: u64) -> bool {
+    match key {
+        Some(key) => map.remove(key) == Some(value),
+        None => false,
+    }
+}
+
+/// Makes each call, on held, free and dead keys, and leaves a half full map as full as it was. Returns whether all went well.
+fn make_calls(map: &mut SlotMap<u64>) -> bool {
+    let Some(key) = map.insert(1) else {
+        return false;
+    };
+    let is_next = map.next_free_key().is_some();
+    let is_held = map.contains(key) && map.get(key).is_some() && map.get_mut(key).is_some();
+    let replaced = map.insert_at(key.index(), 2);
+    let is_dead = map.remove(key).is_none();
+    let is_removed = takes_out(map, replaced, 2);
+    let last = map.insert_at(map.capacity().saturating_sub(1), 3);
+    is_next && is_held && is_dead && is_removed && takes_out(map, last, 3)
+}
+
+/// As [`takes_out`], by the counted form.
+fn takes_out_counted(
+    map: &mut SlotMap<u64>,
+    key: Option<SlotMapKey>,
+    value: u64,
+    touches: &mut Touches,
+) -> bool {
+    match key {
+        Some(key) => map.remove_counted(key, touches) == Some(value),
+        None => false,
+    }
+}
+
+/// As [`make_calls`], with the calls that have a counted form, in that form.
+fn make_counted_calls(map: &mut SlotMap<u64>) -> bool {
+    let mut touches = Touches::new();
+    let Some(key) = map.insert_counted(1, &mut touches) else {
+        return false;
+    };
+    let replaced = map.insert_at_counted(key.index(), 2, &mut touches);
+    let is_dead = map.remove_counted(key, &mut touches).is_none();
+    let is_removed = takes_out_counted(map, replaced, 2, &mut touches);
+    let index = map.capacity().saturating_sub(1);
+    let last = map.insert_at_counted(index, 3, &mut touches);
+    is_dead && is_removed && takes_out_counted(map, last, 3, &mut touches)
+}
+
+/// Returns the processor time that 20 rounds of calls take on a map of this capacity, the least of 5 tries.
+fn least_time(
+    findings: &Findings,
+    rt: &HostRuntime,
+    capacity: usize,
+    is_counted: bool,
+) -> std::io::Result<Duration> {
+    let mut map = half_full(rt.alloc(), capacity)?;
+    let mut least = Duration::MAX;
+    for _ in 0..5 {
+        let start = rt.thread_cpu_time()?;
+        for _ in 0..20 {
+            let went_well = if is_counted {
+                make_counted_calls(&mut map)
+            } else {
+                make_calls(&mut map)
+            };
+            findings.expect(went_well, "a round of calls");
+        }
+        least = min(least, rt.thread_cpu_time()?.saturating_sub(start));
+    }
+    Ok(least)
+}
+
+/// A call that went through 100,000 places would take some thousand times as long as one among 16.
+#[test]
+fn times(rt: HostRuntime) -> Result<(), Fail> {
+    let findings = Findings::new();
+    for is_counted in [false, true] {
+        let few = least_time(&findings, &rt, 16, is_counted);
+        let many = least_time(&findings, &rt, 100_000, is_counted);
+        if let (Ok(few), Ok(many)) = (few, many) {
+            findings.expect(
+                many.as_nanos() / 100 <= few.as_nanos(),
+                "the time of a round",
+            );
+        } else {
+            findings.miss("there is memory, and a clock");
+        }
+    }
+    findings.verdict()
+}

@@ -1,0 +1,142 @@
+//! Keys by their traits, and the texts of maps.
+use ix_cells::Table;
+use ix_maps::slotmap::key_order_law;
+use ix_maps::{FixedSizeSlotMap, Link, MetaSlotMap, SlotMap, SlotMapKey};
+use std::alloc::AllocError;
+use std::cmp::Ordering;
+use std::fmt::{Debug, InlineText};
+use std::hash::{DefaultHasher, Hash, Hasher};
+use std::test::Fail;
+use test_support::Findings;
+
+/// Returns the hash of a value, by the trait alone.
+fn hash_of<K: Hash>(value: &K) -> u64 {
+    let mut hasher = DefaultHasher::new();
+    value.hash(&mut hasher);
+    hasher.finish()
+}
+
+/// Returns the order of two values, by the trait alone.
+fn order_of<K: Ord>(value: &K, other: &K) -> Ordering {
+    value.cmp(other)
+}
+
+/// The index and the generation of keys, in their order.
+const RISING: &[(usize, u32)] = &[
+    (0, 0),
+    (0, 1),
+    (0, 4_294_967_295),
+    (1, 0),
+    (3, 1),
+    (usize::MAX, 0),
+    (usize::MAX, 4_294_967_295),
+];
+
+/// Checks two keys by their places in the order of all.
+fn check_pair(findings: &Findings, key: &SlotMapKey, other: &SlotMapKey, order: Ordering) {
+    let is_same = order == Ordering::Equal;
+    findings.expect_same(order_of(key, other), order, "the order");
+    let is_less = order == Ordering::Less;
+    findings.expect_same(
+        (key < other, key_order_law(*key, *other)),
+        (is_less, is_less),
+        "less",
+    );
+    findings.expect_same(key == other, is_same, "equality");
+    findings.expect_same(
+        hash_of(key) == hash_of(other),
+        is_same,
+        "two keys, two hashes",
+    );
+}
+
+#[test]
+fn keys() -> Result<(), Fail> {
+    let findings = Findings::new();
+    for (number, (index, generation)) in RISING.iter().enumerate() {
+        let key = SlotMapKey::new(*index, *generation);
+        let numbers = (key.index(), key.generation());
+        findings.expect_same_at(numbers, (*index, *generation), number, "the numbers");
+        for (place, (index, generation)) in RISING.iter().enumerate() {
+            let other = SlotMapKey::new(*index, *generation);
+            check_pair(&findings, &key, &other, number.cmp(&place));
+        }
+    }
+    findings.verdict()
+}
+
+/// Checks the `Debug` text of a value.
+fn check_text<T: Debug>(findings: &Findings, value: &T, text: &str) {
+    let found = InlineText::<80>::of(format_args!("{value:?}"));
+    findings.expect_same(found.as_str(), text, "the text");
+}
+
+/// Checks the texts of an empty map with three places, of one with a value, of a full one, and of its iterator as far as it has
+/// come.
+fn check_texts<S: Table<Option<u64>>, L: Table<Link>, G: Table<u32>>(
+    findings: &Findings,
+    map: &mut MetaSlotMap<Option<u64>, S, L, G>,
+) {
+    check_text(findings, &*map, "{}");
+    let _ = map.insert(5);
+    let _ = map.insert_at(0, 7);
+    check_text(findings, &*map, "{(0, 1): 7}");
+    let _ = map.insert_at(2, 9);
+    let _ = map.insert(8);
+    check_text(findings, &*map, "{(0, 1): 7, (1, 0): 8, (2, 0): 9}");
+    let mut walk = map.iter();
+    check_text(findings, &walk, "[(0, 1, 7), (1, 0, 8), (2, 0, 9)]");
+    let is_first = walk.next() == Some((SlotMapKey::new(0, 1), &7));
+    findings.expect(is_first, "the first item");
+    check_text(findings, &walk, "[(1, 0, 8), (2, 0, 9)]");
+    findings.expect(walk.nth(1).is_some(), "the last item");
+    check_text(findings, &walk, "[]");
+    findings.expect(walk.next().is_none(), "the end");
+}
+
+#[test]
+fn texts(rt: HostRuntime) -> Result<(), Fail> {
+    let findings = Findings::new();
+    let key = SlotMapKey::new(3, 1);
+    check_text(&findings, &key, "SlotMapKey { index: 3, generation: 1 }");
+    check_texts(&findings, &mut FixedSizeSlotMap::<u64, 3>::new());
+    match SlotMap::<u64>::new(rt.alloc(), 3) {
+        Ok(mut map) => check_texts(&findings, &mut map),
+        Err(AllocError) => findings.miss("there is memory"),
+    }
+    findings.verdict()
+}
+
+/// Returns the values in the order of their places, up to the first that is `last`, as digits.
+fn values_up_to<S: Table<Option<u64>>, L: Table<Link>, G: Table<u32>>(
+    map: &MetaSlotMap<Option<u64>, S, L, G>,
+    last: u64,
+) -> u64 {
+    let mut digits = 0u64;
+    for (_, value) in map {
+        digits = digits.wrapping_mul(10).wrapping_add(*value);
+        if *value == last {
+            break;
+        }
+    }
+    digits
+}
+
+#[test]
+fn loops_over_a_map() -> Result<(), Fail> {
+    let findings = Findings::new();
+    let mut map = FixedSizeSlotMap::<u64, 4>::starting_at(u32::MAX);
+    findings.expect_same(values_up_to(&map, 0), 0, "no value");
+    for value in 1..5 {
+        let _ = map.insert(value);
+    }
+    let _ = map.remove(SlotMapKey::new(1, u32::MAX));
+    findings.expect_same(values_up_to(&map, 0), 134, "a retired place is passed over");
+    findings.expect_same(map.iter().len(), 3, "a retired place is not counted");
+    findings.expect_same(map.iter().size_hint(), (3, Some(3)), "nor hinted at");
+    findings.expect_same(values_up_to(&map, 3), 13, "a loop that stops");
+    let none = FixedSizeSlotMap::<u64, 0>::new();
+    findings.expect_same(values_up_to(&none, 0), 0, "capacity 0");
+    findings.expect_same(none.iter().len(), 0, "capacity 0");
+    findings.verdict()
+}

@@ -1,0 +1,246 @@
+//! Each function once.
+use crate::calls::{check_calls, check_made};
+use crate::inserting::{insert_and_get, insert_at_next};
+use crate::rows::EVERY_CALL;
+use ix_cells::{HeapTable, InitError, InlineTable, RelocatableContainer, Table, Touches};
+use ix_maps::{
+    FixedSizeSlotTable, Link, MetaSlotTable, RelocatableSlotTable, SlotTable, SlotTableKey,
+    UninitSlotTable,
+};
+use std::alloc::{AllocError, Global};
+use std::cmp::Ordering;
+use std::fmt::{Debug, InlineText};
+use std::hash::{DefaultHasher, Hash, Hasher};
+use std::mem::size_of;
+use std::test::Fail;
+use test_support::Findings;
+
+/// Returns the hash of a value, by the trait alone.
+fn hash_of<K: Hash>(value: &K) -> u64 {
+    let mut hasher = DefaultHasher::new();
+    value.hash(&mut hasher);
+    hasher.finish()
+}
+
+/// Returns the order of two values, by the trait alone.
+fn order_of<K: Ord>(value: &K, other: &K) -> Ordering {
+    value.cmp(other)
+}
+
+#[test]
+fn keys() -> Result<(), Fail> {
+    let findings = Findings::new();
+    let (least, greatest) = (SlotTableKey::new(0), SlotTableKey::new(usize::MAX));
+    findings.expect_same((least.value(), greatest.value()), (0, usize::MAX), "keys");
+    let equal = (least == SlotTableKey::new(0), least != greatest);
+    findings.expect_same(equal, (true, true), "keys");
+    let below = (least < greatest, greatest <= greatest);
+    findings.expect_same(below, (true, true), "keys");
+    let above = (greatest > least, least >= least);
+    findings.expect_same(above, (true, true), "keys");
+    findings.verdict()
+}
+
+#[test]
+fn keys_by_their_bounds() -> Result<(), Fail> {
+    let findings = Findings::new();
+    let numbers = [0, 1, 2, 255, 256, usize::MAX];
+    for number in &numbers {
+        let hash = hash_of(&SlotTableKey::new(*number));
+        findings.expect_same(hash, hash_of(number), "the hash of the number");
+        for other in &numbers {
+            let order = order_of(&SlotTableKey::new(*number), &SlotTableKey::new(*other));
+            findings.expect_same(order, number.cmp(other), "the order of the numbers");
+            let equal = hash == hash_of(&SlotTableKey::new(*other));
+            findings.expect_same(equal, number == other, "two keys, two hashes");
+        }
+    }
+    findings.verdict()
+}
+
+/// Checks the `Debug` text of a value.
+fn check_text<T: Debug>(findings: &Findings, value: &T, text: &str) {
+    let found = InlineText::<80>::of(format_args!("{value:?}"));
+    findings.expect_same(found.as_str(), text, "the text");
+}
+
+/// Inserts values at the keys 0 and 2 of an empty map with three keys.
+fn insert_two<S: Table<u64>, L: Table<Link>>(map: &mut MetaSlotTable<u64, S, L>) {
+    let _ = map.insert_at(SlotTableKey::new(2), 7);
+    let _ = map.insert(5);
+}
+
+#[test]
+fn texts(rt: HostRuntime) -> Result<(), Fail> {
+    let findings = Findings::new();
+    let mut fixed = FixedSizeSlotTable::<u64, 3>::new();
+    check_text(&findings, &fixed, "{}");
+    insert_two(&mut fixed);
+    check_text(&findings, &fixed, "{0: 5, 2: 7}");
+    match SlotTable::<u64>::new(rt.alloc(), 3) {
+        Ok(mut map) => {
+            check_text(&findings, &map, "{}");
+            insert_two(&mut map);
+            check_text(&findings, &map, "{0: 5, 2: 7}");
+        }
+        Err(AllocError) => findings.miss("there is memory"),
+    }
+    let mut walk = fixed.iter();
+    check_text(&findings, &walk, "[(0, 5), (2, 7)]");
+    findings.expect(walk.next().is_some(), "the first item");
+    check_text(&findings, &walk, "[(2, 7)]");
+    check_text(
+        &findings,
+        &SlotTableKey::new(7),
+        "SlotTableKey { number: 7 }",
+    );
+    findings.verdict()
+}
+
+#[test]
+fn from_tables(rt: HostRuntime) -> Result<(), Fail> {
+    let findings = Findings::new();
+    match HeapTable::<Link, Global>::new(rt.alloc(), 2) {
+        Ok(links) => {
+            let map = MetaSlotTable::from_tables(InlineTable::<char, 2>::new(), links);
+            check_calls(&findings, map, EVERY_CALL, "two kinds of tables");
+        }
+        Err(AllocError) => findings.miss("there is memory"),
+    }
+    findings.verdict()
+}
+
+#[test]
+fn two_steps(rt: HostRuntime) -> Result<(), Fail> {
+    let findings = Findings::new();
+    let uninit = InitError::new(RelocatableSlotTable::<char, Global>::new_uninit(2)).into_uninit();
+    let made = uninit.init(rt.alloc());
+    check_made(&findings, made, EVERY_CALL, "by the type of the ready map");
+    let uninit = <UninitSlotTable<char> as RelocatableContainer<Global>>::new_uninit(2);
+    let made = uninit.init(rt.alloc());
+    check_made(&findings, made, EVERY_CALL, "by the trait");
+    findings.verdict()
+}
+
+#[test]
+fn counted_calls() -> Result<(), Fail> {
+    let findings = Findings::new();
+    let mut map = FixedSizeSlotTable::<u64, 2>::new();
+    let mut touches = Touches::new();
+    let one = SlotTableKey::new(1);
+    let puts = [
+        map.insert_at_counted(one, 5, &mut touches),
+        map.insert_at_counted(one, 6, &mut touches),
+    ];
+    findings.expect_same(puts, [true, true], "counted calls");
+    let keys = [
+        map.insert_counted(7, &mut touches),
+        map.insert_counted(8, &mut touches),
+    ];
+    findings.expect_same(keys, [Some(SlotTableKey::new(0)), None], "counted calls");
+    let removed = [
+        map.remove_counted(one, &mut touches),
+        map.remove_counted(one, &mut touches),
+    ];
+    findings.expect_same(removed, [Some(6), None], "counted calls");
+    let is_key = map.insert_at_counted(SlotTableKey::new(2), 9, &mut touches);
+    findings.expect_same(is_key, false, "counted calls");
+    findings.verdict()
+}
+
+/// Returns each key and its value, both less than 10, as two digits.
+fn digits_of<S: Table<u64>, L: Table<Link>>(map: &MetaSlotTable<u64, S, L>) -> u64 {
+    let mut digits = 0u64;
+    for (key, value) in map.iter() {
+        let pair = (key.value() as u64).wrapping_mul(10).wrapping_add(*value);
+        digits = digits.wrapping_mul(100).wrapping_add(pair);
+    }
+    digits
+}
+
+#[test]
+fn walks_rise() -> Result<(), Fail> {
+    let findings = Findings::new();
+    let mut map = FixedSizeSlotTable::<u64, 4>::new();
+    findings.expect_same(digits_of(&map), 0, "no value");
+    let _ = map.insert_at(SlotTableKey::new(3), 7);
+    let _ = map.insert_at(SlotTableKey::new(1), 5);
+    findings.expect_same(digits_of(&map), 1537, "walks rise");
+    let none = FixedSizeSlotTable::<u64, 0>::new();
+    findings.expect_same(digits_of(&none), 0, "no key");
+    findings.verdict()
+}
+
+#[test]
+fn walks_end() -> Result<(), Fail> {
+    let findings = Findings::new();
+    let mut map = FixedSizeSlotTable::<u64, 2>::new();
+    let _ = map.insert_at(SlotTableKey::new(1), 5);
+    let mut walk = map.iter();
+    let is_first = walk.next() == Some((SlotTableKey::new(1), &5));
+    findings.expect(is_first, "the only value");
+    findings.expect(walk.next().is_none(), "the end");
+    findings.verdict()
+}
+
+#[test]
+fn loops_over_a_map() -> Result<(), Fail> {
+    let findings = Findings::new();
+    let mut map = FixedSizeSlotTable::<u64, 3>::new();
+    insert_two(&mut map);
+    let mut last = 0;
+    for (key, value) in &map {
+        last = *value;
+        if key == SlotTableKey::new(0) {
+            break;
+        }
+    }
+    findings.expect_same(last, 5, "a loop that stops");
+    for (_, value) in &map {
+        last = *value;
+    }
+    findings.expect_same(last, 7, "a loop to the end");
+    let none = FixedSizeSlotTable::<u64, 0>::new();
+    findings.expect_same(none.iter().len(), 0, "capacity 0");
+    let mut unit = FixedSizeSlotTable::<(), 2>::new();
+    let _ = unit.insert(());
+    findings.expect_same(
+        (unit.iter().len(), unit.iter().count()),
+        (1, 1),
+        "of size zero",
+    );
+    findings.verdict()
+}
+
+#[test]
+fn functions_of_a_user() -> Result<(), Fail> {
+    let findings = Findings::new();
+    let mut map = FixedSizeSlotTable::<u64, 2>::new();
+    findings.expect_same(insert_and_get(&mut map, 5), Some(5), "insert and get");
+    findings.expect(insert_at_next(&mut map, 6), "insert at the next free key");
+    findings.expect_same(map.get(SlotTableKey::new(1)).copied(), Some(6), "the value");
+    findings.expect_same(insert_and_get(&mut map, 7), None, "a full map");
+    findings.expect(!insert_at_next(&mut map, 7), "a full map");
+    findings.verdict()
+}
+
+#[test]
+fn counters_have_no_bytes() -> Result<(), Fail> {
+    let findings = Findings::new();
+    findings.expect_same(size_of::<Touches>(), 0, "the size of a counter");
+    findings.verdict()
+}
+
+#[test]
+fn values_without_a_test() -> Result<(), Fail> {
+    let findings = Findings::new();
+    let mut map = FixedSizeSlotTable::<u64, 2>::new();
+    let (first, second) = (map.insert(7), map.insert(9));
+    if let (Some(first), Some(second)) = (first, second) {
+        findings.expect_same(*map.get_unchecked(first), 7, "the first value");
+        findings.expect_same(*map.get_unchecked(second), 9, "the second value");
+    } else {
+        findings.miss("there is room");
+    }
+    findings.verdict()
+}
