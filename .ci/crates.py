@@ -11,6 +11,13 @@ def read(path):
         return file.read()
 
 
+def write_text(path, text):
+    """Writes a file that does not have this text."""
+    if not os.path.exists(os.path.join(ROOT, path)) or read(path).decode() != text:
+        with open(os.path.join(ROOT, path), "w", encoding="utf-8") as file:
+            file.write(text)
+
+
 def libraries_of_crates():
     """Returns the libraries that each crate uses, by its name, in the order of crates.txt."""
     uses = {}

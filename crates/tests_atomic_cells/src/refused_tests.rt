@@ -1,5 +1,5 @@
 //! What making a sequenced cell and its seats returns if an allocation fails: `rt try --test --fail-alloc N` brings it about in
-//! this test, and the script `.ci/refusals` in a program that makes the same calls.
+//! this test, and the script `stress/refusals` in a program that makes the same calls.
 use ix_atomic::SequencedByteAtomic;
 use std::alloc::AllocError;
 use std::test::Fail;

@@ -1,5 +1,5 @@
 //! What `to_text` returns if an allocation fails: `rt try --test --fail-alloc N` brings it about in these tests, and the
-//! script `.ci/refusals` in a program that makes the same call.
+//! script `stress/refusals` in a program that makes the same call.
 use ix_names::GroupName;
 use std::alloc::AllocError;
 use std::test::Fail;

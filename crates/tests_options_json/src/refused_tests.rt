@@ -1,5 +1,5 @@
 //! What `to_value` returns if an allocation fails: `rt try --test --fail-alloc N` brings it about in these tests, and the
-//! script `.ci/refusals` in a program that makes the same call.
+//! script `stress/refusals` in a program that makes the same call.
 use ix_cells::StaticVec;
 use ix_names::{GroupName, JsonFault, JsonForm, RelocatableOption};
 use ix_string::StaticString;

@@ -1,5 +1,5 @@
 //! What a script does if there is no memory for its container: `rt try --test --fail-alloc N` brings it about in these tests,
-//! and the script `.ci/refusals` in a program that runs such scripts.
+//! and the script `stress/refusals` in a program that runs such scripts.
 use ix_run::{ScriptFault, script};
 use std::alloc::Global;
 use std::test::Fail;

@@ -1,5 +1,5 @@
 //! What `as_escaped_string` returns if an allocation fails: `rt try --test --fail-alloc N` brings it about in these tests, and the
-//! script `.ci/refusals` in a program that makes the same call.
+//! script `stress/refusals` in a program that makes the same call.
 use ix_string::as_escaped_string;
 use std::alloc::AllocError;
 use std::test::Fail;

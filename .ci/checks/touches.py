@@ -1,4 +1,3 @@
-#!/usr/bin/env python3
 """Fails if a call of a slot table or of a slot map could look at places that it does not count.
 
 A contract bounds the counter that a call is passed, but can't keep the call from a counter of its own. So here no function of
@@ -8,9 +7,8 @@ tried.
 """
 
 import re
-import sys
 
-from items import extent, paths, text_of
+from checks.items import extent, paths, text_of
 
 FILES = [path for path in paths("ix_maps", "src/slot*/*.rt") if not path.endswith("/kinds.rt")]
 # By file, the functions that go through places, as their documentation says: those that make, end, walk or print a container.
@@ -94,13 +92,7 @@ def missed(texts):
                     yield f"{it.place}: nothing is said of `{scan}`"
 
 
-def main():
+def check():
+    """Returns what is wrong."""
     texts = {path: text_of(path) for path in FILES}
-    found = [*faults([it for path, text in texts.items() for it in functions(path, text)]), *missed(texts)]
-    for fault in found:
-        print(f".ci/touches: {fault}", file=sys.stderr)
-    return 1 if found else 0
-
-
-if __name__ == "__main__":
-    sys.exit(main())
+    return [*faults([it for path, text in texts.items() for it in functions(path, text)]), *missed(texts)]

@@ -1,4 +1,3 @@
-#!/usr/bin/env python3
 """Compares each block of README.md and docs/ in Rattle or antt with the file that it quotes, or with items of that file.
 
 A block begins at a line ```rust or ```antt. The line before it names a file of this repository, as in
@@ -6,16 +5,13 @@ A block begins at a line ```rust or ```antt. The line before it names a file of 
 <!-- crates/examples/src/registry.rt: Registry register -->, the block is these items, each with its docs. The word imports
 stands for the lines of the file that import words of contracts.
 
-`.ci/quotes` fails if a block names no file or differs from what it quotes. `.ci/quotes --write` writes it into the blocks.
-Further words name the documents to look at in place of README.md and docs/.
+A block may not name no file, or differ from what it quotes; what is written is what it quotes.
 """
 
-import glob
 import os
 import re
-import sys
 
-from crates import ROOT, read
+from crates import ROOT, read, write_text
 
 BLOCK = re.compile(r"^((?:<!-- ([^\n]*?) -->\n)?```(?:rust|antt)[^\n]*\n)(.*?)^(```)$", re.M | re.S)
 
@@ -59,29 +55,27 @@ def quoted(text, name, differing, faults):
             faults.append(f"{place}: {source}: {error.strerror}")
             return match.group()
         if block != wanted:
-            differing.append(f"{place}: the block differs from {source}; .ci/quotes --write copies the file")
+            differing.append(f"{place}: the block differs from {source}")
         return head + wanted + tail
 
     return BLOCK.sub(block_of, text)
 
 
-def main():
-    words = sys.argv[1:]
-    is_write = "--write" in words
-    documents = [word for word in words if word != "--write"]
-    if not documents:
-        documents = [os.path.join(ROOT, "README.md"), *sorted(glob.glob(os.path.join(ROOT, "docs", "*.md")))]
-    differing, faults = [], []
-    for document in documents:
-        text = read(os.path.abspath(document)).decode()
-        wanted = quoted(text, os.path.relpath(document), differing, faults)
-        if is_write and wanted != text:
-            with open(document, "w", encoding="utf-8") as file:
-                file.write(wanted)
-    for fault in faults if is_write else faults + differing:
-        print(fault, file=sys.stderr)
-    return 1 if faults or differing and not is_write else 0
+def wanted_texts():
+    """Returns the text of each document as it has to be, by its path, and two lists of faults: blocks that differ, and others."""
+    texts, differing, faults = {}, [], []
+    for path in ["README.md", *sorted(f"docs/{name}" for name in os.listdir(os.path.join(ROOT, "docs")) if name.endswith(".md"))]:
+        texts[path] = quoted(read(path).decode(), path, differing, faults)
+    return texts, differing, faults
 
 
-if __name__ == "__main__":
-    sys.exit(main())
+def check():
+    """Returns what is wrong."""
+    _, differing, faults = wanted_texts()
+    return faults + differing
+
+
+def write():
+    """Writes what the blocks quote."""
+    for path, text in wanted_texts()[0].items():
+        write_text(path, text)

@@ -1,4 +1,3 @@
-#!/usr/bin/env python3
 """Shows that no public contract rests on a definition of specs/inner/, where the words of private contracts are.
 
 It fails if a public item of the library cites such a word in its contract or in what an impl of a trait pins, and if a file of
@@ -6,9 +5,8 @@ specs/ outside inner/ and laws/ uses one of them.
 """
 
 import re
-import sys
 
-from items import LIBRARY, is_shown, paths, public_modules, text_of, words_of
+from checks.items import LIBRARY, is_shown, paths, public_modules, text_of, words_of
 
 WORD = re.compile(r"[^\W\d][\w-]*")
 PINNED = re.compile(r"^ *ghost (?!use|view|invariant|coded|inverse)\w+ = .*?;$", re.M | re.S)
@@ -43,12 +41,6 @@ def used(crate):
             yield f"{path} uses a file of specs/inner/"
 
 
-def main():
-    faults = [fault for crate in LIBRARY for fault in (*cited(crate), *used(crate))]
-    for fault in faults:
-        print(fault, file=sys.stderr)
-    return 1 if faults else 0
-
-
-if __name__ == "__main__":
-    sys.exit(main())
+def check():
+    """Returns what is wrong."""
+    return [fault for crate in LIBRARY for fault in (*cited(crate), *used(crate))]

@@ -1,4 +1,3 @@
-#!/usr/bin/env python3
 """Says which steps each function of the cells takes, through which seat, where it loops, and where it takes memory.
 
 Contracts count the loads and stores of a seat that is lent. They don't see a load without a seat, a kind of step that does not
@@ -8,7 +7,8 @@ text. Then each wrong body of PLANTS is planted in a copy in memory, and has to 
 import glob
 import os
 import re
-import sys
+
+from crates import ROOT
 
 TABLE = """
 byte_atomic/fixed_size_byte_atomic.rt new: array::from_fn(|i| AtomicU8::new(bytes[i]))
@@ -158,19 +158,15 @@ PLANTS = {
 }
 
 
-def main():
-    root = os.path.join(os.path.dirname(os.path.abspath(__file__)), "..", "crates", "ix_atomic", "src")
+def check():
+    """Returns what is wrong."""
+    root = os.path.join(ROOT, "crates", "ix_atomic", "src")
     files = [file for folder in ("byte_atomic", "sequenced") for file in glob.glob(os.path.join(root, folder, "*.rt"))]
-    texts = {os.path.relpath(file, root): open(file).read() for file in files}
+    texts = {os.path.relpath(file, root): open(file, encoding="utf-8").read() for file in files}
     wrong = differs(texts)
     for plant, (name, old, new) in PLANTS.items():
         if texts[name].count(old) != 1:
             wrong.append(f"cannot be planted: {plant}")
         elif not differs({**texts, name: texts[name].replace(old, new)}):
             wrong.append(f"is not refused: {plant}")
-    for line in wrong:
-        print(f".ci/steps: {line}", file=sys.stderr)
-    sys.exit(1 if wrong else 0)
-
-
-main()
+    return wrong

@@ -1,4 +1,3 @@
-#!/usr/bin/env python3
 """Looks up what README.md, CHANGELOG.md and docs/ name, and fails if something is not there.
 
 - A file or a folder in backticks is one, from the root or as the end of a path; a link leads to a page and to a heading of it.
@@ -12,12 +11,11 @@ Then each word in backticks is misspelt in turn in a copy of its paragraph, and 
 
 import os
 import re
-import sys
 
-from clauses import Contracts
+from checks.clauses import Contracts
 from crates import ROOT, libraries_of_crates
-from items import text_of
-from pages import DOCUMENTS, FILES, headings, is_file, is_path, paragraphs
+from checks.items import text_of
+from checks.pages import DOCUMENTS, FILES, headings, is_file, is_path, paragraphs
 
 # Words that the code does not have: of Rust, its std and its crates, of the kit, and what stands for a name of the reader's.
 WORDS = set("""
@@ -65,7 +63,7 @@ def code_words():
     words = WORDS | UPSTREAM | {word for path in FILES for word in WORD.findall(path)}
     words.update(*CRATES.values())
     for path in FILES:
-        is_script = re.fullmatch(r"\.ci/[\w-]+", path) and path != ".ci/names" and os.path.isfile(os.path.join(ROOT, path))
+        is_script = re.fullmatch(r"(?:\.ci|stress)/[\w-]+", path) and os.path.isfile(os.path.join(ROOT, path))
         comment = CODE[".py"] if is_script else CODE.get(os.path.splitext(path)[1])
         if comment:
             words.update(WORD.findall(re.sub(comment, "", text_of(path))))
@@ -164,16 +162,11 @@ def missed(text, room, folder):
             yield right, f"nothing is said of {wrong}"
 
 
-def main():
+def check():
+    """Returns what is wrong."""
     pages = [(path, *place) for path in DOCUMENTS for place in places(path)]
-    found = [f".ci/names: no page has {right}" for right, _ in PLANTS if not any(right in text for _, _, text, _ in pages)]
+    found = [f"no page has {right}, which is to be misspelt" for right, _ in PLANTS if not any(right in text for _, _, text, _ in pages)]
     for path, line, text, room in pages:
         wrong = list(faults(text, room, os.path.dirname(path))) or missed(text, room, os.path.dirname(path))
         found += [f"{path}:{line + text[: text.find(word)].count(chr(10))}: {it}" for word, it in wrong]
-    for fault in found:
-        print(fault, file=sys.stderr)
-    return 1 if found else 0
-
-
-if __name__ == "__main__":
-    sys.exit(main())
+    return found

@@ -1,23 +1,19 @@
-#!/usr/bin/env python3
-"""Prints the reference in docs/api/: a page for each public module, from the sources of the library's crates.
+"""The reference in docs/api/: a page for each public module, from the sources of the library's crates.
 
 A page has the lines that import its items, and then each item with its signature and contract, its docs, the files that define
 the words of its contract, and the wrong bodies that are refused. The type or trait with the most calls comes first, iterators
 last. docs/api/README.md lists all pages and items, and the page of each call.
-
-`.ci/api --check` fails if a page is another than this prints. `.ci/api --write` writes the pages.
 """
 
 import collections
 import glob
 import os
 import re
-import sys
 import textwrap
 
-from crates import ROOT
-from items import ALIAS, LIBRARY, base_of, exported_names, is_own, is_shown, paths, printed_texts, public_modules
-from items import text_of, trait_of, words_of
+from crates import ROOT, write_text
+from checks.items import ALIAS, LIBRARY, base_of, exported_names, is_own, is_shown, paths, printed_texts, public_modules
+from checks.items import text_of, trait_of, words_of
 
 PAGES = os.path.join(ROOT, "docs", "api")
 INDEX = "README.md"
@@ -29,7 +25,7 @@ DERIVED_TEXT = re.compile(r"#\[error\(\"([^\"]*)\"\)\]")
 MAIN_CALLS = 6
 INTRODUCTION = """# Reference
 
-Made from the sources by `.ci/api`: the public items of each module, each with its contract, where the words of the contract are
+Made from the sources by `.ci/check --write`: the public items of each module, each with its contract, where the words of the contract are
 defined, and the wrong bodies that are refused (`crates/CRATE/must-fail`). The README explains how to read a contract;
 [CHOOSING.md](../CHOOSING.md) says which container to take, and which call.
 
@@ -329,29 +325,21 @@ def pages():
     return texts | {INDEX: index([module for module, _ in library.modules], texts)}
 
 
-def write(texts, old):
+def old_pages():
+    return {os.path.basename(path) for path in glob.glob(os.path.join(PAGES, "*.md"))}
+
+
+def check():
+    """Returns what is wrong."""
+    texts, old = pages(), old_pages()
+    differing = (old ^ set(texts)) | {name for name in old & set(texts) if text_of(f"docs/api/{name}") != texts[name]}
+    return [f"docs/api/{name}: it is another than the sources make" for name in sorted(differing)]
+
+
+def write():
+    texts, old = pages(), old_pages()
     os.makedirs(PAGES, exist_ok=True)
     for name in old - set(texts):
         os.remove(os.path.join(PAGES, name))
     for name, text in texts.items():
-        with open(os.path.join(PAGES, name), "w", encoding="utf-8") as file:
-            file.write(text)
-
-
-def main():
-    texts, words = pages(), sys.argv[1:]
-    old = {os.path.basename(path) for path in glob.glob(os.path.join(PAGES, "*.md"))}
-    if words == ["--write"]:
-        write(texts, old)
-    elif words == ["--check"]:
-        differing = (old ^ set(texts)) | {name for name in old & set(texts) if text_of(f"docs/api/{name}") != texts[name]}
-        for name in sorted(differing):
-            print(f"docs/api/{name}: it is another than .ci/api prints; .ci/api --write writes it", file=sys.stderr)
-        return 1 if differing else 0
-    else:
-        print("\n".join(texts[name] for name in sorted(texts)), end="")
-    return 0
-
-
-if __name__ == "__main__":
-    sys.exit(main())
+        write_text(f"docs/api/{name}", text)

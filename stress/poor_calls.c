@@ -1,7 +1,7 @@
 /* The calls read and write of the C library, as poor devices answer them: a call on standard input or output is interrupted at
  * random, and else moves a random number of bytes. One call may fail: then its device works again.
  *
- * `.ci/soak` builds this into a library that is loaded before the C library, and sets POOR_CALLS to four numbers: a seed, the
+ * `stress/soak` builds this into a library that is loaded before the C library, and sets POOR_CALLS to four numbers: a seed, the
  * most bytes that a call moves, and the numbers of bytes that are read and that are written before a call fails, or -1 if none
  * fails. */
 #include <errno.h>

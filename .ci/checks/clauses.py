@@ -5,7 +5,7 @@ import functools
 import re
 
 from crates import libraries_of_crates
-from items import ALIAS, LIBRARY, base_of, items_of, paths, text_of, trait_of
+from checks.items import ALIAS, LIBRARY, base_of, items_of, paths, text_of, trait_of
 
 CLAUSE = re.compile(r"\b(?:ensures|requires)\*? (\w+)")
 GHOST = re.compile(r"^    ghost (?!use\b)(\w+)", re.M)
