@@ -1,4 +1,4 @@
-//! Examples of the library, each in a file of its own, which README.md and docs/EXAMPLES.md quote.
+//! Examples of the library, each in a file of its own, which README.md and docs/ quote.
 #![tactic(auto)]
 
 pub mod arena;

@@ -16,7 +16,6 @@ mod memory_tests;
 #[cfg(test)]
 mod readings;
 #[cfg(test)]
-mod refused_tests;
 #[cfg(test)]
 mod sequenced_tests;
 #[cfg(test)]

@@ -15,7 +15,6 @@ mod order_tests;
 #[cfg(test)]
 mod own_rules;
 #[cfg(test)]
-mod refused_tests;
 #[cfg(test)]
 mod retain_tests;
 #[cfg(test)]

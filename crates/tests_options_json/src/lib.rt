@@ -13,7 +13,6 @@ mod option_tests;
 #[cfg(test)]
 mod reading_tests;
 #[cfg(test)]
-mod refused_tests;
 #[cfg(test)]
 mod text_tests;
 #[cfg(test)]

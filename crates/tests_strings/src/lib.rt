@@ -21,7 +21,6 @@ mod order_tests;
 #[cfg(test)]
 mod refusals;
 #[cfg(test)]
-mod refused_tests;
 #[cfg(test)]
 mod rows;
 #[cfg(test)]
