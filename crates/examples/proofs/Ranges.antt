@@ -12,7 +12,7 @@ use Rattle.ix_atomic.proofs.OwnPlaces.{merge-cases}
 use Rattle.ix_atomic.proofs.EveryValue.{every_value}
 use Rattle.examples.specs.declared.own_fields.Range.{Range}
 use Rattle.examples.specs.Ranges.{IsInOrder, AreInOrder, KnowsOf}
-use Rattle.examples.proofs.Written.{slice_get-longer, slice_get-last, begins_after}
+use Rattle.examples.proofs.Written.{slice_get-longer, slice_get-last, Begins-length, begins_after}
 
 -- what a place of a beginning has, the whole list has there
 slice_get-begins : (known later : List Range) (place : ℕ) (range : Range) → Begins known later → place < length known → slice_get later place ≡ Some range → slice_get known place ≡ Some range
@@ -35,9 +35,6 @@ place_inside writer kept place has = elim has.0 as (λ k. k < length (0 ∷ writ
   | zero ↦ λ _ is. subst (λ p. p < length writer.known) is kept.opening
   | suc k ↦ λ inside is. (All-contains (λ p. (0 < p) × (p < length writer.known)) writer.places place kept.own.1 (k, omega (arith, inside), is)).1
 ] has.1 has.2
-
-Begins-length : (xs ys : List Range) → Begins xs ys → length xs ≤ length ys
-Begins-length xs ys begins = let whole = ap length begins.1 in let parts = length-append xs begins.0 in omega (arith, whole, parts)
 
 -- more is known, and the places are the same
 pub kept_by : (before after : Writer Range) → Begins before.known after.known → after.places ≡ before.places → AreOwn after → AreInOrder before → AreInOrder after

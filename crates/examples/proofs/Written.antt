@@ -38,7 +38,7 @@ module _ {T : Type 0} where
   Begins-trans : (xs ys zs : List T) → Begins xs ys → Begins ys zs → Begins xs zs
   Begins-trans xs ys zs first second = (first.0 ++ second.0, second.1 ∙ ap (λ list. list ++ second.0) first.1 ∙ append_assoc xs first.0 second.0)
 
-  Begins-length : (xs ys : List T) → Begins xs ys → length xs ≤ length ys
+  pub Begins-length : (xs ys : List T) → Begins xs ys → length xs ≤ length ys
   Begins-length xs ys begins = let whole = ap length begins.1 in let parts = length-append xs begins.0 in omega (arith, whole, parts)
 
   pub begins_after : (before after : Writer T) (value : T) → Writes before after value → Begins before.known after.known
