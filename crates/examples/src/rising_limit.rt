@@ -51,6 +51,8 @@ pub fn take_back(
     requires raises { length writer.old.places ≡ raises }
     requires reader { reader.cell ≡ limit.now }
     ensures cell { writer.new.cell ≡ writer.old.cell }
+    ensures known { Begins writer.old.known writer.new.known
+        × Begins reader.known writer.new.known }
     ensures all { result ≡ true → (limits : List ℕ) → HasSet writer.old limits
         → writer.new.known ≡ limits }
     ensures never_lower { result ≡ true → (limits : List ℕ) → HasSet writer.old limits
