@@ -9,7 +9,7 @@ use Rattle.ix_maps.specs.SlotState.{entries_from}
 use Rattle.ix_maps.specs.Generations.{SlotMapState, held_entries, map_entries, map_len}
 use Rattle.ix_run.specs.ReplyTexts.{items_text, more_items_text, items_left_text, next_text}
 use Rattle.ix_run.specs.inner.Writing.{Writes, WritesPart}
-use Rattle.ix_run.specs.declared.run.reply_writer.ReplyWriter.{ReplyWriter}
+use Rattle.ix_run.specs.declared.run.devices.reply_writer.ReplyWriter.{ReplyWriter}
 use Rattle.ix_run.proofs.Writing.{Writes-nil, Writes-append, WritesPart-Writes, WritesPart_append, WritesPart-same}
 
 module _ {T : Type 0} where

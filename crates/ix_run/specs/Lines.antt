@@ -1,7 +1,7 @@
 -- The lines of an input.
 use Rattle.std.specs.Prelude.{ℕ, ◌≢◌, List, [], ◌∷◌, ◌++◌, length, take, nat_le, nat_eq, if◌then◌else◌, Option, None, Some, All}
 use Rattle.std.specs.List.{flat_map, onto_first}
-use Rattle.ix_run.specs.declared.run.limits.TheConstants.{MAX_LINE_LEN}
+use Rattle.ix_run.specs.declared.run.devices.limits.TheConstants.{MAX_LINE_LEN}
 
 -- the byte that ends a line
 abbrev pub line_feed : ℕ

@@ -18,9 +18,9 @@ use Rattle.ix_run.specs.Headers.{header_of, capacity_of, first_generation}
 use Rattle.ix_run.specs.Lines.{LimitedLine, limited_line, lines_of, with_line_feed}
 use Rattle.ix_run.specs.ReplyTexts.{reply_text, slot_reply_text, items_text, entry_text, key_entry_text}
 use Rattle.ix_run.specs.Words.{Form, command_of}
-use Rattle.ix_run.specs.declared.run.header.Header.{Header}
-use Rattle.ix_run.specs.declared.run.header.Container.{Container}
-use Rattle.ix_run.specs.declared.run.header.Container.TheVariants.{Queue, Vec, Table, Slot, Flat, Text}
+use Rattle.ix_run.specs.declared.run.grammar.header.Header.{Header}
+use Rattle.ix_run.specs.declared.run.grammar.header.Container.{Container}
+use Rattle.ix_run.specs.declared.run.grammar.header.Container.TheVariants.{Queue, Vec, Table, Slot, Flat, Text}
 
 -- reply and after: the text of the reply to the command that a line spells, if any, and the model after it; shown: what
 -- `show` prints

@@ -3,5 +3,5 @@ pub mod Faults
 pub mod Input
 pub mod NextLine
 pub mod Progress
-pub mod Tables
+pub mod NameTables
 pub mod Writing

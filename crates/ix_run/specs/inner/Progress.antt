@@ -5,10 +5,10 @@ use Rattle.ix_run.specs.inner.Input.{lines_to_come}
 use Rattle.ix_run.specs.inner.NextLine.{Reads, Coming}
 use Rattle.ix_run.specs.inner.Writing.{Writes, WritesPart}
 use Rattle.ix_run.specs.Script.{opening_replies}
-use Rattle.ix_run.specs.declared.run.fault.ScriptFault.{ScriptFault}
-use Rattle.ix_run.specs.declared.run.header.Header.{Header}
-use Rattle.ix_run.specs.declared.run.line_reader.LineReader.{LineReader}
-use Rattle.ix_run.specs.declared.run.reply_writer.ReplyWriter.{ReplyWriter}
+use Rattle.ix_run.specs.declared.run.devices.fault.ScriptFault.{ScriptFault}
+use Rattle.ix_run.specs.declared.run.grammar.header.Header.{Header}
+use Rattle.ix_run.specs.declared.run.devices.line_reader.LineReader.{LineReader}
+use Rattle.ix_run.specs.declared.run.devices.reply_writer.ReplyWriter.{ReplyWriter}
 
 -- a script on its way: the lines that come, and the replies
 abbrev pub Session : Type 0 → Type 0 → Type 0

@@ -3,10 +3,9 @@ ghost use Rattle.std.specs.Prelude.{ℕ, ◌≡◌, ◌<◌, ◌≤◌, ◌+◌,
 ghost use Rattle.ix_run.specs.Lines.{with_line_feed};
 ghost use Rattle.ix_run.specs.ReplyTexts.{error_name, reply_text_by, items_text, next_text};
 ghost use Rattle.ix_run.specs.inner.Writing.{WriteResult};
-ghost use Rattle.ix_run.specs.declared.run.limits.TheConstants.{BUFFER_LEN, MAX_KEY_LEN, MAX_REPLY_LEN};
+ghost use Rattle.ix_run.specs.declared.run.devices.limits.TheConstants.{BUFFER_LEN, MAX_KEY_LEN, MAX_REPLY_LEN};
 
-use crate::run::reply_buffer::{Piece, ReplyBuffer};
-use crate::run::reply_writer::ReplyWriter;
+use crate::run::devices::{Piece, ReplyBuffer, ReplyWriter};
 use crate::run::{Reply, ReplyError, ScriptFault};
 use ix_maps::SlotMapKey;
 use std::io::Write;

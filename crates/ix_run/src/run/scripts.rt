@@ -3,13 +3,11 @@ ghost use Rattle.std.specs.Prelude.{◌≡◌, [], Err, OnOk, OnErr};
 ghost use Rattle.ix_run.specs.Outcome.{WritesReplies, WritesPartOfReplies, WritesRepliesBeforeReady};
 ghost use Rattle.ix_run.specs.inner.Progress.{ReplyResult};
 ghost use Rattle.ix_run.specs.Script.{replies_to};
-ghost use Rattle.ix_run.specs.declared.run.fault.ScriptFault.TheVariants.{OutOfMemory};
+ghost use Rattle.ix_run.specs.declared.run.devices.fault.ScriptFault.TheVariants.{OutOfMemory};
 
 use crate::run::ScriptFault;
-use crate::run::containers::serve_header;
-use crate::run::line_reader::LineReader;
-use crate::run::reply_writer::ReplyWriter;
-use crate::run::serving::next_header;
+use crate::run::containers::{next_header, serve_header};
+use crate::run::devices::{LineReader, ReplyWriter};
 use std::alloc::Global;
 use std::io::{Read, Write};
 
