@@ -160,8 +160,8 @@ pub(crate) trait Listing {
 /// A number of a list, after a space unless it is the first.
 #[derive(Drop)]
 pub(crate) struct ListedNumber {
-    pub is_first: bool,
-    pub number: u64,
+    pub(crate) is_first: bool,
+    pub(crate) number: u64,
 }
 
 impl Piece for ListedNumber {

@@ -14,7 +14,7 @@ use crate::run::{Header, ScriptFault, read_header};
 use std::io::{Read, Write};
 
 /// Returns the header that a line is, if it is one.
-fn header_in(line: Option<&[u8]>) -> Option<Header>
+fn header_of_line(line: Option<&[u8]>) -> Option<Header>
     ensures { result ≡ option_and_then header_of (option_copied line.entry) }
 {
     read_header(line?)
@@ -29,7 +29,7 @@ pub(crate) fn next_header<R: Read, W: Write>(
         (lines.new, replies.new) result }
 {
     while lines.next_line(replies)? {
-        if let Some(header) = header_in(lines.line()) {
+        if let Some(header) = header_of_line(lines.line()) {
             return Ok(Some(header));
         }
         replies.append(b"?\n")?;

@@ -96,7 +96,7 @@ impl<S: Table<Option<u64>>, L: Table<Link>, G: Table<u32>> Served
 /// The slot maps that headers name, with the generation of their places at first, if the header says it.
 #[derive(Drop)]
 pub(crate) struct SlotMaps {
-    pub start: Option<u32>,
+    pub(crate) start: Option<u32>,
 }
 
 impl SlotMaps {

@@ -18,12 +18,12 @@ use std::io::Write;
 /// A string, and room for the bytes of a line.
 #[derive(Drop)]
 pub(crate) struct StringLines<S: String> {
-    pub string: S,
+    string: S,
     bytes: [u8; MAX_NUMBERS],
 }
 
 impl<S: String> StringLines<S> {
-    pub fn new(string: S) -> StringLines<S>
+    pub(crate) fn new(string: S) -> StringLines<S>
         ensures { S.bounded result.string ≡ S.bounded string }
     {
         StringLines {

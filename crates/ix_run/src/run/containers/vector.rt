@@ -16,12 +16,12 @@ use std::io::Write;
 /// A vector, and room for the numbers of a line.
 #[derive(Drop)]
 pub(crate) struct VecLines<V: Vector<u64>> {
-    pub vector: V,
+    vector: V,
     numbers: [u64; MAX_NUMBERS],
 }
 
 impl<V: Vector<u64>> VecLines<V> {
-    pub fn new(vector: V) -> VecLines<V>
+    pub(crate) fn new(vector: V) -> VecLines<V>
         ensures { V.bounded result.vector ≡ V.bounded vector }
     {
         VecLines {

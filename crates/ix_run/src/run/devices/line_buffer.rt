@@ -106,7 +106,7 @@ impl Model for LineBuffer {
 
 impl LineBuffer {
     /// Returns a buffer into which nothing was read.
-    pub fn new() -> LineBuffer
+    pub(crate) fn new() -> LineBuffer
         ensures rest { result.rest ≡ [] }
         ensures fuel { result.fuel ≡ MAX_TRIES * (BUFFER_LEN + 1) }
     {
@@ -123,7 +123,7 @@ impl LineBuffer {
 
     /// Returns the current line, without its line feed, or `None` if it has more than [`MAX_LINE_LEN`] bytes.
     #[inline]
-    pub fn line(&self) -> Option<&[u8]>
+    pub(crate) fn line(&self) -> Option<&[u8]>
         ensures value { option_copied result ≡ current_line self.now }
         ensures length { IfSome result (λ line. length line.now ≤ MAX_LINE_LEN) }
     {
@@ -138,7 +138,7 @@ impl LineBuffer {
 
     /// Returns `true` if the current line has no byte.
     #[inline]
-    pub fn is_line_empty(&self) -> bool
+    pub(crate) fn is_line_empty(&self) -> bool
         ensures { IsTrue result ↔ (current_line self.now ≡ Some []) }
     {
         self.joined.is_empty() && self.line_start == self.line_end
@@ -146,7 +146,7 @@ impl LineBuffer {
 
     /// Forgets the current line.
     #[inline]
-    pub fn clear_line(&mut self)
+    pub(crate) fn clear_line(&mut self)
         ensures joined { self.new.joined ≡ Some [] }
         ensures in_place { self.new.in_place ≡ [] }
         ensures rest { self.new.rest ≡ self.old.rest }
@@ -159,7 +159,7 @@ impl LineBuffer {
 
     /// Appends the rest of the piece to the current line up to the first line feed, and returns `true` if there is one.
     #[inline(always)]
-    pub fn take_line(&mut self) -> bool
+    pub(crate) fn take_line(&mut self) -> bool
         requires { self.old.in_place ≡ [] }
         ensures { TakesLine self.old self.new result }
     {
@@ -182,7 +182,7 @@ impl LineBuffer {
     }
 
     /// Reads the next piece, and returns `true` at the end of the input. An interrupted read reads nothing.
-    pub fn fill<R: Read>(&mut self, reader: &mut R) -> Result<bool, ScriptFault>
+    pub(crate) fn fill<R: Read>(&mut self, reader: &mut R) -> Result<bool, ScriptFault>
         requires in_place { self.old.in_place ≡ [] }
         requires rest { self.old.rest ≡ [] }
         ensures { FillResult (R.remaining reader.old) self.old

@@ -19,7 +19,7 @@ pub(crate) struct LineReader<'r, R> {
 
 impl<'r, R: Read> LineReader<'r, R> {
     /// Returns a line reader that has read nothing.
-    pub fn new(reader: &'r mut R) -> LineReader<'r, R>
+    pub(crate) fn new(reader: &'r mut R) -> LineReader<'r, R>
         ensures reader { result.reader.now ≡ reader.old }
         ensures same_reader { result.reader.ghost_name ≡ reader.entry.ghost_name }
         ensures rest { result.buffer.rest ≡ [] }
@@ -34,7 +34,7 @@ impl<'r, R: Read> LineReader<'r, R> {
 
     /// Returns the current line, without its line feed, or `None` if it has more than [`MAX_LINE_LEN`] bytes.
     #[inline]
-    pub fn line(&self) -> Option<&[u8]>
+    pub(crate) fn line(&self) -> Option<&[u8]>
         ensures value { option_copied result ≡ current_line self.now.buffer }
         ensures length { IfSome result (λ line. length line.now ≤ MAX_LINE_LEN) }
     {
@@ -44,7 +44,7 @@ impl<'r, R: Read> LineReader<'r, R> {
     /// Takes the next line, and returns `false` if there is none. The last one may lack a line feed. All pending replies
     /// are written before a read; nothing is read after the end of the input.
     #[inline(always)]
-    pub fn next_line<W: Write>(
+    pub(crate) fn next_line<W: Write>(
         &mut self,
         replies: &mut ReplyWriter<'_, W>,
     ) -> Result<bool, ScriptFault>

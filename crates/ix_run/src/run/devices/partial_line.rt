@@ -28,7 +28,7 @@ impl Model for PartialLine {
 
 impl PartialLine {
     /// Returns an empty line.
-    pub fn new() -> PartialLine
+    pub(crate) fn new() -> PartialLine
         ensures { result ≡ Some [] }
     {
         PartialLine {
@@ -39,7 +39,7 @@ impl PartialLine {
 
     /// Returns `true` if there is no byte.
     #[inline]
-    pub fn is_empty(&self) -> bool
+    pub(crate) fn is_empty(&self) -> bool
         ensures { IsTrue result ↔ (self.now ≡ Some []) }
     {
         self.len == 0
@@ -47,7 +47,7 @@ impl PartialLine {
 
     /// Returns the bytes, or `None` if there are more than [`MAX_LINE_LEN`].
     #[inline]
-    pub fn get(&self) -> Option<&[u8]>
+    pub(crate) fn get(&self) -> Option<&[u8]>
         ensures value { option_copied result ≡ self.now }
         ensures length { IfSome result (λ line. length line.now ≤ MAX_LINE_LEN) }
     {
@@ -59,7 +59,7 @@ impl PartialLine {
 
     /// Removes all bytes.
     #[inline]
-    pub fn clear(&mut self)
+    pub(crate) fn clear(&mut self)
         ensures { self.new ≡ Some [] }
     {
         self.len = 0;
@@ -67,7 +67,7 @@ impl PartialLine {
 
     /// Appends the next piece.
     #[inline]
-    pub fn append(&mut self, piece: &[u8])
+    pub(crate) fn append(&mut self, piece: &[u8])
         ensures { self.new ≡ limited_line_append self.old piece.now }
     {
         if self.len > MAX_LINE_LEN {
@@ -87,7 +87,7 @@ impl PartialLine {
 
     /// Appends the bytes from `start` up to `end`.
     #[inline]
-    pub fn append_range(&mut self, bytes: &[u8], start: usize, end: usize)
+    pub(crate) fn append_range(&mut self, bytes: &[u8], start: usize, end: usize)
         requires { (start ≤ end) × (end ≤ length bytes.now) }
         ensures { self.new
             ≡ limited_line_append self.old (take (end - start) (drop start bytes.now)) }

@@ -36,7 +36,7 @@ impl Model for ReplyBuffer {
 
 impl ReplyBuffer {
     /// Returns an empty buffer.
-    pub fn new() -> ReplyBuffer
+    pub(crate) fn new() -> ReplyBuffer
         ensures { result ≡ [] }
     {
         ReplyBuffer {
@@ -47,7 +47,7 @@ impl ReplyBuffer {
 
     /// Returns the bytes.
     #[inline]
-    pub fn as_slice(&self) -> &[u8]
+    pub(crate) fn as_slice(&self) -> &[u8]
         ensures { result.now ≡ self.now }
     {
         &self.bytes[..self.len]
@@ -55,7 +55,7 @@ impl ReplyBuffer {
 
     /// Removes all bytes.
     #[inline]
-    pub fn clear(&mut self)
+    pub(crate) fn clear(&mut self)
         ensures { self.new ≡ [] }
     {
         self.len = 0;
@@ -63,7 +63,7 @@ impl ReplyBuffer {
 
     /// Returns `true` if there is room for [`MAX_REPLY_LEN`] bytes.
     #[inline]
-    pub fn has_room(&self) -> bool
+    pub(crate) fn has_room(&self) -> bool
         ensures { IsTrue result ↔ (length self.now + MAX_REPLY_LEN ≤ BUFFER_LEN) }
     {
         self.len <= BUFFER_LEN - MAX_REPLY_LEN
@@ -83,7 +83,7 @@ impl ReplyBuffer {
 
     /// Appends bytes for which there is room.
     #[inline(always)]
-    pub fn put(&mut self, bytes: &[u8])
+    pub(crate) fn put(&mut self, bytes: &[u8])
         requires { length self.old + length bytes.now ≤ BUFFER_LEN }
         ensures { self.new ≡ self.old ++ bytes.now }
     {
@@ -92,7 +92,7 @@ impl ReplyBuffer {
 
     /// Appends the decimal text of a number, for which there is room.
     #[inline]
-    pub fn put_number(&mut self, number: u64)
+    pub(crate) fn put_number(&mut self, number: u64)
         requires { length self.old + MAX_DIGITS ≤ BUFFER_LEN }
         ensures value { self.new ≡ self.old ++ decimal number }
         ensures len { length self.new ≤ length self.old + MAX_DIGITS }

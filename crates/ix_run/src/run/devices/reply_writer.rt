@@ -55,7 +55,7 @@ pub(crate) struct ReplyWriter<'w, W> {
 
 impl<'w, W: Write> ReplyWriter<'w, W> {
     /// Returns a reply writer with no pending bytes.
-    pub fn new(writer: &'w mut W) -> ReplyWriter<'w, W>
+    pub(crate) fn new(writer: &'w mut W) -> ReplyWriter<'w, W>
         ensures writer { result.writer.now ≡ writer.old }
         ensures same_writer { result.writer.ghost_name ≡ writer.entry.ghost_name }
         ensures pending { result.pending ≡ [] }
@@ -67,7 +67,7 @@ impl<'w, W: Write> ReplyWriter<'w, W> {
     }
 
     /// Writes all pending bytes.
-    pub fn write_pending(&mut self) -> Result<(), ScriptFault>
+    pub(crate) fn write_pending(&mut self) -> Result<(), ScriptFault>
         ensures written { WriteResult W.contents self.old [] self.new result }
         ensures empty { OnOk result (self.new.pending ≡ []) }
     {
@@ -77,7 +77,7 @@ impl<'w, W: Write> ReplyWriter<'w, W> {
     }
 
     /// Writes all pending bytes, and flushes the writer.
-    pub fn flush(&mut self) -> Result<(), ScriptFault>
+    pub(crate) fn flush(&mut self) -> Result<(), ScriptFault>
         ensures written { WriteResult W.contents self.old [] self.new result }
         ensures empty { OnOk result (self.new.pending ≡ []) }
     {
@@ -103,7 +103,7 @@ impl<'w, W: Write> ReplyWriter<'w, W> {
     /// Appends at most [`MAX_REPLY_LEN`] bytes. Writes the pending ones first if there is no room.
     #[inline]
     #[tactic(auto, using(crate::proofs::Writing::WritesPart_after_nil))]
-    pub fn append(&mut self, bytes: &[u8]) -> Result<(), ScriptFault>
+    pub(crate) fn append(&mut self, bytes: &[u8]) -> Result<(), ScriptFault>
         requires { length bytes.now ≤ MAX_REPLY_LEN }
         ensures { WriteResult W.contents self.old bytes.now self.new result }
     {
@@ -115,7 +115,7 @@ impl<'w, W: Write> ReplyWriter<'w, W> {
     /// Appends a piece. Writes the pending bytes first if there is no room.
     #[inline(always)]
     #[tactic(auto, using(crate::proofs::Writing::WritesPart_after_nil))]
-    pub fn append_piece<P: Piece + Drop>(&mut self, piece: P) -> Result<(), ScriptFault>
+    pub(crate) fn append_piece<P: Piece + Drop>(&mut self, piece: P) -> Result<(), ScriptFault>
         ensures { WriteResult W.contents self.old (P.text piece) self.new result }
     {
         self.reserve()?;

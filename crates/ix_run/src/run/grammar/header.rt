@@ -32,9 +32,13 @@ pub enum Container {
 /// A capacity that a header may name for a fixed kind.
 #[derive(Clone, Copy, PartialEq, Eq, Debug)]
 pub enum FixedCapacity {
+    /// 0 items.
     Zero,
+    /// 1 item.
     One,
+    /// 3 items.
     Three,
+    /// 8 items.
     Eight,
 }
 
@@ -52,7 +56,9 @@ pub enum Storage {
 /// A header: a container, and its storage.
 #[derive(Clone, Copy, PartialEq, Eq, Debug)]
 pub struct Header {
+    /// The container that is made.
     pub container: Container,
+    /// Where its items are stored, and their maximum number.
     pub storage: Storage,
 }
 

@@ -29,7 +29,7 @@ returns-in-Some g c =
     let next = rw c.if-branch.true at c.in_ok-next_line.ensures in
     let now : Session g.row.R.Denot g.row.W.Denot = (c.next_line.new.self, c.next_line.new.replies) in
     let was : Session g.row.R.Denot g.row.W.Denot = (c.loop-lines.lines, c.loop-lines.replies) in
-    let found = ap (λ l. option_and_then header_of l) (sym c.line.ensures.value) ∙ sym c.header_in.ensures ∙ c.in-Some.is in
+    let found = ap (λ l. option_and_then header_of l) (sym c.line.ensures.value) ∙ sym c.header_of_line.ensures ∙ c.in-Some.is in
     Drives-line g.R.Read.remaining g.W.Write.contents (c.args.lines.now, c.args.replies.now) was now now.1 (opening None c.args.lines.now) (opening None was.0) (opening (Some c.in-Some.header) now.0) next.0 []
     c.loop-lines.invariant next.1 next.2 (Writes-nil g.W.Write.contents now.1)
     (λ more. ap script_replies (next.3 more)
@@ -41,7 +41,7 @@ returns-in_err-append g c =
     let next = rw c.if-branch.true at c.in_ok-next_line.ensures in
     let now : Session g.row.R.Denot g.row.W.Denot = (c.next_line.new.self, c.append.new.self) in
     let was : Session g.row.R.Denot g.row.W.Denot = (c.loop-lines.lines, c.loop-lines.replies) in
-    let found = ap (λ l. option_and_then header_of l) (sym c.line.ensures.value) ∙ sym c.header_in.ensures ∙ c.in_default.is in
+    let found = ap (λ l. option_and_then header_of l) (sym c.line.ensures.value) ∙ sym c.header_of_line.ensures ∙ c.in_default.is in
     let rest = script_replies (lines_to_come now.0.buffer []) in
     let line : opening None was.0 next.0 ≡ with_line_feed (codes "?") ++ rest =
     ap (opening None was.0) (sym (append-nil next.0)) ∙ ap script_replies (next.3 ([], λ ended. refl)) ∙ ap (λ h. replies_to_opening h (lines_to_come now.0.buffer []) rest) found in
@@ -55,7 +55,7 @@ loop-lines-preserved g c =
     let next = rw c.if-branch.true at c.in_ok-next_line.ensures in
     let now : Session g.row.R.Denot g.row.W.Denot = (c.next_line.new.self, c.append.new.self) in
     let was : Session g.row.R.Denot g.row.W.Denot = (c.loop-lines.lines, c.loop-lines.replies) in
-    let found = ap (λ l. option_and_then header_of l) (sym c.line.ensures.value) ∙ sym c.header_in.ensures ∙ c.in_default.is in
+    let found = ap (λ l. option_and_then header_of l) (sym c.line.ensures.value) ∙ sym c.header_of_line.ensures ∙ c.in_default.is in
     Drives-line g.R.Read.remaining g.W.Write.contents (c.args.lines.now, c.args.replies.now) was now c.next_line.new.replies (opening None c.args.lines.now) (opening None was.0) (opening None now.0) next.0
     (with_line_feed (codes "?")) c.loop-lines.invariant next.1 next.2 c.in_ok-append.ensures
     (λ more. ap script_replies (next.3 more)
