@@ -10,7 +10,7 @@ ghost use Rattle.ix_run.specs.declared.run.grammar.header.Container.{Container};
 use crate::run::containers::flatmap::FlatMaps;
 use crate::run::containers::queue::Queues;
 use crate::run::containers::served::Served;
-use crate::run::containers::serving::serve_made;
+use crate::run::containers::serving::{serve, serve_made};
 use crate::run::containers::slotmap::SlotMaps;
 use crate::run::containers::slottable::SlotTables;
 use crate::run::containers::string::Strings;
@@ -59,7 +59,7 @@ fn serve_inline<const N: usize, C: MakesInline<N>, R: Read, W: Write>(
         (λ more. replies_from_ready (C.container maker) N (lines_to_come lines.old.buffer more))
         (lines.new, replies.new) result }
 {
-    serve_made(Some(maker.inline()), lines, replies)
+    serve(maker.inline(), lines, replies)
 }
 
 /// Makes a container of a capacity that headers name for the fixed kinds, and replies to the lines that come.

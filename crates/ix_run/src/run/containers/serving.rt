@@ -1,10 +1,8 @@
 //! Replies to the lines of a script.
-ghost use Rattle.std.specs.Prelude.{ℕ, ◌≡◌, ◌++◌, [], false, IfSome, OnOk, codes, option_and_then, option_copied};
+ghost use Rattle.std.specs.Prelude.{ℕ, ◌≡◌, IfSome, option_and_then, option_copied};
 ghost use Rattle.ix_run.specs.Headers.{header_of};
 ghost use Rattle.ix_run.specs.inner.Input.{lines_to_come};
 ghost use Rattle.ix_run.specs.inner.Progress.{NextHeader, ReplyResult};
-ghost use Rattle.ix_run.specs.inner.Writing.{WriteResult};
-ghost use Rattle.ix_run.specs.Lines.{with_line_feed};
 ghost use Rattle.ix_run.specs.Script.{IsEmptyContainer, replies_to_lines, replies_from_ready};
 ghost use Rattle.ix_run.specs.declared.run.grammar.header.Container.{Container};
 
@@ -54,16 +52,16 @@ fn reply_to_lines<C: Served, R: Read, W: Write>(
     Ok(())
 }
 
-/// Replies `ready`, and then to the lines that come for the container, up to the end of the input.
-fn serve<C: Served + Drop, R: Read, W: Write>(
+/// Replies `ready`, and then to the lines that come for an empty container, up to the end of the input.
+pub(crate) fn serve<C: Served + Drop, R: Read, W: Write>(
     mut container: C,
     lines: &mut LineReader<'_, R>,
     replies: &mut ReplyWriter<'_, W>,
 ) -> Result<(), ScriptFault>
-    ensures { ReplyResult R.remaining W.contents (lines.old, replies.old)
-        (λ more. with_line_feed (codes "ready")
-        ++ replies_to_lines C.reply C.after C.shown (C.model container)
-        (lines_to_come lines.old.buffer more))
+    ensures { (named : Container) (capacity : ℕ)
+        → IsEmptyContainer C.reply C.after C.shown (C.model container) named capacity
+        → ReplyResult R.remaining W.contents (lines.old, replies.old)
+        (λ more. replies_from_ready named capacity (lines_to_come lines.old.buffer more))
         (lines.new, replies.new) result }
 {
     replies.append(b"ready\n")?;
@@ -76,11 +74,11 @@ pub(crate) fn serve_made<C: Served + Drop, R: Read, W: Write>(
     lines: &mut LineReader<'_, R>,
     replies: &mut ReplyWriter<'_, W>,
 ) -> Result<(), ScriptFault>
-    ensures { (container : Container) (capacity : ℕ)
+    ensures { (named : Container) (capacity : ℕ)
         → IfSome made
-        (λ made. IsEmptyContainer C.reply C.after C.shown (C.model made) container capacity)
+        (λ made. IsEmptyContainer C.reply C.after C.shown (C.model made) named capacity)
         → ReplyResult R.remaining W.contents (lines.old, replies.old)
-        (λ more. replies_from_ready container capacity (lines_to_come lines.old.buffer more))
+        (λ more. replies_from_ready named capacity (lines_to_come lines.old.buffer more))
         (lines.new, replies.new) result }
 {
     let Some(container) = made else {
