@@ -1,6 +1,7 @@
 -- What no public contract cites: what the code behind it means.
 pub mod Faults
 pub mod Input
+pub mod Listing
 pub mod NextLine
 pub mod Progress
 pub mod NameTables

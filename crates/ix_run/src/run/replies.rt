@@ -1,9 +1,11 @@
 //! The texts of replies.
-ghost use Rattle.std.specs.Prelude.{ℕ, ◌≡◌, ◌<◌, ◌≤◌, ◌+◌, ◌++◌, List, Some, length, slice_get, codes, decimal};
+ghost use Rattle.std.specs.Prelude.{ℕ, ◌≡◌, ◌≤◌, ◌+◌, ◌++◌, List, length, codes, decimal};
+ghost use Rattle.std.specs.Iterator.{IsFinite};
 ghost use Rattle.ix_run.specs.Lines.{with_line_feed};
-ghost use Rattle.ix_run.specs.ReplyTexts.{error_name, reply_text_by, items_text, next_text};
+ghost use Rattle.ix_run.specs.ReplyTexts.{error_name, reply_text_by, items_text};
+ghost use Rattle.ix_run.specs.inner.Listing.{YieldsTexts, next_text};
 ghost use Rattle.ix_run.specs.inner.Writing.{WriteResult};
-ghost use Rattle.ix_run.specs.declared.run.devices.limits.TheConstants.{BUFFER_LEN, MAX_KEY_LEN, MAX_REPLY_LEN};
+ghost use Rattle.ix_run.specs.declared.run.devices.limits.TheConstants.{BUFFER_LEN, MAX_ITEM_LEN, MAX_KEY_LEN, MAX_REPLY_LEN};
 
 use crate::run::devices::{Piece, ReplyBuffer, ReplyWriter};
 use crate::run::{Reply, ReplyError, ScriptFault};
@@ -143,59 +145,68 @@ impl<K: ReplyKey> Piece for Reply<K, u64> {
     }
 }
 
-/// Numbers that `show` prints by their index.
-pub(crate) trait Listing {
-    ghost items: { Self → List ℕ };
+/// An item that `show` prints.
+pub(crate) trait ListedItem: Copy {
+    /// Its text, at most [`MAX_ITEM_LEN`] bytes.
+    ghost text: { Self → List ℕ };
 
-    /// Returns the number of items.
-    fn item_count(&self) -> usize
-        ensures { result ≡ length (items self.now) };
-
-    /// Returns the item at `index`, which is less than their number.
-    fn item(&self, index: usize) -> u64
-        requires { index < length (items self.now) }
-        ensures { slice_get (items self.now) index ≡ Some result };
+    /// Appends the text, for which there is room.
+    fn put_into(self, replies: &mut ReplyBuffer)
+        requires { length replies.old + MAX_ITEM_LEN ≤ BUFFER_LEN }
+        ensures { replies.new ≡ replies.old ++ text self };
 }
 
-/// A number of a list, after a space unless it is the first.
+/// A number.
+impl<'a> ListedItem for &'a u64 {
+    ghost text = { λ number. decimal number.now };
+
+    fn put_into(self, replies: &mut ReplyBuffer) {
+        replies.put_number(*self);
+    }
+}
+
+/// An item, after a space unless it is the first.
 #[derive(Drop)]
-pub(crate) struct ListedNumber {
-    pub(crate) is_first: bool,
-    pub(crate) number: u64,
+struct Listed<T> {
+    is_first: bool,
+    item: T,
 }
 
-impl Piece for ListedNumber {
-    ghost text = { λ listed. next_text listed.is_first (decimal listed.number) };
+impl<T: ListedItem> Piece for Listed<T> {
+    ghost text = { λ listed. next_text listed.is_first (T.text listed.item) };
 
     fn put_into(self, replies: &mut ReplyBuffer) {
         if !self.is_first {
             replies.put(b" ");
         }
-        replies.put_number(self.number);
+        self.item.put_into(replies);
     }
 }
 
 /// Appends the items separated by single spaces, or a dash if there are none.
-pub(crate) fn append_items<L: Listing, W: Write>(
+pub(crate) fn append_items<I: Iterator, W: Write>(
     replies: &mut ReplyWriter<'_, W>,
-    list: &L,
+    mut items: I,
 ) -> Result<(), ScriptFault>
-    ensures { WriteResult W.contents replies.old (items_text decimal (L.items list.now))
+where
+    I::Item: ListedItem,
+    requires can { I.can_next items }
+    requires ends { IsFinite (I.remaining items) }
+    ensures { (texts : I → List (List ℕ)) → YieldsTexts I.next_gives I.Item.text texts
+        → WriteResult W.contents replies.old (items_text (λ text. text) (texts items))
         replies.new result }
 {
-    let len = list.item_count();
-    if len == 0 {
+    let Some(first) = items.next() else {
         return replies.append(b"-");
-    }
-    replies.append_piece(ListedNumber {
+    };
+    replies.append_piece(Listed {
         is_first: true,
-        number: list.item(0),
+        item: first,
     })?;
-    for i in 1..len {
-        let number = list.item(i);
-        replies.append_piece(ListedNumber {
+    while let Some(item) = items.next() {
+        replies.append_piece(Listed {
             is_first: false,
-            number,
+            item,
         })?;
     }
     Ok(())

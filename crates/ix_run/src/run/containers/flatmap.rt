@@ -1,13 +1,8 @@
 //! Lines of a script for a flat map.
-ghost use Rattle.std.specs.Prelude.{decimal};
-ghost use Rattle.ix_maps.specs.FlatState.{flat_keys};
-ghost use Rattle.ix_run.specs.ReplyTexts.{items_text};
-ghost use Rattle.ix_run.specs.inner.Writing.{WriteResult};
-
 use crate::run::containers::making::{MakesIn, MakesInline, Named};
 use crate::run::containers::served::Served;
 use crate::run::devices::ReplyWriter;
-use crate::run::replies::ListedNumber;
+use crate::run::replies::append_items;
 use crate::run::{Reply, Runs, ScriptFault, read_flat_command};
 use bumpalo::Bump;
 use ix_cells::{RelocatableContainer, Table};
@@ -16,29 +11,6 @@ use ix_maps::{
 };
 use std::alloc::Global;
 use std::io::Write;
-
-/// Appends the keys, separated by single spaces, or a dash if there are none.
-fn append_keys<S: Table<Pair<u64, u64>>, L: Table<Link>, W: Write>(
-    replies: &mut ReplyWriter<'_, W>,
-    map: &MetaFlatMap<Pair<u64, u64>, S, L>,
-) -> Result<(), ScriptFault>
-    ensures { WriteResult W.contents replies.old (items_text decimal (flat_keys map.now))
-        replies.new result }
-{
-    if map.is_empty() {
-        return replies.append(b"-");
-    }
-    let mut is_first = true;
-    for key in map.keys() {
-        let listed = ListedNumber {
-            is_first,
-            number: *key,
-        };
-        replies.append_piece(listed)?;
-        is_first = false;
-    }
-    Ok(())
-}
 
 impl<S: Table<Pair<u64, u64>>, L: Table<Link>> Served for MetaFlatMap<Pair<u64, u64>, S, L> {
     ghost use Rattle.std.specs.Prelude.{ℕ, nat_eq};
@@ -67,7 +39,7 @@ impl<S: Table<Pair<u64, u64>>, L: Table<Link>> Served for MetaFlatMap<Pair<u64, 
     }
 
     fn show<W: Write>(&self, replies: &mut ReplyWriter<'_, W>) -> Result<(), ScriptFault> {
-        append_keys(replies, self)
+        append_items(replies, self.keys())
     }
 }
 

@@ -2,27 +2,13 @@
 use crate::run::containers::making::{MakesIn, MakesInline, Named};
 use crate::run::containers::served::Served;
 use crate::run::devices::ReplyWriter;
-use crate::run::replies::{Listing, append_items};
+use crate::run::replies::append_items;
 use crate::run::{Reply, Runs, ScriptFault, read_queue_command};
 use bumpalo::Bump;
 use ix_cells::{RelocatableContainer, Table};
 use ix_maps::{FixedSizeQueue, MetaQueue, Queue, RelocatableQueue, UninitQueue};
 use std::alloc::Global;
 use std::io::Write;
-
-impl<S: Table<u64>> Listing for MetaQueue<u64, S> {
-    ghost items = { λ queue. queue.items };
-
-    #[inline]
-    fn item_count(&self) -> usize {
-        self.len()
-    }
-
-    #[inline]
-    fn item(&self, index: usize) -> u64 {
-        self.get(index)
-    }
-}
 
 impl<S: Table<u64>> Served for MetaQueue<u64, S> {
     ghost use Rattle.std.specs.Prelude.{ℕ};
@@ -50,7 +36,7 @@ impl<S: Table<u64>> Served for MetaQueue<u64, S> {
     }
 
     fn show<W: Write>(&self, replies: &mut ReplyWriter<'_, W>) -> Result<(), ScriptFault> {
-        append_items(replies, self)
+        append_items(replies, self.iter())
     }
 }
 

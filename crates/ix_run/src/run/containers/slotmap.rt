@@ -1,14 +1,12 @@
 //! Lines of a script for a slot map.
 ghost use Rattle.std.specs.Prelude.{◌≡◌};
-ghost use Rattle.ix_maps.specs.Generations.{map_entries};
 ghost use Rattle.ix_run.specs.Headers.{first_generation};
-ghost use Rattle.ix_run.specs.ReplyTexts.{items_text, key_entry_text, next_text};
-ghost use Rattle.ix_run.specs.inner.Writing.{WriteResult};
+ghost use Rattle.ix_run.specs.ReplyTexts.{key_entry_text};
 
 use crate::run::containers::making::{MakesIn, MakesInline, Named};
 use crate::run::containers::served::Served;
-use crate::run::devices::{Piece, ReplyBuffer, ReplyWriter};
-use crate::run::replies::ReplyKey;
+use crate::run::devices::{ReplyBuffer, ReplyWriter};
+use crate::run::replies::{ListedItem, ReplyKey, append_items};
 use crate::run::{Reply, Runs, ScriptFault, read_slot_command};
 use bumpalo::Bump;
 use ix_cells::{RelocatableContainer, Table};
@@ -18,50 +16,16 @@ use ix_maps::{
 use std::alloc::Global;
 use std::io::Write;
 
-/// A key with its value, after a space unless it is the first.
-#[derive(Drop)]
-struct ListedKeyEntry {
-    is_first: bool,
-    key: SlotMapKey,
-    value: u64,
-}
-
-impl Piece for ListedKeyEntry {
-    ghost text = { λ listed. next_text listed.is_first
-        (key_entry_text (listed.key, listed.value)) };
+/// A key with its value.
+impl<'a> ListedItem for (SlotMapKey, &'a u64) {
+    ghost text = { λ entry. key_entry_text (entry.0, entry.1.now) };
 
     fn put_into(self, replies: &mut ReplyBuffer) {
-        if !self.is_first {
-            replies.put(b" ");
-        }
-        self.key.put_into(replies);
+        let (key, value) = self;
+        key.put_into(replies);
         replies.put(b"=");
-        replies.put_number(self.value);
+        replies.put_number(*value);
     }
-}
-
-/// Appends the keys with their values, separated by single spaces, or a dash if there are none.
-fn append_key_entries<S: Table<Option<u64>>, L: Table<Link>, G: Table<u32>, W: Write>(
-    replies: &mut ReplyWriter<'_, W>,
-    map: &MetaSlotMap<Option<u64>, S, L, G>,
-) -> Result<(), ScriptFault>
-    ensures { WriteResult W.contents replies.old (items_text key_entry_text (map_entries map.now))
-        replies.new result }
-{
-    if map.is_empty() {
-        return replies.append(b"-");
-    }
-    let mut is_first = true;
-    for (key, value) in map.iter() {
-        let entry = ListedKeyEntry {
-            is_first,
-            key,
-            value: *value,
-        };
-        replies.append_piece(entry)?;
-        is_first = false;
-    }
-    Ok(())
 }
 
 impl<S: Table<Option<u64>>, L: Table<Link>, G: Table<u32>> Served
@@ -89,7 +53,7 @@ impl<S: Table<Option<u64>>, L: Table<Link>, G: Table<u32>> Served
     }
 
     fn show<W: Write>(&self, replies: &mut ReplyWriter<'_, W>) -> Result<(), ScriptFault> {
-        append_key_entries(replies, self)
+        append_items(replies, self.iter())
     }
 }
 

@@ -1,64 +1,30 @@
 //! Lines of a script for a slot table.
-ghost use Rattle.std.specs.Prelude.{◌≡◌};
-ghost use Rattle.ix_maps.specs.SlotState.{entries};
-ghost use Rattle.ix_run.specs.ReplyTexts.{items_text, entry_text, next_text};
-ghost use Rattle.ix_run.specs.inner.Writing.{WriteResult};
+ghost use Rattle.ix_run.specs.ReplyTexts.{entry_text};
 
 use crate::run::containers::making::{MakesIn, MakesInline, Named};
 use crate::run::containers::served::Served;
-use crate::run::devices::{Piece, ReplyBuffer, ReplyWriter};
+use crate::run::devices::{ReplyBuffer, ReplyWriter};
+use crate::run::replies::{ListedItem, append_items};
 use crate::run::{Reply, Runs, ScriptFault, read_table_command};
 use bumpalo::Bump;
 use ix_cells::{RelocatableContainer, Table};
 use ix_maps::{
-    FixedSizeSlotTable, Link, MetaSlotTable, RelocatableSlotTable, SlotTable, UninitSlotTable,
+    FixedSizeSlotTable, Link, MetaSlotTable, RelocatableSlotTable, SlotTable, SlotTableKey,
+    UninitSlotTable,
 };
 use std::alloc::Global;
 use std::io::Write;
 
-/// A key with its value, after a space unless it is the first.
-#[derive(Drop)]
-struct ListedEntry {
-    is_first: bool,
-    key: u64,
-    value: u64,
-}
-
-impl Piece for ListedEntry {
-    ghost text = { λ listed. next_text listed.is_first (entry_text (listed.key, listed.value)) };
+/// A key with its value.
+impl<'a> ListedItem for (SlotTableKey, &'a u64) {
+    ghost text = { λ entry. entry_text (entry.0, entry.1.now) };
 
     fn put_into(self, replies: &mut ReplyBuffer) {
-        if !self.is_first {
-            replies.put(b" ");
-        }
-        replies.put_number(self.key);
+        let (key, value) = self;
+        replies.put_number(key.value() as u64);
         replies.put(b"=");
-        replies.put_number(self.value);
+        replies.put_number(*value);
     }
-}
-
-/// Appends the keys with their values, separated by single spaces, or a dash if there are none.
-fn append_entries<S: Table<u64>, L: Table<Link>, W: Write>(
-    replies: &mut ReplyWriter<'_, W>,
-    map: &MetaSlotTable<u64, S, L>,
-) -> Result<(), ScriptFault>
-    ensures { WriteResult W.contents replies.old (items_text entry_text (entries map.now))
-        replies.new result }
-{
-    if map.is_empty() {
-        return replies.append(b"-");
-    }
-    let mut is_first = true;
-    for (key, value) in map.iter() {
-        let entry = ListedEntry {
-            is_first,
-            key: key.value() as u64,
-            value: *value,
-        };
-        replies.append_piece(entry)?;
-        is_first = false;
-    }
-    Ok(())
 }
 
 impl<S: Table<u64>, L: Table<Link>> Served for MetaSlotTable<u64, S, L> {
@@ -87,7 +53,7 @@ impl<S: Table<u64>, L: Table<Link>> Served for MetaSlotTable<u64, S, L> {
     }
 
     fn show<W: Write>(&self, replies: &mut ReplyWriter<'_, W>) -> Result<(), ScriptFault> {
-        append_entries(replies, self)
+        append_items(replies, self.iter())
     }
 }
 

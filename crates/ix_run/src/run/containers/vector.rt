@@ -4,7 +4,7 @@ ghost use Rattle.std.specs.Prelude.{◌≡◌};
 use crate::run::containers::making::{MakesIn, MakesInline, Named};
 use crate::run::containers::served::Served;
 use crate::run::devices::{MAX_NUMBERS, ReplyWriter};
-use crate::run::replies::{Listing, append_items};
+use crate::run::replies::append_items;
 use crate::run::{Reply, Runs, ScriptFault, read_vec_command};
 use bumpalo::Bump;
 use ix_cells::{
@@ -28,20 +28,6 @@ impl<V: Vector<u64>> VecLines<V> {
             vector,
             numbers: [0; MAX_NUMBERS],
         }
-    }
-}
-
-impl<V: Vector<u64>> Listing for VecLines<V> {
-    ghost items = { λ lines. (V.bounded lines.vector).items };
-
-    #[inline]
-    fn item_count(&self) -> usize {
-        self.vector.len()
-    }
-
-    #[inline]
-    fn item(&self, index: usize) -> u64 {
-        self.vector.as_slice()[index]
     }
 }
 
@@ -71,7 +57,7 @@ impl<V: Vector<u64>> Served for VecLines<V> {
     }
 
     fn show<W: Write>(&self, replies: &mut ReplyWriter<'_, W>) -> Result<(), ScriptFault> {
-        append_items(replies, self)
+        append_items(replies, self.vector.as_slice().iter())
     }
 }
 

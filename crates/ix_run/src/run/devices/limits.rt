@@ -12,6 +12,9 @@ pub(crate) const MAX_DIGITS: usize = 20;
 /// The text of a key is at most this long: two numbers, and a colon between.
 pub(crate) const MAX_KEY_LEN: usize = 41;
 
+/// The text of an item that `show` prints is at most this long: a key, an equals sign and a number.
+pub(crate) const MAX_ITEM_LEN: usize = 62;
+
 /// A reply of a line is at most this long, but for that of `show`.
 pub(crate) const MAX_REPLY_LEN: usize = 72;
 
