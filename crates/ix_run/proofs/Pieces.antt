@@ -11,7 +11,8 @@ use borrow.Rule.Slice.PartMut.{put_mid}
 use lib.Lanes.{zip2, mask_l, top}
 use lib.Count.{count_trailing_zeros}
 use Rattle.memchr.specs.Find.{IsFirstByte, is_byte}
-use Rattle.ix_run.specs.Lines.{line_feed, IsOneLine, LimitedLine, limited_line, limited_line_append}
+use Rattle.ix_run.specs.Lines.{line_feed, IsOneLine, LimitedLine, limited_line}
+use Rattle.ix_run.specs.inner.Input.{limited_line_append}
 use Rattle.ix_run.specs.declared.run.devices.limits.TheConstants.{MAX_LINE_LEN}
 
 -- no byte is a line feed, byte by byte

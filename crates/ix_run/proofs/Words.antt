@@ -16,7 +16,8 @@ use Rattle.std.proofs.lemmas.Slice.Eq.{bytes_eq-Decides}
 use Rattle.ix_run.specs.inner.NameTables.{first_word, IsAfterName}
 use Rattle.ix_run.proofs.Pieces.{not_true}
 use Rattle.ix_run.specs.Reading.{number_of}
-use Rattle.ix_run.specs.Words.{Form, is_space, is_colon, words_after, len_after, numbers_in, name_and_numbers, fits_byte, byte_of, make_named, command_of, alone, one, two, one_byte, number_byte, many_bytes, number_many_bytes}
+use Rattle.ix_run.specs.Words.{Form, is_space, is_colon, numbers_in, name_and_numbers, fits_byte, make_named, command_of, alone, one, two, one_byte, number_byte, many_bytes, number_many_bytes}
+use Rattle.ix_run.specs.inner.LineRest.{words_after, len_after, byte_of}
 use Rattle.ix_run.proofs.Numbers.{IsNumeral-decimal, number_of-IfSome}
 
 -- where a separator is

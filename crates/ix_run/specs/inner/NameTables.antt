@@ -3,7 +3,8 @@ use Rattle.std.specs.Prelude.{ℕ, ◌≡◌, ◌≤◌, List, [], ◌∷◌, Op
 use Rattle.std.specs.List.{slice_split, list_all, list_any}
 use Rattle.std.specs.Map.{lookup}
 use Rattle.std.specs.Borrow.{Bor}
-use Rattle.ix_run.specs.Words.{Form, is_space, words_after, len_after, alone, one, two, many, one_byte, number_byte, many_bytes, number_many_bytes, slice_of}
+use Rattle.ix_run.specs.Words.{Form, is_space, alone, one, two, many, one_byte, number_byte, many_bytes, number_many_bytes, slice_of}
+use Rattle.ix_run.specs.inner.LineRest.{words_after, len_after}
 use Rattle.ix_run.specs.declared.run.grammar.name_table.Takes.{Takes}
 use Rattle.ix_run.specs.declared.run.grammar.name_table.Takes.TheVariants.{Nothing, Number, TwoNumbers, Numbers, Byte, NumberAndByte, Bytes, NumberAndBytes}
 use Rattle.ix_commands.specs.declared.command.QueueCommand.{QueueCommand}

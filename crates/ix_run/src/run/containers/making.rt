@@ -4,7 +4,8 @@ ghost use Rattle.ix_cells.specs.declared.cells.table.TheConstants.{MAX_FIXED_CAP
 ghost use Rattle.ix_run.specs.Headers.{capacity_of, fixed_capacity};
 ghost use Rattle.ix_run.specs.inner.Input.{lines_to_come};
 ghost use Rattle.ix_run.specs.inner.Progress.{ReplyResult};
-ghost use Rattle.ix_run.specs.Script.{IsEmptyContainer, replies_from_ready, replies_from_header};
+ghost use Rattle.ix_run.specs.Script.{replies_from_ready, replies_from_header};
+ghost use Rattle.ix_run.specs.inner.Containers.{IsEmptyContainer};
 ghost use Rattle.ix_run.specs.declared.run.grammar.header.Container.{Container};
 
 use crate::run::containers::flatmap::FlatMaps;

@@ -3,7 +3,8 @@ ghost use Rattle.std.specs.Prelude.{ℕ, ◌≡◌, IfSome, option_and_then, opt
 ghost use Rattle.ix_run.specs.Headers.{header_of};
 ghost use Rattle.ix_run.specs.inner.Input.{lines_to_come};
 ghost use Rattle.ix_run.specs.inner.Progress.{NextHeader, ReplyResult};
-ghost use Rattle.ix_run.specs.Script.{IsEmptyContainer, replies_to_lines, replies_from_ready};
+ghost use Rattle.ix_run.specs.Script.{replies_to_lines, replies_from_ready};
+ghost use Rattle.ix_run.specs.inner.Containers.{IsEmptyContainer};
 ghost use Rattle.ix_run.specs.declared.run.grammar.header.Container.{Container};
 
 use crate::run::containers::served::{Served, answer};

@@ -1,6 +1,7 @@
 //! A line that comes in pieces.
 ghost use Rattle.std.specs.Prelude.{◌≡◌, ◌↔◌, ◌≤◌, ◌-◌, Some, [], IsTrue, IfSome, length, take, drop, option_copied};
-ghost use Rattle.ix_run.specs.Lines.{LimitedLine, limited_line_append};
+ghost use Rattle.ix_run.specs.Lines.{LimitedLine};
+ghost use Rattle.ix_run.specs.inner.Input.{limited_line_append};
 ghost use Rattle.ix_run.specs.declared.run.devices.limits.TheConstants.{MAX_LINE_LEN};
 
 use crate::run::devices::limits::MAX_LINE_LEN;
@@ -15,7 +16,8 @@ pub(crate) struct PartialLine {
 
 impl Model for PartialLine {
     ghost use Rattle.std.specs.Prelude.{◌≡◌, ◌≤◌, ◌+◌, length};
-    ghost use Rattle.ix_run.specs.Lines.{LimitedLine, buffered_line};
+    ghost use Rattle.ix_run.specs.Lines.{LimitedLine};
+    ghost use Rattle.ix_run.specs.inner.Input.{buffered_line};
     ghost use Rattle.ix_run.specs.declared.run.devices.limits.TheConstants.{MAX_LINE_LEN};
 
     ghost Value = { LimitedLine };

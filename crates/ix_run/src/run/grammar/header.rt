@@ -1,9 +1,10 @@
 //! Headers: the first line of a script, which makes its container.
 ghost use Rattle.std.specs.Prelude.{ℕ, ◌≡◌, ◌==◌, ◌∷◌, [], Option, Some, IfSome, option_copied};
 ghost use Rattle.std.specs.List.{find};
-ghost use Rattle.ix_run.specs.Words.{words_after, numbers_in, make_named};
+ghost use Rattle.ix_run.specs.Words.{numbers_in, make_named};
 ghost use Rattle.ix_run.specs.Headers.{IsStorage, IsStart, header_of, header_text};
 ghost use Rattle.ix_run.specs.Headers.{named_container, storage_forms, fixed_capacity, fixed_capacities, up_to_max, started};
+ghost use Rattle.ix_run.specs.inner.LineRest.{words_after};
 ghost use Rattle.ix_run.specs.declared.run.grammar.header.Container.TheVariants as container;
 ghost use Rattle.ix_run.specs.declared.run.grammar.header.Header.{Header};
 

@@ -2,8 +2,9 @@
 ghost use Rattle.std.specs.Prelude.{ℕ, ◌≡◌, ◌≤◌, ◌*◌, List, [], None, MatchOption, length, bytes_eq};
 ghost use Rattle.std.specs.Option.{option_map, option_and_then, option_copied};
 ghost use Rattle.std.specs.Map.{lookup};
-ghost use Rattle.ix_run.specs.Words.{words_after, len_after, numbers_in, command_of};
+ghost use Rattle.ix_run.specs.Words.{numbers_in, command_of};
 ghost use Rattle.ix_run.specs.inner.NameTables.{rows, first_word, HasWords, IsNamed, numbers_taken, items_taken, bytes_taken, forms_by};
+ghost use Rattle.ix_run.specs.inner.LineRest.{words_after, len_after};
 
 use crate::run::grammar::words::{
     after_name, alone, bytes_of_words, many_numbers, number_and_byte, number_and_bytes, one_byte,

@@ -3,9 +3,10 @@
 ghost use Rattle.std.specs.Prelude.{ℕ, ◌≡◌, ◌≤◌, ◌*◌, ◌+◌, List, ◌∷◌, false, MatchOption, length, take, nat_eq, bytes_eq};
 ghost use Rattle.std.specs.Option.{option_map, option_and_then, option_copied};
 ghost use Rattle.std.specs.List.{position_or_len, slice_split, list_any};
-ghost use Rattle.ix_run.specs.Words.{is_space, words_after, len_after, numbers_in, byte_of, key_of};
+ghost use Rattle.ix_run.specs.Words.{is_space, numbers_in, key_of};
 ghost use Rattle.ix_run.specs.inner.NameTables.{first_word, IsAfterName};
 ghost use Rattle.ix_run.specs.Words.{alone, one, two, one_byte, number_byte, many_bytes, number_many_bytes};
+ghost use Rattle.ix_run.specs.inner.LineRest.{words_after, len_after, byte_of};
 
 use crate::run::grammar::reading::number_in;
 use ix_maps::SlotMapKey;

@@ -1,6 +1,7 @@
 use Rattle.std.proofs.Common.{ℕ, ◌∙◌, sym, ap, option_map, option_copied}
-use Rattle.ix_run.specs.Words.{words_after, numbers_in}
+use Rattle.ix_run.specs.Words.{numbers_in}
 use Rattle.ix_run.specs.inner.NameTables.{rows, first_word}
+use Rattle.ix_run.specs.inner.LineRest.{words_after}
 use Rattle.ix_run.proofs.NameTables.{value_and_numbers, line_by_table}
 use Rattle.ix_run.proofs.Words.{other_words, first_word_split}
 use Rattle.ix_run.proofs.run.grammar.name_table.read_by_table.Goals as goal

@@ -1,5 +1,6 @@
 use Rattle.std.proofs.Common.{◌≡◌, ◌≤◌, ◌*◌, ◌+◌, ◌++◌, length, take, option_map, option_and_then, option_copied}
-use Rattle.ix_run.specs.Words.{words_after, len_after, numbers_in, many_bytes}
+use Rattle.ix_run.specs.Words.{numbers_in, many_bytes}
+use Rattle.ix_run.specs.inner.LineRest.{words_after, len_after}
 use Rattle.ix_run.proofs.run.grammar.words.bytes_of_words.Given as goal
 
 abbrev pub invariant-loop-left : goal.invariant-loop-left

@@ -1,5 +1,6 @@
 use Rattle.std.proofs.Common.{ℕ, ◌<◌, sym, length, option_copied, length-set, arith}
-use Rattle.ix_run.specs.Words.{words_after, numbers_in}
+use Rattle.ix_run.specs.Words.{numbers_in}
+use Rattle.ix_run.specs.inner.LineRest.{words_after}
 use Rattle.ix_run.proofs.Words.{buffer_after, number_of-length}
 use Rattle.ix_run.proofs.run.grammar.words.many_numbers.Goals as goal
 

@@ -1,5 +1,6 @@
 use Rattle.std.proofs.Common.{◌≡◌, ◌≤◌, ◌*◌, ◌+◌, ◌++◌, length, take, option_map, option_copied}
-use Rattle.ix_run.specs.Words.{words_after, len_after, numbers_in}
+use Rattle.ix_run.specs.Words.{numbers_in}
+use Rattle.ix_run.specs.inner.LineRest.{words_after, len_after}
 use Rattle.ix_run.proofs.run.grammar.words.many_numbers.Given as goal
 
 abbrev pub invariant-loop-left : goal.invariant-loop-left

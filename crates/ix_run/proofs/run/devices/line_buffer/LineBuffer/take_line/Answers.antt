@@ -1,6 +1,7 @@
 use Rattle.std.proofs.Common.{refl, ◌-◌, ◌∙◌, ◌∷◌, ◌++◌, ap, sym, take, drop, arith}
 use Rattle.std.proofs.lemmas.Grind.{common_steps}
-use Rattle.ix_run.specs.Lines.{limited_line, limited_line_append, line_feed}
+use Rattle.ix_run.specs.Lines.{limited_line, line_feed}
+use Rattle.ix_run.specs.inner.Input.{limited_line_append}
 use Rattle.ix_run.proofs.Input.{limited_line_append-new, line_at-nil, take-range, drop-range}
 use Rattle.ix_run.proofs.run.devices.line_buffer.LineBuffer.take_line.Goals as goal
 

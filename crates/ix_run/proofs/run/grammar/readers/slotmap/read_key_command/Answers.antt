@@ -5,9 +5,10 @@ use Rattle.std.specs.Prelude.{bytes_eq}
 use Rattle.std.specs.Map.{lookup}
 use Rattle.ix_maps.specs.Generations.{SlotKey}
 use Rattle.ix_commands.specs.declared.command.SlotCommand.{SlotCommand}
-use Rattle.ix_run.specs.Words.{is_space, words_after, numbers_in, key_of, key_and_numbers, key_command_of}
+use Rattle.ix_run.specs.Words.{is_space, numbers_in, key_of, key_and_numbers, key_command_of}
 use Rattle.ix_run.specs.Forms.{slot_key_forms}
 use Rattle.ix_run.specs.inner.NameTables.{constant_rows, first_word, numbers_taken, slot_key_named}
+use Rattle.ix_run.specs.inner.LineRest.{words_after}
 use Rattle.ix_run.specs.declared.run.grammar.name_table.Takes.{Takes}
 use Rattle.ix_run.specs.declared.run.grammar.readers.slotmap.KeyName.{KeyName}
 use Rattle.ix_run.specs.declared.run.grammar.readers.slotmap.TheConstants.{KEY_NAMES}

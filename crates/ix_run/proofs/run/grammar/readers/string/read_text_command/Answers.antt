@@ -1,7 +1,8 @@
 use Rattle.std.proofs.Common.{ℕ, ◌++◌, List, Option, Some, ◌∙◌, refl, sym, ap, option_map, option_copied}
 use Rattle.ix_run.specs.Forms.{text_plain}
-use Rattle.ix_run.specs.Words.{words_after, numbers_in}
+use Rattle.ix_run.specs.Words.{numbers_in}
 use Rattle.ix_run.specs.inner.NameTables.{constant_rows, first_word, bytes_taken, text_named}
+use Rattle.ix_run.specs.inner.LineRest.{words_after}
 use Rattle.ix_run.specs.declared.run.grammar.name_table.Takes.{Takes}
 use Rattle.ix_run.specs.declared.run.grammar.readers.string.TextName.{TextName}
 use Rattle.ix_run.specs.declared.run.grammar.readers.string.TheConstants.{NAMES, OTHER_NAMES}

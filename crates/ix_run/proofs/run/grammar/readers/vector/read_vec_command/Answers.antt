@@ -1,7 +1,8 @@
 use Rattle.std.proofs.Common.{ℕ, ◌++◌, List, Option, Some, ◌∙◌, refl, sym, ap, option_map, option_copied}
 use Rattle.ix_run.specs.Forms.{vec_plain}
-use Rattle.ix_run.specs.Words.{words_after, numbers_in}
+use Rattle.ix_run.specs.Words.{numbers_in}
 use Rattle.ix_run.specs.inner.NameTables.{constant_rows, first_word, items_taken, vec_named}
+use Rattle.ix_run.specs.inner.LineRest.{words_after}
 use Rattle.ix_run.specs.declared.run.grammar.name_table.Takes.{Takes}
 use Rattle.ix_run.specs.declared.run.grammar.readers.vector.VecName.{VecName}
 use Rattle.ix_run.specs.declared.run.grammar.readers.vector.TheConstants.{NAMES, OTHER_NAMES}
