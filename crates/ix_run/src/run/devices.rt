@@ -1,6 +1,7 @@
 //! The devices of a script: a reader that is taken line by line, and a writer with replies before it.
 
 mod fault;
+mod input;
 mod limits;
 mod line_buffer;
 mod line_reader;

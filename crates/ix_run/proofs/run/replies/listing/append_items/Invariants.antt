@@ -3,7 +3,7 @@ use Rattle.std.specs.Iterator.{IsFinite, size}
 use Rattle.ix_run.specs.ReplyTexts.{items_text}
 use Rattle.ix_run.specs.inner.Listing.{YieldsTexts}
 use Rattle.ix_run.proofs.Listings.{WritesUpTo}
-use Rattle.ix_run.proofs.run.replies.append_items.Given as goal
+use Rattle.ix_run.proofs.run.replies.listing.append_items.Given as goal
 
 abbrev pub invariant-loop-item : goal.invariant-loop-item
 invariant-loop-item g l =

@@ -3,7 +3,7 @@ use Rattle.std.proofs.lemmas.Result.{err_from_is_err_and}
 use Rattle.ix_run.specs.ReplyTexts.{items_text, more_items_text}
 use Rattle.ix_run.proofs.Listings.{WritesUpTo-next, WritesUpTo-part, WritesUpTo-end}
 use Rattle.ix_run.proofs.Writing.{WritesPart_append}
-use Rattle.ix_run.proofs.run.replies.append_items.Goals as goal
+use Rattle.ix_run.proofs.run.replies.listing.append_items.Goals as goal
 
 pub returns-in_err-append_piece : goal.returns-in_err-append_piece
 returns-in_err-append_piece g c = λ texts yields.
