@@ -2,7 +2,7 @@
 ghost use Rattle.std.specs.Prelude.{◌≡◌, ◌++◌, ℕ, List, Some, Err, OnOk, OnErr};
 ghost use Rattle.ix_run.specs.Outcome.{WritesPartOfReplies, WritesRepliesBeforeReady};
 ghost use Rattle.ix_run.specs.Script.{replies_to};
-ghost use Rattle.ix_run.specs.declared.run.fault.ScriptFault.TheVariants.{OutOfMemory};
+ghost use Rattle.ix_run.specs.declared.run.devices.fault.ScriptFault.TheVariants.{OutOfMemory};
 
 use ix_run::{ScriptFault, script};
 use std::alloc::Global;

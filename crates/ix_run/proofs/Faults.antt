@@ -1,8 +1,8 @@
 -- Which faults come from a device.
 use Rattle.std.proofs.Common.{ℕ, ◌≡◌, List}
 use Rattle.ix_run.specs.inner.Faults.{IsDeviceFault, LeftUnwritten}
-use Rattle.ix_run.specs.declared.run.fault.ScriptFault.{ScriptFault}
-use Rattle.ix_run.specs.declared.run.fault.ScriptFault.TheVariants.{Read, Write, OutOfMemory}
+use Rattle.ix_run.specs.declared.run.devices.fault.ScriptFault.{ScriptFault}
+use Rattle.ix_run.specs.declared.run.devices.fault.ScriptFault.TheVariants.{Read, Write, OutOfMemory}
 
 pub IsDeviceFault-Write : (x : ScriptFault) → x ≡ Write → IsDeviceFault x
 IsDeviceFault-Write x is = rw is tt

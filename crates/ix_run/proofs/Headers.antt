@@ -12,14 +12,14 @@ use Rattle.std.proofs.lemmas.Slice.Eq.{bytes_eq-Decides}
 use Rattle.ix_maps.specs.Generations.{greatest_generation}
 use Rattle.ix_run.specs.Words.{is_space, fits_generation, words_text, numbers_in, make_named, one}
 use Rattle.ix_run.specs.Headers.{IsStorage, IsStart, capacity_of, with_start, starting_at, started, fixed_capacity, container_name, containers, named_container, storage_text, storage_forms, fixed, fixed_capacities, up_to_max, header_of_words, header_of, header_text}
-use Rattle.ix_run.specs.declared.run.header.FixedCapacity.{FixedCapacity}
-use Rattle.ix_run.specs.declared.run.header.FixedCapacity.TheVariants.{Zero, One, Three, Eight}
-use Rattle.ix_run.specs.declared.run.limits.TheConstants.{MAX_CAPACITY}
-use Rattle.ix_run.specs.declared.run.header.Container.{Container}
-use Rattle.ix_run.specs.declared.run.header.Container.TheVariants.{Queue, Vec, Table, Slot, Flat, Text}
-use Rattle.ix_run.specs.declared.run.header.Storage.{Storage}
-use Rattle.ix_run.specs.declared.run.header.Storage.TheVariants.{Fixed, Heap, Arena}
-use Rattle.ix_run.specs.declared.run.header.Header.{Header}
+use Rattle.ix_run.specs.declared.run.grammar.header.FixedCapacity.{FixedCapacity}
+use Rattle.ix_run.specs.declared.run.grammar.header.FixedCapacity.TheVariants.{Zero, One, Three, Eight}
+use Rattle.ix_run.specs.declared.run.devices.limits.TheConstants.{MAX_CAPACITY}
+use Rattle.ix_run.specs.declared.run.grammar.header.Container.{Container}
+use Rattle.ix_run.specs.declared.run.grammar.header.Container.TheVariants.{Queue, Vec, Table, Slot, Flat, Text}
+use Rattle.ix_run.specs.declared.run.grammar.header.Storage.{Storage}
+use Rattle.ix_run.specs.declared.run.grammar.header.Storage.TheVariants.{Fixed, Heap, Arena}
+use Rattle.ix_run.specs.declared.run.grammar.header.Header.{Header}
 use Rattle.ix_run.proofs.Numbers.{number_of_decimal}
 use Rattle.ix_run.proofs.Spelling.{IsText, numbers_in-IsText}
 use Rattle.ix_run.proofs.Words.{decimal-All, make_named-None}

@@ -3,10 +3,10 @@ use Rattle.std.proofs.Common.{ℕ, ◌≡◌, ◌<◌, ◌≤◌, ◌+◌, ◌-�
 use Rattle.std.proofs.lemmas.Grind.{common_steps}
 use Rattle.std.proofs.lemmas.List.{drop-take, drop-drop}
 use Rattle.std.specs.Io.KnownBytes.{Consumes, Keeps}
-use Rattle.ix_run.specs.inner.Input.{line_at, last_line, lines_from}
+use Rattle.ix_run.specs.inner.Input.{line_at, last_line, lines_from, limited_line_append}
 use Rattle.ix_run.specs.inner.NextLine.{ReadsFrom, Reads, Coming}
-use Rattle.ix_run.specs.Lines.{LimitedLine, limited_line, limited_line_append, line_feed, IsOneLine}
-use Rattle.ix_run.specs.declared.run.line_reader.LineReader.{LineReader}
+use Rattle.ix_run.specs.Lines.{LimitedLine, limited_line, line_feed, IsOneLine}
+use Rattle.ix_run.specs.declared.run.devices.line_reader.LineReader.{LineReader}
 use Rattle.ix_run.proofs.KnownBytes.{Consumes-nil, Consumes-append, Consumes-Keeps}
 use Rattle.ix_run.proofs.Pieces.{Lacks, Lacks-IsOneLine, limited_line_append-nil, limited_line_append-append}
 

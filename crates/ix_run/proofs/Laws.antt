@@ -14,13 +14,13 @@ use Rattle.ix_run.specs.Laws.{header_line, AreRead, IsRunBy}
 use Rattle.ix_run.specs.Lines.{line_feed, IsOneLine, with_line_feed, text_of_lines, lines_of, limited_line}
 use Rattle.ix_run.specs.Script.{replies_to, script_replies, container_replies, replies_to_lines, read_reply, read_after}
 use Rattle.ix_run.specs.Words.{words_text}
-use Rattle.ix_run.specs.declared.run.header.Container.{Container}
-use Rattle.ix_run.specs.declared.run.header.Container.TheVariants.{Queue, Vec, Table, Slot, Flat, Text}
-use Rattle.ix_run.specs.declared.run.header.Storage.{Storage}
-use Rattle.ix_run.specs.declared.run.header.Storage.TheVariants.{Fixed, Heap, Arena}
-use Rattle.ix_run.specs.declared.run.header.FixedCapacity.{FixedCapacity}
-use Rattle.ix_run.specs.declared.run.header.FixedCapacity.TheVariants.{Zero, One, Three, Eight}
-use Rattle.ix_run.specs.declared.run.limits.TheConstants.{MAX_LINE_LEN}
+use Rattle.ix_run.specs.declared.run.grammar.header.Container.{Container}
+use Rattle.ix_run.specs.declared.run.grammar.header.Container.TheVariants.{Queue, Vec, Table, Slot, Flat, Text}
+use Rattle.ix_run.specs.declared.run.grammar.header.Storage.{Storage}
+use Rattle.ix_run.specs.declared.run.grammar.header.Storage.TheVariants.{Fixed, Heap, Arena}
+use Rattle.ix_run.specs.declared.run.grammar.header.FixedCapacity.{FixedCapacity}
+use Rattle.ix_run.specs.declared.run.grammar.header.FixedCapacity.TheVariants.{Zero, One, Three, Eight}
+use Rattle.ix_run.specs.declared.run.devices.limits.TheConstants.{MAX_LINE_LEN}
 use Rattle.ix_run.proofs.Headers.{header_of_header_text}
 use Rattle.ix_run.proofs.Numbers.{IsNumeral-decimal}
 use Rattle.ix_run.proofs.Pieces.{Lacks, Lacks-IsOneLine, not_true}

@@ -13,7 +13,7 @@ pub mod Plain
 pub mod Progress
 pub mod ReplyLines
 pub mod Spelling
-pub mod Tables
+pub mod NameTables
 mod WorkedScripts
 pub mod Words
 pub mod Writing

@@ -1,10 +1,10 @@
 -- The lines of an input, byte by byte and line by line.
 use Rattle.std.proofs.Common.{ℕ, ◌≡◌, List, [], ◌∷◌, ◌++◌, Some, None, map, length, nat_le, nat_eq, Bool, true, false, cond, refl, sym, ap, ◌∙◌}
 use Rattle.std.specs.List.{onto_first}
-use Rattle.ix_run.specs.inner.Input.{last_line, lines_from}
-use Rattle.ix_run.specs.Lines.{LimitedLine, limited_line, limited_line_append, line_feed, lines_of}
+use Rattle.ix_run.specs.inner.Input.{last_line, lines_from, limited_line_append}
+use Rattle.ix_run.specs.Lines.{LimitedLine, limited_line, line_feed, lines_of}
 use Rattle.ix_run.specs.Script.{script_replies, replies_to}
-use Rattle.ix_run.specs.declared.run.limits.TheConstants.{MAX_LINE_LEN}
+use Rattle.ix_run.specs.declared.run.devices.limits.TheConstants.{MAX_LINE_LEN}
 use Rattle.ix_run.proofs.Pieces.{limited_line_append-nil, limited_line_append-append}
 
 -- lines, of which the first continues this line

@@ -3,8 +3,8 @@ use Rattle.std.proofs.Common.{ℕ, ◌≡◌, ◌<◌, ◌↔◌, List, [], ◌�
 use Rattle.ix_run.specs.inner.Input.{current_line, last_line, lines_from, lines_to_come}
 use Rattle.ix_run.specs.inner.NextLine.{Reads, NextLine}
 use Rattle.ix_run.specs.inner.Writing.{Writes}
-use Rattle.ix_run.specs.declared.run.line_reader.LineReader.{LineReader}
-use Rattle.ix_run.specs.declared.run.reply_writer.ReplyWriter.{ReplyWriter}
+use Rattle.ix_run.specs.declared.run.devices.line_reader.LineReader.{LineReader}
+use Rattle.ix_run.specs.declared.run.devices.reply_writer.ReplyWriter.{ReplyWriter}
 use Rattle.ix_run.proofs.Input.{last_line-cons}
 
 module _ {R W : Type 0} (remaining : R → Option (List ℕ)) (contents : W → Option (List ℕ)) where

@@ -1,5 +1,5 @@
 -- The replies to an input that comes in pieces.
-use Rattle.std.proofs.Common.{ℕ, ◌≡◌, ◌≤◌, ◌<◌, ◌+◌, ◌-◌, zero, suc, List, [], ◌∷◌, ◌++◌, Option, Some, None, length, take, drop, get_or, nat_le, nat_eq, Bool, true, false, refl, sym, ap, ◌∙◌, append_assoc, append-nil, arith, codes, cond, take-append-drop, slice_get, IfSome, IfNone, ◌%◌, ◌*◌, ◌^◌, not, map, replicate, eqb, w8, take-take, true≢false}
+use Rattle.std.proofs.Common.{ℕ, ◌≡◌, ◌≤◌, ◌<◌, ◌+◌, ◌-◌, suc, List, [], ◌∷◌, ◌++◌, Option, Some, None, length, take, drop, get_or, nat_le, nat_eq, Bool, true, false, refl, sym, ap, ◌∙◌, append_assoc, append-nil, arith, cond, take-append-drop, IfSome, IfNone, ◌%◌, ◌*◌, ◌^◌, not, map, replicate, eqb, w8, take-take, true≢false}
 use Rattle.std.proofs.lemmas.Grind.{common_steps}
 use Rattle.std.proofs.lemmas.Bool.{eqb-true}
 use Rattle.std.proofs.lemmas.List.{drop_more, length-take-le}
@@ -11,9 +11,9 @@ use borrow.Rule.Slice.PartMut.{put_mid}
 use lib.Lanes.{zip2, mask_l, top}
 use lib.Count.{count_trailing_zeros}
 use Rattle.memchr.specs.Find.{IsFirstByte, is_byte}
-use Rattle.ix_run.specs.Lines.{line_feed, IsOneLine, LimitedLine, limited_line, limited_line_append}
-use Rattle.ix_run.specs.declared.run.limits.TheConstants.{MAX_LINE_LEN}
-use Rattle.ix_run.specs.ReplyTexts.{more_items_text, items_text}
+use Rattle.ix_run.specs.Lines.{line_feed, IsOneLine, LimitedLine, limited_line}
+use Rattle.ix_run.specs.inner.Input.{limited_line_append}
+use Rattle.ix_run.specs.declared.run.devices.limits.TheConstants.{MAX_LINE_LEN}
 
 -- no byte is a line feed, byte by byte
 abbrev pub Lacks : List ℕ → Type 0
@@ -51,23 +51,6 @@ limited_line_append-append (Some l) [] b = refl
 limited_line_append-append (Some l) (x ∷ xs) [] = limited_line_append-nil (limited_line (l ++ x ∷ xs)) ∙ ap (λ t. limited_line (l ++ x ∷ t)) (sym (append-nil xs))
 limited_line_append-append (Some l) (x ∷ xs) (y ∷ ys) =
     limited_line_append-cond (l ++ x ∷ xs) (nat_le (length (l ++ x ∷ xs)) MAX_LINE_LEN) refl y ys ∙ ap limited_line (append_assoc l (x ∷ xs) (y ∷ ys))
-
-module _ {X : Type 0} (text : X → List ℕ) where
-  -- the first item and the rest
-  pub items_text-slice_get : (items : List X) (x : X) → slice_get items 0 ≡ Some x → items_text text items ≡ text x ++ more_items_text text (drop 1 items)
-  items_text-slice_get [] x h = absurd (cc)
-  items_text-slice_get (y ∷ items) x h = let e : y ≡ x = cc in ap (λ z. text z ++ more_items_text text items) e
-
-  more_items_text-drop_suc : (items : List X) (i : ℕ) (x : X) → slice_get items i ≡ Some x → more_items_text text (drop i items) ≡ (codes " " ++ text x) ++ more_items_text text (drop (suc i) items)
-  more_items_text-drop_suc [] i x h = absurd (cc)
-  more_items_text-drop_suc (y ∷ items) zero x h = let e : y ≡ x = cc in ap (λ z. (codes " " ++ text z) ++ more_items_text text items) e
-  more_items_text-drop_suc (y ∷ items) (suc i) x h = more_items_text-drop_suc items i x h
-
-  -- one more item
-  pub more_items_text-drop : (items : List X) (i : ℕ) (x : X) → slice_get items i ≡ Some x → more_items_text text (drop i items) ≡ (codes " " ++ text x) ++ more_items_text text (drop (i + 1) items)
-  more_items_text-drop items i x h =
-      let e : i + 1 ≡ suc i = omega arith in
-      rw e (more_items_text-drop_suc items i x h)
 
 -- what memchr returns at a line feed, and without one
 IsFirstByte-Some : (xs : List ℕ) (i : ℕ) → IsFirstByte (is_byte 10) xs (Some i) → (i < length xs) × IsOneLine (take i xs) × (xs ≡ take i xs ++ line_feed ∷ drop (i + 1) xs)

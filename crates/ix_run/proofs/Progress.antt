@@ -8,9 +8,9 @@ use Rattle.ix_run.specs.inner.Writing.{Writes, WritesPart, WriteResult}
 use Rattle.ix_run.specs.Lines.{with_line_feed}
 use Rattle.ix_run.specs.Outcome.{WritesReplies, WritesPartOfReplies, WritesRepliesBeforeReady}
 use Rattle.ix_run.specs.Script.{replies_to}
-use Rattle.ix_run.specs.declared.run.fault.ScriptFault.{ScriptFault}
-use Rattle.ix_run.specs.declared.run.fault.ScriptFault.TheVariants.{Read, Write, OutOfMemory}
-use Rattle.ix_run.specs.declared.run.reply_writer.ReplyWriter.{ReplyWriter}
+use Rattle.ix_run.specs.declared.run.devices.fault.ScriptFault.{ScriptFault}
+use Rattle.ix_run.specs.declared.run.devices.fault.ScriptFault.TheVariants.{Read, Write, OutOfMemory}
+use Rattle.ix_run.specs.declared.run.devices.reply_writer.ReplyWriter.{ReplyWriter}
 use Rattle.ix_run.proofs.Faults.{LeftUnwritten-device, LeftUnwritten-Write}
 use Rattle.ix_run.proofs.Input.{Reads-nil, Reads-append, Reads-reader, coming_read, coming_before}
 use Rattle.ix_run.proofs.Writing.{Writes-nil, Writes-append, WritesPart-Writes, WritesPart_append, WritesPart-same, Writes-Writes_nil, Writes-WritesPart_nil}

@@ -13,10 +13,11 @@ use Rattle.std.proofs.lemmas.List.Sums.{prefix_len-le-length, fails_before_first
 use Rattle.std.proofs.lemmas.List.Splits.{slice_split_first, slice_split_none, length-slice_split, join_with_byte-slice_split}
 use Rattle.std.proofs.Math.Seq.{drop-cons, take-append_seam}
 use Rattle.std.proofs.lemmas.Slice.Eq.{bytes_eq-Decides}
-use Rattle.ix_run.specs.inner.Tables.{first_word, IsAfterName}
+use Rattle.ix_run.specs.inner.NameTables.{first_word, IsAfterName}
 use Rattle.ix_run.proofs.Pieces.{not_true}
 use Rattle.ix_run.specs.Reading.{number_of}
-use Rattle.ix_run.specs.Words.{Form, is_space, is_colon, words_after, len_after, numbers_in, name_and_numbers, fits_byte, byte_of, make_named, command_of, alone, one, two, one_byte, number_byte, many_bytes, number_many_bytes}
+use Rattle.ix_run.specs.Words.{Form, is_space, is_colon, numbers_in, name_and_numbers, fits_byte, make_named, command_of, alone, one, two, one_byte, number_byte, many_bytes, number_many_bytes}
+use Rattle.ix_run.specs.inner.LineRest.{words_after, len_after, byte_of}
 use Rattle.ix_run.proofs.Numbers.{IsNumeral-decimal, number_of-IfSome}
 
 -- where a separator is

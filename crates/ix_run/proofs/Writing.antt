@@ -2,8 +2,8 @@
 use Rattle.std.proofs.Common.{ℕ, ◌≡◌, List, [], ◌++◌, Option, Result, Ok, Err, refl, sym, ap, ◌∙◌, append_assoc, append-nil}
 use Rattle.std.specs.Io.KnownBytes.{Appends, Keeps}
 use Rattle.ix_run.specs.inner.Writing.{AppendsPart, Writes, WritesPart, WriteResult}
-use Rattle.ix_run.specs.declared.run.fault.ScriptFault.{ScriptFault}
-use Rattle.ix_run.specs.declared.run.reply_writer.ReplyWriter.{ReplyWriter}
+use Rattle.ix_run.specs.declared.run.devices.fault.ScriptFault.{ScriptFault}
+use Rattle.ix_run.specs.declared.run.devices.reply_writer.ReplyWriter.{ReplyWriter}
 use Rattle.ix_run.proofs.KnownBytes.{Appends-nil, Appends-append, Appends-Keeps}
 
 module _ {W : Type 0} (contents : W → Option (List ℕ)) where

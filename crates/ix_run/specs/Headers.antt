@@ -3,14 +3,14 @@ use Rattle.std.specs.Prelude.{ℕ, ◌≤◌, ◌==◌, List, [], ◌∷◌, ◌
 use Rattle.std.specs.List.{slice_split}
 use Rattle.ix_maps.specs.Generations.{greatest_generation}
 use Rattle.ix_run.specs.Words.{is_space, fits_generation, words_text, numbers_in, Form, make_named}
-use Rattle.ix_run.specs.declared.run.header.FixedCapacity.{FixedCapacity}
-use Rattle.ix_run.specs.declared.run.header.FixedCapacity.TheVariants.{Zero, One, Three, Eight}
-use Rattle.ix_run.specs.declared.run.limits.TheConstants.{MAX_CAPACITY}
-use Rattle.ix_run.specs.declared.run.header.Container.{Container}
-use Rattle.ix_run.specs.declared.run.header.Container.TheVariants.{Queue, Vec, Table, Slot, Flat, Text}
-use Rattle.ix_run.specs.declared.run.header.Storage.{Storage}
-use Rattle.ix_run.specs.declared.run.header.Storage.TheVariants.{Fixed, Heap, Arena}
-use Rattle.ix_run.specs.declared.run.header.Header.{Header}
+use Rattle.ix_run.specs.declared.run.grammar.header.FixedCapacity.{FixedCapacity}
+use Rattle.ix_run.specs.declared.run.grammar.header.FixedCapacity.TheVariants.{Zero, One, Three, Eight}
+use Rattle.ix_run.specs.declared.run.devices.limits.TheConstants.{MAX_CAPACITY}
+use Rattle.ix_run.specs.declared.run.grammar.header.Container.{Container}
+use Rattle.ix_run.specs.declared.run.grammar.header.Container.TheVariants.{Queue, Vec, Table, Slot, Flat, Text}
+use Rattle.ix_run.specs.declared.run.grammar.header.Storage.{Storage}
+use Rattle.ix_run.specs.declared.run.grammar.header.Storage.TheVariants.{Fixed, Heap, Arena}
+use Rattle.ix_run.specs.declared.run.grammar.header.Header.{Header}
 
 abbrev pub fixed_capacity : FixedCapacity → ℕ
 fixed_capacity Zero = 0

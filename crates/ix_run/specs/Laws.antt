@@ -9,9 +9,9 @@ use Rattle.ix_run.specs.Lines.{IsOneLine, text_of_lines}
 use Rattle.ix_run.specs.ReplyTexts.{reply_text}
 use Rattle.ix_run.specs.Script.{replies_to}
 use Rattle.ix_run.specs.Words.{Form, command_of}
-use Rattle.ix_run.specs.declared.run.header.Container.{Container}
-use Rattle.ix_run.specs.declared.run.header.Storage.{Storage}
-use Rattle.ix_run.specs.declared.run.limits.TheConstants.{MAX_LINE_LEN}
+use Rattle.ix_run.specs.declared.run.grammar.header.Container.{Container}
+use Rattle.ix_run.specs.declared.run.grammar.header.Storage.{Storage}
+use Rattle.ix_run.specs.declared.run.devices.limits.TheConstants.{MAX_LINE_LEN}
 
 -- the text of the header of a container
 abbrev pub header_line : Container → Storage → List ℕ

@@ -1,7 +1,7 @@
 -- The lines of an input.
-use Rattle.std.specs.Prelude.{ℕ, ◌≢◌, List, [], ◌∷◌, ◌++◌, length, take, nat_le, nat_eq, if◌then◌else◌, Option, None, Some, All}
+use Rattle.std.specs.Prelude.{ℕ, ◌≢◌, List, [], ◌∷◌, ◌++◌, length, nat_le, nat_eq, if◌then◌else◌, Option, None, Some, All}
 use Rattle.std.specs.List.{flat_map, onto_first}
-use Rattle.ix_run.specs.declared.run.limits.TheConstants.{MAX_LINE_LEN}
+use Rattle.ix_run.specs.declared.run.devices.limits.TheConstants.{MAX_LINE_LEN}
 
 -- the byte that ends a line
 abbrev pub line_feed : ℕ
@@ -29,13 +29,3 @@ LimitedLine = Option (List ℕ)
 
 abbrev pub limited_line : List ℕ → LimitedLine
 limited_line line = if nat_le (length line) MAX_LINE_LEN then Some line else None
-
--- the first count bytes of a buffer, or None if the line has more bytes than the buffer
-abbrev pub buffered_line : List ℕ → ℕ → LimitedLine
-buffered_line buffer count = if nat_le count MAX_LINE_LEN then Some (take count buffer) else None
-
--- the line with bytes appended
-abbrev pub limited_line_append : LimitedLine → List ℕ → LimitedLine
-limited_line_append None bytes = None
-limited_line_append (Some line) [] = Some line
-limited_line_append (Some line) (b ∷ bytes) = limited_line (line ++ b ∷ bytes)

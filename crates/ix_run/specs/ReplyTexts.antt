@@ -1,5 +1,5 @@
 -- The texts of replies, and of items that are shown.
-use Rattle.std.specs.Prelude.{ℕ, List, [], ◌∷◌, ◌++◌, Bool, true, false, codes, decimal}
+use Rattle.std.specs.Prelude.{ℕ, List, [], ◌∷◌, ◌++◌, true, false, codes, decimal}
 use Rattle.ix_maps.specs.Generations.{SlotKey}
 use Rattle.ix_commands.specs.declared.reply.Reply.{Reply}
 use Rattle.ix_commands.specs.declared.reply.Reply.TheVariants as reply
@@ -44,11 +44,6 @@ entry_text entry = decimal entry.0 ++ (codes "=" ++ decimal entry.1)
 abbrev pub key_entry_text : (SlotKey × ℕ) → List ℕ
 key_entry_text entry = key_text entry.0 ++ (codes "=" ++ decimal entry.1)
 
--- an item's text, after a space unless it is the first
-abbrev pub next_text : Bool → List ℕ → List ℕ
-next_text true text = text
-next_text false text = codes " " ++ text
-
 module _ {X : Type 0} (text : X → List ℕ) where
   -- items, each after a space
   abbrev pub more_items_text : List X → List ℕ
@@ -59,8 +54,3 @@ module _ {X : Type 0} (text : X → List ℕ) where
   abbrev pub items_text : List X → List ℕ
   items_text [] = codes "-"
   items_text (x ∷ items) = text x ++ more_items_text items
-
-  -- the texts of items that are still to come
-  abbrev pub items_left_text : Bool → List X → List ℕ
-  items_left_text is_first [] = []
-  items_left_text is_first (x ∷ items) = next_text is_first (text x) ++ more_items_text items

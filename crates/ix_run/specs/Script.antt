@@ -1,5 +1,5 @@
 -- The replies to a script: one line for each line, in order.
-use Rattle.std.specs.Prelude.{ℕ, ◌≡◌, List, [], ◌∷◌, ◌++◌, if◌then◌else◌, Option, None, Some, option_map, option_and_then, unwrap_or, map, codes, decimal, bytes_eq, nat_eq}
+use Rattle.std.specs.Prelude.{ℕ, List, [], ◌∷◌, ◌++◌, if◌then◌else◌, Option, None, Some, option_map, option_and_then, unwrap_or, map, codes, decimal, bytes_eq, nat_eq}
 use Rattle.ix_cells.specs.Bounded.{Bounded, bounded_new}
 use Rattle.ix_maps.specs.SlotState.{SlotState, slot_new, entries}
 use Rattle.ix_maps.specs.Generations.{SlotMapState, map_entries, map_new}
@@ -18,9 +18,9 @@ use Rattle.ix_run.specs.Headers.{header_of, capacity_of, first_generation}
 use Rattle.ix_run.specs.Lines.{LimitedLine, limited_line, lines_of, with_line_feed}
 use Rattle.ix_run.specs.ReplyTexts.{reply_text, slot_reply_text, items_text, entry_text, key_entry_text}
 use Rattle.ix_run.specs.Words.{Form, command_of}
-use Rattle.ix_run.specs.declared.run.header.Header.{Header}
-use Rattle.ix_run.specs.declared.run.header.Container.{Container}
-use Rattle.ix_run.specs.declared.run.header.Container.TheVariants.{Queue, Vec, Table, Slot, Flat, Text}
+use Rattle.ix_run.specs.declared.run.grammar.header.Header.{Header}
+use Rattle.ix_run.specs.declared.run.grammar.header.Container.{Container}
+use Rattle.ix_run.specs.declared.run.grammar.header.Container.TheVariants.{Queue, Vec, Table, Slot, Flat, Text}
 
 -- reply and after: the text of the reply to the command that a line spells, if any, and the model after it; shown: what
 -- `show` prints
@@ -94,10 +94,6 @@ container_replies (Slot start) n = replies_to_lines slot_line_reply slot_line_af
 container_replies Flat n = replies_to_lines (spelled_reply flat_forms (flat_reply nat_eq)) (spelled_after flat_forms (flat_after nat_eq)) flat_shown (slot_new n)
 container_replies Text n = replies_to_lines (spelled_reply text_forms text_reply) (spelled_after text_forms text_after) text_shown (bounded_new n)
 
--- the model is that of an empty container of this capacity: it brings the same replies
-abbrev pub IsEmptyContainer : {M : Type 0} → (M → List ℕ → Option (List ℕ)) → (M → List ℕ → M) → (M → List ℕ) → M → Container → ℕ → Type 0
-IsEmptyContainer reply after shown m container n = (lines : List LimitedLine) → replies_to_lines reply after shown m lines ≡ container_replies container n lines
-
 -- the replies once a container of this capacity is made, and to the lines that come for it
 abbrev pub replies_from_ready : Container → ℕ → List LimitedLine → List ℕ
 replies_from_ready container n lines = with_line_feed (codes "ready") ++ container_replies container n lines
@@ -115,11 +111,6 @@ replies_to_opening (Some header) lines others = replies_from_header header lines
 abbrev pub script_replies : List LimitedLine → List ℕ
 script_replies [] = []
 script_replies (line ∷ lines) = replies_to_opening (option_and_then header_of line) lines (script_replies lines)
-
--- the replies to lines, after a header if there was one
-abbrev pub opening_replies : Option Header → List LimitedLine → List ℕ
-opening_replies None lines = script_replies lines
-opening_replies (Some header) lines = replies_from_header header lines
 
 -- the replies to an input
 unfoldable pub replies_to : List ℕ → List ℕ

@@ -1,5 +1,5 @@
 -- A line as words: a name, and numbers. A form is a name, with what the numbers after it make.
-use Rattle.std.specs.Prelude.{ℕ, ◌≡◌, List, [], ◌∷◌, ◌++◌, ◌+◌, length, Bool, true, not, ◌&&◌, nat_eq, nat_lt, nat_le, if◌then◌else◌, Option, None, Some, option_map, option_and_then, codes, decimal, bytes_eq, flat_map}
+use Rattle.std.specs.Prelude.{ℕ, ◌≡◌, List, [], ◌∷◌, ◌++◌, length, Bool, true, not, ◌&&◌, nat_eq, nat_lt, nat_le, if◌then◌else◌, Option, None, Some, option_map, option_and_then, codes, decimal, bytes_eq, flat_map}
 use Rattle.std.specs.Borrow.{Bor}
 use Rattle.std.specs.List.{slice_split, IsDistinct, list_all, list_any}
 use Rattle.std.specs.Map.{lookup, keys_of}
@@ -30,23 +30,9 @@ name_and_numbers other = None
 abbrev pub words_of : List ℕ → Option (List ℕ × List ℕ)
 words_of line = name_and_numbers (slice_split is_space line)
 
--- the words of what stands after a space, if a space was there
-abbrev pub words_after : Option (List ℕ) → List (List ℕ)
-words_after None = []
-words_after (Some bytes) = slice_split is_space bytes
-
--- the number of bytes of a space and of what stands after it, or 0 if there is none
-abbrev pub len_after : Option (List ℕ) → ℕ
-len_after None = 0
-len_after (Some bytes) = length bytes + 1
-
 -- a number is a byte
 abbrev pub fits_byte : ℕ → Bool
 fits_byte n = nat_le n 255
-
--- the byte whose decimal text the word is
-abbrev pub byte_of : List ℕ → Option ℕ
-byte_of word = option_and_then (λ n. if fits_byte n then Some n else None) (number_of word)
 
 -- a number is a generation
 abbrev pub fits_generation : ℕ → Bool

@@ -10,41 +10,20 @@
 //! ```
 
 mod containers;
-mod fault;
-mod flat_lines;
-mod header;
+mod devices;
+mod grammar;
 mod laws;
-mod limits;
-mod line_buffer;
-mod line_reader;
-mod partial_line;
-mod queue_lines;
-mod readers;
-mod reading;
 mod replies;
-mod reply_buffer;
-mod reply_writer;
 mod scripts;
-mod served;
-mod serving;
-mod slot_lines;
-mod string_lines;
-mod table_lines;
-mod tables;
-mod vec_lines;
-mod words;
 
-pub use fault::{ScriptFault, exit_status, fault_line};
-pub use header::{Container, FixedCapacity, Header, Storage, read_header};
+pub use devices::{MAX_CAPACITY, MAX_LINE_LEN, MAX_NUMBERS, ScriptFault, exit_status, fault_line};
+pub use grammar::{
+    Container, FixedCapacity, Header, Storage, read_flat_command, read_header, read_number,
+    read_queue_command, read_slot_command, read_table_command, read_text_command, read_vec_command,
+};
 pub use ix_commands::{
     FlatCommand, QueueCommand, Reply, ReplyError, Runs, SlotCommand, TableCommand, TextCommand,
     VecCommand, dead_law, run_all, run_flat, run_queue, run_slot, run_table, run_text, run_vec,
 };
 pub use laws::{line_law, reply_law, script_law, spelling_law};
-pub use limits::{MAX_CAPACITY, MAX_LINE_LEN, MAX_NUMBERS};
-pub use readers::{
-    read_flat_command, read_queue_command, read_slot_command, read_table_command,
-    read_text_command, read_vec_command,
-};
-pub use reading::read_number;
 pub use scripts::script;

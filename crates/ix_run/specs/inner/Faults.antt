@@ -1,8 +1,8 @@
 -- What a fault tells of the reader, the writer and the replies that were not written.
 use Rattle.std.specs.Prelude.{ℕ, List}
 use Rattle.ix_run.specs.Outcome.{BeginsWithReady}
-use Rattle.ix_run.specs.declared.run.fault.ScriptFault.{ScriptFault}
-use Rattle.ix_run.specs.declared.run.fault.ScriptFault.TheVariants.{Read, Write, OutOfMemory}
+use Rattle.ix_run.specs.declared.run.devices.fault.ScriptFault.{ScriptFault}
+use Rattle.ix_run.specs.declared.run.devices.fault.ScriptFault.TheVariants.{Read, Write, OutOfMemory}
 
 -- the reader or the writer failed
 abbrev pub IsDeviceFault : ScriptFault → Type 0

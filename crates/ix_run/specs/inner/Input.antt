@@ -1,9 +1,20 @@
 -- A buffer of an input that is read in pieces and taken line by line.
-use Rattle.std.specs.Prelude.{ℕ, ◌≡◌, ◌<◌, ◌≤◌, ◌+◌, List, [], ◌∷◌, ◌++◌, nat_eq, if◌then◌else◌, length, take, Option, None, Some, Bool, true, false, Result, Ok, Err}
+use Rattle.std.specs.Prelude.{ℕ, ◌≡◌, ◌<◌, ◌≤◌, ◌+◌, List, [], ◌∷◌, ◌++◌, nat_eq, nat_le, if◌then◌else◌, length, take, Option, None, Some, Bool, true, false, Result, Ok, Err}
 use Rattle.std.specs.Io.KnownBytes.{Consumes, IsAtEnd, Keeps}
-use Rattle.ix_run.specs.Lines.{LimitedLine, limited_line, limited_line_append, line_feed, IsOneLine}
-use Rattle.ix_run.specs.declared.run.fault.ScriptFault.{ScriptFault}
-use Rattle.ix_run.specs.declared.run.fault.ScriptFault.TheVariants as fault
+use Rattle.ix_run.specs.Lines.{LimitedLine, limited_line, line_feed, IsOneLine}
+use Rattle.ix_run.specs.declared.run.devices.fault.ScriptFault.{ScriptFault}
+use Rattle.ix_run.specs.declared.run.devices.fault.ScriptFault.TheVariants as fault
+use Rattle.ix_run.specs.declared.run.devices.limits.TheConstants.{MAX_LINE_LEN}
+
+-- the first count bytes of a buffer, or None if the line has more bytes than the buffer
+abbrev pub buffered_line : List ℕ → ℕ → LimitedLine
+buffered_line buffer count = if nat_le count MAX_LINE_LEN then Some (take count buffer) else None
+
+-- the line with bytes appended
+abbrev pub limited_line_append : LimitedLine → List ℕ → LimitedLine
+limited_line_append None bytes = None
+limited_line_append (Some line) [] = Some line
+limited_line_append (Some line) (b ∷ bytes) = limited_line (line ++ b ∷ bytes)
 
 -- the first count bytes of the buffer were read, and count is 0 only at the end; an interrupted or failed read reads nothing
 abbrev pub ReadsOnce : Option (List ℕ) → Option (List ℕ) → Result (Option ℕ) ScriptFault → List ℕ → Type 0

@@ -5,9 +5,9 @@ use Rattle.std.specs.Io.KnownBytes.{Consumes, IsAtEnd}
 use Rattle.ix_run.specs.inner.Faults.{IsDeviceFault}
 use Rattle.ix_run.specs.inner.Input.{current_line, lines_to_come}
 use Rattle.ix_run.specs.inner.Writing.{Writes, WritesPart}
-use Rattle.ix_run.specs.declared.run.fault.ScriptFault.{ScriptFault}
-use Rattle.ix_run.specs.declared.run.line_reader.LineReader.{LineReader}
-use Rattle.ix_run.specs.declared.run.reply_writer.ReplyWriter.{ReplyWriter}
+use Rattle.ix_run.specs.declared.run.devices.fault.ScriptFault.{ScriptFault}
+use Rattle.ix_run.specs.declared.run.devices.line_reader.LineReader.{LineReader}
+use Rattle.ix_run.specs.declared.run.devices.reply_writer.ReplyWriter.{ReplyWriter}
 
 -- remaining: what a reader has left
 module _ {R : Type 0} (remaining : R → Option (List ℕ)) where

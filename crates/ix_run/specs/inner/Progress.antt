@@ -4,15 +4,21 @@ use Rattle.ix_run.specs.inner.Faults.{LeftUnwritten}
 use Rattle.ix_run.specs.inner.Input.{lines_to_come}
 use Rattle.ix_run.specs.inner.NextLine.{Reads, Coming}
 use Rattle.ix_run.specs.inner.Writing.{Writes, WritesPart}
-use Rattle.ix_run.specs.Script.{opening_replies}
-use Rattle.ix_run.specs.declared.run.fault.ScriptFault.{ScriptFault}
-use Rattle.ix_run.specs.declared.run.header.Header.{Header}
-use Rattle.ix_run.specs.declared.run.line_reader.LineReader.{LineReader}
-use Rattle.ix_run.specs.declared.run.reply_writer.ReplyWriter.{ReplyWriter}
+use Rattle.ix_run.specs.Lines.{LimitedLine}
+use Rattle.ix_run.specs.Script.{script_replies, replies_from_header}
+use Rattle.ix_run.specs.declared.run.devices.fault.ScriptFault.{ScriptFault}
+use Rattle.ix_run.specs.declared.run.grammar.header.Header.{Header}
+use Rattle.ix_run.specs.declared.run.devices.line_reader.LineReader.{LineReader}
+use Rattle.ix_run.specs.declared.run.devices.reply_writer.ReplyWriter.{ReplyWriter}
 
 -- a script on its way: the lines that come, and the replies
 abbrev pub Session : Type 0 → Type 0 → Type 0
 Session R W = LineReader R × ReplyWriter W
+
+-- the replies to lines, after a header if there was one
+abbrev pub opening_replies : Option Header → List LimitedLine → List ℕ
+opening_replies None lines = script_replies lines
+opening_replies (Some header) lines = replies_from_header header lines
 
 -- the replies to what comes, before a header or after one
 abbrev pub opening : {R : Type 0} → Option Header → LineReader R → List ℕ → List ℕ

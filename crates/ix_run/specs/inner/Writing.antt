@@ -1,9 +1,9 @@
 -- Bytes on their way to a writer: what its contents gained was written, and pending bytes are in a buffer and are written next.
 use Rattle.std.specs.Prelude.{ℕ, ◌≡◌, List, ◌++◌, Option, Result, Ok, Err}
 use Rattle.std.specs.Io.KnownBytes.{Appends}
-use Rattle.ix_run.specs.declared.run.fault.ScriptFault.{ScriptFault}
-use Rattle.ix_run.specs.declared.run.fault.ScriptFault.TheVariants as fault
-use Rattle.ix_run.specs.declared.run.reply_writer.ReplyWriter.{ReplyWriter}
+use Rattle.ix_run.specs.declared.run.devices.fault.ScriptFault.{ScriptFault}
+use Rattle.ix_run.specs.declared.run.devices.fault.ScriptFault.TheVariants as fault
+use Rattle.ix_run.specs.declared.run.devices.reply_writer.ReplyWriter.{ReplyWriter}
 
 -- a first part of the bytes was written
 abbrev pub AppendsPart : Option (List ℕ) → Option (List ℕ) → List ℕ → Type 0

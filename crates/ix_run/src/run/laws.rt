@@ -17,8 +17,8 @@ ghost use Rattle.ix_run.specs.Lines.{IsOneLine, with_line_feed, text_of_lines, l
 ghost use Rattle.ix_run.specs.ReplyTexts.{reply_text, slot_reply_text, items_text, entry_text, key_entry_text};
 ghost use Rattle.ix_run.specs.Script.{text_shown};
 ghost use Rattle.ix_run.specs.Words.{Form, KeyForm, HasNames, words_text, command_of, key_words_text, key_command_of};
-ghost use Rattle.ix_run.specs.declared.run.header.Container.TheVariants as container;
-ghost use Rattle.ix_run.specs.declared.run.header.Storage.{Storage};
+ghost use Rattle.ix_run.specs.declared.run.grammar.header.Container.TheVariants as container;
+ghost use Rattle.ix_run.specs.declared.run.grammar.header.Storage.{Storage};
 
 /// How an input is cut into lines: at each line feed. A last line without a line feed is a line too, unless it is empty,
 /// and the lines together are the whole input.

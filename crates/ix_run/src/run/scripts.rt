@@ -3,13 +3,11 @@ ghost use Rattle.std.specs.Prelude.{◌≡◌, [], Err, OnOk, OnErr};
 ghost use Rattle.ix_run.specs.Outcome.{WritesReplies, WritesPartOfReplies, WritesRepliesBeforeReady};
 ghost use Rattle.ix_run.specs.inner.Progress.{ReplyResult};
 ghost use Rattle.ix_run.specs.Script.{replies_to};
-ghost use Rattle.ix_run.specs.declared.run.fault.ScriptFault.TheVariants.{OutOfMemory};
+ghost use Rattle.ix_run.specs.declared.run.devices.fault.ScriptFault.TheVariants.{OutOfMemory};
 
 use crate::run::ScriptFault;
-use crate::run::containers::serve_header;
-use crate::run::line_reader::LineReader;
-use crate::run::reply_writer::ReplyWriter;
-use crate::run::serving::next_header;
+use crate::run::containers::{next_header, serve_header};
+use crate::run::devices::{LineReader, ReplyWriter};
 use std::alloc::Global;
 use std::io::{Read, Write};
 
@@ -39,7 +37,7 @@ fn run_script<R: Read, W: Write>(
 /// `C arena N`, where C is `queue`, `vec`, `table`, `slot`, `flat` or `text`, S is 0, 1, 3 or 8, and N a number up to 1,000:
 /// a container of the fixed kind, an allocated one, or a relocatable one in an arena. A header of `slot` may end by ` at G`,
 /// the generation of the places at first, up to 4,294,967,295. After it the commands are those of the
-/// container, as the README lists them, and `show`. The reply to any other line, and to one of more than 200 bytes, is
+/// container, as docs/SCRIPTS.md lists them, and `show`. The reply to any other line, and to one of more than 200 bytes, is
 /// `?`, and the line changes nothing. A line ends with a line feed, which the last one may lack.
 ///
 /// ```text

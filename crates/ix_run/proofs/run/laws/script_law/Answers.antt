@@ -13,7 +13,7 @@ use Rattle.ix_run.specs.ReplyTexts.{reply_text, slot_reply_text}
 use Rattle.ix_run.specs.Words.{command_of}
 use Rattle.ix_run.specs.Headers.{capacity_of, first_generation}
 use Rattle.ix_run.specs.Script.{list_shown, table_shown, slot_shown, flat_shown, text_shown}
-use Rattle.ix_run.specs.declared.run.header.Container.TheVariants as container
+use Rattle.ix_run.specs.declared.run.grammar.header.Container.TheVariants as container
 use Rattle.ix_run.proofs.Laws.{IsRunBy-container}
 use Rattle.ix_run.proofs.run.laws.script_law.Goals as goal
 

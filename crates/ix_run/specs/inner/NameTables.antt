@@ -1,0 +1,173 @@
+-- Tables of the commands by name, as forms.
+use Rattle.std.specs.Prelude.{ℕ, ◌≡◌, ◌≤◌, List, [], ◌∷◌, Option, None, Some, map, true, not, length, bytes_eq, if◌then◌else◌}
+use Rattle.std.specs.List.{slice_split, list_all, list_any}
+use Rattle.std.specs.Map.{lookup}
+use Rattle.std.specs.Borrow.{Bor}
+use Rattle.ix_run.specs.Words.{Form, is_space, alone, one, two, many, one_byte, number_byte, many_bytes, number_many_bytes, slice_of}
+use Rattle.ix_run.specs.inner.LineRest.{words_after, len_after}
+use Rattle.ix_run.specs.declared.run.grammar.name_table.Takes.{Takes}
+use Rattle.ix_run.specs.declared.run.grammar.name_table.Takes.TheVariants.{Nothing, Number, TwoNumbers, Numbers, Byte, NumberAndByte, Bytes, NumberAndBytes}
+use Rattle.ix_commands.specs.declared.command.QueueCommand.{QueueCommand}
+use Rattle.ix_commands.specs.declared.command.QueueCommand.TheVariants as queue
+use Rattle.ix_commands.specs.declared.command.VecCommand.{VecCommand}
+use Rattle.ix_commands.specs.declared.command.VecCommand.TheVariants as vec
+use Rattle.ix_commands.specs.declared.command.TextCommand.{TextCommand}
+use Rattle.ix_commands.specs.declared.command.TextCommand.TheVariants as text
+use Rattle.ix_run.specs.declared.run.grammar.readers.vector.VecName.{VecName}
+use Rattle.ix_run.specs.declared.run.grammar.readers.vector.VecName.TheVariants as vec_name
+use Rattle.ix_run.specs.declared.run.grammar.readers.string.TextName.{TextName}
+use Rattle.ix_run.specs.declared.run.grammar.readers.string.TextName.TheVariants as text_name
+use Rattle.ix_commands.specs.declared.command.TableCommand.{TableCommand}
+use Rattle.ix_commands.specs.declared.command.TableCommand.TheVariants as table
+use Rattle.ix_maps.specs.Generations.{SlotKey}
+use Rattle.ix_run.specs.declared.run.grammar.readers.slotmap.PlainName.{PlainName}
+use Rattle.ix_run.specs.declared.run.grammar.readers.slotmap.PlainName.TheVariants as plain_name
+use Rattle.ix_run.specs.declared.run.grammar.readers.slotmap.KeyName.{KeyName}
+use Rattle.ix_run.specs.declared.run.grammar.readers.slotmap.KeyName.TheVariants as key_name
+use Rattle.ix_commands.specs.declared.command.SlotCommand.{SlotCommand}
+use Rattle.ix_commands.specs.declared.command.SlotCommand.TheVariants as slot
+use Rattle.ix_commands.specs.declared.command.FlatCommand.{FlatCommand}
+use Rattle.ix_commands.specs.declared.command.FlatCommand.TheVariants as flat
+
+module _ {V : Type 0} where
+  -- the names, each with the value beside it
+  abbrev pub rows : List (Bor (List ℕ) × V) → List (List ℕ × V)
+  rows table = map (λ row. (row.0.now, row.1)) table
+
+  -- the same of a table that is a constant
+  abbrev pub constant_rows : List (record { now : List ℕ } × V) → List (List ℕ × V)
+  constant_rows table = map (λ row. (row.0.now, row.1)) table
+
+-- the bytes before the first space
+abbrev pub first_word : List ℕ → List ℕ
+first_word [] = []
+first_word (byte ∷ bytes) = if is_space byte then [] else byte ∷ first_word bytes
+
+-- the name is the first word of a line, and this stands behind the space after it
+pub record IsAfterName (line name : List ℕ) (rest : Option (List ℕ)) : Type 0 where
+  pub named : bytes_eq (first_word line) name ≡ true
+  pub words : slice_split is_space line ≡ first_word line ∷ words_after rest
+  pub len : len_after rest ≤ length line
+
+module _ {V : Type 0} where
+  -- no name has a space
+  abbrev pub HasWords : List (List ℕ × V) → Type 0
+  HasWords table = list_all (λ row. not (list_any is_space row.0)) table ≡ true
+
+  -- the value beside the first word of a line, and what stands behind the space after it
+  pub record IsNamed (table : List (List ℕ × V)) (line : List ℕ) (value : V) (rest : Option (List ℕ)) : Type 0 where
+    pub found : lookup (bytes_eq (first_word line)) table ≡ Some value
+    pub words : slice_split is_space line ≡ first_word line ∷ words_after rest
+    pub len : len_after rest ≤ length line
+
+module _ {C : Type 0} where
+  -- what at most two numbers make, with zeros for those that are missing
+  abbrev pub numbers_taken : Takes → (ℕ → ℕ → C) → List ℕ → Option C
+  numbers_taken Nothing make = alone (make 0 0)
+  numbers_taken Number make = one (λ n. make n 0)
+  numbers_taken TwoNumbers make = two make
+  numbers_taken other make = λ numbers. None
+
+  -- the same, or what zero or more numbers make
+  abbrev pub items_taken : Takes → (ℕ → ℕ → List ℕ → C) → List ℕ → Option C
+  items_taken Numbers make = many (make 0 0)
+  items_taken other make = numbers_taken other (λ n m. make n m [])
+
+  -- the same, or what a byte or zero or more bytes make, after a number or none
+  abbrev pub bytes_taken : Takes → (ℕ → ℕ → ℕ → List ℕ → C) → List ℕ → Option C
+  bytes_taken Byte make = one_byte (λ byte. make 0 0 byte [])
+  bytes_taken NumberAndByte make = number_byte (λ n byte. make n 0 byte [])
+  bytes_taken Bytes make = many_bytes (make 0 0 0)
+  bytes_taken NumberAndBytes make = number_many_bytes (λ n bytes. make n 0 0 bytes)
+  bytes_taken other make = numbers_taken other (λ n m. make n m 0 [])
+
+-- the forms of a table of commands, each completed by the numbers after it
+abbrev pub forms_by : {C D : Type 0} → (C → ℕ → ℕ → D) → List (List ℕ × (Takes × C)) → List (Form D)
+forms_by with table = map (λ row. (row.0, numbers_taken row.1.0 (with row.1.1))) table
+
+-- a queue's command, with this number
+abbrev pub queue_with : QueueCommand ℕ → ℕ → QueueCommand ℕ
+queue_with (queue.Push old) n = queue.Push n
+queue_with (queue.Over old) n = queue.Over n
+queue_with (queue.Set old) n = queue.Set n
+queue_with (queue.At old) n = queue.At n
+queue_with other n = other
+
+-- a slot table's command, with these numbers
+abbrev pub table_with : TableCommand ℕ → ℕ → ℕ → TableCommand ℕ
+table_with (table.Insert old) n m = table.Insert n
+table_with (table.InsertAt key old) n m = table.InsertAt n m
+table_with (table.Remove old) n m = table.Remove n
+table_with (table.Get old) n m = table.Get n
+table_with (table.Set key old) n m = table.Set n m
+table_with (table.Contains old) n m = table.Contains n
+table_with (table.From old) n m = table.From n
+table_with other n m = other
+
+-- the command of a slot map with this name, of these numbers
+abbrev pub slot_named : PlainName → ℕ → ℕ → SlotCommand ℕ
+slot_named plain_name.Insert n m = slot.Insert n
+slot_named plain_name.Next n m = slot.Next
+slot_named plain_name.InsertAt n m = slot.InsertAt n m
+slot_named plain_name.From n m = slot.From n
+slot_named plain_name.Retired n m = slot.Retired
+slot_named plain_name.Len n m = slot.Len
+slot_named plain_name.Capacity n m = slot.Capacity
+slot_named plain_name.Empty n m = slot.Empty
+slot_named plain_name.Full n m = slot.Full
+
+-- the command of a slot map with this name, of this key and this number
+abbrev pub slot_key_named : KeyName → SlotKey → ℕ → SlotCommand ℕ
+slot_key_named key_name.Remove key n = slot.Remove key
+slot_key_named key_name.Get key n = slot.Get key
+slot_key_named key_name.Set key n = slot.Set key n
+slot_key_named key_name.Contains key n = slot.Contains key
+
+-- a flat map's command, with these numbers
+abbrev pub flat_with : FlatCommand ℕ ℕ → ℕ → ℕ → FlatCommand ℕ ℕ
+flat_with (flat.Insert key old) n m = flat.Insert n m
+flat_with (flat.Get old) n m = flat.Get n
+flat_with (flat.Set key old) n m = flat.Set n m
+flat_with (flat.Remove old) n m = flat.Remove n
+flat_with (flat.Contains old) n m = flat.Contains n
+flat_with (flat.Key old) n m = flat.Key n
+flat_with other n m = other
+
+-- the command of a vector with this name, of these numbers or this list
+abbrev pub vec_named : VecName → ℕ → ℕ → List ℕ → VecCommand ℕ
+vec_named vec_name.Push n m items = vec.Push n
+vec_named vec_name.Insert n m items = vec.Insert n m
+vec_named vec_name.Extend n m items = vec.Extend (slice_of items)
+vec_named vec_name.Resize n m items = vec.Resize n m
+vec_named vec_name.Pop n m items = vec.Pop
+vec_named vec_name.Remove n m items = vec.Remove n
+vec_named vec_name.At n m items = vec.At n
+vec_named vec_name.Set n m items = vec.Set n m
+vec_named vec_name.Truncate n m items = vec.Truncate n
+vec_named vec_name.Clear n m items = vec.Clear
+vec_named vec_name.Len n m items = vec.Len
+vec_named vec_name.Capacity n m items = vec.Capacity
+vec_named vec_name.Empty n m items = vec.Empty
+vec_named vec_name.Full n m items = vec.Full
+
+-- the command of a string with this name, of these numbers or these bytes
+abbrev pub text_named : TextName → ℕ → ℕ → ℕ → List ℕ → TextCommand
+text_named text_name.Push n m byte bytes = text.Push byte
+text_named text_name.Append n m byte bytes = text.Append (slice_of bytes)
+text_named text_name.Insert n m byte bytes = text.Insert n byte
+text_named text_name.InsertBytes n m byte bytes = text.InsertBytes n (slice_of bytes)
+text_named text_name.Pop n m byte bytes = text.Pop
+text_named text_name.Remove n m byte bytes = text.Remove n
+text_named text_name.RemoveRange n m byte bytes = text.RemoveRange n m
+text_named text_name.Find n m byte bytes = text.Find (slice_of bytes)
+text_named text_name.Rfind n m byte bytes = text.Rfind (slice_of bytes)
+text_named text_name.StripPrefix n m byte bytes = text.StripPrefix (slice_of bytes)
+text_named text_name.StripSuffix n m byte bytes = text.StripSuffix (slice_of bytes)
+text_named text_name.Drop n m byte bytes = text.Drop byte
+text_named text_name.At n m byte bytes = text.At n
+text_named text_name.Truncate n m byte bytes = text.Truncate n
+text_named text_name.Clear n m byte bytes = text.Clear
+text_named text_name.Len n m byte bytes = text.Len
+text_named text_name.Capacity n m byte bytes = text.Capacity
+text_named text_name.Empty n m byte bytes = text.Empty
+text_named text_name.Full n m byte bytes = text.Full

@@ -1,0 +1,82 @@
+//! Lines of a script for a flat map.
+use crate::run::containers::making::{MakesIn, MakesInline, Named};
+use crate::run::containers::served::Served;
+use crate::run::devices::ReplyWriter;
+use crate::run::replies::append_items;
+use crate::run::{Reply, Runs, ScriptFault, read_flat_command};
+use bumpalo::Bump;
+use ix_cells::{RelocatableContainer, Table};
+use ix_maps::{
+    FixedSizeFlatMap, FlatMap, Link, MetaFlatMap, Pair, RelocatableFlatMap, UninitFlatMap,
+};
+use std::alloc::Global;
+use std::io::Write;
+
+impl<S: Table<Pair<u64, u64>>, L: Table<Link>> Served for MetaFlatMap<Pair<u64, u64>, S, L> {
+    ghost use Rattle.std.specs.Prelude.{ℕ, nat_eq};
+    ghost use Rattle.ix_maps.specs.SlotState.{SlotState};
+    ghost use Rattle.ix_maps.specs.declared.flatmap.pair.Pair.{Pair};
+    ghost use Rattle.ix_commands.specs.FlatRun.{flat_reply, flat_after};
+    ghost use Rattle.ix_run.specs.Forms.{flat_forms};
+    ghost use Rattle.ix_run.specs.Script.{spelled_reply, spelled_after, flat_shown};
+
+    type Key = u64;
+
+    ghost Model = { SlotState (Pair ℕ ℕ) };
+
+    ghost model = { λ map. map };
+
+    ghost reply = { spelled_reply flat_forms (flat_reply nat_eq) };
+
+    ghost after = { spelled_after flat_forms (flat_after nat_eq) };
+
+    ghost shown = { flat_shown };
+
+    #[inline]
+    fn run_line(&mut self, line: &[u8]) -> Option<Reply<u64, u64>> {
+        let command = read_flat_command(line)?;
+        Some(self.run_command(command))
+    }
+
+    fn show<W: Write>(&self, replies: &mut ReplyWriter<'_, W>) -> Result<(), ScriptFault> {
+        append_items(replies, self.keys())
+    }
+}
+
+/// The flat maps that headers name.
+#[derive(Drop)]
+pub(crate) struct FlatMaps;
+
+impl Named for FlatMaps {
+    ghost use Rattle.ix_run.specs.declared.run.grammar.header.Container.TheVariants as container;
+
+    ghost container = { λ maker. container.Flat };
+}
+
+impl<const N: usize> MakesInline<N> for FlatMaps {
+    type Inline = FixedSizeFlatMap<u64, u64, N>;
+
+    fn inline(self) -> FixedSizeFlatMap<u64, u64, N> {
+        FixedSizeFlatMap::new()
+    }
+}
+
+impl MakesIn<Global> for FlatMaps {
+    type Made = FlatMap<u64, u64>;
+
+    fn make(self, alloc: Global, capacity: usize) -> Option<FlatMap<u64, u64>> {
+        FlatMap::new(alloc, capacity).ok()
+    }
+}
+
+impl<'a> MakesIn<&'a Bump<Global>> for FlatMaps {
+    type Made = RelocatableFlatMap<u64, u64, &'a Bump<Global>>;
+
+    fn make(
+        self,
+        arena: &'a Bump<Global>,
+        capacity: usize,
+    ) -> Option<RelocatableFlatMap<u64, u64, &'a Bump<Global>>> {
+        UninitFlatMap::new_uninit(capacity).init(arena).ok()
+    }
+}

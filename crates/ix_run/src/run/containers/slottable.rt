@@ -1,0 +1,96 @@
+//! Lines of a script for a slot table.
+ghost use Rattle.ix_run.specs.ReplyTexts.{entry_text};
+
+use crate::run::containers::making::{MakesIn, MakesInline, Named};
+use crate::run::containers::served::Served;
+use crate::run::devices::{ReplyBuffer, ReplyWriter};
+use crate::run::replies::{ListedItem, append_items};
+use crate::run::{Reply, Runs, ScriptFault, read_table_command};
+use bumpalo::Bump;
+use ix_cells::{RelocatableContainer, Table};
+use ix_maps::{
+    FixedSizeSlotTable, Link, MetaSlotTable, RelocatableSlotTable, SlotTable, SlotTableKey,
+    UninitSlotTable,
+};
+use std::alloc::Global;
+use std::io::Write;
+
+/// A key with its value.
+impl<'a> ListedItem for (SlotTableKey, &'a u64) {
+    ghost text = { λ entry. entry_text (entry.0, entry.1.now) };
+
+    fn put_into(self, replies: &mut ReplyBuffer) {
+        let (key, value) = self;
+        replies.put_number(key.value() as u64);
+        replies.put(b"=");
+        replies.put_number(*value);
+    }
+}
+
+impl<S: Table<u64>, L: Table<Link>> Served for MetaSlotTable<u64, S, L> {
+    ghost use Rattle.std.specs.Prelude.{ℕ};
+    ghost use Rattle.ix_maps.specs.SlotState.{SlotState};
+    ghost use Rattle.ix_commands.specs.TableRun.{table_reply, table_after};
+    ghost use Rattle.ix_run.specs.Forms.{table_forms};
+    ghost use Rattle.ix_run.specs.Script.{spelled_reply, spelled_after, table_shown};
+
+    type Key = usize;
+
+    ghost Model = { SlotState ℕ };
+
+    ghost model = { λ map. map };
+
+    ghost reply = { spelled_reply table_forms table_reply };
+
+    ghost after = { spelled_after table_forms table_after };
+
+    ghost shown = { table_shown };
+
+    #[inline]
+    fn run_line(&mut self, line: &[u8]) -> Option<Reply<usize, u64>> {
+        let command = read_table_command(line)?;
+        Some(self.run_command(command))
+    }
+
+    fn show<W: Write>(&self, replies: &mut ReplyWriter<'_, W>) -> Result<(), ScriptFault> {
+        append_items(replies, self.iter())
+    }
+}
+
+/// The slot tables that headers name.
+#[derive(Drop)]
+pub(crate) struct SlotTables;
+
+impl Named for SlotTables {
+    ghost use Rattle.ix_run.specs.declared.run.grammar.header.Container.TheVariants as container;
+
+    ghost container = { λ maker. container.Table };
+}
+
+impl<const N: usize> MakesInline<N> for SlotTables {
+    type Inline = FixedSizeSlotTable<u64, N>;
+
+    fn inline(self) -> FixedSizeSlotTable<u64, N> {
+        FixedSizeSlotTable::new()
+    }
+}
+
+impl MakesIn<Global> for SlotTables {
+    type Made = SlotTable<u64>;
+
+    fn make(self, alloc: Global, capacity: usize) -> Option<SlotTable<u64>> {
+        SlotTable::new(alloc, capacity).ok()
+    }
+}
+
+impl<'a> MakesIn<&'a Bump<Global>> for SlotTables {
+    type Made = RelocatableSlotTable<u64, &'a Bump<Global>>;
+
+    fn make(
+        self,
+        arena: &'a Bump<Global>,
+        capacity: usize,
+    ) -> Option<RelocatableSlotTable<u64, &'a Bump<Global>>> {
+        UninitSlotTable::new_uninit(capacity).init(arena).ok()
+    }
+}

@@ -1,0 +1,100 @@
+//! Lines of a script for a vector.
+ghost use Rattle.std.specs.Prelude.{◌≡◌};
+
+use crate::run::containers::making::{MakesIn, MakesInline, Named};
+use crate::run::containers::served::Served;
+use crate::run::devices::{MAX_NUMBERS, ReplyWriter};
+use crate::run::replies::append_items;
+use crate::run::{Reply, Runs, ScriptFault, read_vec_command};
+use bumpalo::Bump;
+use ix_cells::{
+    PolymorphicVec, RelocatableContainer, RelocatableVec, StaticVec, UninitVec, Vector,
+};
+use std::alloc::Global;
+use std::io::Write;
+
+/// A vector, and room for the numbers of a line.
+#[derive(Drop)]
+pub(crate) struct VecLines<V: Vector<u64>> {
+    vector: V,
+    numbers: [u64; MAX_NUMBERS],
+}
+
+impl<V: Vector<u64>> VecLines<V> {
+    pub(crate) fn new(vector: V) -> VecLines<V>
+        ensures { V.bounded result.vector ≡ V.bounded vector }
+    {
+        VecLines {
+            vector,
+            numbers: [0; MAX_NUMBERS],
+        }
+    }
+}
+
+impl<V: Vector<u64>> Served for VecLines<V> {
+    ghost use Rattle.std.specs.Prelude.{ℕ};
+    ghost use Rattle.ix_cells.specs.Bounded.{Bounded};
+    ghost use Rattle.ix_commands.specs.VecRun.{vec_reply, vec_after};
+    ghost use Rattle.ix_run.specs.Forms.{vec_forms};
+    ghost use Rattle.ix_run.specs.Script.{spelled_reply, spelled_after, list_shown};
+
+    type Key = usize;
+
+    ghost Model = { Bounded ℕ };
+
+    ghost model = { λ lines. V.bounded lines.vector };
+
+    ghost reply = { spelled_reply vec_forms vec_reply };
+
+    ghost after = { spelled_after vec_forms vec_after };
+
+    ghost shown = { list_shown };
+
+    #[inline]
+    fn run_line(&mut self, line: &[u8]) -> Option<Reply<usize, u64>> {
+        let command = read_vec_command(line, &mut self.numbers)?;
+        Some(self.vector.run_command(command))
+    }
+
+    fn show<W: Write>(&self, replies: &mut ReplyWriter<'_, W>) -> Result<(), ScriptFault> {
+        append_items(replies, self.vector.as_slice().iter())
+    }
+}
+
+/// The vectors that headers name.
+#[derive(Drop)]
+pub(crate) struct Vectors;
+
+impl Named for Vectors {
+    ghost use Rattle.ix_run.specs.declared.run.grammar.header.Container.TheVariants as container;
+
+    ghost container = { λ maker. container.Vec };
+}
+
+impl<const N: usize> MakesInline<N> for Vectors {
+    type Inline = VecLines<StaticVec<u64, N>>;
+
+    fn inline(self) -> VecLines<StaticVec<u64, N>> {
+        VecLines::new(StaticVec::new())
+    }
+}
+
+impl MakesIn<Global> for Vectors {
+    type Made = VecLines<PolymorphicVec<u64>>;
+
+    fn make(self, alloc: Global, capacity: usize) -> Option<VecLines<PolymorphicVec<u64>>> {
+        Some(VecLines::new(PolymorphicVec::new(alloc, capacity).ok()?))
+    }
+}
+
+impl<'a> MakesIn<&'a Bump<Global>> for Vectors {
+    type Made = VecLines<RelocatableVec<u64, &'a Bump<Global>>>;
+
+    fn make(
+        self,
+        arena: &'a Bump<Global>,
+        capacity: usize,
+    ) -> Option<VecLines<RelocatableVec<u64, &'a Bump<Global>>>> {
+        Some(VecLines::new(UninitVec::new_uninit(capacity).init(arena).ok()?))
+    }
+}
