@@ -1,15 +1,16 @@
 //! Iterators over queues: the order of the items wherever the front item lies, walks that stop early, and which items
 //! are dropped with an iterator.
-use crate::calls::{Call, Row, outcome_of};
 use crate::function_tests::check_text;
 use crate::iter_tests::Step::{Back, Left, Next};
 use crate::own_table::CountedPuts;
+use crate::rows::Row;
 use crate::turning::TURNS;
 use ix_cells::{InlineTable, RelocatableContainer, Table};
+use ix_commands::{QueueCommand, Reply};
 use ix_maps::{FixedSizeQueue, MetaQueue, Queue, RelocatableQueue};
 use std::alloc::{AllocError, Global};
 use std::test::Fail;
-use test_support::{Findings, Noted, Notes};
+use test_support::{Findings, Noted, Notes, check_rows};
 
 /// A call of an iterator and its result.
 enum Step {
@@ -110,11 +111,14 @@ fn walk_by_value<S: Table<u64>>(findings: &Findings, queue: MetaQueue<u64, S>, s
     }
 }
 
-/// Appends the items after the calls of `turn`.
-fn fill<S: Table<u64>>(queue: &mut MetaQueue<u64, S>, turn: &[Row<u64>], items: &[u64]) {
-    for (call, _) in turn {
-        let _ = outcome_of(queue, call);
-    }
+/// Appends the items after the commands of `turn`.
+fn fill<S: Table<u64>>(
+    findings: &Findings,
+    queue: &mut MetaQueue<u64, S>,
+    turn: &[Row<u64>],
+    items: &[u64],
+) {
+    check_rows(findings, queue, turn, "a turn");
     for item in items {
         queue.push(*item);
     }
@@ -130,7 +134,7 @@ fn check_made<S: Table<u64>, E: Drop>(
 ) {
     match made {
         Ok(mut queue) => {
-            fill(&mut queue, turn, items);
+            fill(findings, &mut queue, turn, items);
             walk(findings, &queue, steps);
             walk(findings, &queue, steps);
             if is_forward {
@@ -206,7 +210,7 @@ fn items_of_size_zero() -> Result<(), Fail> {
 fn loops_that_stop() -> Result<(), Fail> {
     let findings = Findings::new();
     let mut queue = FixedSizeQueue::<u64, 3>::new();
-    fill(&mut queue, &[], &[4, 5, 6]);
+    fill(&findings, &mut queue, &[], &[4, 5, 6]);
     let mut last = 0;
     for item in &queue {
         last = *item;
@@ -231,8 +235,9 @@ fn texts() -> Result<(), Fail> {
     let findings = Findings::new();
     let mut queue = FixedSizeQueue::<u64, 2>::new();
     fill(
+        &findings,
         &mut queue,
-        &[(Call::PushWithOverflow(3), crate::calls::Outcome::Done)],
+        &[(QueueCommand::Over(3), Reply::None)],
         &[4],
     );
     let mut iter = queue.iter();
