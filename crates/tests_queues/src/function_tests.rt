@@ -253,17 +253,30 @@ fn two_steps(rt: HostRuntime) -> Result<(), Fail> {
     findings.verdict()
 }
 
-/// Replaces the front item of a queue of capacity 2, whose making did not fail.
-fn check_replaced<S: Table<u64>, E: Drop>(findings: &Findings, made: Result<MetaQueue<u64, S>, E>) {
+/// Replaces the front item of an empty queue of `capacity`, and of a full one. Its making did not fail.
+fn check_replaced<S: Table<u64>, E: Drop>(
+    findings: &Findings,
+    made: Result<MetaQueue<u64, S>, E>,
+    capacity: u64,
+) {
     let Ok(mut queue) = made else {
         return findings.miss("a queue");
     };
-    findings.expect_same(replace_front(&mut queue, 1), None, "no front item");
-    let pushes = [(Push(2), Bool(true)), (Push(3), Bool(true))];
-    check_rows(findings, &mut queue, &pushes, "before it is replaced");
-    findings.expect_same(replace_front(&mut queue, 4), Some(2), "the front item");
-    let pops = [(Pop, Value(4)), (Pop, Value(3)), (Pop, Reply::None)];
-    check_rows(findings, &mut queue, &pops, "after it was replaced");
+    findings.expect_same(replace_front(&mut queue, 9), None, "no front item");
+    for item in 0..capacity {
+        findings.expect(queue.push(item), "room for an item");
+    }
+    let (old, new) = if capacity == 0 {
+        (None, None)
+    } else {
+        (Some(0), Some(9))
+    };
+    findings.expect_same(replace_front(&mut queue, 9), old, "the front item");
+    findings.expect_same(queue.pop(), new, "the new front item");
+    for item in 1..capacity {
+        findings.expect_same(queue.pop(), Some(item), "an item behind it");
+    }
+    findings.expect_same(queue.pop(), None, "no item more");
 }
 
 #[test]
@@ -272,11 +285,13 @@ fn replaced_front_items(rt: HostRuntime) -> Result<(), Fail> {
     check_replaced(
         &findings,
         Ok::<_, AllocError>(FixedSizeQueue::<u64, 2>::new()),
+        2,
     );
-    check_replaced(&findings, Queue::<u64>::new(rt.alloc(), 2));
-    check_replaced(
-        &findings,
-        UninitQueue::<u64>::new_uninit(2).init(rt.alloc()),
-    );
+    let own = MetaQueue::from_table(CountedPuts::new(InlineTable::<u64, 2>::new()));
+    check_replaced(&findings, Ok::<_, AllocError>(own), 2);
+    for capacity in 0..3 {
+        let allocated = Queue::<u64>::new(rt.alloc(), capacity as usize);
+        check_replaced(&findings, allocated, capacity);
+    }
     findings.verdict()
 }

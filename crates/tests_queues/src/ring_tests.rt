@@ -1,11 +1,13 @@
 //! Turns of the ring: the first place follows the last, wherever the front item lies.
+use crate::own_table::CountedPuts;
 use crate::rows::{Row, check_in};
 use crate::turning::TURNS;
-use ix_cells::{RelocatableContainer, Table};
+use ix_cells::{InlineTable, RelocatableContainer, Table};
 use ix_commands::QueueCommand::{At, Clear, Len, Over, Peek, Pop, Push, Set};
 use ix_commands::Reply::{self, Bool, Done, Number, Value};
 use ix_maps::{FixedSizeQueue, MetaQueue, UninitQueue};
 use std::alloc::{AllocError, Global};
+use std::fmt::Debug;
 use std::test::Fail;
 use test_support::{Findings, check_rows, check_tables};
 
@@ -105,21 +107,22 @@ fn items_of_size_zero(rt: HostRuntime) -> Result<(), Fail> {
     findings.verdict()
 }
 
-/// Reads each item without a check, after the rows, of a queue whose making did not fail.
-fn check_unchecked<S: Table<u64>, E: Drop>(
+/// Reads each item without a check, after the rows of each table, of a queue whose making did not fail.
+fn check_unchecked<T: Copy + PartialEq + Debug, S: Table<T>, E: Drop>(
     findings: &Findings,
-    made: Result<MetaQueue<u64, S>, E>,
-    turn: &[Row<u64>],
-    turned: &str,
+    made: Result<MetaQueue<T, S>, E>,
+    tables: &[&[Row<T>]],
+    place: &str,
 ) {
     let Ok(mut queue) = made else {
-        return findings.miss(turned);
+        return findings.miss(place);
     };
-    check_rows(findings, &mut queue, turn, turned);
-    check_rows(findings, &mut queue, OVERFLOWS, turned);
+    for rows in tables {
+        check_rows(findings, &mut queue, *rows, place);
+    }
     for index in 0..queue.len() {
         let found = queue.get_unchecked(index);
-        findings.expect_same_at(found, queue.get(index), index, turned);
+        findings.expect_same_at(found, queue.get(index), index, place);
     }
 }
 
@@ -127,11 +130,21 @@ fn check_unchecked<S: Table<u64>, E: Drop>(
 fn unchecked_reads(rt: HostRuntime) -> Result<(), Fail> {
     let findings = Findings::new();
     for (turn, turned) in TURNS {
-        let fixed = Ok::<_, AllocError>(FixedSizeQueue::<u64, 3>::new());
-        check_unchecked(&findings, fixed, turn, turned);
+        let tables = &[*turn, OVERFLOWS];
+        let fixed = FixedSizeQueue::<u64, 3>::new();
+        check_unchecked(&findings, Ok::<_, AllocError>(fixed), tables, turned);
+        let own = MetaQueue::from_table(CountedPuts::new(InlineTable::<u64, 3>::new()));
+        check_unchecked(&findings, Ok::<_, AllocError>(own), tables, turned);
         let allocated = UninitQueue::<u64>::new_uninit(3).init(rt.alloc());
-        check_unchecked(&findings, allocated, turn, turned);
+        check_unchecked(&findings, allocated, tables, turned);
     }
+    let units = Ok::<_, AllocError>(FixedSizeQueue::<(), 3>::new());
+    check_unchecked(
+        &findings,
+        units,
+        &[&[(Push(()), Bool(true))]],
+        "items of size zero",
+    );
     findings.verdict()
 }
 
