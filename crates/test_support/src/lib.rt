@@ -19,7 +19,7 @@ mod noted;
 mod numbers;
 mod recorder;
 mod rows;
-mod walk;
+mod walks;
 
 pub use blocks::{check_makings, check_sizes};
 pub use drawn_sizes::check_drawn_sizes;
@@ -28,4 +28,4 @@ pub use noted::{Noted, Notes, names_of};
 pub use numbers::Numbers;
 pub use recorder::fed_by;
 pub use rows::{check_rows, check_tables};
-pub use walk::walk;
+pub use walks::walk;
