@@ -5,12 +5,12 @@ ghost use Rattle.std.specs.Ordering.{on};
 ghost use Rattle.std.specs.Prelude.{nat_eq};
 
 use crate::equality_tests::Side::{One, Other};
+use crate::rows::made;
 use crate::turning::{TURNS, Turn};
 use ix_cells::{RelocatableContainer, Table};
 use ix_commands::QueueCommand::{self, Clear, Len, Pop, Push};
 use ix_commands::Runs;
 use ix_maps::{FixedSizeQueue, MetaQueue, Queue, RelocatableQueue};
-use std::alloc::AllocError;
 use std::cell::Cell;
 use std::test::Fail;
 use test_support::{Findings, check_rows};
@@ -89,8 +89,8 @@ fn fixed_queues() -> Result<(), Fail> {
     let findings = Findings::new();
     for turn in TURNS {
         for steps in &[EQUAL, DIFFERENT] {
-            let one = Ok::<_, AllocError>(FixedSizeQueue::<u64, 3>::new());
-            let other = Ok::<_, AllocError>(FixedSizeQueue::<u64, 3>::new());
+            let one = made(FixedSizeQueue::<u64, 3>::new());
+            let other = made(FixedSizeQueue::<u64, 3>::new());
             check_made(&findings, one, other, steps, turn);
         }
     }

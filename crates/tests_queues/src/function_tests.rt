@@ -1,7 +1,7 @@
 //! Each function of queues once, and worked examples: queues of capacity 1 and 0.
 use crate::own_table::CountedPuts;
 use crate::replacing::replace_front;
-use crate::rows::{Row, check_in};
+use crate::rows::{Row, check_kinds};
 use bumpalo::Bump;
 use ix_cells::{InitError, InlineTable, RelocatableContainer, Table};
 use ix_commands::QueueCommand::{
@@ -45,7 +45,6 @@ const PUSHES: &[Row<u64>] = &[
 
 const READS: &[Row<u64>] = &[
     (Peek, Reply::None),
-    (Peek, Reply::None),
     (Set(9), Bool(false)),
     (Push(5), Bool(true)),
     (Push(6), Bool(true)),
@@ -81,7 +80,6 @@ const ONE: &[Row<u64>] = &[
     (Len, Number(1)),
     (Full, Bool(true)),
     (Peek, Value(7)),
-    (Peek, Value(7)),
     (Set(9), Bool(true)),
     (Peek, Value(9)),
     (Set(10), Bool(true)),
@@ -97,7 +95,6 @@ const NONE: &[Row<u64>] = &[
     (Push(1), Bool(false)),
     (Over(2), Value(2)),
     (Pop, Reply::None),
-    (Peek, Reply::None),
     (Peek, Reply::None),
     (Set(3), Bool(false)),
     (Peek, Reply::None),
@@ -130,43 +127,6 @@ const OVERFLOWS: &[Row<u64>] = &[
 /// Commands of a queue of capacity 2.
 const OF_TWO: &[&[Row<u64>]] = &[SIZES, PUSHES, READS, CHANGES];
 
-#[test]
-fn in_the_value_itself() -> Result<(), Fail> {
-    let findings = Findings::new();
-    for rows in OF_TWO {
-        check_rows(
-            &findings,
-            &mut FixedSizeQueue::<u64, 2>::new(),
-            *rows,
-            "fixed",
-        );
-    }
-    check_rows(
-        &findings,
-        &mut FixedSizeQueue::<u64, 1>::new(),
-        ONE,
-        "fixed",
-    );
-    check_rows(
-        &findings,
-        &mut FixedSizeQueue::<u64, 0>::new(),
-        NONE,
-        "fixed",
-    );
-    findings.verdict()
-}
-
-#[test]
-fn from_table() -> Result<(), Fail> {
-    let findings = Findings::new();
-    for rows in OF_TWO {
-        let table = CountedPuts::new(InlineTable::<u64, 2>::new());
-        let mut queue = MetaQueue::from_table(table);
-        check_rows(&findings, &mut queue, *rows, "over a table of one's own");
-    }
-    findings.verdict()
-}
-
 /// Checks the `Debug` text of a value.
 pub fn check_text<T: Debug>(findings: &Findings, value: &T, text: &str) {
     let found = InlineText::<80>::of(format_args!("{value:?}"));
@@ -198,14 +158,14 @@ fn texts(rt: HostRuntime) -> Result<(), Fail> {
     findings.verdict()
 }
 
-/// Checks each example on a queue of each kind, allocated from `alloc`.
+/// Checks each example on a queue of each kind.
 fn check_examples<A: Allocator + Copy>(findings: &Findings, alloc: A, memory: &str) {
     for rows in OF_TWO {
-        check_in(findings, alloc, 2, &[*rows], memory);
+        check_kinds::<A, 2>(findings, alloc, &[*rows], memory);
     }
-    check_in(findings, alloc, 3, &[OVERFLOWS], memory);
-    check_in(findings, alloc, 1, &[ONE], memory);
-    check_in(findings, alloc, 0, &[NONE], memory);
+    check_kinds::<A, 3>(findings, alloc, &[OVERFLOWS], memory);
+    check_kinds::<A, 1>(findings, alloc, &[ONE], memory);
+    check_kinds::<A, 0>(findings, alloc, &[NONE], memory);
 }
 
 /// Does what `check_examples` does. All of the memory is deallocated.
@@ -253,45 +213,33 @@ fn two_steps(rt: HostRuntime) -> Result<(), Fail> {
     findings.verdict()
 }
 
-/// Replaces the front item of an empty queue of `capacity`, and of a full one. Its making did not fail.
-fn check_replaced<S: Table<u64>, E: Drop>(
-    findings: &Findings,
-    made: Result<MetaQueue<u64, S>, E>,
-    capacity: u64,
-) {
-    let Ok(mut queue) = made else {
-        return findings.miss("a queue");
-    };
-    findings.expect_same(replace_front(&mut queue, 9), None, "no front item");
-    for item in 0..capacity {
-        findings.expect(queue.push(item), "room for an item");
-    }
-    let (old, new) = if capacity == 0 {
-        (None, None)
-    } else {
-        (Some(0), Some(9))
-    };
-    findings.expect_same(replace_front(&mut queue, 9), old, "the front item");
-    findings.expect_same(queue.pop(), new, "the new front item");
-    for item in 1..capacity {
-        findings.expect_same(queue.pop(), Some(item), "an item behind it");
-    }
-    findings.expect_same(queue.pop(), None, "no item more");
+/// Replaces the front item of a queue of capacity 2.
+fn check_replaced<S: Table<u64>>(findings: &Findings, queue: &mut MetaQueue<u64, S>, kind: &str) {
+    findings.expect_same(replace_front(queue, 1), None, kind);
+    check_rows(
+        findings,
+        queue,
+        &[(Push(2), Bool(true)), (Push(3), Bool(true))],
+        kind,
+    );
+    findings.expect_same(replace_front(queue, 4), Some(2), kind);
+    check_rows(
+        findings,
+        queue,
+        &[(Pop, Value(4)), (Pop, Value(3)), (Pop, Reply::None)],
+        kind,
+    );
 }
 
 #[test]
-fn replaced_front_items(rt: HostRuntime) -> Result<(), Fail> {
+fn replaced_front_items() -> Result<(), Fail> {
     let findings = Findings::new();
+    check_replaced(&findings, &mut FixedSizeQueue::<u64, 2>::new(), "fixed");
+    let table = CountedPuts::new(InlineTable::<u64, 2>::new());
     check_replaced(
         &findings,
-        Ok::<_, AllocError>(FixedSizeQueue::<u64, 2>::new()),
-        2,
+        &mut MetaQueue::from_table(table),
+        "over an own table",
     );
-    let own = MetaQueue::from_table(CountedPuts::new(InlineTable::<u64, 2>::new()));
-    check_replaced(&findings, Ok::<_, AllocError>(own), 2);
-    for capacity in 0..3 {
-        let allocated = Queue::<u64>::new(rt.alloc(), capacity as usize);
-        check_replaced(&findings, allocated, capacity);
-    }
     findings.verdict()
 }

@@ -3,10 +3,9 @@
 use crate::function_tests::check_text;
 use crate::iter_tests::Step::{Back, Left, Next};
 use crate::own_table::CountedPuts;
-use crate::rows::Row;
+use crate::rows::{Row, made};
 use crate::turning::TURNS;
 use ix_cells::{InlineTable, RelocatableContainer, Table};
-use ix_commands::{QueueCommand, Reply};
 use ix_maps::{FixedSizeQueue, MetaQueue, Queue, RelocatableQueue};
 use std::alloc::{AllocError, Global};
 use std::test::Fail;
@@ -122,6 +121,10 @@ fn fill<S: Table<u64>>(
     for item in items {
         queue.push(*item);
     }
+    for index in 0..queue.len() {
+        let found = Some(queue.get_unchecked(index));
+        findings.expect_same_at(found, items.get(index).copied(), index, "an item unchecked");
+    }
 }
 
 /// Goes the walk over a queue whose making did not fail, twice; and once more by value, if `is_forward`.
@@ -153,19 +156,13 @@ fn check_walk(
     example: &Walk,
     is_forward: bool,
 ) {
-    let fixed = Ok::<_, AllocError>(FixedSizeQueue::<u64, 3>::new());
+    let fixed = made(FixedSizeQueue::<u64, 3>::new());
     check_made(findings, fixed, turn, example, is_forward);
     check_made(findings, Queue::new(alloc, 3), turn, example, is_forward);
     let relocatable = RelocatableQueue::<u64, Global>::new_uninit(3).init(alloc);
     check_made(findings, relocatable, turn, example, is_forward);
     let own = MetaQueue::from_table(CountedPuts::new(InlineTable::<u64, 3>::new()));
-    check_made(
-        findings,
-        Ok::<_, AllocError>(own),
-        turn,
-        example,
-        is_forward,
-    );
+    check_made(findings, made(own), turn, example, is_forward);
 }
 
 #[test]
@@ -186,7 +183,7 @@ fn walks(rt: HostRuntime) -> Result<(), Fail> {
 fn capacity_0(rt: HostRuntime) -> Result<(), Fail> {
     let findings = Findings::new();
     let none: Walk = (&[7], &[Left(0), Next(None), Left(0)]);
-    let fixed = Ok::<_, AllocError>(FixedSizeQueue::<u64, 0>::new());
+    let fixed = made(FixedSizeQueue::<u64, 0>::new());
     check_made(&findings, fixed, &[], &none, true);
     check_made(&findings, Queue::new(rt.alloc(), 0), &[], &none, true);
     findings.verdict()
@@ -234,12 +231,7 @@ fn loops_that_stop() -> Result<(), Fail> {
 fn texts() -> Result<(), Fail> {
     let findings = Findings::new();
     let mut queue = FixedSizeQueue::<u64, 2>::new();
-    fill(
-        &findings,
-        &mut queue,
-        &[(QueueCommand::Over(3), Reply::None)],
-        &[4],
-    );
+    fill(&findings, &mut queue, &[], &[3, 4]);
     let mut iter = queue.iter();
     check_text(&findings, &iter, "[3, 4]");
     iter.next();
@@ -295,7 +287,7 @@ fn drops(rt: HostRuntime) -> Result<(), Fail> {
     let findings = Findings::new();
     let notes = Notes::new(0);
     for row in TAKEN {
-        let fixed = Ok::<_, AllocError>(FixedSizeQueue::<Noted, 3>::new());
+        let fixed = made(FixedSizeQueue::<Noted, 3>::new());
         check_drops(&findings, fixed, &notes, row);
         check_drops(&findings, Queue::new(rt.alloc(), 3), &notes, row);
     }

@@ -1,9 +1,10 @@
 //! Queues for which there is not enough memory, at each of their allocations: nothing stays allocated.
+use crate::rows::made;
 use bumpalo::Bump;
 use ix_cells::{RelocatableContainer, Table};
 use ix_maps::{MetaQueue, Queue, UninitQueue};
 use linked_list_allocator::LocalHeap;
-use std::alloc::{AllocError, Allocator, Global};
+use std::alloc::{Allocator, Global};
 use std::test::Fail;
 use test_support::{Findings, check_drawn_sizes, check_makings};
 
@@ -12,10 +13,10 @@ use test_support::{Findings, check_drawn_sizes, check_makings};
 fn used_with<S: Table<u64>, E: Drop>(
     findings: &Findings,
     heap: &LocalHeap,
-    made: Result<MetaQueue<u64, S>, E>,
+    queue: Result<MetaQueue<u64, S>, E>,
     capacity: usize,
 ) -> Option<usize> {
-    let Ok(mut queue) = made else {
+    let Ok(mut queue) = queue else {
         return None;
     };
     let found = (queue.capacity(), queue.len(), queue.push(7));
@@ -33,7 +34,7 @@ fn used_in_two_steps(
 ) -> Option<usize> {
     let used = heap.used();
     match UninitQueue::<u64>::new_uninit(capacity).init(heap) {
-        Ok(queue) => used_with(findings, heap, Ok::<_, AllocError>(queue), capacity),
+        Ok(queue) => used_with(findings, heap, made(queue), capacity),
         Err(error) => {
             findings.expect_same(heap.used(), used, "bytes in use after a refusal");
             let again = error.into_uninit().init(ample);

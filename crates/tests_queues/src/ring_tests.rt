@@ -1,13 +1,9 @@
 //! Turns of the ring: the first place follows the last, wherever the front item lies.
-use crate::own_table::CountedPuts;
-use crate::rows::{Row, check_in};
+use crate::rows::{Row, check_kinds};
 use crate::turning::TURNS;
-use ix_cells::{InlineTable, RelocatableContainer, Table};
 use ix_commands::QueueCommand::{At, Clear, Len, Over, Peek, Pop, Push, Set};
 use ix_commands::Reply::{self, Bool, Done, Number, Value};
-use ix_maps::{FixedSizeQueue, MetaQueue, UninitQueue};
-use std::alloc::{AllocError, Global};
-use std::fmt::Debug;
+use ix_maps::{FixedSizeQueue, Queue};
 use std::test::Fail;
 use test_support::{Findings, check_rows, check_tables};
 
@@ -60,19 +56,12 @@ const WRITES_OF_THE_FRONT: &[Row<u64>] = &[
 /// Commands of a queue of capacity 3.
 const OF_THREE: &[&[Row<u64>]] = &[OVERFLOWS, PUSHES_AND_POPS, WRITES_OF_THE_FRONT];
 
-/// Runs the rows of each table in turn on a queue of each kind.
-fn check_turned(findings: &Findings, alloc: Global, tables: &[&[Row<u64>]], turned: &str) {
-    let fixed = Ok::<_, AllocError>(FixedSizeQueue::<u64, 3>::new());
-    check_tables(findings, fixed, tables, turned);
-    check_in(findings, alloc, 3, tables, turned);
-}
-
 #[test]
 fn turns(rt: HostRuntime) -> Result<(), Fail> {
     let findings = Findings::new();
     for (turn, turned) in TURNS {
         for rows in OF_THREE {
-            check_turned(&findings, rt.alloc(), &[*turn, *rows], turned);
+            check_kinds::<_, 3>(&findings, rt.alloc(), &[*turn, *rows], turned);
         }
     }
     findings.verdict()
@@ -97,54 +86,10 @@ const OF_SIZE_ZERO: &[Row<()>] = &[
 #[test]
 fn items_of_size_zero(rt: HostRuntime) -> Result<(), Fail> {
     let findings = Findings::new();
-    check_rows(
-        &findings,
-        &mut FixedSizeQueue::<(), 3>::new(),
-        OF_SIZE_ZERO,
-        "fixed",
-    );
-    check_in(&findings, rt.alloc(), 3, &[OF_SIZE_ZERO], "in memory");
-    findings.verdict()
-}
-
-/// Reads each item without a check, after the rows of each table, of a queue whose making did not fail.
-fn check_unchecked<T: Copy + PartialEq + Debug, S: Table<T>, E: Drop>(
-    findings: &Findings,
-    made: Result<MetaQueue<T, S>, E>,
-    tables: &[&[Row<T>]],
-    place: &str,
-) {
-    let Ok(mut queue) = made else {
-        return findings.miss(place);
-    };
-    for rows in tables {
-        check_rows(findings, &mut queue, *rows, place);
-    }
-    for index in 0..queue.len() {
-        let found = queue.get_unchecked(index);
-        findings.expect_same_at(found, queue.get(index), index, place);
-    }
-}
-
-#[test]
-fn unchecked_reads(rt: HostRuntime) -> Result<(), Fail> {
-    let findings = Findings::new();
-    for (turn, turned) in TURNS {
-        let tables = &[*turn, OVERFLOWS];
-        let fixed = FixedSizeQueue::<u64, 3>::new();
-        check_unchecked(&findings, Ok::<_, AllocError>(fixed), tables, turned);
-        let own = MetaQueue::from_table(CountedPuts::new(InlineTable::<u64, 3>::new()));
-        check_unchecked(&findings, Ok::<_, AllocError>(own), tables, turned);
-        let allocated = UninitQueue::<u64>::new_uninit(3).init(rt.alloc());
-        check_unchecked(&findings, allocated, tables, turned);
-    }
-    let units = Ok::<_, AllocError>(FixedSizeQueue::<(), 3>::new());
-    check_unchecked(
-        &findings,
-        units,
-        &[&[(Push(()), Bool(true))]],
-        "items of size zero",
-    );
+    let mut fixed = FixedSizeQueue::<(), 3>::new();
+    check_rows(&findings, &mut fixed, OF_SIZE_ZERO, "fixed");
+    let allocated = Queue::<()>::new(rt.alloc(), 3);
+    check_tables(&findings, allocated, &[OF_SIZE_ZERO], "allocated");
     findings.verdict()
 }
 

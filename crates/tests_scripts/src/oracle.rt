@@ -47,8 +47,7 @@ fn check_list<S: Table<u64>>(
     findings: &Findings,
     mut ring: MetaQueue<u64, S>,
     mut slow: SlowQueue<u64>,
-    list: u64,
-    turns: u64,
+    (list, turns): (u64, u64),
 ) {
     for item in 0..turns {
         let _ = ring.push(item);
@@ -70,33 +69,30 @@ fn ring_and_slow_queue_agree() -> Result<(), Fail> {
     let findings = Findings::new();
     for list in 0..LISTS {
         for turns in 0..4 {
+            let case = (list, turns);
             check_list(
                 &findings,
                 FixedSizeQueue::<u64, 0>::new(),
                 SlowQueue::new(0),
-                list,
-                turns,
+                case,
             );
             check_list(
                 &findings,
                 FixedSizeQueue::<u64, 1>::new(),
                 SlowQueue::new(1),
-                list,
-                turns,
+                case,
             );
             check_list(
                 &findings,
                 FixedSizeQueue::<u64, 2>::new(),
                 SlowQueue::new(2),
-                list,
-                turns,
+                case,
             );
             check_list(
                 &findings,
                 FixedSizeQueue::<u64, 3>::new(),
                 SlowQueue::new(3),
-                list,
-                turns,
+                case,
             );
         }
     }

@@ -1,44 +1,39 @@
-//! Lists of commands, run on queues, vectors, slot tables and flat maps of every kind: which replies come, and in which order.
-use bumpalo::Bump;
-use ix_cells::{PolymorphicVec, RelocatableContainer, StaticVec, Table, UninitVec, Vector};
+//! Lists of commands, run on containers of every kind: which replies come, and in which order.
+use ix_cells::{PolymorphicVec, RelocatableContainer, StaticVec, UninitVec};
 use ix_maps::{
-    FixedSizeFlatMap, FixedSizeQueue, FixedSizeSlotTable, FlatMap, Link, MetaFlatMap, MetaQueue,
-    MetaSlotTable, Pair, Queue, SlotTable, UninitFlatMap, UninitQueue, UninitSlotTable,
+    FixedSizeFlatMap, FixedSizeQueue, FixedSizeSlotMap, FixedSizeSlotTable, FlatMap, Queue,
+    SlotMapKey, SlotTable,
 };
 use ix_run::run::ReplyError::{InsertWouldExceedCapacity, IsFull, KeyAlreadyExists, OutOfBounds};
 use ix_run::run::{
-    FlatCommand, QueueCommand, Reply, TableCommand, VecCommand, run_flat, run_queue, run_table,
-    run_vec,
+    FlatCommand, QueueCommand, Reply, Runs, SlotCommand, TableCommand, TextCommand, VecCommand,
+    run_all, run_flat, run_queue, run_slot, run_table, run_text, run_vec,
 };
+use ix_string::StaticString;
 use std::alloc::{AllocError, Global};
 use std::fmt::Debug;
 use std::test::Fail;
 use test_support::Findings;
 
 /// Runs the commands of the rows, all in one list, and notes the first reply that is not the one of its row.
-pub(crate) fn check_run<
-    C: Copy,
-    Y: Copy + PartialEq + Debug,
-    F: FnMut(&[C]) -> Result<Vec<Y>, AllocError>,
->(findings: &Findings, alloc: Global, rows: &[(C, Y)], kind: &str, mut run: F)
-    requires { F.IsAlwaysCallable run }
-{
+pub fn check_run<C: Copy, Y: Copy + PartialEq + Debug, R: Runs<C, Reply = Y>>(
+    findings: &Findings,
+    alloc: Global,
+    container: &mut R,
+    rows: &[(C, Y)],
+    kind: &str,
+) {
     let mut commands = Vec::new(alloc);
     for (command, _) in rows {
         findings.expect(commands.push(*command).is_ok(), kind);
     }
-    let Ok(replies) = run(commands.as_slice()) else {
+    let Ok(replies) = run_all(alloc, container, commands.as_slice()) else {
         return findings.miss(kind);
     };
     findings.expect_same(replies.len(), rows.len(), kind);
     for (row, ((_, wanted), found)) in rows.iter().zip(replies.iter()).enumerate() {
         findings.expect_same_at(*found, *wanted, row, kind);
     }
-}
-
-/// A container without a failure of its making.
-pub(crate) fn fixed<C>(container: C) -> Result<C, AllocError> {
-    Ok(container)
 }
 
 /// On a queue of capacity 1.
@@ -50,47 +45,23 @@ const QUEUE_ROWS: &[(QueueCommand<u64>, Reply<usize, u64>)] = &[
     (QueueCommand::Pop, Reply::None),
 ];
 
-fn check_queue<S: Table<u64>, E: Drop>(
-    findings: &Findings,
-    alloc: Global,
-    made: Result<MetaQueue<u64, S>, E>,
-    kind: &str,
-) {
-    let Ok(mut queue) = made else {
-        return findings.miss(kind);
-    };
-    let many = [(QueueCommand::Len, Reply::Number(0)); 200];
-    for rows in &[QUEUE_ROWS, &[], &many] {
-        check_run(
-            findings,
-            alloc,
-            *rows,
-            kind,
-            |commands: &[QueueCommand<u64>]| { run_queue(alloc, &mut queue, commands) },
-        );
-    }
-    findings.expect(queue.is_empty(), kind);
-}
-
 #[test]
 fn queues(rt: HostRuntime) -> Result<(), Fail> {
     let findings = Findings::new();
     let alloc = rt.alloc();
-    check_queue(
+    let mut fixed = FixedSizeQueue::<u64, 1>::new();
+    check_run(&findings, alloc, &mut fixed, QUEUE_ROWS, "fixed queue");
+    check_run(&findings, alloc, &mut fixed, &[], "no command");
+    let many = [(QueueCommand::Len, Reply::Number(0)); 200];
+    check_run(&findings, alloc, &mut fixed, &many, "200 commands");
+    let mut allocated = Queue::<u64>::new(alloc, 1).expect(&rt, "an allocated queue");
+    check_run(
         &findings,
         alloc,
-        fixed(FixedSizeQueue::<u64, 1>::new()),
-        "fixed queue",
-    );
-    check_queue(
-        &findings,
-        alloc,
-        Queue::<u64>::new(alloc, 1),
+        &mut allocated,
+        QUEUE_ROWS,
         "allocated queue",
     );
-    let bump = Bump::new(alloc);
-    let relocatable = UninitQueue::<u64>::new_uninit(1).init(&bump);
-    check_queue(&findings, alloc, relocatable, "relocatable queue");
     findings.verdict()
 }
 
@@ -126,43 +97,29 @@ const VEC_ROWS: &[(VecCommand<'static, u64>, Reply<usize, u64>)] = &[
     (VecCommand::Empty, Reply::Bool(true)),
 ];
 
-fn check_vec<V: Vector<u64> + Drop, E: Drop>(
-    findings: &Findings,
-    alloc: Global,
-    made: Result<V, E>,
-    kind: &str,
-) {
-    let Ok(mut vector) = made else {
-        return findings.miss(kind);
-    };
-    check_run(
-        findings,
-        alloc,
-        VEC_ROWS,
-        kind,
-        |commands: &[VecCommand<u64>]| { run_vec(alloc, &mut vector, commands) },
-    );
-}
-
 #[test]
 fn vectors(rt: HostRuntime) -> Result<(), Fail> {
     let findings = Findings::new();
     let alloc = rt.alloc();
-    check_vec(
+    let mut fixed = StaticVec::<u64, 3>::new();
+    check_run(&findings, alloc, &mut fixed, VEC_ROWS, "fixed vector");
+    let mut allocated = PolymorphicVec::<u64>::new(alloc, 3).expect(&rt, "an allocated vector");
+    check_run(
         &findings,
         alloc,
-        fixed(StaticVec::<u64, 3>::new()),
-        "fixed vector",
-    );
-    check_vec(
-        &findings,
-        alloc,
-        PolymorphicVec::<u64>::new(alloc, 3),
+        &mut allocated,
+        VEC_ROWS,
         "allocated vector",
     );
-    let bump = Bump::new(alloc);
-    let relocatable = UninitVec::<u64>::new_uninit(3).init(&bump);
-    check_vec(&findings, alloc, relocatable, "relocatable vector");
+    let uninit = UninitVec::<u64>::new_uninit(3);
+    let mut relocatable = uninit.init(alloc).expect(&rt, "a relocatable vector");
+    check_run(
+        &findings,
+        alloc,
+        &mut relocatable,
+        VEC_ROWS,
+        "relocatable vector",
+    );
     findings.verdict()
 }
 
@@ -182,39 +139,20 @@ const TABLE_ROWS: &[(TableCommand<u64>, Reply<usize, u64>)] = &[
     (TableCommand::Len, Reply::Number(2)),
 ];
 
-fn check_table<S: Table<u64>, L: Table<Link>, E: Drop>(
-    findings: &Findings,
-    alloc: Global,
-    made: Result<MetaSlotTable<u64, S, L>, E>,
-    kind: &str,
-) {
-    let Ok(mut slots) = made else {
-        return findings.miss(kind);
-    };
-    check_run(
-        findings,
-        alloc,
-        TABLE_ROWS,
-        kind,
-        |commands: &[TableCommand<u64>]| { run_table(alloc, &mut slots, commands) },
-    );
-}
-
 #[test]
 fn slot_tables(rt: HostRuntime) -> Result<(), Fail> {
     let findings = Findings::new();
     let alloc = rt.alloc();
-    let inline = FixedSizeSlotTable::<u64, 3>::new();
-    check_table(&findings, alloc, fixed(inline), "fixed slot table");
-    check_table(
+    let mut fixed = FixedSizeSlotTable::<u64, 3>::new();
+    check_run(&findings, alloc, &mut fixed, TABLE_ROWS, "fixed slot table");
+    let mut allocated = SlotTable::<u64>::new(alloc, 3).expect(&rt, "an allocated slot table");
+    check_run(
         &findings,
         alloc,
-        SlotTable::<u64>::new(alloc, 3),
+        &mut allocated,
+        TABLE_ROWS,
         "allocated slot table",
     );
-    let bump = Bump::new(alloc);
-    let relocatable = UninitSlotTable::<u64>::new_uninit(3).init(&bump);
-    check_table(&findings, alloc, relocatable, "relocatable slot table");
     findings.verdict()
 }
 
@@ -238,38 +176,83 @@ const FLAT_ROWS: &[(FlatCommand<u64, u64>, Reply<u64, u64>)] = &[
     (FlatCommand::Empty, Reply::Bool(true)),
 ];
 
-fn check_flat<S: Table<Pair<u64, u64>>, L: Table<Link>, E: Drop>(
-    findings: &Findings,
-    alloc: Global,
-    made: Result<MetaFlatMap<Pair<u64, u64>, S, L>, E>,
-    kind: &str,
-) {
-    let Ok(mut map) = made else {
-        return findings.miss(kind);
-    };
-    check_run(
-        findings,
-        alloc,
-        FLAT_ROWS,
-        kind,
-        |commands: &[FlatCommand<u64, u64>]| { run_flat(alloc, &mut map, commands) },
-    );
-}
-
 #[test]
 fn flat_maps(rt: HostRuntime) -> Result<(), Fail> {
     let findings = Findings::new();
     let alloc = rt.alloc();
-    let inline = FixedSizeFlatMap::<u64, u64, 1>::new();
-    check_flat(&findings, alloc, fixed(inline), "fixed flat map");
-    check_flat(
+    let mut fixed = FixedSizeFlatMap::<u64, u64, 1>::new();
+    check_run(&findings, alloc, &mut fixed, FLAT_ROWS, "fixed flat map");
+    let mut allocated = FlatMap::<u64, u64>::new(alloc, 1).expect(&rt, "an allocated flat map");
+    check_run(
         &findings,
         alloc,
-        FlatMap::<u64, u64>::new(alloc, 1),
+        &mut allocated,
+        FLAT_ROWS,
         "allocated flat map",
     );
-    let bump = Bump::new(alloc);
-    let relocatable = UninitFlatMap::<u64, u64>::new_uninit(1).init(&bump);
-    check_flat(&findings, alloc, relocatable, "relocatable flat map");
+    findings.verdict()
+}
+
+/// Notes `name` unless the replies are these two.
+fn expect_two<Y: Copy + PartialEq + Debug>(
+    findings: &Findings,
+    found: Result<Vec<Y>, AllocError>,
+    wanted: [Y; 2],
+    name: &str,
+) {
+    match found {
+        Ok(replies) => findings.expect_same(replies.as_slice(), wanted.as_slice(), name),
+        Err(AllocError) => findings.miss(name),
+    }
+}
+
+/// Each function that runs a list of commands of one container.
+#[test]
+fn named_runs(rt: HostRuntime) -> Result<(), Fail> {
+    let findings = Findings::new();
+    let alloc = rt.alloc();
+    let commands = [QueueCommand::Push(7), QueueCommand::Pop];
+    let found = run_queue(alloc, &mut FixedSizeQueue::<u64, 1>::new(), &commands);
+    expect_two(
+        &findings,
+        found,
+        [Reply::Bool(true), Reply::Value(7)],
+        "run_queue",
+    );
+    let commands = [VecCommand::Push(7), VecCommand::Pop];
+    let found = run_vec(alloc, &mut StaticVec::<u64, 1>::new(), &commands);
+    expect_two(&findings, found, [Reply::Done, Reply::Value(7)], "run_vec");
+    let commands = [TextCommand::Push(97), TextCommand::Pop];
+    let found = run_text(alloc, &mut StaticString::<1>::new(), &commands);
+    expect_two(
+        &findings,
+        found,
+        [Reply::Done, Reply::Value(97)],
+        "run_text",
+    );
+    let commands = [TableCommand::Insert(7), TableCommand::Remove(0)];
+    let found = run_table(alloc, &mut FixedSizeSlotTable::<u64, 1>::new(), &commands);
+    expect_two(
+        &findings,
+        found,
+        [Reply::Key(0), Reply::Value(7)],
+        "run_table",
+    );
+    let key = SlotMapKey::new(0, 0);
+    let commands = [SlotCommand::Insert(7), SlotCommand::Remove(key)];
+    let found = run_slot(alloc, &mut FixedSizeSlotMap::<u64, 1>::new(), &commands);
+    expect_two(
+        &findings,
+        found,
+        [Reply::Key(key), Reply::Value(7)],
+        "run_slot",
+    );
+    let commands = [FlatCommand::Insert(1, 7), FlatCommand::Remove(1)];
+    let found = run_flat(
+        alloc,
+        &mut FixedSizeFlatMap::<u64, u64, 1>::new(),
+        &commands,
+    );
+    expect_two(&findings, found, [Reply::Done, Reply::Value(7)], "run_flat");
     findings.verdict()
 }

@@ -1,34 +1,9 @@
 //! Lists of commands, run on slot maps of every kind.
-use crate::run_tests::{check_run, fixed};
-use bumpalo::Bump;
-use ix_cells::{RelocatableContainer, Table};
-use ix_maps::{FixedSizeSlotMap, Link, MetaSlotMap, SlotMap, SlotMapKey, UninitSlotMap};
-use ix_run::run::{Reply, SlotCommand, run_slot};
-use std::alloc::Global;
+use crate::run_tests::check_run;
+use ix_maps::{FixedSizeSlotMap, SlotMap, SlotMapKey};
+use ix_run::run::{Reply, SlotCommand};
 use std::test::Fail;
 use test_support::Findings;
-
-/// A command of a slot map and the reply to it.
-type Row = (SlotCommand<u64>, Reply<SlotMapKey, u64>);
-
-fn check_slots<S: Table<Option<u64>>, L: Table<Link>, G: Table<u32>, E: Drop>(
-    findings: &Findings,
-    alloc: Global,
-    made: Result<MetaSlotMap<Option<u64>, S, L, G>, E>,
-    rows: &[Row],
-    kind: &str,
-) {
-    let Ok(mut map) = made else {
-        return findings.miss(kind);
-    };
-    check_run(
-        findings,
-        alloc,
-        rows,
-        kind,
-        |commands: &[SlotCommand<u64>]| { run_slot(alloc, &mut map, commands) },
-    );
-}
 
 /// Keys of a map of capacity 3 die, and their place is used again.
 #[test]
@@ -54,13 +29,16 @@ fn generations(rt: HostRuntime) -> Result<(), Fail> {
         (SlotCommand::Next, Reply::Key(key(2))),
         (SlotCommand::Len, Reply::Number(1)),
     ];
-    let inline = FixedSizeSlotMap::<u64, 3>::new();
-    check_slots(&findings, alloc, fixed(inline), &rows, "fixed slot map");
-    let allocated = SlotMap::<u64>::new(alloc, 3);
-    check_slots(&findings, alloc, allocated, &rows, "allocated slot map");
-    let bump = Bump::new(alloc);
-    let relocatable = UninitSlotMap::<u64>::new_uninit(3).init(&bump);
-    check_slots(&findings, alloc, relocatable, &rows, "relocatable slot map");
+    let mut fixed = FixedSizeSlotMap::<u64, 3>::new();
+    check_run(&findings, alloc, &mut fixed, &rows, "fixed slot map");
+    let mut allocated = SlotMap::<u64>::new(alloc, 3).expect(&rt, "an allocated slot map");
+    check_run(
+        &findings,
+        alloc,
+        &mut allocated,
+        &rows,
+        "allocated slot map",
+    );
     findings.verdict()
 }
 
@@ -79,9 +57,7 @@ fn retirement(rt: HostRuntime) -> Result<(), Fail> {
         (SlotCommand::Get(first), Reply::None),
         (SlotCommand::From(0), Reply::Entry(second, 8)),
     ];
-    let inline = FixedSizeSlotMap::<u64, 2>::starting_at(u32::MAX);
-    check_slots(&findings, alloc, fixed(inline), &rows, "fixed slot map");
-    let allocated = SlotMap::<u64>::starting_at(alloc, 2, u32::MAX);
-    check_slots(&findings, alloc, allocated, &rows, "allocated slot map");
+    let mut map = FixedSizeSlotMap::<u64, 2>::starting_at(u32::MAX);
+    check_run(&findings, alloc, &mut map, &rows, "fixed slot map");
     findings.verdict()
 }

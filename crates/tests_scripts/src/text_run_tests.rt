@@ -1,15 +1,14 @@
 //! Runs of commands on strings: each command, at each kind of string.
-use crate::run_tests::{check_run, fixed};
-use bumpalo::Bump;
+use crate::run_tests::check_run;
 use ix_cells::RelocatableContainer;
 use ix_run::run::ReplyError::{IndexPastEnd, InsertWouldExceedCapacity, InvalidCharacter};
 use ix_run::run::TextCommand::{
     Append, At, Capacity, Clear, Drop as DropByte, Empty, Find, Full, Insert, InsertBytes, Len,
     Pop, Push, Remove, RemoveRange, Rfind, StripPrefix, StripSuffix, Truncate,
 };
-use ix_run::run::{Reply, TextCommand, run_text};
+use ix_run::run::{Reply, TextCommand};
 use ix_string::{PolymorphicString, StaticString, String, UninitString};
-use std::alloc::{Allocator, Global};
+use std::alloc::{AllocError, Global};
 use std::test::Fail;
 use test_support::Findings;
 
@@ -81,21 +80,7 @@ const EACH: &[Row] = &[
     (Truncate(1), Reply::Done),
 ];
 
-/// Runs the commands of the rows, and compares each reply, and the text that is left.
-fn check_text<S: String>(
-    findings: &Findings,
-    alloc: Global,
-    string: &mut S,
-    (rows, text): (&[Row], &str),
-    place: &str,
-) {
-    check_run(findings, alloc, rows, place, |commands: &[TextCommand]| {
-        run_text(alloc, string, commands)
-    });
-    findings.expect_same(string.as_str(), text, place);
-}
-
-/// Runs the tables for strings of that capacity, if there is memory for the string.
+/// Runs the rows for strings of that capacity, if there is memory for the string, and compares the text that is left.
 fn check_made<S: String + Drop, E: Drop>(
     findings: &Findings,
     alloc: Global,
@@ -103,45 +88,46 @@ fn check_made<S: String + Drop, E: Drop>(
     place: &str,
 ) {
     let Ok(mut string) = made else {
-        findings.miss(place);
-        return;
+        return findings.miss(place);
     };
-    check_text(findings, alloc, &mut string, (&[], ""), place);
-    if string.capacity() == 0 {
-        return check_text(findings, alloc, &mut string, (OF_ZERO, ""), place);
+    let tables: &[(&[Row], &str)] = match string.capacity() {
+        0 => &[(OF_ZERO, "")],
+        3 => &[(OF_THREE, "abc")],
+        _ => &[(OF_FIVE, "\tb"), (EACH, "a")],
+    };
+    for (rows, text) in tables {
+        check_run(findings, alloc, &mut string, *rows, place);
+        findings.expect_same(string.as_str(), *text, place);
     }
-    if string.capacity() == 3 {
-        return check_text(findings, alloc, &mut string, (OF_THREE, "abc"), place);
-    }
-    check_text(findings, alloc, &mut string, (OF_FIVE, "\tb"), place);
-    check_text(findings, alloc, &mut string, (EACH, "a"), place);
-}
-
-/// Runs the tables for a string of each kind in `memory`.
-fn check_kinds<A: Allocator + Copy>(
-    findings: &Findings,
-    alloc: Global,
-    memory: A,
-    capacity: usize,
-    place: &str,
-) {
-    let polymorphic = PolymorphicString::new(memory, capacity);
-    check_made(findings, alloc, polymorphic, place);
-    let relocatable = UninitString::new_uninit(capacity).init(memory);
-    check_made(findings, alloc, relocatable, place);
 }
 
 #[test]
 fn strings_of_each_kind_run_commands(rt: HostRuntime) -> Result<(), Fail> {
     let findings = Findings::new();
     let alloc = rt.alloc();
-    check_made(&findings, alloc, fixed(StaticString::<0>::new()), "fixed");
-    check_made(&findings, alloc, fixed(StaticString::<3>::new()), "fixed");
-    check_made(&findings, alloc, fixed(StaticString::<5>::new()), "fixed");
-    let arena = Bump::new(alloc);
+    check_made(
+        &findings,
+        alloc,
+        Ok::<_, AllocError>(StaticString::<0>::new()),
+        "fixed",
+    );
+    check_made(
+        &findings,
+        alloc,
+        Ok::<_, AllocError>(StaticString::<3>::new()),
+        "fixed",
+    );
+    check_made(
+        &findings,
+        alloc,
+        Ok::<_, AllocError>(StaticString::<5>::new()),
+        "fixed",
+    );
     for capacity in [0, 3, 5] {
-        check_kinds(&findings, alloc, alloc, capacity, "the machine's memory");
-        check_kinds(&findings, alloc, &arena, capacity, "an arena");
+        let polymorphic = PolymorphicString::new(alloc, capacity);
+        check_made(&findings, alloc, polymorphic, "polymorphic");
+        let relocatable = UninitString::new_uninit(capacity).init(alloc);
+        check_made(&findings, alloc, relocatable, "relocatable");
     }
     findings.verdict()
 }
