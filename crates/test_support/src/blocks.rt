@@ -55,3 +55,39 @@ fn check_heap<F: Fn(&LocalHeap, bool)>(
     findings.expect(held.is_ok(), "a block");
     check(heap, has_room);
 }
+
+/// Calls `make` for each of `sizes`, as [`check_sizes`] does, with a heap and the capacity. It makes something of that capacity
+/// and returns how many bytes of the heap are in use with it, or `None` if the making was refused.
+///
+/// Notes `name` and the capacity where the making succeeds without room or is refused with room, where something of a
+/// capacity above 0 takes no memory or one of capacity 0 takes some, and where bytes of the heap stay in use after it.
+///
+/// ```text
+/// check_makings(&findings, alloc, &[(0, 0), (1, 2)], "`new`", |heap: &LocalHeap, capacity| {
+///     match Queue::<u64, _>::new(heap, capacity) {
+///         Ok(_queue) => Some(heap.used()),
+///         Err(AllocError) => None,
+///     }
+/// });
+/// ```
+pub fn check_makings<F: Fn(&LocalHeap, usize) -> Option<usize>>(
+    findings: &Findings,
+    alloc: Global,
+    sizes: &[(usize, u16)],
+    name: &str,
+    make: F,
+)
+    requires { F.IsAlwaysCallable make }
+{
+    check_sizes(
+        findings,
+        alloc,
+        sizes,
+        |heap: &LocalHeap, capacity, has_room| {
+            let used = heap.used();
+            let takes_memory = make(heap, capacity).map(|with_it| with_it > used);
+            let wanted = if has_room { Some(capacity > 0) } else { None };
+            findings.expect_same_at((takes_memory, heap.used()), (wanted, used), capacity, name);
+        },
+    );
+}

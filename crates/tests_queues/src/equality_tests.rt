@@ -4,16 +4,16 @@ ghost use Rattle.std.specs.Cmp.Rules.{comparing};
 ghost use Rattle.std.specs.Ordering.{on};
 ghost use Rattle.std.specs.Prelude.{nat_eq};
 
-use crate::calls::Call::{self, Clear, Len, Pop, Push};
-use crate::calls::outcome_of;
 use crate::equality_tests::Side::{One, Other};
+use crate::rows::made;
 use crate::turning::{TURNS, Turn};
 use ix_cells::{RelocatableContainer, Table};
+use ix_commands::QueueCommand::{self, Clear, Len, Pop, Push};
+use ix_commands::Runs;
 use ix_maps::{FixedSizeQueue, MetaQueue, Queue, RelocatableQueue};
-use std::alloc::AllocError;
 use std::cell::Cell;
 use std::test::Fail;
-use test_support::Findings;
+use test_support::{Findings, check_rows};
 
 /// One of two queues.
 enum Side {
@@ -21,48 +21,46 @@ enum Side {
     Other,
 }
 
-/// A call of one of two queues, and whether they are equal after it.
-type Row = (Side, Call<u64>, bool);
+/// A command of one of two queues, and whether they are equal after it.
+type Step = (Side, QueueCommand<u64>, bool);
 
-/// Makes the calls in turn and compares the queues after each.
-fn check_rows<S: Table<u64>>(
+/// Runs the commands in turn and compares the queues after each.
+fn check_steps<S: Table<u64>>(
     findings: &Findings,
     one: &mut MetaQueue<u64, S>,
     other: &mut MetaQueue<u64, S>,
-    rows: &[Row],
+    steps: &[Step],
     turned: &str,
 ) {
-    for (number, (side, call, equal)) in rows.iter().enumerate() {
+    for (number, (side, command, equal)) in steps.iter().enumerate() {
         match side {
-            One => outcome_of(one, call),
-            Other => outcome_of(other, call),
+            One => one.run_command(*command),
+            Other => other.run_command(*command),
         };
         let found = (*one == *other, *one != *other);
         findings.expect_same_at(found, (*equal, !*equal), number, turned);
     }
 }
 
-/// Turns `other` and makes the calls. The queues are empty at first, and their makings did not fail.
+/// Turns `other` and runs the commands. The queues are empty at first, and their makings did not fail.
 fn check_made<S: Table<u64>, E: Drop, F: Drop>(
     findings: &Findings,
     one: Result<MetaQueue<u64, S>, E>,
     other: Result<MetaQueue<u64, S>, F>,
-    rows: &[Row],
+    steps: &[Step],
     (turn, turned): &Turn,
 ) {
     if let Ok(mut one) = one {
         if let Ok(mut other) = other {
-            for (call, _) in *turn {
-                outcome_of(&mut other, call);
-            }
-            check_rows(findings, &mut one, &mut other, rows, turned);
+            check_rows(findings, &mut other, *turn, turned);
+            check_steps(findings, &mut one, &mut other, steps, turned);
             return;
         }
     }
     findings.miss(turned);
 }
 
-const EQUAL: &[Row] = &[
+const EQUAL: &[Step] = &[
     (One, Len, true),
     (One, Push(1), false),
     (Other, Push(1), true),
@@ -73,7 +71,7 @@ const EQUAL: &[Row] = &[
     (One, Pop, false),
 ];
 
-const DIFFERENT: &[Row] = &[
+const DIFFERENT: &[Step] = &[
     (One, Push(1), false),
     (One, Push(2), false),
     (Other, Push(1), false),
@@ -90,10 +88,10 @@ const DIFFERENT: &[Row] = &[
 fn fixed_queues() -> Result<(), Fail> {
     let findings = Findings::new();
     for turn in TURNS {
-        for rows in &[EQUAL, DIFFERENT] {
-            let one = Ok::<_, AllocError>(FixedSizeQueue::<u64, 3>::new());
-            let other = Ok::<_, AllocError>(FixedSizeQueue::<u64, 3>::new());
-            check_made(&findings, one, other, rows, turn);
+        for steps in &[EQUAL, DIFFERENT] {
+            let one = made(FixedSizeQueue::<u64, 3>::new());
+            let other = made(FixedSizeQueue::<u64, 3>::new());
+            check_made(&findings, one, other, steps, turn);
         }
     }
     findings.verdict()

@@ -1,159 +1,131 @@
 //! Each function of queues once, and worked examples: queues of capacity 1 and 0.
-use crate::calls::Call::{
-    Capacity, Clear, Get, IsEmpty, IsFull, Len, Peek, Pop, Push, PushWithOverflow, ReplaceFront,
-    Write,
-};
-use crate::calls::Outcome::{Bool, Done, Item, Number};
-use crate::calls::{Row, check_fixed, check_in};
 use crate::own_table::CountedPuts;
+use crate::replacing::replace_front;
+use crate::rows::{Row, check_kinds};
 use bumpalo::Bump;
 use ix_cells::{InitError, InlineTable, RelocatableContainer, Table};
+use ix_commands::QueueCommand::{
+    At, Capacity, Clear, Empty, Full, Len, Over, Peek, Pop, Push, Set,
+};
+use ix_commands::Reply::{self, Bool, Done, Number, Value};
 use ix_maps::{FixedSizeQueue, MetaQueue, Queue, RelocatableQueue, UninitQueue};
 use linked_list_allocator::LocalHeap;
 use std::alloc::{AllocError, Allocator, Global};
 use std::fmt::{Debug, InlineText};
 use std::test::Fail;
-use test_support::Findings;
+use test_support::{Findings, check_rows};
 
 const SIZES: &[Row<u64>] = &[
     (Capacity, Number(2)),
     (Len, Number(0)),
-    (IsEmpty, Bool(true)),
-    (IsFull, Bool(false)),
+    (Empty, Bool(true)),
+    (Full, Bool(false)),
     (Push(1), Bool(true)),
     (Len, Number(1)),
-    (IsEmpty, Bool(false)),
-    (IsFull, Bool(false)),
+    (Empty, Bool(false)),
+    (Full, Bool(false)),
     (Push(2), Bool(true)),
     (Capacity, Number(2)),
     (Len, Number(2)),
-    (IsEmpty, Bool(false)),
-    (IsFull, Bool(true)),
+    (Empty, Bool(false)),
+    (Full, Bool(true)),
 ];
 
 const PUSHES: &[Row<u64>] = &[
     (Push(1), Bool(true)),
     (Push(2), Bool(true)),
     (Push(3), Bool(false)),
-    (PushWithOverflow(3), Item(Some(1))),
-    (Pop, Item(Some(2))),
-    (PushWithOverflow(4), Item(None)),
-    (Pop, Item(Some(3))),
-    (Pop, Item(Some(4))),
-    (Pop, Item(None)),
+    (Over(3), Value(1)),
+    (Pop, Value(2)),
+    (Over(4), Reply::None),
+    (Pop, Value(3)),
+    (Pop, Value(4)),
+    (Pop, Reply::None),
 ];
 
 const READS: &[Row<u64>] = &[
-    (Peek, Item(None)),
-    (Write(9), Item(None)),
+    (Peek, Reply::None),
+    (Set(9), Bool(false)),
     (Push(5), Bool(true)),
     (Push(6), Bool(true)),
-    (Peek, Item(Some(5))),
+    (Peek, Value(5)),
     (Len, Number(2)),
-    (Get(0), Item(Some(5))),
-    (Get(1), Item(Some(6))),
+    (At(0), Value(5)),
+    (At(1), Value(6)),
 ];
 
 const CHANGES: &[Row<u64>] = &[
     (Push(5), Bool(true)),
     (Push(6), Bool(true)),
-    (Write(7), Item(Some(5))),
-    (Pop, Item(Some(7))),
+    (Peek, Value(5)),
+    (Set(7), Bool(true)),
+    (Pop, Value(7)),
     (Clear, Done),
     (Capacity, Number(2)),
     (Len, Number(0)),
     (Push(8), Bool(true)),
     (Push(9), Bool(true)),
-    (Pop, Item(Some(8))),
-    (Pop, Item(Some(9))),
-    (Pop, Item(None)),
-];
-
-const REPLACEMENTS: &[Row<u64>] = &[
-    (ReplaceFront(1), Item(None)),
-    (Push(2), Bool(true)),
-    (Push(3), Bool(true)),
-    (ReplaceFront(4), Item(Some(2))),
-    (Pop, Item(Some(4))),
-    (Pop, Item(Some(3))),
-    (Pop, Item(None)),
+    (Pop, Value(8)),
+    (Pop, Value(9)),
+    (Pop, Reply::None),
 ];
 
 const ONE: &[Row<u64>] = &[
     (Push(123), Bool(true)),
-    (PushWithOverflow(456), Item(Some(123))),
-    (Pop, Item(Some(456))),
-    (IsEmpty, Bool(true)),
-    (PushWithOverflow(7), Item(None)),
+    (Over(456), Value(123)),
+    (Pop, Value(456)),
+    (Empty, Bool(true)),
+    (Over(7), Reply::None),
     (Push(8), Bool(false)),
     (Len, Number(1)),
-    (IsFull, Bool(true)),
-    (Peek, Item(Some(7))),
-    (Write(9), Item(Some(7))),
-    (ReplaceFront(10), Item(Some(9))),
-    (Get(0), Item(Some(10))),
+    (Full, Bool(true)),
+    (Peek, Value(7)),
+    (Set(9), Bool(true)),
+    (Peek, Value(9)),
+    (Set(10), Bool(true)),
+    (At(0), Value(10)),
     (Clear, Done),
-    (Peek, Item(None)),
+    (Peek, Reply::None),
     (Capacity, Number(1)),
 ];
 
 const NONE: &[Row<u64>] = &[
-    (IsEmpty, Bool(true)),
-    (IsFull, Bool(true)),
+    (Empty, Bool(true)),
+    (Full, Bool(true)),
     (Push(1), Bool(false)),
-    (PushWithOverflow(2), Item(Some(2))),
-    (Pop, Item(None)),
-    (Peek, Item(None)),
-    (Write(3), Item(None)),
-    (ReplaceFront(4), Item(None)),
-    (Get(0), Item(None)),
+    (Over(2), Value(2)),
+    (Pop, Reply::None),
+    (Peek, Reply::None),
+    (Set(3), Bool(false)),
+    (Peek, Reply::None),
+    (Set(4), Bool(false)),
+    (At(0), Reply::None),
     (Clear, Done),
     (Len, Number(0)),
     (Capacity, Number(0)),
-    (IsFull, Bool(true)),
+    (Full, Bool(true)),
 ];
 
-/// Calls of a queue of capacity 3: what is appended past it removes the oldest items in turn.
+/// Commands of a queue of capacity 3: what is appended past it removes the oldest items in turn.
 const OVERFLOWS: &[Row<u64>] = &[
-    (PushWithOverflow(0), Item(None)),
-    (PushWithOverflow(1), Item(None)),
-    (PushWithOverflow(2), Item(None)),
-    (PushWithOverflow(3), Item(Some(0))),
-    (PushWithOverflow(4), Item(Some(1))),
-    (PushWithOverflow(5), Item(Some(2))),
-    (PushWithOverflow(6), Item(Some(3))),
-    (PushWithOverflow(7), Item(Some(4))),
-    (PushWithOverflow(8), Item(Some(5))),
-    (PushWithOverflow(9), Item(Some(6))),
-    (Pop, Item(Some(7))),
-    (Pop, Item(Some(8))),
-    (Pop, Item(Some(9))),
-    (Pop, Item(None)),
+    (Over(0), Reply::None),
+    (Over(1), Reply::None),
+    (Over(2), Reply::None),
+    (Over(3), Value(0)),
+    (Over(4), Value(1)),
+    (Over(5), Value(2)),
+    (Over(6), Value(3)),
+    (Over(7), Value(4)),
+    (Over(8), Value(5)),
+    (Over(9), Value(6)),
+    (Pop, Value(7)),
+    (Pop, Value(8)),
+    (Pop, Value(9)),
+    (Pop, Reply::None),
 ];
 
-/// Calls of a queue of capacity 2.
-const OF_TWO: &[&[Row<u64>]] = &[SIZES, PUSHES, READS, CHANGES, REPLACEMENTS];
-
-#[test]
-fn in_the_value_itself() -> Result<(), Fail> {
-    let findings = Findings::new();
-    for rows in OF_TWO {
-        check_fixed(&findings, FixedSizeQueue::<u64, 2>::new(), rows);
-    }
-    check_fixed(&findings, FixedSizeQueue::<u64, 1>::new(), ONE);
-    check_fixed(&findings, FixedSizeQueue::<u64, 0>::new(), NONE);
-    findings.verdict()
-}
-
-#[test]
-fn from_table() -> Result<(), Fail> {
-    let findings = Findings::new();
-    for rows in OF_TWO {
-        let table = CountedPuts::new(InlineTable::<u64, 2>::new());
-        check_fixed(&findings, MetaQueue::from_table(table), rows);
-    }
-    findings.verdict()
-}
+/// Commands of a queue of capacity 2.
+const OF_TWO: &[&[Row<u64>]] = &[SIZES, PUSHES, READS, CHANGES];
 
 /// Checks the `Debug` text of a value.
 pub fn check_text<T: Debug>(findings: &Findings, value: &T, text: &str) {
@@ -186,14 +158,14 @@ fn texts(rt: HostRuntime) -> Result<(), Fail> {
     findings.verdict()
 }
 
-/// Checks each example on a queue of each kind, allocated from `alloc`.
+/// Checks each example on a queue of each kind.
 fn check_examples<A: Allocator + Copy>(findings: &Findings, alloc: A, memory: &str) {
     for rows in OF_TWO {
-        check_in(findings, alloc, 2, &[*rows], memory);
+        check_kinds::<A, 2>(findings, alloc, &[*rows], memory);
     }
-    check_in(findings, alloc, 3, &[OVERFLOWS], memory);
-    check_in(findings, alloc, 1, &[ONE], memory);
-    check_in(findings, alloc, 0, &[NONE], memory);
+    check_kinds::<A, 3>(findings, alloc, &[OVERFLOWS], memory);
+    check_kinds::<A, 1>(findings, alloc, &[ONE], memory);
+    check_kinds::<A, 0>(findings, alloc, &[NONE], memory);
 }
 
 /// Does what `check_examples` does. All of the memory is deallocated.
@@ -237,6 +209,37 @@ fn two_steps(rt: HostRuntime) -> Result<(), Fail> {
         &findings,
         UninitQueue::<u8>::new_uninit(7).init(rt.alloc()),
         7,
+    );
+    findings.verdict()
+}
+
+/// Replaces the front item of a queue of capacity 2.
+fn check_replaced<S: Table<u64>>(findings: &Findings, queue: &mut MetaQueue<u64, S>, kind: &str) {
+    findings.expect_same(replace_front(queue, 1), None, kind);
+    check_rows(
+        findings,
+        queue,
+        &[(Push(2), Bool(true)), (Push(3), Bool(true))],
+        kind,
+    );
+    findings.expect_same(replace_front(queue, 4), Some(2), kind);
+    check_rows(
+        findings,
+        queue,
+        &[(Pop, Value(4)), (Pop, Value(3)), (Pop, Reply::None)],
+        kind,
+    );
+}
+
+#[test]
+fn replaced_front_items() -> Result<(), Fail> {
+    let findings = Findings::new();
+    check_replaced(&findings, &mut FixedSizeQueue::<u64, 2>::new(), "fixed");
+    let table = CountedPuts::new(InlineTable::<u64, 2>::new());
+    check_replaced(
+        &findings,
+        &mut MetaQueue::from_table(table),
+        "over an own table",
     );
     findings.verdict()
 }

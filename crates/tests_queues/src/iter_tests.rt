@@ -1,15 +1,15 @@
 //! Iterators over queues: the order of the items wherever the front item lies, walks that stop early, and which items
 //! are dropped with an iterator.
-use crate::calls::{Call, Row, outcome_of};
 use crate::function_tests::check_text;
 use crate::iter_tests::Step::{Back, Left, Next};
 use crate::own_table::CountedPuts;
+use crate::rows::{Row, made};
 use crate::turning::TURNS;
 use ix_cells::{InlineTable, RelocatableContainer, Table};
 use ix_maps::{FixedSizeQueue, MetaQueue, Queue, RelocatableQueue};
 use std::alloc::{AllocError, Global};
 use std::test::Fail;
-use test_support::{Findings, Noted, Notes};
+use test_support::{Findings, Noted, Notes, check_rows};
 
 /// A call of an iterator and its result.
 enum Step {
@@ -110,13 +110,20 @@ fn walk_by_value<S: Table<u64>>(findings: &Findings, queue: MetaQueue<u64, S>, s
     }
 }
 
-/// Appends the items after the calls of `turn`.
-fn fill<S: Table<u64>>(queue: &mut MetaQueue<u64, S>, turn: &[Row<u64>], items: &[u64]) {
-    for (call, _) in turn {
-        let _ = outcome_of(queue, call);
-    }
+/// Appends the items after the commands of `turn`.
+fn fill<S: Table<u64>>(
+    findings: &Findings,
+    queue: &mut MetaQueue<u64, S>,
+    turn: &[Row<u64>],
+    items: &[u64],
+) {
+    check_rows(findings, queue, turn, "a turn");
     for item in items {
         queue.push(*item);
+    }
+    for index in 0..queue.len() {
+        let found = Some(queue.get_unchecked(index));
+        findings.expect_same_at(found, items.get(index).copied(), index, "an item unchecked");
     }
 }
 
@@ -130,7 +137,7 @@ fn check_made<S: Table<u64>, E: Drop>(
 ) {
     match made {
         Ok(mut queue) => {
-            fill(&mut queue, turn, items);
+            fill(findings, &mut queue, turn, items);
             walk(findings, &queue, steps);
             walk(findings, &queue, steps);
             if is_forward {
@@ -149,19 +156,13 @@ fn check_walk(
     example: &Walk,
     is_forward: bool,
 ) {
-    let fixed = Ok::<_, AllocError>(FixedSizeQueue::<u64, 3>::new());
+    let fixed = made(FixedSizeQueue::<u64, 3>::new());
     check_made(findings, fixed, turn, example, is_forward);
     check_made(findings, Queue::new(alloc, 3), turn, example, is_forward);
     let relocatable = RelocatableQueue::<u64, Global>::new_uninit(3).init(alloc);
     check_made(findings, relocatable, turn, example, is_forward);
     let own = MetaQueue::from_table(CountedPuts::new(InlineTable::<u64, 3>::new()));
-    check_made(
-        findings,
-        Ok::<_, AllocError>(own),
-        turn,
-        example,
-        is_forward,
-    );
+    check_made(findings, made(own), turn, example, is_forward);
 }
 
 #[test]
@@ -182,7 +183,7 @@ fn walks(rt: HostRuntime) -> Result<(), Fail> {
 fn capacity_0(rt: HostRuntime) -> Result<(), Fail> {
     let findings = Findings::new();
     let none: Walk = (&[7], &[Left(0), Next(None), Left(0)]);
-    let fixed = Ok::<_, AllocError>(FixedSizeQueue::<u64, 0>::new());
+    let fixed = made(FixedSizeQueue::<u64, 0>::new());
     check_made(&findings, fixed, &[], &none, true);
     check_made(&findings, Queue::new(rt.alloc(), 0), &[], &none, true);
     findings.verdict()
@@ -206,7 +207,7 @@ fn items_of_size_zero() -> Result<(), Fail> {
 fn loops_that_stop() -> Result<(), Fail> {
     let findings = Findings::new();
     let mut queue = FixedSizeQueue::<u64, 3>::new();
-    fill(&mut queue, &[], &[4, 5, 6]);
+    fill(&findings, &mut queue, &[], &[4, 5, 6]);
     let mut last = 0;
     for item in &queue {
         last = *item;
@@ -230,11 +231,7 @@ fn loops_that_stop() -> Result<(), Fail> {
 fn texts() -> Result<(), Fail> {
     let findings = Findings::new();
     let mut queue = FixedSizeQueue::<u64, 2>::new();
-    fill(
-        &mut queue,
-        &[(Call::PushWithOverflow(3), crate::calls::Outcome::Done)],
-        &[4],
-    );
+    fill(&findings, &mut queue, &[], &[3, 4]);
     let mut iter = queue.iter();
     check_text(&findings, &iter, "[3, 4]");
     iter.next();
@@ -290,7 +287,7 @@ fn drops(rt: HostRuntime) -> Result<(), Fail> {
     let findings = Findings::new();
     let notes = Notes::new(0);
     for row in TAKEN {
-        let fixed = Ok::<_, AllocError>(FixedSizeQueue::<Noted, 3>::new());
+        let fixed = made(FixedSizeQueue::<Noted, 3>::new());
         check_drops(&findings, fixed, &notes, row);
         check_drops(&findings, Queue::new(rt.alloc(), 3), &notes, row);
     }

@@ -3,8 +3,6 @@
 #![tactic(auto)]
 
 #[cfg(test)]
-mod calls;
-#[cfg(test)]
 mod drop_tests;
 #[cfg(test)]
 mod equality_tests;
@@ -20,5 +18,7 @@ mod own_table;
 mod replacing;
 #[cfg(test)]
 mod ring_tests;
+#[cfg(test)]
+mod rows;
 #[cfg(test)]
 mod turning;

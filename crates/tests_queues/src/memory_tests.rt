@@ -1,72 +1,48 @@
 //! Queues for which there is not enough memory, at each of their allocations: nothing stays allocated.
+use crate::rows::made;
 use bumpalo::Bump;
-use ix_cells::{InitError, RelocatableContainer, Table};
-use ix_maps::{MetaQueue, Queue, RelocatableQueue, UninitQueue};
+use ix_cells::{RelocatableContainer, Table};
+use ix_maps::{MetaQueue, Queue, UninitQueue};
 use linked_list_allocator::LocalHeap;
 use std::alloc::{Allocator, Global};
 use std::test::Fail;
-use test_support::{Findings, check_drawn_sizes, check_sizes};
+use test_support::{Findings, check_drawn_sizes, check_makings};
 
-/// Checks a queue that is empty: an item can be appended unless the capacity is 0.
-fn check_ready<S: Table<u64>>(
-    findings: &Findings,
-    mut queue: MetaQueue<u64, S>,
-    capacity: usize,
-    place: &str,
-) {
-    let found = (queue.capacity(), queue.len(), queue.push(7));
-    findings.expect_same(found, (capacity, 0, capacity > 0), place);
-}
-
-/// Checks a making of a queue of `capacity` numbers, which succeeds if `found`. Before it `used` bytes of the heap were
-/// in use.
-fn check_made<S: Table<u64>, E: Drop>(
+/// Checks a queue whose making is refused or did not fail, and returns how many bytes of the heap are in use with it: it
+/// is empty, and an item can be appended unless the capacity is 0.
+fn used_with<S: Table<u64>, E: Drop>(
     findings: &Findings,
     heap: &LocalHeap,
-    used: usize,
-    made: Result<MetaQueue<u64, S>, E>,
-    (capacity, found): (usize, bool),
-) {
-    match made {
-        Ok(queue) => {
-            findings.expect(found, "the making succeeds");
-            findings.expect(
-                (heap.used() > used) == (capacity > 0),
-                "bytes in use with it",
-            );
-            check_ready(findings, queue, capacity, "in the heap");
-        }
-        Err(_) => findings.expect(!found, "the making fails"),
-    }
-    findings.expect_same(heap.used(), used, "bytes in use after it");
+    queue: Result<MetaQueue<u64, S>, E>,
+    capacity: usize,
+) -> Option<usize> {
+    let Ok(mut queue) = queue else {
+        return None;
+    };
+    let found = (queue.capacity(), queue.len(), queue.push(7));
+    findings.expect_same(found, (capacity, 0, capacity > 0), "an empty queue");
+    Some(heap.used())
 }
 
-/// Checks that a refused value can be initialised from `ample`.
-fn check_again(
+/// Checks a making in two steps, as [`used_with`] does. A refused value can be initialised from `ample`, which has enough
+/// memory.
+fn used_in_two_steps(
     findings: &Findings,
-    refused: Option<InitError<UninitQueue<u64>>>,
+    heap: &LocalHeap,
     ample: Global,
     capacity: usize,
-) {
-    if let Some(error) = refused {
-        match error.into_uninit().init(ample) {
-            Ok(queue) => check_ready(findings, queue, capacity, "in ample memory"),
-            Err(_) => findings.miss("from ample memory"),
+) -> Option<usize> {
+    let used = heap.used();
+    match UninitQueue::<u64>::new_uninit(capacity).init(heap) {
+        Ok(queue) => used_with(findings, heap, made(queue), capacity),
+        Err(error) => {
+            findings.expect_same(heap.used(), used, "bytes in use after a refusal");
+            let again = error.into_uninit().init(ample);
+            let is_made = used_with(findings, heap, again, capacity).is_some();
+            findings.expect(is_made, "from ample memory");
+            None
         }
     }
-}
-
-/// Checks makings of queues of `capacity` numbers, which succeed if `found`. `ample` has enough memory.
-fn check_heap(findings: &Findings, heap: &LocalHeap, ample: Global, capacity: usize, found: bool) {
-    let used = heap.used();
-    let wanted = (capacity, found);
-    check_made(findings, heap, used, Queue::new(heap, capacity), wanted);
-    let ready = RelocatableQueue::<u64, &LocalHeap>::new_uninit(capacity).init(heap);
-    check_made(findings, heap, used, ready, wanted);
-    let refused = UninitQueue::new_uninit(capacity).init(heap).err();
-    findings.expect_same(refused.is_none(), found, "in two steps");
-    findings.expect_same(heap.used(), used, "bytes in use after a refusal");
-    check_again(findings, refused, ample, capacity);
 }
 
 /// The capacity of a queue, and the number of blocks of 16 bytes that it takes: 8 bytes for each number, one for its mark.
@@ -84,13 +60,21 @@ const SIZES: &[(usize, u16)] = &[
 fn makings_refused(rt: HostRuntime) -> Result<(), Fail> {
     let findings = Findings::new();
     let alloc = rt.alloc();
-    check_sizes(
+    check_makings(
         &findings,
         alloc,
         SIZES,
-        |heap: &LocalHeap, capacity, found| {
-            check_heap(&findings, heap, alloc, capacity, found);
+        "`new`",
+        |heap: &LocalHeap, capacity| {
+            used_with(&findings, heap, Queue::new(heap, capacity), capacity)
         },
+    );
+    check_makings(
+        &findings,
+        alloc,
+        SIZES,
+        "`init`",
+        |heap: &LocalHeap, capacity| { used_in_two_steps(&findings, heap, alloc, capacity) },
     );
     findings.verdict()
 }
@@ -116,7 +100,10 @@ fn check_too_little(findings: &Findings, alloc: Global, heap: &LocalHeap) {
         check_past_all_memory(findings, &bump, *capacity);
         check_past_all_memory(findings, heap, *capacity);
     }
-    check_heap(findings, heap, alloc, 1000, false);
+    let is_refused = used_with(findings, heap, Queue::new(heap, 1000), 1000).is_none();
+    findings.expect(is_refused, "`new` with 64 bytes");
+    let is_refused = used_in_two_steps(findings, heap, alloc, 1000).is_none();
+    findings.expect(is_refused, "`init` with 64 bytes");
     findings.expect_same(heap.used(), 0, "bytes in use after all");
 }
 

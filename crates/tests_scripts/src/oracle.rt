@@ -1,10 +1,14 @@
-//! The ring against the plain slow queue: every short list of commands at each small capacity.
-use crate::slow_queue::{SlowQueue, run_slow_command};
+//! The ring against the plain slow queue: every short list of commands at each small capacity, and random commands.
+use crate::slow_queue::SlowQueue;
 use ix_cells::Table;
-use ix_maps::{FixedSizeQueue, MetaQueue};
-use ix_run::run::{QueueCommand, Runs};
+use ix_commands::QueueCommand::{
+    self, At, Capacity, Clear, Empty, Full, Len, Over, Peek, Pop, Push, Set,
+};
+use ix_commands::Runs;
+use ix_maps::{FixedSizeQueue, MetaQueue, Queue};
+use std::alloc::AllocError;
 use std::test::Fail;
-use test_support::Findings;
+use test_support::{Findings, Numbers, walk};
 
 /// The number of lists of six commands out of three.
 const LISTS: u64 = 729;
@@ -12,71 +16,51 @@ const LISTS: u64 = 729;
 /// Returns the command of the last base-3 digit of `list`.
 fn command_of(list: u64, item: u64) -> QueueCommand<u64> {
     match list % 3 {
-        0 => QueueCommand::Push(item),
-        1 => QueueCommand::Over(item),
-        _ => QueueCommand::Pop,
+        0 => Push(item),
+        1 => Over(item),
+        _ => Pop,
     }
 }
 
-/// The capacity, the list, the turns of the ring before it, and the item of the last command.
-type Case = (usize, u64, u64, u64);
+/// Commands whose replies tell all of a queue of at most three items.
+const READS: &[QueueCommand<u64>] = &[Capacity, Len, Empty, Full, At(0), At(1), At(2), At(3)];
 
-/// Compares the items of both.
-fn check_same<S: Table<u64>>(
-    findings: &Findings,
-    ring: &MetaQueue<u64, S>,
-    slow: &SlowQueue<u64>,
-    case: Case,
-) {
-    let items = slow.as_slice();
-    let is_full = items.len() == ring.capacity();
-    let found = (ring.len(), ring.is_empty(), ring.is_full());
-    let wanted = (items.len(), items.is_empty(), is_full);
-    findings.expect_same((case, found), (case, wanted), "the sizes of a case");
-    if ring.len() == items.len() {
-        for (i, item) in items.iter().enumerate() {
-            let found = (case, i, ring.get(i));
-            findings.expect_same(found, (case, i, *item), "an item of a case");
-        }
-    }
-}
+/// The list, the turns of the ring before it, and the item of the last command.
+type Case = (u64, u64, u64);
 
-/// Runs six commands on both, and compares each reply and the items after it.
-fn check_list<S: Table<u64>>(
+/// Runs a command on both, and compares the replies.
+fn check_command<S: Table<u64>>(
     findings: &Findings,
     ring: &mut MetaQueue<u64, S>,
     slow: &mut SlowQueue<u64>,
-    list: u64,
-    turns: u64,
+    command: QueueCommand<u64>,
+    case: Case,
 ) {
-    let mut left = list;
-    for item in 1..7 {
-        let command = command_of(left, item);
-        left /= 3;
-        let case = (ring.capacity(), list, turns, item);
-        let reply = run_slow_command(slow, command);
-        let found = ring.run_command(command);
-        findings.expect_same((case, found), (case, reply), "the reply of a case");
-        check_same(findings, &*ring, &*slow, case);
-    }
+    let wanted = (case, command, slow.run_command(command));
+    let found = (case, command, ring.run_command(command));
+    findings.expect_same(found, wanted, "the reply of a case");
 }
 
-/// As [`check_list`]. The empty ring is first turned by `turns` pushes and pops.
-fn check_agree<S: Table<u64>>(
+/// Runs six commands on a ring that is turned by `turns` pushes and pops, and on the slow queue, and compares each reply and
+/// the items after it.
+fn check_list<S: Table<u64>>(
     findings: &Findings,
     mut ring: MetaQueue<u64, S>,
-    list: u64,
-    turns: u64,
+    mut slow: SlowQueue<u64>,
+    (list, turns): (u64, u64),
 ) {
     for item in 0..turns {
         let _ = ring.push(item);
         let _ = ring.pop();
     }
-    if ring.capacity() <= 8 {
-        let mut slow = SlowQueue::new(ring.capacity());
-        check_list(findings, &mut ring, &mut slow, list, turns);
-    } else {
-        findings.miss("a short ring");
+    let mut left = list;
+    for item in 1..7 {
+        let case = (list, turns, item);
+        check_command(findings, &mut ring, &mut slow, command_of(left, item), case);
+        left /= 3;
+        for read in READS {
+            check_command(findings, &mut ring, &mut slow, *read, case);
+        }
     }
 }
 
@@ -85,10 +69,69 @@ fn ring_and_slow_queue_agree() -> Result<(), Fail> {
     let findings = Findings::new();
     for list in 0..LISTS {
         for turns in 0..4 {
-            check_agree(&findings, FixedSizeQueue::<u64, 0>::new(), list, turns);
-            check_agree(&findings, FixedSizeQueue::<u64, 1>::new(), list, turns);
-            check_agree(&findings, FixedSizeQueue::<u64, 2>::new(), list, turns);
-            check_agree(&findings, FixedSizeQueue::<u64, 3>::new(), list, turns);
+            let case = (list, turns);
+            check_list(
+                &findings,
+                FixedSizeQueue::<u64, 0>::new(),
+                SlowQueue::new(0),
+                case,
+            );
+            check_list(
+                &findings,
+                FixedSizeQueue::<u64, 1>::new(),
+                SlowQueue::new(1),
+                case,
+            );
+            check_list(
+                &findings,
+                FixedSizeQueue::<u64, 2>::new(),
+                SlowQueue::new(2),
+                case,
+            );
+            check_list(
+                &findings,
+                FixedSizeQueue::<u64, 3>::new(),
+                SlowQueue::new(3),
+                case,
+            );
+        }
+    }
+    findings.verdict()
+}
+
+/// Draws a command of a queue whose capacity is at most 8.
+fn random_command(numbers: &mut Numbers) -> QueueCommand<u64> {
+    let number = numbers.next();
+    match numbers.next() % 16 {
+        0..5 => Push(number as u64),
+        5..7 => Over(number as u64),
+        7..10 => Pop,
+        10 => Peek,
+        11 => Set(number as u64),
+        12 => Len,
+        13 => Full,
+        14 if number % 8 == 0 => Clear,
+        _ => At(number % 9),
+    }
+}
+
+#[test]
+fn random_commands(rt: HostRuntime) -> Result<(), Fail> {
+    let findings = Findings::new();
+    for capacity in 0..9 {
+        let mut slow = SlowQueue::new(capacity);
+        let mut numbers = Numbers::new(capacity as u64);
+        match Queue::<u64>::new(rt.alloc(), capacity) {
+            Ok(mut ring) => walk(
+                &findings,
+                &mut ring,
+                &mut slow,
+                &mut numbers,
+                2000,
+                "a walk",
+                |_: &SlowQueue<u64>, numbers: &mut Numbers| random_command(numbers),
+            ),
+            Err(AllocError) => findings.miss("there is memory"),
         }
     }
     findings.verdict()

@@ -1,295 +1,258 @@
-//! Lists of commands, run on queues, vectors, slot tables and flat maps of every kind.
-use bumpalo::Bump;
-use ix_cells::{PolymorphicVec, RelocatableContainer, StaticVec, Table, UninitVec, Vector};
+//! Lists of commands, run on containers of every kind: which replies come, and in which order.
+use ix_cells::{PolymorphicVec, RelocatableContainer, StaticVec, UninitVec};
 use ix_maps::{
-    FixedSizeFlatMap, FixedSizeQueue, FixedSizeSlotTable, FlatMap, Link, MetaFlatMap, MetaQueue,
-    MetaSlotTable, Pair, Queue, SlotTable, UninitFlatMap, UninitQueue, UninitSlotTable,
+    FixedSizeFlatMap, FixedSizeQueue, FixedSizeSlotMap, FixedSizeSlotTable, FlatMap, Queue,
+    SlotMapKey, SlotTable,
 };
 use ix_run::run::ReplyError::{InsertWouldExceedCapacity, IsFull, KeyAlreadyExists, OutOfBounds};
 use ix_run::run::{
-    FlatCommand, QueueCommand, Reply, TableCommand, VecCommand, run_flat, run_queue, run_table,
-    run_vec,
+    FlatCommand, QueueCommand, Reply, Runs, SlotCommand, TableCommand, TextCommand, VecCommand,
+    run_all, run_flat, run_queue, run_slot, run_table, run_text, run_vec,
 };
+use ix_string::StaticString;
 use std::alloc::{AllocError, Global};
 use std::fmt::Debug;
 use std::test::Fail;
 use test_support::Findings;
 
-/// Notes each reply that is not the expected one.
-pub(crate) fn expect_replies<K: Copy + PartialEq + Debug, X: Copy + PartialEq + Debug>(
+/// Runs the commands of the rows, all in one list, and notes the first reply that is not the one of its row.
+pub fn check_run<C: Copy, Y: Copy + PartialEq + Debug, R: Runs<C, Reply = Y>>(
     findings: &Findings,
-    found: Result<Vec<Reply<K, X>>, AllocError>,
-    expected: &[Reply<K, X>],
+    alloc: Global,
+    container: &mut R,
+    rows: &[(C, Y)],
     kind: &str,
 ) {
-    let Ok(replies) = found else {
-        return findings.expect(false, kind);
+    let mut commands = Vec::new(alloc);
+    for (command, _) in rows {
+        findings.expect(commands.push(*command).is_ok(), kind);
+    }
+    let Ok(replies) = run_all(alloc, container, commands.as_slice()) else {
+        return findings.miss(kind);
     };
-    findings.expect_same(replies.len(), expected.len(), kind);
-    for (row, reply) in expected.iter().enumerate() {
-        findings.expect_same_at(replies.get(row).copied(), Some(*reply), row, kind);
+    findings.expect_same(replies.len(), rows.len(), kind);
+    for (row, ((_, wanted), found)) in rows.iter().zip(replies.iter()).enumerate() {
+        findings.expect_same_at(*found, *wanted, row, kind);
     }
 }
 
-/// Commands of a queue of capacity 1.
-const QUEUE_COMMANDS: &[QueueCommand<u64>] = &[
-    QueueCommand::Push(123),
-    QueueCommand::Push(5),
-    QueueCommand::Over(456),
-    QueueCommand::Pop,
-    QueueCommand::Pop,
+/// On a queue of capacity 1.
+const QUEUE_ROWS: &[(QueueCommand<u64>, Reply<usize, u64>)] = &[
+    (QueueCommand::Push(123), Reply::Bool(true)),
+    (QueueCommand::Push(5), Reply::Bool(false)),
+    (QueueCommand::Over(456), Reply::Value(123)),
+    (QueueCommand::Pop, Reply::Value(456)),
+    (QueueCommand::Pop, Reply::None),
 ];
-
-const QUEUE_REPLIES: &[Reply<usize, u64>] = &[
-    Reply::Bool(true),
-    Reply::Bool(false),
-    Reply::Value(123),
-    Reply::Value(456),
-    Reply::None,
-];
-
-fn check_queue<S: Table<u64>>(
-    findings: &Findings,
-    alloc: Global,
-    queue: &mut MetaQueue<u64, S>,
-    kind: &str,
-) {
-    let found = run_queue(alloc, queue, QUEUE_COMMANDS);
-    expect_replies(findings, found, QUEUE_REPLIES, kind);
-    findings.expect(queue.is_empty(), kind);
-    expect_replies(findings, run_queue(alloc, queue, &[]), &[], kind);
-    let many = run_queue(alloc, queue, &[QueueCommand::Len; 200]);
-    expect_replies(findings, many, &[Reply::Number(0); 200], kind);
-}
 
 #[test]
 fn queues(rt: HostRuntime) -> Result<(), Fail> {
     let findings = Findings::new();
     let alloc = rt.alloc();
     let mut fixed = FixedSizeQueue::<u64, 1>::new();
-    check_queue(&findings, alloc, &mut fixed, "fixed queue");
+    check_run(&findings, alloc, &mut fixed, QUEUE_ROWS, "fixed queue");
+    check_run(&findings, alloc, &mut fixed, &[], "no command");
+    let many = [(QueueCommand::Len, Reply::Number(0)); 200];
+    check_run(&findings, alloc, &mut fixed, &many, "200 commands");
     let mut allocated = Queue::<u64>::new(alloc, 1).expect(&rt, "an allocated queue");
-    check_queue(&findings, alloc, &mut allocated, "allocated queue");
-    let bump = Bump::new(alloc);
-    let uninit = UninitQueue::<u64>::new_uninit(1);
-    let mut queue = uninit.init(&bump).expect(&rt, "a queue in an arena");
-    check_queue(&findings, alloc, &mut queue, "relocatable queue");
+    check_run(
+        &findings,
+        alloc,
+        &mut allocated,
+        QUEUE_ROWS,
+        "allocated queue",
+    );
     findings.verdict()
 }
 
-/// Commands of a vector of capacity 3.
-const VEC_COMMANDS: &[VecCommand<'static, u64>] = &[
-    VecCommand::Extend(&[1, 2]),
-    VecCommand::Insert(9, 7),
-    VecCommand::Resize(4, 0),
-    VecCommand::Resize(3, 5),
-    VecCommand::At(2),
-    VecCommand::Push(8),
-    VecCommand::Extend(&[8]),
-    VecCommand::Full,
-    VecCommand::Truncate(9),
-    VecCommand::Remove(0),
-    VecCommand::Remove(2),
-    VecCommand::Set(1, 6),
-    VecCommand::Set(2, 6),
-    VecCommand::Insert(0, 4),
-    VecCommand::Len,
-    VecCommand::Capacity,
-    VecCommand::Pop,
-    VecCommand::At(1),
-    VecCommand::At(2),
-    VecCommand::Clear,
-    VecCommand::Pop,
-    VecCommand::Empty,
+/// On a vector of capacity 3.
+const VEC_ROWS: &[(VecCommand<'static, u64>, Reply<usize, u64>)] = &[
+    (VecCommand::Extend(&[1, 2]), Reply::Done),
+    (VecCommand::Insert(9, 7), Reply::Error(OutOfBounds)),
+    (
+        VecCommand::Resize(4, 0),
+        Reply::Error(InsertWouldExceedCapacity),
+    ),
+    (VecCommand::Resize(3, 5), Reply::Done),
+    (VecCommand::At(2), Reply::Value(5)),
+    (VecCommand::Push(8), Reply::Error(InsertWouldExceedCapacity)),
+    (
+        VecCommand::Extend(&[8]),
+        Reply::Error(InsertWouldExceedCapacity),
+    ),
+    (VecCommand::Full, Reply::Bool(true)),
+    (VecCommand::Truncate(9), Reply::Done),
+    (VecCommand::Remove(0), Reply::Value(1)),
+    (VecCommand::Remove(2), Reply::None),
+    (VecCommand::Set(1, 6), Reply::Bool(true)),
+    (VecCommand::Set(2, 6), Reply::Bool(false)),
+    (VecCommand::Insert(0, 4), Reply::Done),
+    (VecCommand::Len, Reply::Number(3)),
+    (VecCommand::Capacity, Reply::Number(3)),
+    (VecCommand::Pop, Reply::Value(6)),
+    (VecCommand::At(1), Reply::Value(2)),
+    (VecCommand::At(2), Reply::None),
+    (VecCommand::Clear, Reply::Done),
+    (VecCommand::Pop, Reply::None),
+    (VecCommand::Empty, Reply::Bool(true)),
 ];
-
-const VEC_REPLIES: &[Reply<usize, u64>] = &[
-    Reply::Done,
-    Reply::Error(OutOfBounds),
-    Reply::Error(InsertWouldExceedCapacity),
-    Reply::Done,
-    Reply::Value(5),
-    Reply::Error(InsertWouldExceedCapacity),
-    Reply::Error(InsertWouldExceedCapacity),
-    Reply::Bool(true),
-    Reply::Done,
-    Reply::Value(1),
-    Reply::None,
-    Reply::Bool(true),
-    Reply::Bool(false),
-    Reply::Done,
-    Reply::Number(3),
-    Reply::Number(3),
-    Reply::Value(6),
-    Reply::Value(2),
-    Reply::None,
-    Reply::Done,
-    Reply::None,
-    Reply::Bool(true),
-];
-
-fn check_vec<V: Vector<u64>>(findings: &Findings, alloc: Global, vector: &mut V, kind: &str) {
-    let found = run_vec(alloc, vector, VEC_COMMANDS);
-    expect_replies(findings, found, VEC_REPLIES, kind);
-}
 
 #[test]
 fn vectors(rt: HostRuntime) -> Result<(), Fail> {
     let findings = Findings::new();
     let alloc = rt.alloc();
-    check_vec(
+    let mut fixed = StaticVec::<u64, 3>::new();
+    check_run(&findings, alloc, &mut fixed, VEC_ROWS, "fixed vector");
+    let mut allocated = PolymorphicVec::<u64>::new(alloc, 3).expect(&rt, "an allocated vector");
+    check_run(
         &findings,
         alloc,
-        &mut StaticVec::<u64, 3>::new(),
-        "fixed vector",
+        &mut allocated,
+        VEC_ROWS,
+        "allocated vector",
     );
-    let mut allocated = PolymorphicVec::new(alloc, 3).expect(&rt, "an allocated vector");
-    check_vec(&findings, alloc, &mut allocated, "allocated vector");
-    let bump = Bump::new(alloc);
     let uninit = UninitVec::<u64>::new_uninit(3);
-    let mut vector = uninit.init(&bump).expect(&rt, "a vector in an arena");
-    check_vec(&findings, alloc, &mut vector, "relocatable vector");
+    let mut relocatable = uninit.init(alloc).expect(&rt, "a relocatable vector");
+    check_run(
+        &findings,
+        alloc,
+        &mut relocatable,
+        VEC_ROWS,
+        "relocatable vector",
+    );
     findings.verdict()
 }
 
-/// Commands of a slot table of capacity 3.
-const TABLE_COMMANDS: &[TableCommand<u64>] = &[
-    TableCommand::Insert(10),
-    TableCommand::Insert(20),
-    TableCommand::Remove(0),
-    TableCommand::Next,
-    TableCommand::From(0),
-    TableCommand::Insert(30),
-    TableCommand::InsertAt(2, 40),
-    TableCommand::Insert(50),
-    TableCommand::InsertAt(3, 50),
-    TableCommand::Full,
-    TableCommand::From(2),
-    TableCommand::From(3),
-    TableCommand::Set(1, 21),
-    TableCommand::Get(1),
-    TableCommand::Remove(1),
-    TableCommand::Remove(1),
-    TableCommand::Set(1, 22),
-    TableCommand::Get(1),
-    TableCommand::Contains(1),
-    TableCommand::Contains(2),
-    TableCommand::Len,
-    TableCommand::Capacity,
-    TableCommand::Empty,
+/// On a slot table of capacity 3.
+const TABLE_ROWS: &[(TableCommand<u64>, Reply<usize, u64>)] = &[
+    (TableCommand::Insert(10), Reply::Key(0)),
+    (TableCommand::Insert(20), Reply::Key(1)),
+    (TableCommand::Remove(0), Reply::Value(10)),
+    (TableCommand::From(0), Reply::Entry(1, 20)),
+    (TableCommand::InsertAt(2, 40), Reply::Bool(true)),
+    (TableCommand::From(2), Reply::Entry(2, 40)),
+    (TableCommand::From(3), Reply::None),
+    (TableCommand::Set(1, 21), Reply::Bool(true)),
+    (TableCommand::Get(1), Reply::Value(21)),
+    (TableCommand::Set(0, 22), Reply::Bool(false)),
+    (TableCommand::Get(0), Reply::None),
+    (TableCommand::Len, Reply::Number(2)),
 ];
-
-const TABLE_REPLIES: &[Reply<usize, u64>] = &[
-    Reply::Key(0),
-    Reply::Key(1),
-    Reply::Value(10),
-    Reply::Key(0),
-    Reply::Entry(1, 20),
-    Reply::Key(0),
-    Reply::Bool(true),
-    Reply::None,
-    Reply::Bool(false),
-    Reply::Bool(true),
-    Reply::Entry(2, 40),
-    Reply::None,
-    Reply::Bool(true),
-    Reply::Value(21),
-    Reply::Value(21),
-    Reply::None,
-    Reply::Bool(false),
-    Reply::None,
-    Reply::Bool(false),
-    Reply::Bool(true),
-    Reply::Number(2),
-    Reply::Number(3),
-    Reply::Bool(false),
-];
-
-fn check_slots<S: Table<u64>, L: Table<Link>>(
-    findings: &Findings,
-    alloc: Global,
-    slots: &mut MetaSlotTable<u64, S, L>,
-    kind: &str,
-) {
-    let found = run_table(alloc, slots, TABLE_COMMANDS);
-    expect_replies(findings, found, TABLE_REPLIES, kind);
-}
 
 #[test]
 fn slot_tables(rt: HostRuntime) -> Result<(), Fail> {
     let findings = Findings::new();
     let alloc = rt.alloc();
     let mut fixed = FixedSizeSlotTable::<u64, 3>::new();
-    check_slots(&findings, alloc, &mut fixed, "fixed slot table");
+    check_run(&findings, alloc, &mut fixed, TABLE_ROWS, "fixed slot table");
     let mut allocated = SlotTable::<u64>::new(alloc, 3).expect(&rt, "an allocated slot table");
-    check_slots(&findings, alloc, &mut allocated, "allocated slot table");
-    let bump = Bump::new(alloc);
-    let uninit = UninitSlotTable::<u64>::new_uninit(3);
-    let mut slots = uninit.init(&bump).expect(&rt, "a slot table in an arena");
-    check_slots(&findings, alloc, &mut slots, "relocatable slot table");
+    check_run(
+        &findings,
+        alloc,
+        &mut allocated,
+        TABLE_ROWS,
+        "allocated slot table",
+    );
     findings.verdict()
 }
 
-/// Commands of a flat map of capacity 1.
-const FLAT_COMMANDS: &[FlatCommand<u64, u64>] = &[
-    FlatCommand::Insert(1, 2),
-    FlatCommand::Insert(1, 3),
-    FlatCommand::Insert(2, 4),
-    FlatCommand::Get(1),
-    FlatCommand::Key(0),
-    FlatCommand::Key(1),
-    FlatCommand::Full,
-    FlatCommand::Set(1, 5),
-    FlatCommand::Set(2, 5),
-    FlatCommand::Contains(1),
-    FlatCommand::Contains(2),
-    FlatCommand::Remove(2),
-    FlatCommand::Remove(1),
-    FlatCommand::Get(1),
-    FlatCommand::Len,
-    FlatCommand::Empty,
+/// On a flat map of capacity 1.
+const FLAT_ROWS: &[(FlatCommand<u64, u64>, Reply<u64, u64>)] = &[
+    (FlatCommand::Insert(1, 2), Reply::Done),
+    (FlatCommand::Insert(1, 3), Reply::Error(KeyAlreadyExists)),
+    (FlatCommand::Insert(2, 4), Reply::Error(IsFull)),
+    (FlatCommand::Get(1), Reply::Value(2)),
+    (FlatCommand::Key(0), Reply::Key(1)),
+    (FlatCommand::Key(1), Reply::None),
+    (FlatCommand::Full, Reply::Bool(true)),
+    (FlatCommand::Set(1, 5), Reply::Bool(true)),
+    (FlatCommand::Set(2, 5), Reply::Bool(false)),
+    (FlatCommand::Contains(1), Reply::Bool(true)),
+    (FlatCommand::Contains(2), Reply::Bool(false)),
+    (FlatCommand::Remove(2), Reply::None),
+    (FlatCommand::Remove(1), Reply::Value(5)),
+    (FlatCommand::Get(1), Reply::None),
+    (FlatCommand::Len, Reply::Number(0)),
+    (FlatCommand::Empty, Reply::Bool(true)),
 ];
-
-const FLAT_REPLIES: &[Reply<u64, u64>] = &[
-    Reply::Done,
-    Reply::Error(KeyAlreadyExists),
-    Reply::Error(IsFull),
-    Reply::Value(2),
-    Reply::Key(1),
-    Reply::None,
-    Reply::Bool(true),
-    Reply::Bool(true),
-    Reply::Bool(false),
-    Reply::Bool(true),
-    Reply::Bool(false),
-    Reply::None,
-    Reply::Value(5),
-    Reply::None,
-    Reply::Number(0),
-    Reply::Bool(true),
-];
-
-fn check_flat<S: Table<Pair<u64, u64>>, L: Table<Link>>(
-    findings: &Findings,
-    alloc: Global,
-    map: &mut MetaFlatMap<Pair<u64, u64>, S, L>,
-    kind: &str,
-) {
-    let found = run_flat(alloc, map, FLAT_COMMANDS);
-    expect_replies(findings, found, FLAT_REPLIES, kind);
-}
 
 #[test]
 fn flat_maps(rt: HostRuntime) -> Result<(), Fail> {
     let findings = Findings::new();
     let alloc = rt.alloc();
     let mut fixed = FixedSizeFlatMap::<u64, u64, 1>::new();
-    check_flat(&findings, alloc, &mut fixed, "fixed flat map");
+    check_run(&findings, alloc, &mut fixed, FLAT_ROWS, "fixed flat map");
     let mut allocated = FlatMap::<u64, u64>::new(alloc, 1).expect(&rt, "an allocated flat map");
-    check_flat(&findings, alloc, &mut allocated, "allocated flat map");
-    let bump = Bump::new(alloc);
-    let uninit = UninitFlatMap::<u64, u64>::new_uninit(1);
-    let mut map = uninit.init(&bump).expect(&rt, "a flat map in an arena");
-    check_flat(&findings, alloc, &mut map, "relocatable flat map");
+    check_run(
+        &findings,
+        alloc,
+        &mut allocated,
+        FLAT_ROWS,
+        "allocated flat map",
+    );
+    findings.verdict()
+}
+
+/// Notes `name` unless the replies are these two.
+fn expect_two<Y: Copy + PartialEq + Debug>(
+    findings: &Findings,
+    found: Result<Vec<Y>, AllocError>,
+    wanted: [Y; 2],
+    name: &str,
+) {
+    match found {
+        Ok(replies) => findings.expect_same(replies.as_slice(), wanted.as_slice(), name),
+        Err(AllocError) => findings.miss(name),
+    }
+}
+
+/// Each function that runs a list of commands of one container.
+#[test]
+fn named_runs(rt: HostRuntime) -> Result<(), Fail> {
+    let findings = Findings::new();
+    let alloc = rt.alloc();
+    let commands = [QueueCommand::Push(7), QueueCommand::Pop];
+    let found = run_queue(alloc, &mut FixedSizeQueue::<u64, 1>::new(), &commands);
+    expect_two(
+        &findings,
+        found,
+        [Reply::Bool(true), Reply::Value(7)],
+        "run_queue",
+    );
+    let commands = [VecCommand::Push(7), VecCommand::Pop];
+    let found = run_vec(alloc, &mut StaticVec::<u64, 1>::new(), &commands);
+    expect_two(&findings, found, [Reply::Done, Reply::Value(7)], "run_vec");
+    let commands = [TextCommand::Push(97), TextCommand::Pop];
+    let found = run_text(alloc, &mut StaticString::<1>::new(), &commands);
+    expect_two(
+        &findings,
+        found,
+        [Reply::Done, Reply::Value(97)],
+        "run_text",
+    );
+    let commands = [TableCommand::Insert(7), TableCommand::Remove(0)];
+    let found = run_table(alloc, &mut FixedSizeSlotTable::<u64, 1>::new(), &commands);
+    expect_two(
+        &findings,
+        found,
+        [Reply::Key(0), Reply::Value(7)],
+        "run_table",
+    );
+    let key = SlotMapKey::new(0, 0);
+    let commands = [SlotCommand::Insert(7), SlotCommand::Remove(key)];
+    let found = run_slot(alloc, &mut FixedSizeSlotMap::<u64, 1>::new(), &commands);
+    expect_two(
+        &findings,
+        found,
+        [Reply::Key(key), Reply::Value(7)],
+        "run_slot",
+    );
+    let commands = [FlatCommand::Insert(1, 7), FlatCommand::Remove(1)];
+    let found = run_flat(
+        alloc,
+        &mut FixedSizeFlatMap::<u64, u64, 1>::new(),
+        &commands,
+    );
+    expect_two(&findings, found, [Reply::Done, Reply::Value(7)], "run_flat");
     findings.verdict()
 }

@@ -2,11 +2,10 @@
 ghost use Rattle.std.specs.Prelude.{◌≡◌, ◌≤◌, length, nat_lt};
 ghost use Rattle.ix_cells.specs.Bounded.{has_room, bounded_new, bounded_push};
 ghost use Rattle.ix_maps.specs.QueueSteps.{queue_overflow, queue_overflow_item, queue_front, queue_pop, queue_set_front};
-ghost use Rattle.ix_commands.specs.QueueRun.{queue_reply, queue_after};
 ghost use Rattle.ix_commands.specs.Replies.{option_reply};
 
 use arrayvec::ArrayVec;
-use ix_run::run::{QueueCommand, Reply};
+use ix_commands::{QueueCommand, Reply, Runs};
 use std::marker::Model;
 
 /// A queue whose items are in order in a vector: removing the oldest one moves all others. Its capacity is at most 8.
@@ -45,22 +44,8 @@ impl<T: Default + Drop> SlowQueue<T> {
         }
     }
 
-    /// Returns the number of items.
-    pub fn len(&self) -> usize
-        ensures { result ≡ length self.now.items }
-    {
-        self.items.len()
-    }
-
-    /// Returns the items, the oldest first.
-    pub fn as_slice(&self) -> &[T]
-        ensures { result.now ≡ self.now.items }
-    {
-        self.items.as_slice()
-    }
-
     /// Appends `item` and returns `true`, or drops it and returns `false` if the queue is full.
-    pub fn push(&mut self, item: T) -> bool
+    fn push(&mut self, item: T) -> bool
         ensures value { result ≡ has_room self.old }
         ensures queue { self.new ≡ bounded_push self.old item }
     {
@@ -72,7 +57,7 @@ impl<T: Default + Drop> SlowQueue<T> {
     }
 
     /// Appends `item`. If the queue was full, removes the oldest item and returns it.
-    pub fn push_with_overflow(&mut self, item: T) -> Option<T>
+    fn push_with_overflow(&mut self, item: T) -> Option<T>
         ensures value { result ≡ queue_overflow_item self.old item }
         ensures queue { self.new ≡ queue_overflow self.old item }
     {
@@ -89,7 +74,7 @@ impl<T: Default + Drop> SlowQueue<T> {
     }
 
     /// Removes the oldest item and returns it, or `None` if the queue is empty.
-    pub fn pop(&mut self) -> Option<T>
+    fn pop(&mut self) -> Option<T>
         ensures value { result ≡ queue_front self.old }
         ensures queue { self.new ≡ queue_pop self.old }
     {
@@ -97,7 +82,7 @@ impl<T: Default + Drop> SlowQueue<T> {
     }
 
     /// Overwrites the oldest item and returns `true`, or returns `false` if the queue is empty.
-    pub fn overwrite_front(&mut self, item: T) -> bool
+    fn overwrite_front(&mut self, item: T) -> bool
         ensures value { result ≡ nat_lt 0 (length self.old.items) }
         ensures queue { self.new ≡ queue_set_front self.old item }
     {
@@ -119,28 +104,36 @@ fn reply_of_option<T: Copy>(item: Option<T>) -> Reply<usize, T>
     }
 }
 
-/// Runs one command on the slow queue, and returns the reply to it.
-pub fn run_slow_command<T: Default + Copy>(
-    queue: &mut SlowQueue<T>,
-    command: QueueCommand<T>,
-) -> Reply<usize, T>
-    ensures value { result ≡ queue_reply queue.old command }
-    ensures queue { queue.new ≡ queue_after queue.old command }
-{
-    match command {
-        QueueCommand::Push(item) => Reply::Bool(queue.push(item)),
-        QueueCommand::Over(item) => reply_of_option(queue.push_with_overflow(item)),
-        QueueCommand::Pop => reply_of_option(queue.pop()),
-        QueueCommand::Peek => reply_of_option(queue.items.as_slice().first().copied()),
-        QueueCommand::Set(item) => Reply::Bool(queue.overwrite_front(item)),
-        QueueCommand::At(index) => reply_of_option(queue.items.as_slice().get(index).copied()),
-        QueueCommand::Clear => {
-            queue.items.clear();
-            Reply::Done
+impl<T: Default + Copy> Runs<QueueCommand<T>> for SlowQueue<T> {
+    ghost use Rattle.ix_cells.specs.Bounded.{Bounded};
+    ghost use Rattle.ix_commands.specs.QueueRun.{queue_reply, queue_after};
+
+    type Reply = Reply<usize, T>;
+
+    ghost Model = { Bounded T };
+
+    ghost model = { λ queue. queue };
+
+    ghost reply = { queue_reply };
+
+    ghost after = { queue_after };
+
+    fn run_command(&mut self, command: QueueCommand<T>) -> Reply<usize, T> {
+        match command {
+            QueueCommand::Push(item) => Reply::Bool(self.push(item)),
+            QueueCommand::Over(item) => reply_of_option(self.push_with_overflow(item)),
+            QueueCommand::Pop => reply_of_option(self.pop()),
+            QueueCommand::Peek => reply_of_option(self.items.as_slice().first().copied()),
+            QueueCommand::Set(item) => Reply::Bool(self.overwrite_front(item)),
+            QueueCommand::At(index) => reply_of_option(self.items.as_slice().get(index).copied()),
+            QueueCommand::Clear => {
+                self.items.clear();
+                Reply::Done
+            }
+            QueueCommand::Len => Reply::Number(self.items.len()),
+            QueueCommand::Capacity => Reply::Number(self.capacity),
+            QueueCommand::Empty => Reply::Bool(self.items.is_empty()),
+            QueueCommand::Full => Reply::Bool(self.items.len() == self.capacity),
         }
-        QueueCommand::Len => Reply::Number(queue.items.len()),
-        QueueCommand::Capacity => Reply::Number(queue.capacity),
-        QueueCommand::Empty => Reply::Bool(queue.items.is_empty()),
-        QueueCommand::Full => Reply::Bool(queue.items.len() == queue.capacity),
     }
 }

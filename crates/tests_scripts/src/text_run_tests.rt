@@ -1,127 +1,86 @@
 //! Runs of commands on strings: each command, at each kind of string.
-use bumpalo::Bump;
+use crate::run_tests::check_run;
 use ix_cells::RelocatableContainer;
-use ix_run::run::{Reply, ReplyError, TextCommand, run_text};
+use ix_run::run::ReplyError::{IndexPastEnd, InsertWouldExceedCapacity, InvalidCharacter};
+use ix_run::run::TextCommand::{
+    Append, At, Capacity, Clear, Drop as DropByte, Empty, Find, Full, Insert, InsertBytes, Len,
+    Pop, Push, Remove, RemoveRange, Rfind, StripPrefix, StripSuffix, Truncate,
+};
+use ix_run::run::{Reply, TextCommand};
 use ix_string::{PolymorphicString, StaticString, String, UninitString};
-use std::alloc::{Allocator, Global};
+use std::alloc::{AllocError, Global};
 use std::test::Fail;
 use test_support::Findings;
 
 /// A command, and the reply to it.
-type Step<'a> = (TextCommand<'a>, Reply<usize, u8>);
+type Row<'a> = (TextCommand<'a>, Reply<usize, u8>);
 
 /// What a string without room replies.
-const OF_ZERO: &[Step] = &[
-    (
-        TextCommand::Push(97),
-        Reply::Error(ReplyError::InsertWouldExceedCapacity),
-    ),
-    (TextCommand::Append(&[]), Reply::Done),
-    (TextCommand::Pop, Reply::None),
-    (TextCommand::Full, Reply::Bool(true)),
-    (TextCommand::Empty, Reply::Bool(true)),
+const OF_ZERO: &[Row] = &[
+    (Push(97), Reply::Error(InsertWouldExceedCapacity)),
+    (Append(&[]), Reply::Done),
+    (Pop, Reply::None),
+    (Full, Reply::Bool(true)),
+    (Empty, Reply::Bool(true)),
 ];
 
 /// What a string with room for three bytes, at first empty, replies.
-const OF_THREE: &[Step] = &[
-    (TextCommand::Append(&[97, 98]), Reply::Done),
-    (
-        TextCommand::Push(200),
-        Reply::Error(ReplyError::InvalidCharacter),
-    ),
-    (TextCommand::Push(99), Reply::Done),
-    (
-        TextCommand::Push(100),
-        Reply::Error(ReplyError::InsertWouldExceedCapacity),
-    ),
-    (TextCommand::Rfind(&[]), Reply::Key(3)),
+const OF_THREE: &[Row] = &[
+    (Append(&[97, 98]), Reply::Done),
+    (Push(200), Reply::Error(InvalidCharacter)),
+    (Push(99), Reply::Done),
+    (Push(100), Reply::Error(InsertWouldExceedCapacity)),
+    (Rfind(&[]), Reply::Key(3)),
 ];
 
 /// What a string with room for five bytes, at first empty, replies.
-const OF_FIVE: &[Step] = &[
-    (
-        TextCommand::Insert(1, 97),
-        Reply::Error(ReplyError::IndexPastEnd),
-    ),
-    (TextCommand::Append(&[]), Reply::Done),
-    (TextCommand::Append(&[97, 9, 98]), Reply::Done),
-    (TextCommand::Drop(97), Reply::Done),
-    (TextCommand::Len, Reply::Number(2)),
+const OF_FIVE: &[Row] = &[
+    (Insert(1, 97), Reply::Error(IndexPastEnd)),
+    (Append(&[]), Reply::Done),
+    (Append(&[97, 9, 98]), Reply::Done),
+    (DropByte(97), Reply::Done),
+    (Len, Reply::Number(2)),
 ];
 
 /// Each other command, after the same string was cleared.
-const EACH: &[Step] = &[
-    (TextCommand::Clear, Reply::Done),
-    (TextCommand::InsertBytes(0, &[97, 98]), Reply::Done),
-    (TextCommand::Insert(2, 99), Reply::Done),
+const EACH: &[Row] = &[
+    (Clear, Reply::Done),
+    (InsertBytes(0, &[97, 98]), Reply::Done),
+    (Insert(2, 99), Reply::Done),
+    (InsertBytes(4, &[]), Reply::Error(IndexPastEnd)),
+    (Insert(usize::MAX, 97), Reply::Error(IndexPastEnd)),
+    (InsertBytes(1, &[0]), Reply::Error(InvalidCharacter)),
     (
-        TextCommand::InsertBytes(4, &[]),
-        Reply::Error(ReplyError::IndexPastEnd),
+        InsertBytes(3, &[97, 98, 0]),
+        Reply::Error(InsertWouldExceedCapacity),
     ),
-    (
-        TextCommand::Insert(usize::MAX, 97),
-        Reply::Error(ReplyError::IndexPastEnd),
-    ),
-    (
-        TextCommand::InsertBytes(1, &[0]),
-        Reply::Error(ReplyError::InvalidCharacter),
-    ),
-    (
-        TextCommand::InsertBytes(3, &[97, 98, 0]),
-        Reply::Error(ReplyError::InsertWouldExceedCapacity),
-    ),
-    (TextCommand::InsertBytes(3, &[97, 98]), Reply::Done),
-    (TextCommand::Full, Reply::Bool(true)),
-    (TextCommand::Capacity, Reply::Number(5)),
-    (TextCommand::Find(&[97, 98]), Reply::Key(0)),
-    (TextCommand::Rfind(&[97, 98]), Reply::Key(3)),
-    (TextCommand::Find(&[99, 99]), Reply::None),
-    (TextCommand::Rfind(&[]), Reply::Key(5)),
-    (TextCommand::At(2), Reply::Value(99)),
-    (TextCommand::At(5), Reply::None),
-    (TextCommand::RemoveRange(1, 1), Reply::Bool(true)),
-    (TextCommand::RemoveRange(3, 2), Reply::Bool(false)),
-    (TextCommand::RemoveRange(usize::MAX, 1), Reply::Bool(false)),
-    (TextCommand::StripPrefix(&[98]), Reply::Bool(false)),
-    (TextCommand::StripPrefix(&[97, 99]), Reply::Bool(true)),
-    (TextCommand::StripSuffix(&[97]), Reply::Bool(false)),
-    (TextCommand::StripSuffix(&[98]), Reply::Bool(true)),
-    (TextCommand::Remove(1), Reply::None),
-    (TextCommand::Remove(0), Reply::Value(97)),
-    (TextCommand::Pop, Reply::None),
-    (TextCommand::Empty, Reply::Bool(true)),
-    (TextCommand::Append(&[97, 98, 97]), Reply::Done),
-    (TextCommand::Pop, Reply::Value(97)),
-    (TextCommand::Truncate(2), Reply::Done),
-    (TextCommand::Truncate(1), Reply::Done),
+    (InsertBytes(3, &[97, 98]), Reply::Done),
+    (Full, Reply::Bool(true)),
+    (Capacity, Reply::Number(5)),
+    (Find(&[97, 98]), Reply::Key(0)),
+    (Rfind(&[97, 98]), Reply::Key(3)),
+    (Find(&[99, 99]), Reply::None),
+    (Rfind(&[]), Reply::Key(5)),
+    (At(2), Reply::Value(99)),
+    (At(5), Reply::None),
+    (RemoveRange(1, 1), Reply::Bool(true)),
+    (RemoveRange(3, 2), Reply::Bool(false)),
+    (RemoveRange(usize::MAX, 1), Reply::Bool(false)),
+    (StripPrefix(&[98]), Reply::Bool(false)),
+    (StripPrefix(&[97, 99]), Reply::Bool(true)),
+    (StripSuffix(&[97]), Reply::Bool(false)),
+    (StripSuffix(&[98]), Reply::Bool(true)),
+    (Remove(1), Reply::None),
+    (Remove(0), Reply::Value(97)),
+    (Pop, Reply::None),
+    (Empty, Reply::Bool(true)),
+    (Append(&[97, 98, 97]), Reply::Done),
+    (Pop, Reply::Value(97)),
+    (Truncate(2), Reply::Done),
+    (Truncate(1), Reply::Done),
 ];
 
-/// Runs the commands of the table, and compares each reply, and the text that is left.
-fn check_run<S: String>(
-    findings: &Findings,
-    alloc: Global,
-    string: &mut S,
-    table: (&[Step], &str),
-    place: &str,
-) {
-    let (steps, text) = table;
-    let mut commands = Vec::new(alloc);
-    for (command, _) in steps {
-        findings.expect(commands.push(*command).is_ok(), place);
-    }
-    match run_text(alloc, string, commands.as_slice()) {
-        Ok(replies) => {
-            findings.expect_same(replies.len(), steps.len(), place);
-            for (row, ((_, wanted), found)) in steps.iter().zip(replies.iter()).enumerate() {
-                findings.expect_same_at(*found, *wanted, row, place);
-            }
-        }
-        Err(_) => findings.miss(place),
-    }
-    findings.expect_same(string.as_str(), text, place);
-}
-
-/// Runs the tables for strings of that capacity, if there is memory for the string.
+/// Runs the rows for strings of that capacity, if there is memory for the string, and compares the text that is left.
 fn check_made<S: String + Drop, E: Drop>(
     findings: &Findings,
     alloc: Global,
@@ -129,48 +88,46 @@ fn check_made<S: String + Drop, E: Drop>(
     place: &str,
 ) {
     let Ok(mut string) = made else {
-        findings.miss(place);
-        return;
+        return findings.miss(place);
     };
-    check_run(findings, alloc, &mut string, (&[], ""), place);
-    if string.capacity() == 0 {
-        return check_run(findings, alloc, &mut string, (OF_ZERO, ""), place);
+    let tables: &[(&[Row], &str)] = match string.capacity() {
+        0 => &[(OF_ZERO, "")],
+        3 => &[(OF_THREE, "abc")],
+        _ => &[(OF_FIVE, "\tb"), (EACH, "a")],
+    };
+    for (rows, text) in tables {
+        check_run(findings, alloc, &mut string, *rows, place);
+        findings.expect_same(string.as_str(), *text, place);
     }
-    if string.capacity() == 3 {
-        return check_run(findings, alloc, &mut string, (OF_THREE, "abc"), place);
-    }
-    check_run(findings, alloc, &mut string, (OF_FIVE, "\tb"), place);
-    check_run(findings, alloc, &mut string, (EACH, "a"), place);
-}
-
-/// Runs the tables for a string of each kind in `memory`.
-fn check_kinds<A: Allocator + Copy>(
-    findings: &Findings,
-    alloc: Global,
-    memory: A,
-    capacity: usize,
-    place: &str,
-) {
-    let polymorphic = PolymorphicString::new(memory, capacity);
-    check_made(findings, alloc, polymorphic, place);
-    let relocatable = UninitString::new_uninit(capacity).init(memory);
-    check_made(findings, alloc, relocatable, place);
 }
 
 #[test]
 fn strings_of_each_kind_run_commands(rt: HostRuntime) -> Result<(), Fail> {
     let findings = Findings::new();
     let alloc = rt.alloc();
-    let zero = Ok::<_, ReplyError>(StaticString::<0>::new());
-    check_made(&findings, alloc, zero, "fixed");
-    let three = Ok::<_, ReplyError>(StaticString::<3>::new());
-    check_made(&findings, alloc, three, "fixed");
-    let five = Ok::<_, ReplyError>(StaticString::<5>::new());
-    check_made(&findings, alloc, five, "fixed");
-    let arena = Bump::new(alloc);
+    check_made(
+        &findings,
+        alloc,
+        Ok::<_, AllocError>(StaticString::<0>::new()),
+        "fixed",
+    );
+    check_made(
+        &findings,
+        alloc,
+        Ok::<_, AllocError>(StaticString::<3>::new()),
+        "fixed",
+    );
+    check_made(
+        &findings,
+        alloc,
+        Ok::<_, AllocError>(StaticString::<5>::new()),
+        "fixed",
+    );
     for capacity in [0, 3, 5] {
-        check_kinds(&findings, alloc, alloc, capacity, "the machine's memory");
-        check_kinds(&findings, alloc, &arena, capacity, "an arena");
+        let polymorphic = PolymorphicString::new(alloc, capacity);
+        check_made(&findings, alloc, polymorphic, "polymorphic");
+        let relocatable = UninitString::new_uninit(capacity).init(alloc);
+        check_made(&findings, alloc, relocatable, "relocatable");
     }
     findings.verdict()
 }
