@@ -1,6 +1,7 @@
 //! What the crates of tests share: [`Findings`], which note what a test did not expect, [`check_rows`], which runs a table
-//! of commands and the replies to them, [`walk`], which runs random commands on two containers, items that note their drops,
-//! [`fed_by`], which tells what a value feeds to a hasher, [`check_makings`], which has heaps of a few blocks,
+//! of commands and the replies to them, [`walk`], which runs random commands on two containers, [`SlowTable`], of which slow
+//! containers are made, items that note their drops, [`hash_of`], [`order_of`] and [`check_text`], which know a value by a
+//! trait alone, [`fed_by`], which tells what a value feeds to a hasher, [`check_makings`], which has heaps of a few blocks,
 //! [`check_drawn_sizes`], which has ample memory, and [`devices`] that fail.
 //!
 //! ```text
@@ -12,6 +13,7 @@
 #![tactic(auto)]
 
 mod blocks;
+mod by_traits;
 pub mod devices;
 mod drawn_sizes;
 mod findings;
@@ -19,13 +21,22 @@ mod noted;
 mod numbers;
 mod recorder;
 mod rows;
+<<<<<<< HEAD
+=======
+mod slow_table;
+>>>>>>> rows2
 mod walks;
 
 pub use blocks::{check_makings, check_sizes};
+pub use by_traits::{check_text, hash_of, order_of};
 pub use drawn_sizes::check_drawn_sizes;
 pub use findings::Findings;
 pub use noted::{Noted, Notes, names_of};
 pub use numbers::Numbers;
 pub use recorder::fed_by;
 pub use rows::{check_rows, check_tables};
+<<<<<<< HEAD
+=======
+pub use slow_table::{SlowTable, reply_of_key, reply_of_option};
+>>>>>>> rows2
 pub use walks::walk;

@@ -1,5 +1,5 @@
 //! Each function once, by its bound where it has one.
-use crate::calls::check_calls;
+use crate::checks::check_example;
 use crate::rows::EVERY_CALL;
 use ix_cells::{InitError, RelocatableContainer, Table};
 use ix_maps::FlatMapError::{IsFull, KeyAlreadyExists};
@@ -9,15 +9,8 @@ use ix_maps::{
 };
 use std::alloc::{AllocError, Global};
 use std::fmt::{Debug, Display, InlineText};
-use std::hash::{DefaultHasher, Hash, Hasher};
 use std::test::Fail;
-use test_support::Findings;
-
-/// Checks the `Debug` text of a value.
-fn check_debug<T: Debug>(findings: &Findings, value: &T, text: &str) {
-    let found = InlineText::<80>::of(format_args!("{value:?}"));
-    findings.expect_same(found.as_str(), text, "the `Debug` text");
-}
+use test_support::{Findings, check_text, hash_of};
 
 /// Checks the `Display` text of a value.
 fn check_display<T: Display>(findings: &Findings, value: &T, text: &str) {
@@ -39,22 +32,22 @@ fn insert_two<S: Table<Pair<u64, u64>>, L: Table<Link>>(
 fn texts_of_maps(rt: HostRuntime) -> Result<(), Fail> {
     let findings = Findings::new();
     let mut fixed = FixedSizeFlatMap::<u64, u64, 3>::new();
-    check_debug(&findings, &fixed, "{}");
+    check_text(&findings, &fixed, "{}");
     insert_two(&mut fixed);
-    check_debug(&findings, &fixed, "{8080: 3, 443: 2}");
+    check_text(&findings, &fixed, "{8080: 3, 443: 2}");
     let mut keys = fixed.keys();
-    check_debug(&findings, &keys, "[8080, 443]");
+    check_text(&findings, &keys, "[8080, 443]");
     findings.expect_same(keys.next().copied(), Some(8080), "the first key");
-    check_debug(&findings, &keys, "[443]");
+    check_text(&findings, &keys, "[443]");
     let mut items = fixed.iter();
-    check_debug(&findings, &items, "[(8080, 3), (443, 2)]");
+    check_text(&findings, &items, "[(8080, 3), (443, 2)]");
     findings.expect(items.next() == Some((&8080, &3)), "the first item");
-    check_debug(&findings, &items, "[(443, 2)]");
+    check_text(&findings, &items, "[(443, 2)]");
     match FlatMap::<u64, u64>::new(rt.alloc(), 3) {
         Ok(mut map) => {
-            check_debug(&findings, &map, "{}");
+            check_text(&findings, &map, "{}");
             insert_two(&mut map);
-            check_debug(&findings, &map, "{8080: 3, 443: 2}");
+            check_text(&findings, &map, "{8080: 3, 443: 2}");
         }
         Err(AllocError) => findings.miss("there is memory"),
     }
@@ -105,29 +98,22 @@ fn loops_over_a_map(rt: HostRuntime) -> Result<(), Fail> {
 #[test]
 fn texts() -> Result<(), Fail> {
     let findings = Findings::new();
-    check_debug(&findings, &KeyAlreadyExists, "KeyAlreadyExists");
-    check_debug(&findings, &IsFull, "IsFull");
+    check_text(&findings, &KeyAlreadyExists, "KeyAlreadyExists");
+    check_text(&findings, &IsFull, "IsFull");
     check_display(
         &findings,
         &KeyAlreadyExists,
         "FlatMapError::KeyAlreadyExists",
     );
     check_display(&findings, &IsFull, "FlatMapError::IsFull");
-    check_debug(&findings, &CallbackProgression::Continue, "Continue");
-    check_debug(&findings, &CallbackProgression::Stop, "Stop");
+    check_text(&findings, &CallbackProgression::Continue, "Continue");
+    check_text(&findings, &CallbackProgression::Stop, "Stop");
     let pair = Pair {
         key: 1u64,
         value: 'a',
     };
     findings.expect_same((pair.key, pair.value), (1, 'a'), "a pair");
     findings.verdict()
-}
-
-/// Returns the hash of a value.
-fn hash_of<K: Hash>(value: &K) -> u64 {
-    let mut hasher = DefaultHasher::new();
-    value.hash(&mut hasher);
-    hasher.finish()
 }
 
 /// Checks that two values are equal to their copies and not to one another.
@@ -154,12 +140,12 @@ fn two_steps(rt: HostRuntime) -> Result<(), Fail> {
     let findings = Findings::new();
     let uninit = RelocatableFlatMap::<u64, u64, Global>::new_uninit(2);
     match InitError::new(uninit).into_uninit().init(rt.alloc()) {
-        Ok(mut map) => check_calls(&findings, &mut map, EVERY_CALL, "by the ready type"),
+        Ok(mut map) => check_example(&findings, &mut map, EVERY_CALL, "by the ready type"),
         Err(_) => findings.miss("there is memory"),
     }
     let uninit = <UninitFlatMap<u64, u64> as RelocatableContainer<Global>>::new_uninit(2);
     match uninit.init(rt.alloc()) {
-        Ok(mut map) => check_calls(&findings, &mut map, EVERY_CALL, "by the trait"),
+        Ok(mut map) => check_example(&findings, &mut map, EVERY_CALL, "by the trait"),
         Err(_) => findings.miss("there is memory"),
     }
     findings.verdict()

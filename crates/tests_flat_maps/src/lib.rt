@@ -4,9 +4,9 @@
 #![tactic(auto)]
 
 #[cfg(test)]
-mod calls;
-#[cfg(test)]
 mod caseless;
+#[cfg(test)]
+mod checks;
 #[cfg(test)]
 mod clone_tests;
 #[cfg(test)]

@@ -1,11 +1,11 @@
 //! Maps for which there is not enough memory, at each of the four allocations: nothing stays allocated.
-use ix_cells::{InitError, RelocatableContainer, Table};
+use ix_cells::{RelocatableContainer, Table};
 use ix_maps::FlatMapError::IsFull;
 use ix_maps::{FlatMap, Link, MetaFlatMap, Pair, UninitFlatMap};
 use linked_list_allocator::LocalHeap;
-use std::alloc::Global;
+use std::alloc::{AllocError, Global};
 use std::test::Fail;
-use test_support::{Findings, check_drawn_sizes, check_sizes};
+use test_support::{Findings, check_drawn_sizes, check_makings};
 
 /// Checks that an empty map has room for just `capacity` keys.
 fn check_room<S: Table<Pair<u64, u64>>, L: Table<Link>>(
@@ -20,57 +20,42 @@ fn check_room<S: Table<Pair<u64, u64>>, L: Table<Link>>(
     findings.expect_same(map.insert(capacity as u64, 0), Err(IsFull), "no more room");
 }
 
-/// Checks a making of a map of `capacity`, which succeeds if `found`. Before it `used` bytes of the heap were in use.
-fn check_made<S: Table<Pair<u64, u64>>, L: Table<Link>, E: Drop>(
+/// Checks a map whose making is refused or did not fail, and returns how many bytes of the heap are in use with it.
+fn used_with<S: Table<Pair<u64, u64>>, L: Table<Link>, E: Drop>(
     findings: &Findings,
     heap: &LocalHeap,
-    used: usize,
     made: Result<MetaFlatMap<Pair<u64, u64>, S, L>, E>,
-    (capacity, found): (usize, bool),
-) {
-    match made {
-        Ok(mut map) => {
-            findings.expect(found, "the making succeeds");
-            check_room(findings, &mut map, capacity);
-        }
-        Err(_) => findings.expect(!found, "the making fails"),
-    }
-    findings.expect_same(heap.used(), used, "bytes in use after it");
+    capacity: usize,
+) -> Option<usize> {
+    let Ok(mut map) = made else {
+        return None;
+    };
+    check_room(findings, &mut map, capacity);
+    Some(heap.used())
 }
 
-/// Checks that a refused value can be initialised from `ample`, and how many keys a small map has room for then.
-fn check_again(
+/// Checks a making in two steps, as [`used_with`] does. A refused value can be initialised from `ample`, which has enough
+/// memory.
+fn used_in_two_steps(
     findings: &Findings,
-    refused: Option<InitError<UninitFlatMap<u64, u64>>>,
+    heap: &LocalHeap,
     ample: Global,
     capacity: usize,
-) {
-    if let Some(error) = refused {
-        match error.into_uninit().init(ample) {
-            // A larger one is filled once, where its making succeeds: that takes O(capacity^2).
-            Ok(mut map) if capacity <= 33 => check_room(findings, &mut map, capacity),
-            Ok(map) => findings.expect(map.is_empty() && !map.is_full(), "an empty map"),
-            Err(_) => findings.miss("from ample memory"),
+) -> Option<usize> {
+    let used = heap.used();
+    match UninitFlatMap::<u64, u64>::new_uninit(capacity).init(heap) {
+        Ok(map) => used_with(findings, heap, Ok::<_, AllocError>(map), capacity),
+        Err(error) => {
+            findings.expect_same(heap.used(), used, "bytes in use after a refusal");
+            match error.into_uninit().init(ample) {
+                // A larger one is filled once, where its making succeeds: that takes O(capacity^2).
+                Ok(mut map) if capacity <= 33 => check_room(findings, &mut map, capacity),
+                Ok(map) => findings.expect(map.is_empty() && !map.is_full(), "an empty map"),
+                Err(_) => findings.miss("from ample memory"),
+            }
+            None
         }
     }
-}
-
-/// Checks makings of maps of `capacity`, which succeed if `found`. `ample` has enough memory.
-fn check_heap(
-    findings: &Findings,
-    heap: &LocalHeap,
-    ample: Global,
-    (capacity, found): (usize, bool),
-) {
-    let used = heap.used();
-    let wanted = (capacity, found);
-    check_made(findings, heap, used, FlatMap::new(heap, capacity), wanted);
-    let made = UninitFlatMap::new_uninit(capacity).init(heap);
-    check_made(findings, heap, used, made, wanted);
-    let refused = UninitFlatMap::new_uninit(capacity).init(heap).err();
-    findings.expect_same(refused.is_none(), found, "in two steps");
-    findings.expect_same(heap.used(), used, "bytes in use after a refusal");
-    check_again(findings, refused, ample, capacity);
 }
 
 /// The capacity of a map, and the number of blocks of 16 bytes that it takes: 16 bytes for each pair and 24 for each link,
@@ -89,13 +74,21 @@ const SIZES: &[(usize, u16)] = &[
 fn makings_refused(rt: HostRuntime) -> Result<(), Fail> {
     let findings = Findings::new();
     let alloc = rt.alloc();
-    check_sizes(
+    check_makings(
         &findings,
         alloc,
         SIZES,
-        |heap: &LocalHeap, capacity, found| {
-            check_heap(&findings, heap, alloc, (capacity, found));
+        "`new`",
+        |heap: &LocalHeap, capacity| {
+            used_with(&findings, heap, FlatMap::new(heap, capacity), capacity)
         },
+    );
+    check_makings(
+        &findings,
+        alloc,
+        SIZES,
+        "`init`",
+        |heap: &LocalHeap, capacity| { used_in_two_steps(&findings, heap, alloc, capacity) },
     );
     findings.verdict()
 }

@@ -1,12 +1,12 @@
 //! The worked examples on each kind of map and in each memory.
 ghost use Rattle.ix_cells.specs.Cloning.{AreEqualClones};
 
-use crate::calls::{Line, check_calls};
 use crate::caseless::Caseless;
-use crate::keys::{Key, Port};
+use crate::checks::check_example;
+use crate::keys::Port;
 use crate::rows::{
-    CASE_IGNORED, EVERY_CALL, Example, HELD_BEFORE_FULL, LAST_REMOVED_FIRST, LISTINGS, NO_PLACE,
-    PORTS, SIZE_ZERO, SLOT_ORDER, TEXTS, UNIT_VALUES, VALUE_WRITTEN,
+    EVERY_CALL, Example, HELD_BEFORE_FULL, LAST_REMOVED_FIRST, LISTINGS, NO_PLACE, Row, SIZE_ZERO,
+    SLOT_ORDER, UNIT_VALUES, VALUE_WRITTEN, case_ignored, ports, texts,
 };
 use bumpalo::Bump;
 use ix_cells::RelocatableContainer;
@@ -29,16 +29,16 @@ fn in_the_value_itself() -> Result<(), Fail> {
     let findings = Findings::new();
     let place = "in the value itself";
     let mut none = FixedSizeFlatMap::<u64, u64, 0>::new();
-    check_calls(&findings, &mut none, NO_PLACE, place);
+    check_example(&findings, &mut none, NO_PLACE, place);
     let mut one = FixedSizeFlatMap::<u64, u64, 1>::new();
-    check_calls(&findings, &mut one, HELD_BEFORE_FULL, place);
-    for lines in OF_TWO {
+    check_example(&findings, &mut one, HELD_BEFORE_FULL, place);
+    for rows in OF_TWO {
         let mut two = FixedSizeFlatMap::<u64, u64, 2>::new();
-        check_calls(&findings, &mut two, lines, place);
+        check_example(&findings, &mut two, rows, place);
     }
-    for lines in OF_THREE {
+    for rows in OF_THREE {
         let mut three = FixedSizeFlatMap::<u64, u64, 3>::new();
-        check_calls(&findings, &mut three, lines, place);
+        check_example(&findings, &mut three, rows, place);
     }
     findings.verdict()
 }
@@ -48,53 +48,53 @@ fn other_keys_in_the_value_itself() -> Result<(), Fail> {
     let findings = Findings::new();
     let place = "in the value itself";
     let mut caseless = FixedSizeFlatMap::<Caseless, u64, 2>::new();
-    check_calls(&findings, &mut caseless, CASE_IGNORED, place);
-    let mut texts = FixedSizeFlatMap::<StaticString<16>, char, 2>::new();
-    check_calls(&findings, &mut texts, TEXTS, place);
-    let mut ports = FixedSizeFlatMap::<Port, u64, 3>::new();
-    check_calls(&findings, &mut ports, PORTS, place);
+    check_example(&findings, &mut caseless, &case_ignored(), place);
+    let mut strings = FixedSizeFlatMap::<StaticString<16>, char, 2>::new();
+    check_example(&findings, &mut strings, &texts(), place);
+    let mut parts = FixedSizeFlatMap::<Port, u64, 3>::new();
+    check_example(&findings, &mut parts, &ports(), place);
     let mut set = FixedSizeFlatMap::<u64, (), 3>::new();
-    check_calls(&findings, &mut set, UNIT_VALUES, place);
+    check_example(&findings, &mut set, UNIT_VALUES, place);
     let mut units = FixedSizeFlatMap::<(), (), 2>::new();
-    check_calls(&findings, &mut units, SIZE_ZERO, place);
+    check_example(&findings, &mut units, SIZE_ZERO, place);
     findings.verdict()
 }
 
 /// Checks the example on a map of `capacity` of each kind that allocates from `alloc`.
-fn check_example<K: Key, V: Copy + PartialEq + Debug, A: Allocator + Copy>(
+fn check_kinds<K: Eq + Copy + Debug, V: Copy + PartialEq + Debug, A: Allocator + Copy>(
     findings: &Findings,
     alloc: A,
     capacity: usize,
-    lines: &[Line<K::Name, V>],
+    rows: &[Row<K, V>],
     memory: &str,
 )
     requires { AreEqualClones V.is_clone }
 {
     match FlatMap::<K, V, A>::new(alloc, capacity) {
-        Ok(mut map) => check_calls(findings, &mut map, lines, memory),
+        Ok(mut map) => check_example(findings, &mut map, rows, memory),
         Err(AllocError) => findings.miss(memory),
     }
     match UninitFlatMap::<K, V>::new_uninit(capacity).init(alloc) {
-        Ok(mut map) => check_calls(findings, &mut map, lines, memory),
+        Ok(mut map) => check_example(findings, &mut map, rows, memory),
         Err(_) => findings.miss(memory),
     }
 }
 
 /// Checks each example on a map of each kind that allocates from `alloc`.
 fn check_examples<A: Allocator + Copy>(findings: &Findings, alloc: A, memory: &str) {
-    check_example::<u64, u64, A>(findings, alloc, 0, NO_PLACE, memory);
-    check_example::<u64, u64, A>(findings, alloc, 1, HELD_BEFORE_FULL, memory);
-    for lines in OF_TWO {
-        check_example::<u64, u64, A>(findings, alloc, 2, lines, memory);
+    check_kinds::<u64, u64, A>(findings, alloc, 0, NO_PLACE, memory);
+    check_kinds::<u64, u64, A>(findings, alloc, 1, HELD_BEFORE_FULL, memory);
+    for rows in OF_TWO {
+        check_kinds::<u64, u64, A>(findings, alloc, 2, rows, memory);
     }
-    for lines in OF_THREE {
-        check_example::<u64, u64, A>(findings, alloc, 3, lines, memory);
+    for rows in OF_THREE {
+        check_kinds::<u64, u64, A>(findings, alloc, 3, rows, memory);
     }
-    check_example::<Caseless, u64, A>(findings, alloc, 2, CASE_IGNORED, memory);
-    check_example::<StaticString<16>, char, A>(findings, alloc, 2, TEXTS, memory);
-    check_example::<Port, u64, A>(findings, alloc, 3, PORTS, memory);
-    check_example::<u64, (), A>(findings, alloc, 3, UNIT_VALUES, memory);
-    check_example::<(), (), A>(findings, alloc, 2, SIZE_ZERO, memory);
+    check_kinds::<Caseless, u64, A>(findings, alloc, 2, &case_ignored(), memory);
+    check_kinds::<StaticString<16>, char, A>(findings, alloc, 2, &texts(), memory);
+    check_kinds::<Port, u64, A>(findings, alloc, 3, &ports(), memory);
+    check_kinds::<u64, (), A>(findings, alloc, 3, UNIT_VALUES, memory);
+    check_kinds::<(), (), A>(findings, alloc, 2, SIZE_ZERO, memory);
 }
 
 /// Does what `check_examples` does. All of the memory is deallocated.

@@ -1,214 +1,239 @@
-//! Worked examples: calls on an empty map, and their results.
-use crate::calls::Call::{
-    Contains, Get, GetRef, Insert, IsEmpty, IsFull, Len, ListKeys, Remove, Write,
+//! Worked examples: commands of an empty map, and the replies to them.
+use crate::caseless::Caseless;
+use crate::keys::{Port, caseless_of, port_of, text};
+use ix_commands::FlatCommand::{
+    self, Contains, Empty, Full, Get, Insert, Key as KeyAt, Len, Remove, Set,
 };
-use crate::calls::Line;
-use crate::calls::Outcome::{Bool, Cloned, Inserted, Keys, Number, Refused, Value};
-use ix_maps::FlatMapError::{IsFull as Full, KeyAlreadyExists};
+use ix_commands::Reply::{self, Bool, Done, Error, Key, Number, Value};
+use ix_commands::ReplyError::{IsFull, KeyAlreadyExists};
+use ix_string::StaticString;
+
+/// A command of a flat map and the reply to it.
+pub type Row<K, V> = (FlatCommand<K, V>, Reply<K, V>);
 
 /// An example with numbers as keys and as values.
-pub type Example = &'static [Line<u64, u64>];
+pub type Example = &'static [Row<u64, u64>];
 
 /// On a map of 1. The full map refuses a key that it has as such.
 pub const HELD_BEFORE_FULL: Example = &[
-    (Insert(1, 2), Inserted),
-    (Insert(1, 3), Refused(KeyAlreadyExists)),
-    (Insert(2, 4), Refused(Full)),
-    (Get(1), Cloned(Ok(Some(2)))),
-    (IsFull, Bool(true)),
-    (Write(1, 5), Value(Some(2))),
-    (ListKeys(None), Keys("1;")),
-    (Remove(2), Value(None)),
-    (Remove(1), Value(Some(5))),
-    (IsEmpty, Bool(true)),
-    (Insert(2, 4), Inserted),
+    (Insert(1, 2), Done),
+    (Insert(1, 3), Error(KeyAlreadyExists)),
+    (Insert(2, 4), Error(IsFull)),
+    (Get(1), Value(2)),
+    (Full, Bool(true)),
+    (Get(1), Value(2)),
+    (Set(1, 5), Bool(true)),
+    (KeyAt(0), Key(1)),
+    (KeyAt(1), Reply::None),
+    (Remove(2), Reply::None),
+    (Remove(1), Value(5)),
+    (Empty, Bool(true)),
+    (Insert(2, 4), Done),
     (Contains(1), Bool(false)),
-    (GetRef(2), Value(Some(4))),
+    (Get(2), Value(4)),
 ];
 
 /// On a map of 3. A key that is inserted after a removal takes the place of the removed one.
 pub const SLOT_ORDER: Example = &[
-    (Insert(5, 50), Inserted),
-    (Insert(6, 60), Inserted),
-    (Remove(5), Value(Some(50))),
-    (Insert(7, 70), Inserted),
-    (ListKeys(None), Keys("7;6;")),
-    (ListKeys(Some(1)), Keys("7;")),
+    (Insert(5, 50), Done),
+    (Insert(6, 60), Done),
+    (Remove(5), Value(50)),
+    (Insert(7, 70), Done),
+    (KeyAt(0), Key(7)),
+    (KeyAt(1), Key(6)),
+    (KeyAt(2), Reply::None),
 ];
 
 /// On a map of 2.
 pub const VALUE_WRITTEN: Example = &[
-    (Insert(1, 10), Inserted),
-    (Write(1, 11), Value(Some(10))),
-    (Get(1), Cloned(Ok(Some(11)))),
-    (Remove(1), Value(Some(11))),
-    (GetRef(1), Value(None)),
+    (Insert(1, 10), Done),
+    (Get(1), Value(10)),
+    (Set(1, 11), Bool(true)),
+    (Get(1), Value(11)),
+    (Remove(1), Value(11)),
+    (Get(1), Reply::None),
     (Len, Number(0)),
 ];
 
-/// On a map of 3. The callback is called up to the first `Stop`.
+/// On a map of 3. Keys are listed one by one, up to each of them.
 pub const LISTINGS: Example = &[
-    (ListKeys(None), Keys("")),
-    (ListKeys(Some(1)), Keys("")),
-    (Insert(7, 1), Inserted),
-    (ListKeys(None), Keys("7;")),
-    (ListKeys(Some(1)), Keys("7;")),
-    (Insert(9, 2), Inserted),
-    (Insert(8, 3), Inserted),
-    (ListKeys(None), Keys("7;9;8;")),
-    (ListKeys(Some(1)), Keys("7;")),
-    (ListKeys(Some(2)), Keys("7;9;")),
-    (ListKeys(Some(3)), Keys("7;9;8;")),
-    (ListKeys(Some(4)), Keys("7;9;8;")),
-    (Remove(9), Value(Some(2))),
-    (ListKeys(Some(1)), Keys("7;")),
-    (ListKeys(Some(2)), Keys("7;8;")),
-    (Remove(7), Value(Some(1))),
-    (ListKeys(Some(1)), Keys("8;")),
+    (KeyAt(0), Reply::None),
+    (Insert(7, 1), Done),
+    (KeyAt(0), Key(7)),
+    (KeyAt(1), Reply::None),
+    (Insert(9, 2), Done),
+    (Insert(8, 3), Done),
+    (KeyAt(0), Key(7)),
+    (KeyAt(1), Key(9)),
+    (KeyAt(2), Key(8)),
+    (KeyAt(3), Reply::None),
+    (Remove(9), Value(2)),
+    (KeyAt(0), Key(7)),
+    (KeyAt(1), Key(8)),
+    (Remove(7), Value(1)),
+    (KeyAt(0), Key(8)),
 ];
 
 /// On a map of 3. The place that was vacated last is filled first.
 pub const LAST_REMOVED_FIRST: Example = &[
-    (Insert(1, 10), Inserted),
-    (Insert(2, 20), Inserted),
-    (Insert(3, 30), Inserted),
-    (Remove(1), Value(Some(10))),
-    (Remove(3), Value(Some(30))),
-    (Insert(4, 40), Inserted),
-    (ListKeys(None), Keys("2;4;")),
-    (Insert(1, 11), Inserted),
-    (ListKeys(None), Keys("1;2;4;")),
-    (GetRef(1), Value(Some(11))),
-    (GetRef(3), Value(None)),
+    (Insert(1, 10), Done),
+    (Insert(2, 20), Done),
+    (Insert(3, 30), Done),
+    (Remove(1), Value(10)),
+    (Remove(3), Value(30)),
+    (Insert(4, 40), Done),
+    (KeyAt(0), Key(2)),
+    (KeyAt(1), Key(4)),
+    (KeyAt(2), Reply::None),
+    (Insert(1, 11), Done),
+    (KeyAt(0), Key(1)),
+    (KeyAt(1), Key(2)),
+    (KeyAt(2), Key(4)),
+    (KeyAt(3), Reply::None),
+    (Get(1), Value(11)),
+    (Get(3), Reply::None),
 ];
 
-/// On a map of 2: every call, on keys that the map has and on others.
+/// On a map of 2: every command, on keys that the map has and on others.
 pub const EVERY_CALL: Example = &[
     (Len, Number(0)),
-    (IsEmpty, Bool(true)),
-    (IsFull, Bool(false)),
+    (Empty, Bool(true)),
+    (Full, Bool(false)),
     (Contains(1), Bool(false)),
-    (Get(1), Cloned(Ok(None))),
-    (GetRef(1), Value(None)),
-    (Write(1, 9), Value(None)),
-    (Remove(1), Value(None)),
-    (Insert(1, 10), Inserted),
+    (Get(1), Reply::None),
+    (Set(1, 9), Bool(false)),
+    (Remove(1), Reply::None),
+    (Insert(1, 10), Done),
     (Len, Number(1)),
-    (IsEmpty, Bool(false)),
-    (IsFull, Bool(false)),
-    (Insert(1, 11), Refused(KeyAlreadyExists)),
-    (Insert(2, 20), Inserted),
+    (Empty, Bool(false)),
+    (Full, Bool(false)),
+    (Insert(1, 11), Error(KeyAlreadyExists)),
+    (Insert(2, 20), Done),
     (Len, Number(2)),
-    (IsFull, Bool(true)),
+    (Full, Bool(true)),
     (Contains(1), Bool(true)),
     (Contains(2), Bool(true)),
     (Contains(3), Bool(false)),
-    (Get(2), Cloned(Ok(Some(20)))),
-    (Get(3), Cloned(Ok(None))),
-    (GetRef(1), Value(Some(10))),
-    (GetRef(3), Value(None)),
-    (Write(2, 21), Value(Some(20))),
-    (Write(3, 31), Value(None)),
-    (GetRef(1), Value(Some(10))),
-    (Remove(3), Value(None)),
-    (Remove(2), Value(Some(21))),
-    (Remove(2), Value(None)),
+    (Get(2), Value(20)),
+    (Get(3), Reply::None),
+    (Get(1), Value(10)),
+    (Get(3), Reply::None),
+    (Get(2), Value(20)),
+    (Set(2, 21), Bool(true)),
+    (Get(3), Reply::None),
+    (Set(3, 31), Bool(false)),
+    (Get(1), Value(10)),
+    (Remove(3), Reply::None),
+    (Remove(2), Value(21)),
+    (Remove(2), Reply::None),
     (Len, Number(1)),
-    (IsFull, Bool(false)),
-    (ListKeys(None), Keys("1;")),
+    (Full, Bool(false)),
+    (KeyAt(0), Key(1)),
+    (KeyAt(1), Reply::None),
 ];
 
 /// On a map of 0.
 pub const NO_PLACE: Example = &[
-    (IsEmpty, Bool(true)),
-    (IsFull, Bool(true)),
+    (Empty, Bool(true)),
+    (Full, Bool(true)),
     (Len, Number(0)),
-    (Insert(1, 2), Refused(Full)),
-    (Insert(1, 2), Refused(Full)),
-    (Get(1), Cloned(Ok(None))),
-    (GetRef(1), Value(None)),
-    (Write(1, 3), Value(None)),
-    (Remove(1), Value(None)),
+    (Insert(1, 2), Error(IsFull)),
+    (Insert(1, 2), Error(IsFull)),
+    (Get(1), Reply::None),
+    (Set(1, 3), Bool(false)),
+    (Remove(1), Reply::None),
     (Contains(1), Bool(false)),
-    (ListKeys(None), Keys("")),
-    (IsEmpty, Bool(true)),
-    (IsFull, Bool(true)),
+    (KeyAt(0), Reply::None),
+    (Empty, Bool(true)),
+    (Full, Bool(true)),
 ];
 
 /// On a map of 2, with keys that ignore the case of letters.
-pub const CASE_IGNORED: &[Line<&str, u64>] = &[
-    (Insert("Ab", 1), Inserted),
-    (Insert("aB", 2), Refused(KeyAlreadyExists)),
-    (Insert("c", 3), Inserted),
-    (Insert("AB", 4), Refused(KeyAlreadyExists)),
-    (Insert("d", 5), Refused(Full)),
-    (ListKeys(None), Keys("Ab;c;")),
-    (Get("aB"), Cloned(Ok(Some(1)))),
-    (Contains("C"), Bool(true)),
-    (Contains("D"), Bool(false)),
-    (Write("AB", 6), Value(Some(1))),
-    (Remove("ab"), Value(Some(6))),
-    (ListKeys(None), Keys("c;")),
-];
+pub fn case_ignored() -> [Row<Caseless, u64>; 16] {
+    [
+        (Insert(caseless_of("Ab"), 1), Done),
+        (Insert(caseless_of("aB"), 2), Error(KeyAlreadyExists)),
+        (Insert(caseless_of("c"), 3), Done),
+        (Insert(caseless_of("AB"), 4), Error(KeyAlreadyExists)),
+        (Insert(caseless_of("d"), 5), Error(IsFull)),
+        (KeyAt(0), Key(caseless_of("Ab"))),
+        (KeyAt(1), Key(caseless_of("c"))),
+        (KeyAt(2), Reply::None),
+        (Get(caseless_of("aB")), Value(1)),
+        (Contains(caseless_of("C")), Bool(true)),
+        (Contains(caseless_of("D")), Bool(false)),
+        (Get(caseless_of("AB")), Value(1)),
+        (Set(caseless_of("AB"), 6), Bool(true)),
+        (Remove(caseless_of("ab")), Value(6)),
+        (KeyAt(0), Key(caseless_of("c"))),
+        (KeyAt(1), Reply::None),
+    ]
+}
 
 /// On a map of 2, with texts as keys: a text is not equal to its beginning, nor to one in other case.
-pub const TEXTS: &[Line<&str, char>] = &[
-    (Insert("ab", 'x'), Inserted),
-    (Contains("a"), Bool(false)),
-    (Contains("abc"), Bool(false)),
-    (Contains("AB"), Bool(false)),
-    (Insert("", 'y'), Inserted),
-    (Insert("ab", 'z'), Refused(KeyAlreadyExists)),
-    (GetRef("ab"), Value(Some('x'))),
-    (Remove("ab"), Value(Some('x'))),
-    (GetRef(""), Value(Some('y'))),
-    (
-        ListKeys(None),
-        Keys("StaticString<16> { len: 0, data: \"\" };"),
-    ),
-];
+pub fn texts() -> [Row<StaticString<16>, char>; 11] {
+    [
+        (Insert(text("ab"), 'x'), Done),
+        (Contains(text("a")), Bool(false)),
+        (Contains(text("abc")), Bool(false)),
+        (Contains(text("AB")), Bool(false)),
+        (Insert(text(""), 'y'), Done),
+        (Insert(text("ab"), 'z'), Error(KeyAlreadyExists)),
+        (Get(text("ab")), Value('x')),
+        (Remove(text("ab")), Value('x')),
+        (Get(text("")), Value('y')),
+        (KeyAt(0), Key(text(""))),
+        (KeyAt(1), Reply::None),
+    ]
+}
 
 /// On a map of 3, with keys of two parts.
-pub const PORTS: &[Line<(u16, bool), u64>] = &[
-    (Insert((80, true), 1), Inserted),
-    (Insert((80, false), 2), Inserted),
-    (Insert((443, true), 3), Inserted),
-    (Insert((80, true), 4), Refused(KeyAlreadyExists)),
-    (GetRef((80, false)), Value(Some(2))),
-    (GetRef((443, false)), Value(None)),
-    (Remove((80, true)), Value(Some(1))),
-    (
-        ListKeys(Some(1)),
-        Keys("Port { number: 80, is_open: false };"),
-    ),
-];
+pub fn ports() -> [Row<Port, u64>; 8] {
+    [
+        (Insert(port_of(80, true), 1), Done),
+        (Insert(port_of(80, false), 2), Done),
+        (Insert(port_of(443, true), 3), Done),
+        (Insert(port_of(80, true), 4), Error(KeyAlreadyExists)),
+        (Get(port_of(80, false)), Value(2)),
+        (Get(port_of(443, false)), Reply::None),
+        (Remove(port_of(80, true)), Value(1)),
+        (KeyAt(0), Key(port_of(80, false))),
+    ]
+}
 
 /// On a map of 3, whose values have size zero.
-pub const UNIT_VALUES: &[Line<u64, ()>] = &[
-    (Insert(7, ()), Inserted),
-    (Insert(9, ()), Inserted),
-    (Insert(7, ()), Refused(KeyAlreadyExists)),
-    (Insert(8, ()), Inserted),
-    (Insert(6, ()), Refused(Full)),
-    (Get(8), Cloned(Ok(Some(())))),
-    (Write(9, ()), Value(Some(()))),
-    (Remove(9), Value(Some(()))),
-    (GetRef(9), Value(None)),
-    (ListKeys(None), Keys("7;8;")),
-    (Insert(6, ()), Inserted),
-    (ListKeys(None), Keys("7;6;8;")),
+pub const UNIT_VALUES: &[Row<u64, ()>] = &[
+    (Insert(7, ()), Done),
+    (Insert(9, ()), Done),
+    (Insert(7, ()), Error(KeyAlreadyExists)),
+    (Insert(8, ()), Done),
+    (Insert(6, ()), Error(IsFull)),
+    (Get(8), Value(())),
+    (Get(9), Value(())),
+    (Set(9, ()), Bool(true)),
+    (Remove(9), Value(())),
+    (Get(9), Reply::None),
+    (KeyAt(0), Key(7)),
+    (KeyAt(1), Key(8)),
+    (KeyAt(2), Reply::None),
+    (Insert(6, ()), Done),
+    (KeyAt(0), Key(7)),
+    (KeyAt(1), Key(6)),
+    (KeyAt(2), Key(8)),
+    (KeyAt(3), Reply::None),
 ];
 
 /// On a map of 2, whose keys and values have size zero: there is only one key.
-pub const SIZE_ZERO: &[Line<(), ()>] = &[
+pub const SIZE_ZERO: &[Row<(), ()>] = &[
     (Contains(()), Bool(false)),
-    (Insert((), ()), Inserted),
-    (Insert((), ()), Refused(KeyAlreadyExists)),
+    (Insert((), ()), Done),
+    (Insert((), ()), Error(KeyAlreadyExists)),
     (Len, Number(1)),
-    (IsFull, Bool(false)),
-    (Get(()), Cloned(Ok(Some(())))),
-    (ListKeys(None), Keys("();")),
-    (Remove(()), Value(Some(()))),
-    (Remove(()), Value(None)),
-    (IsEmpty, Bool(true)),
+    (Full, Bool(false)),
+    (Get(()), Value(())),
+    (KeyAt(0), Key(())),
+    (KeyAt(1), Reply::None),
+    (Remove(()), Value(())),
+    (Remove(()), Reply::None),
+    (Empty, Bool(true)),
 ];

@@ -1,39 +1,51 @@
 //! A plain slow map, with which tests compare flat maps.
-use ix_maps::FlatMapError;
-use std::alloc::{AllocError, Global};
+ghost use Rattle.std.specs.Prelude.{◌≡◌, ◌<◌, length, is_some, IfOk};
+ghost use Rattle.ix_maps.specs.SlotState.{slot_new};
+ghost use Rattle.tests_flat_maps.specs.SlowRun.{is_pair_of, slow_place, slow_value, slow_insert, slow_insert_reply, slow_set, slow_remove};
 
-/// The pair or nothing at each place, and the free places, of which the last is the next to be filled.
+use ix_commands::{FlatCommand, Reply, ReplyError, Runs};
+use std::alloc::{AllocError, Global};
+use test_support::{SlowTable, reply_of_option};
+
+/// The slow table of the pairs.
 #[derive(Drop)]
 pub struct SlowMap {
-    places: Vec<Option<(u64, u64)>>,
-    free: Vec<usize>,
+    pairs: SlowTable<(u64, u64)>,
+}
+
+/// Returns `true` if a place has a pair of this key.
+fn is_of(place: &Option<(u64, u64)>, key: u64) -> bool
+    ensures { result ≡ is_pair_of key place.now }
+{
+    match place {
+        Some((other, _)) => *other == key,
+        None => false,
+    }
 }
 
 impl SlowMap {
     /// Returns an empty map with `capacity` places.
-    pub fn new(alloc: Global, capacity: usize) -> Result<SlowMap, AllocError> {
-        let places = vec![in alloc; None; capacity]?;
-        let mut free = Vec::with_capacity(alloc, capacity)?;
-        for place in 0..capacity {
-            free.insert(0, place)?;
-        }
-        Ok(SlowMap { places, free })
+    pub fn new(alloc: Global, capacity: usize) -> Result<SlowMap, AllocError>
+        ensures { IfOk result (λ map. map.pairs ≡ slot_new capacity) }
+    {
+        let pairs = SlowTable::new(alloc, capacity)?;
+        Ok(SlowMap { pairs })
     }
 
     /// Returns the number of keys.
     pub fn len(&self) -> usize {
-        self.places.iter().filter(|place| place.is_some()).count()
+        self.pairs.len()
     }
 
     /// Returns `true` if no place is free.
     pub fn is_full(&self) -> bool {
-        self.free.is_empty()
+        self.pairs.free_len() == 0
     }
 
-    /// Returns the key at the held place of this number, in rising order, the first being 0.
-    pub fn key_at(&self, number: u64) -> Option<u64> {
+    /// Returns the key that stands after `number` others.
+    pub fn nth_key(&self, number: usize) -> Option<u64> {
         let mut left = number;
-        for place in &self.places {
+        for place in self.pairs.places() {
             if let Some((key, _)) = place {
                 if left == 0 {
                     return Some(*key);
@@ -45,56 +57,97 @@ impl SlowMap {
     }
 
     /// Returns the place of `key`.
-    fn place_of(&self, key: u64) -> Option<usize> {
-        self.places.iter().position(|place| match place {
-            Some((other, _)) => *other == key,
-            None => false,
-        })
+    fn place_of(&self, key: u64) -> Option<usize>
+        ensures { result ≡ slow_place self.now.pairs key }
+    {
+        self.pairs
+            .places()
+            .iter()
+            .position(|place| is_of(place, key))
     }
 
     /// Returns the value of `key`.
-    pub fn get(&self, key: u64) -> Option<u64> {
-        let (_, value) = self.places.get(self.place_of(key)?).copied()??;
+    pub fn get(&self, key: u64) -> Option<u64>
+        ensures { result ≡ slow_value self.now.pairs key }
+    {
+        let place = self.place_of(key)?;
+        let (_, value) = self.pairs.get(place)?;
         Some(value)
     }
 
-    /// Writes a place.
-    fn set(&mut self, place: usize, pair: Option<(u64, u64)>) {
-        if let Some(here) = self.places.get_mut(place) {
-            *here = pair;
-        }
-    }
-
-    /// Inserts `key` with `value`, at the free place that is next.
-    pub fn insert(&mut self, key: u64, value: u64) -> Result<(), FlatMapError> {
+    /// Inserts `key` with `value` in the first free place.
+    fn insert(&mut self, key: u64, value: u64) -> Reply<u64, u64>
+        ensures value { result ≡ slow_insert_reply self.old.pairs key }
+        ensures map { self.new.pairs ≡ slow_insert self.old.pairs key value }
+    {
         if self.place_of(key).is_some() {
-            return Err(FlatMapError::KeyAlreadyExists);
+            return Reply::Error(ReplyError::KeyAlreadyExists);
         }
-        match self.free.pop() {
+        match self.pairs.insert((key, value)) {
+            Some(_) => Reply::Done,
+            None => Reply::Error(ReplyError::IsFull),
+        }
+    }
+
+    /// Overwrites the value of `key` and returns `true`, or returns `false` if there is no such key.
+    fn overwrite(&mut self, key: u64, value: u64) -> bool
+        ensures value { result ≡ is_some (slow_place self.old.pairs key) }
+        ensures map { self.new.pairs ≡ slow_set self.old.pairs key value }
+    {
+        match self.place_of(key) {
             Some(place) => {
-                self.set(place, Some((key, value)));
-                Ok(())
+                self.pairs.set(place, (key, value));
+                true
             }
-            None => Err(FlatMapError::IsFull),
+            None => false,
         }
     }
 
-    /// Replaces the value of `key` and returns the old one.
-    pub fn write(&mut self, key: u64, value: u64) -> Option<u64> {
-        let old = self.get(key)?;
-        self.set(self.place_of(key)?, Some((key, value)));
-        Some(old)
-    }
-
-    /// Removes `key` and returns its value. Its place is the next to be filled. Returns `AllocError` if there is not
-    /// enough memory.
-    pub fn remove(&mut self, key: u64) -> Result<Option<u64>, AllocError> {
-        let Some(place) = self.place_of(key) else {
-            return Ok(None);
-        };
+    /// Removes `key` and returns its value. Its place is the first free one.
+    fn remove(&mut self, key: u64) -> Option<u64>
+        requires { length self.old.pairs.free < 512 }
+        ensures value { result ≡ slow_value self.old.pairs key }
+        ensures map { self.new.pairs ≡ slow_remove self.old.pairs key }
+    {
         let value = self.get(key);
-        self.free.push(place)?;
-        self.set(place, None);
-        Ok(value)
+        if let Some(place) = self.place_of(key) {
+            self.pairs.vacate(place);
+        }
+        value
+    }
+}
+
+/// The commands of a flat map but for `Key`, `Len` and `Empty`, to which the reply is `None`. A map with 512 free places
+/// does nothing.
+impl Runs<FlatCommand<u64, u64>> for SlowMap {
+    ghost use Rattle.std.specs.Prelude.{ℕ};
+    ghost use Rattle.ix_maps.specs.SlotState.{SlotState};
+    ghost use Rattle.tests_flat_maps.specs.SlowRun.{slow_reply, slow_after};
+
+    type Reply = Reply<u64, u64>;
+
+    ghost Model = { SlotState (ℕ × ℕ) };
+
+    ghost model = { λ map. map.pairs };
+
+    ghost reply = { slow_reply };
+
+    ghost after = { slow_after };
+
+    fn run_command(&mut self, command: FlatCommand<u64, u64>) -> Reply<u64, u64> {
+        if !self.pairs.has_room() {
+            return Reply::None;
+        }
+        match command {
+            FlatCommand::Insert(key, value) => self.insert(key, value),
+            FlatCommand::Get(key) => reply_of_option(self.get(key)),
+            FlatCommand::Set(key, value) => Reply::Bool(self.overwrite(key, value)),
+            FlatCommand::Remove(key) => reply_of_option(self.remove(key)),
+            FlatCommand::Contains(key) => Reply::Bool(self.place_of(key).is_some()),
+            FlatCommand::Full => Reply::Bool(self.pairs.free_len() == 0),
+            FlatCommand::Key(_) => Reply::None,
+            FlatCommand::Len => Reply::None,
+            FlatCommand::Empty => Reply::None,
+        }
     }
 }

@@ -1,91 +1,28 @@
-//! Random calls of flat maps and of the plain slow map: every result, and the whole content after each call. Maps in
+//! Random commands of flat maps and of the plain slow map: every reply, and the whole content after each command. Maps in
 //! memory have each capacity from 0 to 16, fixed ones 0, 1, 2, 5 and 16.
 ghost use Rattle.std.specs.Prelude.{◌≤◌};
 
+use crate::checks::check_listing;
 use crate::slow_map::SlowMap;
 use ix_cells::Table;
-use ix_maps::{CallbackProgression, FixedSizeFlatMap, FlatMap, Link, MetaFlatMap, Pair};
+use ix_commands::FlatCommand;
+use ix_maps::{FixedSizeFlatMap, FlatMap, Link, MetaFlatMap, Pair};
 use std::alloc::{AllocError, Global};
-use std::mem;
 use std::test::Fail;
-use test_support::Findings;
+use test_support::{Findings, Numbers};
 
-/// The number of calls that a walk makes on one map.
-const CALLS: u64 = 600;
+/// The number of commands that a walk runs on one map.
+const COMMANDS: usize = 600;
 
-/// Numbers that look random: each follows from the one before.
-#[derive(Drop)]
-struct Numbers {
-    last: u64,
-}
-
-impl Numbers {
-    /// Returns the next number, which is less than 65,536.
-    fn next(&mut self) -> u64 {
-        let product = self.last.wrapping_mul(6_364_136_223_846_793_005);
-        self.last = product.wrapping_add(1_442_695_040_888_963_407);
-        self.last >> 48
+/// Draws a command that changes a map, with a key below `keys`.
+fn drawn_command(numbers: &mut Numbers, keys: u64) -> FlatCommand<u64, u64> {
+    let key = numbers.next() as u64 % keys.max(1);
+    let value = numbers.next() as u64;
+    match numbers.next() % 8 {
+        0..4 => FlatCommand::Insert(key, value),
+        4 => FlatCommand::Set(key, value),
+        _ => FlatCommand::Remove(key),
     }
-}
-
-/// Replaces the value of `key` and returns the old one.
-fn write<S: Table<Pair<u64, u64>>, L: Table<Link>>(
-    map: &mut MetaFlatMap<Pair<u64, u64>, S, L>,
-    key: u64,
-    value: u64,
-) -> Option<u64> {
-    match map.get_mut_ref(&key) {
-        Some(place) => Some(mem::replace(place, value)),
-        None => None,
-    }
-}
-
-/// Makes one call on both maps and compares the results.
-fn check_call<S: Table<Pair<u64, u64>>, L: Table<Link>>(
-    findings: &Findings,
-    map: &mut MetaFlatMap<Pair<u64, u64>, S, L>,
-    slow: &mut SlowMap,
-    kind: u64,
-    (key, value): (u64, u64),
-) {
-    match kind % 8 {
-        0..4 => {
-            let outcome = slow.insert(key, value);
-            findings.expect_same(map.insert(key, value), outcome, "insert");
-        }
-        4 => {
-            let outcome = slow.write(key, value);
-            findings.expect_same(write(map, key, value), outcome, "write");
-        }
-        _ => {
-            let outcome = slow.remove(key);
-            findings.expect_same(Ok(map.remove(&key)), outcome, "remove");
-        }
-    }
-}
-
-/// Lists the keys up to the call of number `last`, the first being 0, and compares each with that of the slow map.
-fn check_keys<S: Table<Pair<u64, u64>>, L: Table<Link>>(
-    findings: &Findings,
-    map: &MetaFlatMap<Pair<u64, u64>, S, L>,
-    slow: &SlowMap,
-    last: u64,
-) {
-    let mut calls = 0u64;
-    map.list_keys(|key| {
-        let call = calls;
-        findings.expect_same(Some(*key), slow.key_at(call), "a key that is listed");
-        calls = call.wrapping_add(1);
-        if call == last {
-            CallbackProgression::Stop
-        } else {
-            CallbackProgression::Continue
-        }
-    });
-    let wanted = (slow.len() as u64).min(last.saturating_add(1));
-    findings.expect_same(calls, wanted, "the number of calls");
-    let found = map.nth_key(last as usize).copied();
-    findings.expect_same(found, slow.key_at(last), "a key by its number");
 }
 
 /// Compares what the iterators return with the keys and values of the slow map.
@@ -102,7 +39,8 @@ fn check_iterators<S: Table<Pair<u64, u64>>, L: Table<Link>>(
         findings.expect_same((keys.len(), items.len()), (left, left), "items to come");
         let hints = (keys.size_hint(), items.size_hint());
         findings.expect_same(hints, ((left, Some(left)), (left, Some(left))), "hints");
-        let key = slow.key_at(number as u64);
+        let key = slow.nth_key(number);
+        findings.expect_same(map.nth_key(number).copied(), key, "a key by its number");
         findings.expect_same(keys.next().copied(), key, "a key of the iterator");
         let item = items.next().map(|(key, value)| (*key, Some(*value)));
         let wanted = key.map(|key| (key, slow.get(key)));
@@ -110,6 +48,7 @@ fn check_iterators<S: Table<Pair<u64, u64>>, L: Table<Link>>(
     }
     let is_end = keys.next().is_none() && items.next().is_none();
     findings.expect(is_end, "the end of the iterators");
+    findings.expect(map.nth_key(len).is_none(), "no more key by its number");
 }
 
 /// Compares the contents of both maps, of which no key reaches `keys`.
@@ -119,7 +58,7 @@ fn check_content<S: Table<Pair<u64, u64>>, L: Table<Link>>(
     slow: &SlowMap,
     keys: u64,
 ) {
-    check_keys(findings, map, slow, keys);
+    check_listing(findings, map, keys as usize);
     check_iterators(findings, map, slow);
     for key in 0..keys {
         let wanted = slow.get(key);
@@ -132,39 +71,35 @@ fn check_content<S: Table<Pair<u64, u64>>, L: Table<Link>>(
     findings.expect_same(found, (len, len == 0, slow.is_full()), "the sizes");
 }
 
-/// Makes random calls on both maps, which are empty. There are half as many keys again as places, and two more.
-fn walk_both<S: Table<Pair<u64, u64>>, L: Table<Link>>(
-    findings: &Findings,
-    map: &mut MetaFlatMap<Pair<u64, u64>, S, L>,
-    slow: &mut SlowMap,
-    capacity: u64,
-) {
-    let keys = capacity.saturating_add(capacity / 2).saturating_add(2);
-    let mut numbers = Numbers { last: capacity };
-    for call in 0..CALLS {
-        let key = numbers.next() % keys;
-        check_call(findings, map, slow, numbers.next(), (key, call));
-        check_content(findings, &*map, &*slow, keys);
-        check_keys(findings, &*map, &*slow, numbers.next() % keys);
-    }
-}
-
-/// Makes random calls on an empty map of `capacity`, whose making did not fail, and on a slow one.
+/// Runs random commands on an empty map of `capacity`, whose making did not fail, and on a slow one. There are half as many
+/// keys again as places, and two more.
 fn walk<S: Table<Pair<u64, u64>>, L: Table<Link>>(
     findings: &Findings,
     alloc: Global,
     capacity: usize,
     made: Result<MetaFlatMap<Pair<u64, u64>, S, L>, AllocError>,
 ) {
-    if let Ok(mut map) = made {
-        if let Ok(mut slow) = SlowMap::new(alloc, capacity) {
-            return walk_both(findings, &mut map, &mut slow, capacity as u64);
-        }
+    let (Ok(mut map), Ok(mut slow)) = (made, SlowMap::new(alloc, capacity)) else {
+        return findings.miss("there is memory");
+    };
+    let keys = capacity.saturating_add(capacity / 2).saturating_add(2) as u64;
+    let mut numbers = Numbers::new(capacity as u64);
+    for _ in 0..COMMANDS {
+        test_support::walk(
+            findings,
+            &mut map,
+            &mut slow,
+            &mut numbers,
+            1,
+            "a walk",
+            |_: &SlowMap, numbers| drawn_command(numbers, keys),
+        );
+        check_content(findings, &map, &slow, keys);
+        check_listing(findings, &map, numbers.next() % keys.max(1) as usize);
     }
-    findings.miss("there is memory");
 }
 
-/// Makes random calls on a fixed map.
+/// Runs random commands on a fixed map.
 fn walk_fixed<const CAPACITY: usize>(findings: &Findings, alloc: Global)
     requires { CAPACITY ≤ 16 }
 {

@@ -1,29 +1,30 @@
 //! The counted forms of calls return what the plain forms return, at capacity 1,000, and calls of either form take as long on a
 //! map of 100,000 places as on one of 16.
-use crate::calls::Call::{Get, Insert, InsertAt, Len, NextFreeKey, Remove};
-use crate::calls::Outcome::{Key, Number, Value};
-use crate::calls::{Call, Line, Outcome, key_of, numbers_of, outcome_of};
+use crate::rows::{Row, key};
 use ix_cells::{Table, Touches};
+use ix_commands::Reply::{self, Key, Number, Value};
+use ix_commands::Runs;
+use ix_commands::SlotCommand::{self, Get, Insert, InsertAt, Len, Next, Remove};
 use ix_maps::{Link, MetaSlotMap, SlotMap, SlotMapKey};
 use std::alloc::{AllocError, Global};
 use std::cmp::min;
 use std::test::Fail;
 use std::time::{CpuClock, Duration};
-use test_support::Findings;
+use test_support::{Findings, check_tables, reply_of_key, reply_of_option};
 
-/// Makes the counted form of a call, if it has one, and returns its result.
-fn counted<S: Table<Option<u64>>, L: Table<Link>, G: Table<u32>>(
+/// Runs the counted form of a command, if it has one, and returns the reply.
+fn run_counted<S: Table<Option<u64>>, L: Table<Link>, G: Table<u32>>(
     map: &mut MetaSlotMap<Option<u64>, S, L, G>,
-    call: &Call<u64>,
-) -> Outcome<u64> {
+    command: SlotCommand<u64>,
+) -> Reply<SlotMapKey, u64> {
     let mut touches = Touches::new();
-    match call {
-        Insert(value) => Key(numbers_of(map.insert_counted(*value, &mut touches))),
+    match command {
+        Insert(value) => reply_of_key(map.insert_counted(value, &mut touches)),
         InsertAt(index, value) => {
-            Key(numbers_of(map.insert_at_counted(*index, *value, &mut touches)))
+            reply_of_key(map.insert_at_counted(index, value, &mut touches))
         }
-        Remove(key) => Value(map.remove_counted(key_of(key), &mut touches)),
-        _ => outcome_of(map, call),
+        Remove(key) => reply_of_option(map.remove_counted(key, &mut touches)),
+        _ => map.run_command(command),
     }
 }
 
@@ -36,47 +37,53 @@ fn half_full(alloc: Global, capacity: usize) -> Result<SlotMap<u64>, AllocError>
     Ok(map)
 }
 
-/// Calls on the half full map.
-const LINES: &[Line<u64>] = &[
-    (Len, Number(500)),
-    (NextFreeKey, Key(Some((500, 0)))),
-    (Remove((500, 0)), Value(None)),
-    (Insert(1), Key(Some((500, 0)))),
-    (InsertAt(250, 2), Key(Some((250, 1)))),
-    (Remove((250, 0)), Value(None)),
-    (Remove((250, 1)), Value(Some(2))),
-    (Insert(3), Key(Some((250, 2)))),
-    (InsertAt(501, 4), Key(Some((501, 0)))),
-    (InsertAt(999, 5), Key(Some((999, 0)))),
-    (Insert(6), Key(Some((502, 0)))),
-    (Remove((0, 0)), Value(Some(0))),
-    (InsertAt(0, 7), Key(Some((0, 1)))),
-    (Remove((499, 0)), Value(Some(499))),
-    (Remove((999, 0)), Value(Some(5))),
-    (InsertAt(1000, 8), Key(None)),
-    (InsertAt(usize::MAX, 8), Key(None)),
-    (Remove((1000, 0)), Value(None)),
-    (Remove((usize::MAX, 0)), Value(None)),
-    (Insert(9), Key(Some((999, 1)))),
-    (Insert(10), Key(Some((499, 1)))),
-    (Insert(11), Key(Some((503, 0)))),
-    (Get((250, 2)), Value(Some(3))),
-    (Len, Number(505)),
-];
+/// Commands of the half full map.
+fn rows() -> [Row<u64>; 24] {
+    [
+        (Len, Number(500)),
+        (Next, Key(key(500, 0))),
+        (Remove(key(500, 0)), Reply::None),
+        (Insert(1), Key(key(500, 0))),
+        (InsertAt(250, 2), Key(key(250, 1))),
+        (Remove(key(250, 0)), Reply::None),
+        (Remove(key(250, 1)), Value(2)),
+        (Insert(3), Key(key(250, 2))),
+        (InsertAt(501, 4), Key(key(501, 0))),
+        (InsertAt(999, 5), Key(key(999, 0))),
+        (Insert(6), Key(key(502, 0))),
+        (Remove(key(0, 0)), Value(0)),
+        (InsertAt(0, 7), Key(key(0, 1))),
+        (Remove(key(499, 0)), Value(499)),
+        (Remove(key(999, 0)), Value(5)),
+        (InsertAt(1000, 8), Reply::None),
+        (InsertAt(usize::MAX, 8), Reply::None),
+        (Remove(key(1000, 0)), Reply::None),
+        (Remove(key(usize::MAX, 0)), Reply::None),
+        (Insert(9), Key(key(999, 1))),
+        (Insert(10), Key(key(499, 1))),
+        (Insert(11), Key(key(503, 0))),
+        (Get(key(250, 2)), Value(3)),
+        (Len, Number(505)),
+    ]
+}
 
 #[test]
 fn counted_calls(rt: HostRuntime) -> Result<(), Fail> {
     let findings = Findings::new();
-    let plain = half_full(rt.alloc(), 1000);
-    if let (Ok(mut plain), Ok(mut map)) = (plain, half_full(rt.alloc(), 1000)) {
-        for (number, (call, outcome)) in LINES.iter().enumerate() {
-            let found = outcome_of(&mut plain, call);
-            findings.expect_same_at(&found, outcome, number, "the plain call");
-            let found = counted(&mut map, call);
-            findings.expect_same_at(&found, outcome, number, "the counted call");
+    check_tables(
+        &findings,
+        half_full(rt.alloc(), 1000),
+        &[&rows()],
+        "the plain call",
+    );
+    match half_full(rt.alloc(), 1000) {
+        Ok(mut map) => {
+            for (number, (command, reply)) in rows().iter().enumerate() {
+                let found = run_counted(&mut map, *command);
+                findings.expect_same_at(found, *reply, number, "the counted call");
+            }
         }
-    } else {
-        findings.miss("there is memory");
+        Err(AllocError) => findings.miss("there is memory"),
     }
     findings.verdict()
 }

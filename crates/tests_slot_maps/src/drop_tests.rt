@@ -1,7 +1,6 @@
 //! When values are dropped: each one once, and by the drop of a map that of the least index first.
-use crate::calls::{Numbers, key_of};
 use crate::drop_tests::Call::{Insert, InsertAt, Remove};
-use crate::rows::LAST;
+use crate::rows::{LAST, key};
 use ix_cells::{RelocatableContainer, Table};
 use ix_maps::{FixedSizeSlotMap, Link, MetaSlotMap, SlotMap, UninitSlotMap};
 use std::alloc::{AllocError, Global};
@@ -12,7 +11,8 @@ use test_support::{Findings, Noted, Notes};
 enum Call {
     Insert(u64),
     InsertAt(usize, u64),
-    Remove(Numbers),
+    /// Removes the key of this index and generation.
+    Remove(usize, u32),
 }
 
 /// A call, the names of the values that it drops, and the name of the value that it returns.
@@ -34,7 +34,7 @@ fn returned_by<'a, S: Table<Option<Noted<'a>>>, L: Table<Link>, G: Table<u32>>(
         InsertAt(index, name) => {
             let _ = map.insert_at(*index, Noted::new(*name, notes));
         }
-        Remove(key) => return map.remove(key_of(key)),
+        Remove(index, generation) => return map.remove(key(*index, *generation)),
     }
     None
 }
@@ -95,10 +95,10 @@ const PUTS: &[Row] = &[
 const REMOVALS: &[Row] = &[
     (Insert(1), 0, None),
     (Insert(2), 0, None),
-    (Remove((0, 0)), 0, Some(1)),
-    (Remove((0, 0)), 0, None),
+    (Remove(0, 0), 0, Some(1)),
+    (Remove(0, 0), 0, None),
     (Insert(3), 0, None),
-    (Remove((0, 0)), 0, None),
+    (Remove(0, 0), 0, None),
 ];
 
 /// The place between two others is retired, and takes no other value.
@@ -107,8 +107,8 @@ const RETIRED_BETWEEN: &[Row] = &[
     (Insert(2), 0, None),
     (Insert(3), 0, None),
     (InsertAt(0, 4), 4, None),
-    (Remove((1, LAST)), 0, Some(2)),
-    (Remove((1, LAST)), 0, None),
+    (Remove(1, LAST), 0, Some(2)),
+    (Remove(1, LAST), 0, None),
     (InsertAt(1, 5), 5, None),
     (Insert(6), 6, None),
 ];
@@ -116,11 +116,11 @@ const RETIRED_BETWEEN: &[Row] = &[
 /// Each place is retired.
 const ALL_RETIRED: &[Row] = &[
     (Insert(1), 0, None),
-    (Remove((0, LAST)), 0, Some(1)),
+    (Remove(0, LAST), 0, Some(1)),
     (Insert(2), 0, None),
-    (Remove((1, LAST)), 0, Some(2)),
+    (Remove(1, LAST), 0, Some(2)),
     (Insert(3), 0, None),
-    (Remove((2, LAST)), 0, Some(3)),
+    (Remove(2, LAST), 0, Some(3)),
     (Insert(4), 4, None),
 ];
 

@@ -4,22 +4,8 @@ use ix_maps::slotmap::key_order_law;
 use ix_maps::{FixedSizeSlotMap, Link, MetaSlotMap, SlotMap, SlotMapKey};
 use std::alloc::AllocError;
 use std::cmp::Ordering;
-use std::fmt::{Debug, InlineText};
-use std::hash::{DefaultHasher, Hash, Hasher};
 use std::test::Fail;
-use test_support::Findings;
-
-/// Returns the hash of a value, by the trait alone.
-fn hash_of<K: Hash>(value: &K) -> u64 {
-    let mut hasher = DefaultHasher::new();
-    value.hash(&mut hasher);
-    hasher.finish()
-}
-
-/// Returns the order of two values, by the trait alone.
-fn order_of<K: Ord>(value: &K, other: &K) -> Ordering {
-    value.cmp(other)
-}
+use test_support::{Findings, check_text, hash_of, order_of};
 
 /// The index and the generation of keys, in their order.
 const RISING: &[(usize, u32)] = &[
@@ -63,12 +49,6 @@ fn keys() -> Result<(), Fail> {
         }
     }
     findings.verdict()
-}
-
-/// Checks the `Debug` text of a value.
-fn check_text<T: Debug>(findings: &Findings, value: &T, text: &str) {
-    let found = InlineText::<80>::of(format_args!("{value:?}"));
-    findings.expect_same(found.as_str(), text, "the text");
 }
 
 /// Checks the texts of an empty map with three places, of one with a value, of a full one, and of its iterator as far as it has

@@ -3,8 +3,6 @@
 #![tactic(auto)]
 
 #[cfg(test)]
-mod calls;
-#[cfg(test)]
 mod counting_tests;
 #[cfg(test)]
 mod drop_tests;

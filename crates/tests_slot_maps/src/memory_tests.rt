@@ -1,68 +1,59 @@
 //! Maps for which there is not enough memory, at each of the six allocations: nothing stays allocated.
-use crate::calls::numbers_of;
-use ix_cells::{InitError, RelocatableContainer, Table};
+use crate::rows::key;
+use ix_cells::{RelocatableContainer, Table};
 use ix_maps::{Link, MetaSlotMap, SlotMap, UninitSlotMap};
 use linked_list_allocator::LocalHeap;
 use std::alloc::{AllocError, Global};
 use std::test::Fail;
-use test_support::{Findings, check_drawn_sizes, check_sizes};
+use test_support::{Findings, check_drawn_sizes, check_makings};
 
 /// The generation at which places start.
 const START: u32 = 4_294_967_290;
 
-/// Checks an empty map with `capacity` places that start at `START`.
-fn check_empty<S: Table<Option<u64>>, L: Table<Link>, G: Table<u32>>(
+/// Checks a map whose making is refused or did not fail, and returns how many bytes of the heap are in use with it: it is
+/// empty, and its places start at `start`.
+fn used_with<S: Table<Option<u64>>, L: Table<Link>, G: Table<u32>, E: Drop>(
     findings: &Findings,
-    map: &MetaSlotMap<Option<u64>, S, L, G>,
-    capacity: usize,
-) {
+    heap: &LocalHeap,
+    made: Result<MetaSlotMap<Option<u64>, S, L, G>, E>,
+    (capacity, start): (usize, u32),
+) -> Option<usize> {
+    let Ok(map) = made else {
+        return None;
+    };
     let sizes = (map.capacity(), map.len(), map.retired());
     findings.expect_same(sizes, (capacity, 0, 0), "an empty map");
     let first = if capacity == 0 {
         None
     } else {
-        Some((0, START))
+        Some(key(0, start))
     };
-    findings.expect_same(numbers_of(map.next_free_key()), first, "the first key");
+    findings.expect_same(map.next_free_key(), first, "the first key");
+    Some(heap.used())
 }
 
-/// Checks that a refused value can be initialised from `ample`.
-fn check_again(
-    findings: &Findings,
-    error: InitError<UninitSlotMap<u64>>,
-    ample: Global,
-    capacity: usize,
-) {
-    match error.into_uninit().init(ample) {
-        Ok(map) => check_empty(findings, &map, capacity),
-        Err(_) => findings.miss("from ample memory"),
-    }
-}
-
-/// Checks makings of maps with `capacity` places, which succeed if `has_room`. `ample` has enough memory.
-fn check_heap(
+/// Checks a making in two steps, as [`used_with`] does, with places that start at `START`. A refused value can be
+/// initialised from `ample`, which has enough memory.
+fn used_in_two_steps(
     findings: &Findings,
     heap: &LocalHeap,
     ample: Global,
-    (capacity, has_room): (usize, bool),
-) {
+    capacity: usize,
+) -> Option<usize> {
     let used = heap.used();
-    let is_new = SlotMap::<u64, _>::new(heap, capacity).is_ok();
-    findings.expect_same((is_new, heap.used()), (has_room, used), "`new`");
-    match SlotMap::<u64, _>::starting_at(heap, capacity, START) {
-        Ok(map) => check_empty(findings, &map, capacity),
-        Err(AllocError) => findings.expect(!has_room, "`starting_at` refuses"),
-    }
-    findings.expect_same(heap.used(), used, "bytes in use after `starting_at`");
     match UninitSlotMap::<u64>::starting_at(capacity, START).init(heap) {
-        Ok(map) => check_empty(findings, &map, capacity),
+        Ok(map) => {
+            let made = Ok::<_, AllocError>(map);
+            used_with(findings, heap, made, (capacity, START))
+        }
         Err(error) => {
-            findings.expect(!has_room, "`init` refuses");
             findings.expect_same(heap.used(), used, "bytes in use after a refusal");
-            check_again(findings, error, ample, capacity);
+            let again = error.into_uninit().init(ample);
+            let is_made = used_with(findings, heap, again, (capacity, START)).is_some();
+            findings.expect(is_made, "from ample memory");
+            None
         }
     }
-    findings.expect_same(heap.used(), used, "bytes in use after `init`");
 }
 
 /// The capacity of a map, and the number of blocks of 16 bytes that it takes: 16 bytes for each value, 24 for each link and 4
@@ -80,13 +71,32 @@ const SIZES: &[(usize, u16)] = &[
 fn makings_refused(rt: HostRuntime) -> Result<(), Fail> {
     let findings = Findings::new();
     let alloc = rt.alloc();
-    check_sizes(
+    check_makings(
         &findings,
         alloc,
         SIZES,
-        |heap: &LocalHeap, capacity, has_room| {
-            check_heap(&findings, heap, alloc, (capacity, has_room));
+        "`new`",
+        |heap: &LocalHeap, capacity| {
+            let made = SlotMap::<u64, _>::new(heap, capacity);
+            used_with(&findings, heap, made, (capacity, 0))
         },
+    );
+    check_makings(
+        &findings,
+        alloc,
+        SIZES,
+        "`starting_at`",
+        |heap: &LocalHeap, capacity| {
+            let made = SlotMap::<u64, _>::starting_at(heap, capacity, START);
+            used_with(&findings, heap, made, (capacity, START))
+        },
+    );
+    check_makings(
+        &findings,
+        alloc,
+        SIZES,
+        "`init`",
+        |heap: &LocalHeap, capacity| { used_in_two_steps(&findings, heap, alloc, capacity) },
     );
     findings.verdict()
 }

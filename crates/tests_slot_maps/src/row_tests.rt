@@ -1,9 +1,8 @@
 //! The worked examples on each kind of map and in each memory.
 ghost use Rattle.std.specs.Prelude.{◌≤◌};
 
-use crate::calls::{Line, check_calls, check_made};
 use crate::rows::{
-    DEAD_KEYS, EACH_PLACE, LAST, NO_PLACE, NO_SUCH_KEYS, ONE_PLACE, PLACE_RETIRED, SIZE_ZERO,
+    LAST, Row, dead_keys, each_place, no_place, no_such_keys, one_place, place_retired, size_zero,
 };
 use bumpalo::Bump;
 use ix_cells::RelocatableContainer;
@@ -12,31 +11,31 @@ use linked_list_allocator::LocalHeap;
 use std::alloc::Allocator;
 use std::fmt::Debug;
 use std::test::Fail;
-use test_support::Findings;
+use test_support::{Findings, check_rows, check_tables};
 
 /// Checks the example on inline maps whose places start at `generation`.
-fn check_fixed<const CAPACITY: usize>(findings: &Findings, generation: u32, lines: &[Line<u64>])
+fn check_fixed<const CAPACITY: usize>(findings: &Findings, generation: u32, rows: &[Row<u64>])
     requires { CAPACITY ≤ 3 }
 {
     let mut map = FixedSizeSlotMap::<u64, CAPACITY>::starting_at(generation);
-    check_calls(findings, &mut map, lines, "started inline");
+    check_rows(findings, &mut map, rows, "started inline");
     if generation == 0 {
         let mut map = FixedSizeSlotMap::<u64, CAPACITY>::new();
-        check_calls(findings, &mut map, lines, "new inline");
+        check_rows(findings, &mut map, rows, "new inline");
     }
 }
 
 #[test]
 fn in_the_value_itself() -> Result<(), Fail> {
     let findings = Findings::new();
-    check_fixed::<2>(&findings, LAST, PLACE_RETIRED);
-    check_fixed::<3>(&findings, 0, DEAD_KEYS);
-    check_fixed::<0>(&findings, 0, NO_PLACE);
-    check_fixed::<2>(&findings, 0, NO_SUCH_KEYS);
-    check_fixed::<3>(&findings, 0, EACH_PLACE);
-    check_fixed::<1>(&findings, 0, ONE_PLACE);
+    check_fixed::<2>(&findings, LAST, &place_retired());
+    check_fixed::<3>(&findings, 0, &dead_keys());
+    check_fixed::<0>(&findings, 0, &no_place());
+    check_fixed::<2>(&findings, 0, &no_such_keys());
+    check_fixed::<3>(&findings, 0, &each_place());
+    check_fixed::<1>(&findings, 0, &one_place());
     let mut units = FixedSizeSlotMap::<(), 3>::starting_at(4_294_967_294);
-    check_calls(&findings, &mut units, SIZE_ZERO, "units inline");
+    check_rows(&findings, &mut units, &size_zero(), "units inline");
     findings.verdict()
 }
 
@@ -45,13 +44,13 @@ fn check_started<T: Copy + PartialEq + Debug, A: Allocator + Copy>(
     findings: &Findings,
     alloc: A,
     (capacity, generation): (usize, u32),
-    lines: &[Line<T>],
+    rows: &[Row<T>],
     memory: &str,
 ) {
     let allocated = SlotMap::starting_at(alloc, capacity, generation);
-    check_made(findings, allocated, lines, memory);
+    check_tables(findings, allocated, &[rows], memory);
     let relocatable = UninitSlotMap::starting_at(capacity, generation).init(alloc);
-    check_made(findings, relocatable, lines, memory);
+    check_tables(findings, relocatable, &[rows], memory);
 }
 
 /// Does what `check_started` does, with generation 0 and with the functions that start at it too.
@@ -59,26 +58,26 @@ fn check_new<T: Copy + PartialEq + Debug, A: Allocator + Copy>(
     findings: &Findings,
     alloc: A,
     capacity: usize,
-    lines: &[Line<T>],
+    rows: &[Row<T>],
     memory: &str,
 ) {
-    check_started(findings, alloc, (capacity, 0), lines, memory);
-    check_made(findings, SlotMap::new(alloc, capacity), lines, memory);
+    check_started(findings, alloc, (capacity, 0), rows, memory);
+    check_tables(findings, SlotMap::new(alloc, capacity), &[rows], memory);
     let relocatable = UninitSlotMap::new_uninit(capacity).init(alloc);
-    check_made(findings, relocatable, lines, memory);
+    check_tables(findings, relocatable, &[rows], memory);
     let relocatable = RelocatableSlotMap::<T, A>::new_uninit(capacity).init(alloc);
-    check_made(findings, relocatable, lines, memory);
+    check_tables(findings, relocatable, &[rows], memory);
 }
 
 /// Checks each example on a map of each kind, allocated from `alloc`.
 fn check_examples<A: Allocator + Copy>(findings: &Findings, alloc: A, memory: &str) {
-    check_started(findings, alloc, (2, LAST), PLACE_RETIRED, memory);
-    check_new(findings, alloc, 3, DEAD_KEYS, memory);
-    check_new(findings, alloc, 0, NO_PLACE, memory);
-    check_new(findings, alloc, 2, NO_SUCH_KEYS, memory);
-    check_new(findings, alloc, 3, EACH_PLACE, memory);
-    check_new(findings, alloc, 1, ONE_PLACE, memory);
-    check_started(findings, alloc, (3, 4_294_967_294), SIZE_ZERO, memory);
+    check_started(findings, alloc, (2, LAST), &place_retired(), memory);
+    check_new(findings, alloc, 3, &dead_keys(), memory);
+    check_new(findings, alloc, 0, &no_place(), memory);
+    check_new(findings, alloc, 2, &no_such_keys(), memory);
+    check_new(findings, alloc, 3, &each_place(), memory);
+    check_new(findings, alloc, 1, &one_place(), memory);
+    check_started(findings, alloc, (3, 4_294_967_294), &size_zero(), memory);
 }
 
 /// Does what `check_examples` does. All of the memory is deallocated.

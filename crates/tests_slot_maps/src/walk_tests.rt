@@ -1,106 +1,54 @@
-//! Random calls of slot maps and of the plain slow map: every result, and from time to time the whole content and every key
+//! Random commands of slot maps and of the plain slow map: every reply, and from time to time the whole content and every key
 //! that is dead by then. Places start a few generations before the greatest, so that many are retired.
 ghost use Rattle.std.specs.Prelude.{◌≤◌};
 
-use crate::calls::{Numbers, key_of, numbers_of};
+use crate::rows::LAST;
 use crate::slow_map::SlowMap;
 use ix_cells::{RelocatableContainer, Table};
-use ix_maps::{FixedSizeSlotMap, Link, MetaSlotMap, SlotMap, UninitSlotMap};
+use ix_commands::SlotCommand;
+use ix_maps::{FixedSizeSlotMap, Link, MetaSlotMap, SlotMap, SlotMapKey, UninitSlotMap};
 use std::alloc::{AllocError, Global};
 use std::test::Fail;
-use test_support::Findings;
+use test_support::{Findings, Numbers};
 
-/// The number of calls that a walk makes on one map.
-const CALLS: u64 = 10_000;
+/// How often the contents of two maps are compared, and the number of commands before each time.
+const ROUNDS: usize = 100;
+
+const COMMANDS: usize = 250;
 
 /// The generation at which places start.
 const START: u32 = 4_294_967_290;
 
-/// Numbers that look random: each follows from the one before.
-#[derive(Drop)]
-struct Random {
-    last: u64,
-}
-
-impl Random {
-    /// Returns the next number, which is less than 65,536.
-    fn next(&mut self) -> usize {
-        let product = self.last.wrapping_mul(6_364_136_223_846_793_005);
-        self.last = product.wrapping_add(1_442_695_040_888_963_407);
-        (self.last >> 48) as usize
-    }
-}
-
-/// The slow map, and the keys that are dead by the calls so far.
-#[derive(Drop)]
-struct Slow {
-    map: SlowMap,
-    dead: Vec<Numbers>,
-}
-
-/// Returns a key by two numbers: its index is in range, the least out of range, or the greatest number, and its generation is
-/// mostly that of its place, and else one less or more.
-fn key_by(slow: &SlowMap, capacity: usize, number: usize, kind: usize) -> Numbers {
-    let place = number % capacity.saturating_add(2);
+/// Draws a key: its index is in range, the least out of range, or the greatest number, and its generation is mostly that of
+/// its place, and else one less or more.
+fn drawn_key(slow: &SlowMap, numbers: &mut Numbers, capacity: usize) -> SlotMapKey {
+    let place = numbers.next() % capacity.saturating_add(2);
     let index = if place > capacity { usize::MAX } else { place };
     let generation = slow.generation(index);
-    match kind % 8 {
-        0 => (index, generation.wrapping_sub(1)),
-        1 => (index, generation.wrapping_add(1)),
-        _ => (index, generation),
+    match numbers.next() % 8 {
+        0 => SlotMapKey::new(index, generation.wrapping_sub(1)),
+        1 => SlotMapKey::new(index, generation.wrapping_add(1)),
+        _ => SlotMapKey::new(index, generation),
     }
 }
 
-/// Makes one call on both maps and compares the results.
-fn check_call<S: Table<Option<u64>>, L: Table<Link>, G: Table<u32>>(
-    findings: &Findings,
-    map: &mut MetaSlotMap<Option<u64>, S, L, G>,
-    slow: &mut Slow,
-    kind: usize,
-    (key, value): (Numbers, u64),
-) -> Result<(), AllocError> {
-    match kind % 8 {
-        0 | 1 | 2 => {
-            let outcome = slow.map.insert(value);
-            findings.expect_same(numbers_of(map.insert(value)), outcome, "insert");
-        }
-        3 => {
-            let held = (key.0, slow.map.generation(key.0));
-            let is_held = slow.map.get(held).is_some();
-            let outcome = slow.map.insert_at(key.0, value);
-            if is_held && outcome.is_some() {
-                slow.dead.push(held)?;
-            }
-            let found = numbers_of(map.insert_at(key.0, value));
-            findings.expect_same(found, outcome, "insert at");
-        }
-        _ => {
-            let outcome = slow.map.remove(key)?;
-            if outcome.is_some() {
-                slow.dead.push(key)?;
-            }
-            findings.expect_same(map.remove(key_of(&key)), outcome, "remove");
-        }
+/// Draws a command of a map with `capacity` places. Nine of thirteen change a map.
+fn drawn_command(slow: &SlowMap, numbers: &mut Numbers, capacity: usize) -> SlotCommand<u64> {
+    let key = drawn_key(slow, numbers, capacity);
+    let value = numbers.next() as u64;
+    match numbers.next() % 13 {
+        0 | 1 | 2 => SlotCommand::Insert(value),
+        3 => SlotCommand::InsertAt(key.index(), value),
+        4 => SlotCommand::Set(key, value),
+        5 | 6 | 7 | 8 => SlotCommand::Remove(key),
+        9 => SlotCommand::Next,
+        10 => SlotCommand::Full,
+        11 => SlotCommand::Contains(key),
+        _ => SlotCommand::Get(key),
     }
-    Ok(())
 }
 
-/// Compares what both maps return for a key, and their first free keys.
-fn check_reads<S: Table<Option<u64>>, L: Table<Link>, G: Table<u32>>(
-    findings: &Findings,
-    map: &MetaSlotMap<Option<u64>, S, L, G>,
-    slow: &SlowMap,
-    key: Numbers,
-) {
-    let first = slow.next_free_key();
-    let found = (numbers_of(map.next_free_key()), map.is_full());
-    findings.expect_same(found, (first, first.is_none()), "the free places");
-    let value = slow.get(key);
-    let found = (map.contains(key_of(&key)), map.get(key_of(&key)).copied());
-    findings.expect_same(found, (value.is_some(), value), "the value of a key");
-}
-
-/// Compares the entries of both maps.
+/// Compares the entries of both maps, and the numbers of held and of retired places.
 fn check_content<S: Table<Option<u64>>, L: Table<Link>, G: Table<u32>>(
     findings: &Findings,
     map: &MetaSlotMap<Option<u64>, S, L, G>,
@@ -115,10 +63,9 @@ fn check_content<S: Table<Option<u64>>, L: Table<Link>, G: Table<u32>>(
         let found = (items.len(), items.size_hint());
         findings.expect_same(found, (left, (left, Some(left))), "items to come");
         findings.expect(items.next() == Some((key, value)), "an item");
-        let (index, generation) = (key.index(), key.generation());
-        findings.expect(index >= least, "the indexes rise");
-        findings.expect_same(slow.get((index, generation)), Some(*value), "a held key");
-        least = index.wrapping_add(1);
+        findings.expect(key.index() >= least, "the indexes rise");
+        findings.expect_same(slow.get(key), Some(*value), "a held key");
+        least = key.index().wrapping_add(1);
         count = count.wrapping_add(1);
     }
     findings.expect_same(items.len(), 0, "no item to come");
@@ -126,61 +73,55 @@ fn check_content<S: Table<Option<u64>>, L: Table<Link>, G: Table<u32>>(
     findings.expect_same(found, (held, held, retired), "the numbers of places");
 }
 
-/// Checks that no dead key is held.
+/// Checks that no dead key is held: no one of a retired place, and else no one whose generation its place had before.
 fn check_dead<S: Table<Option<u64>>, L: Table<Link>, G: Table<u32>>(
     findings: &Findings,
     map: &MetaSlotMap<Option<u64>, S, L, G>,
-    dead: &[Numbers],
+    slow: &SlowMap,
 ) {
-    for key in dead {
-        findings.expect(!map.contains(key_of(key)), "a dead key is not held");
-    }
-}
-
-/// Makes random calls on both maps, which are empty.
-fn walk_both<S: Table<Option<u64>>, L: Table<Link>, G: Table<u32>>(
-    findings: &Findings,
-    map: &mut MetaSlotMap<Option<u64>, S, L, G>,
-    slow: &mut Slow,
-) -> Result<(), AllocError> {
-    let capacity = map.capacity();
-    let mut random = Random {
-        last: capacity as u64,
-    };
-    for call in 0..CALLS {
-        let key = key_by(&slow.map, capacity, random.next(), random.next());
-        check_call(findings, map, slow, random.next(), (key, call))?;
-        let key = key_by(&slow.map, capacity, random.next(), random.next());
-        check_reads(findings, &*map, &slow.map, key);
-        if call % 100 == 99 {
-            check_content(findings, &*map, &slow.map);
-            check_dead(findings, &*map, &slow.dead);
+    for index in 0..map.capacity() {
+        for generation in START..slow.generation(index) {
+            let is_held = map.contains(SlotMapKey::new(index, generation));
+            findings.expect_at(!is_held, index, "a dead key is not held");
+        }
+        if slow.is_retired(index) {
+            let is_held = map.contains(SlotMapKey::new(index, LAST));
+            findings.expect_at(!is_held, index, "the last key is not held");
         }
     }
-    Ok(())
 }
 
-/// Makes random calls on an empty map, whose making did not fail, and on a slow one. At the end places are retired.
+/// Runs random commands on an empty map, whose making did not fail, and on a slow one. At the end places are retired.
 fn walk<S: Table<Option<u64>>, L: Table<Link>, G: Table<u32>, E: Drop>(
     findings: &Findings,
     alloc: Global,
     made: Result<MetaSlotMap<Option<u64>, S, L, G>, E>,
 ) {
-    if let Ok(mut map) = made {
-        if let Ok(slow) = SlowMap::new(alloc, map.capacity(), START) {
-            let mut slow = Slow {
-                map: slow,
-                dead: Vec::new(alloc),
-            };
-            let walked = walk_both(findings, &mut map, &mut slow);
-            findings.expect(map.retired() > 0, "places are retired");
-            return findings.expect(walked.is_ok(), "there is memory for the walk");
-        }
+    let Ok(mut map) = made else {
+        return findings.miss("there is memory");
+    };
+    let capacity = map.capacity();
+    let Ok(mut slow) = SlowMap::new(alloc, capacity, START) else {
+        return findings.miss("there is memory for the slow map");
+    };
+    let mut numbers = Numbers::new(capacity as u64);
+    for _ in 0..ROUNDS {
+        test_support::walk(
+            findings,
+            &mut map,
+            &mut slow,
+            &mut numbers,
+            COMMANDS,
+            "a walk",
+            |slow: &SlowMap, numbers| drawn_command(slow, numbers, capacity),
+        );
+        check_content(findings, &map, &slow);
+        check_dead(findings, &map, &slow);
     }
-    findings.miss("there is memory");
+    findings.expect(map.retired() > 0, "places are retired");
 }
 
-/// Makes random calls on a map of each kind.
+/// Runs random commands on a map of each kind.
 fn walk_kinds<const CAPACITY: usize>(findings: &Findings, alloc: Global)
     requires { CAPACITY ≤ 400 }
 {

@@ -1,5 +1,4 @@
 //! Each function once.
-use crate::calls::{check_calls, check_made};
 use crate::inserting::{insert_and_get, insert_at_next};
 use crate::rows::EVERY_CALL;
 use ix_cells::{HeapTable, InitError, InlineTable, RelocatableContainer, Table, Touches};
@@ -8,24 +7,9 @@ use ix_maps::{
     UninitSlotTable,
 };
 use std::alloc::{AllocError, Global};
-use std::cmp::Ordering;
-use std::fmt::{Debug, InlineText};
-use std::hash::{DefaultHasher, Hash, Hasher};
 use std::mem::size_of;
 use std::test::Fail;
-use test_support::Findings;
-
-/// Returns the hash of a value, by the trait alone.
-fn hash_of<K: Hash>(value: &K) -> u64 {
-    let mut hasher = DefaultHasher::new();
-    value.hash(&mut hasher);
-    hasher.finish()
-}
-
-/// Returns the order of two values, by the trait alone.
-fn order_of<K: Ord>(value: &K, other: &K) -> Ordering {
-    value.cmp(other)
-}
+use test_support::{Findings, check_rows, check_tables, check_text, hash_of, order_of};
 
 #[test]
 fn keys() -> Result<(), Fail> {
@@ -56,12 +40,6 @@ fn keys_by_their_bounds() -> Result<(), Fail> {
         }
     }
     findings.verdict()
-}
-
-/// Checks the `Debug` text of a value.
-fn check_text<T: Debug>(findings: &Findings, value: &T, text: &str) {
-    let found = InlineText::<80>::of(format_args!("{value:?}"));
-    findings.expect_same(found.as_str(), text, "the text");
 }
 
 /// Inserts values at the keys 0 and 2 of an empty map with three keys.
@@ -102,8 +80,8 @@ fn from_tables(rt: HostRuntime) -> Result<(), Fail> {
     let findings = Findings::new();
     match HeapTable::<Link, Global>::new(rt.alloc(), 2) {
         Ok(links) => {
-            let map = MetaSlotTable::from_tables(InlineTable::<char, 2>::new(), links);
-            check_calls(&findings, map, EVERY_CALL, "two kinds of tables");
+            let mut map = MetaSlotTable::from_tables(InlineTable::<char, 2>::new(), links);
+            check_rows(&findings, &mut map, EVERY_CALL, "two kinds of tables");
         }
         Err(AllocError) => findings.miss("there is memory"),
     }
@@ -115,10 +93,15 @@ fn two_steps(rt: HostRuntime) -> Result<(), Fail> {
     let findings = Findings::new();
     let uninit = InitError::new(RelocatableSlotTable::<char, Global>::new_uninit(2)).into_uninit();
     let made = uninit.init(rt.alloc());
-    check_made(&findings, made, EVERY_CALL, "by the type of the ready map");
+    check_tables(
+        &findings,
+        made,
+        &[EVERY_CALL],
+        "by the type of the ready map",
+    );
     let uninit = <UninitSlotTable<char> as RelocatableContainer<Global>>::new_uninit(2);
     let made = uninit.init(rt.alloc());
-    check_made(&findings, made, EVERY_CALL, "by the trait");
+    check_tables(&findings, made, &[EVERY_CALL], "by the trait");
     findings.verdict()
 }
 

@@ -4,8 +4,6 @@
 #![tactic(auto)]
 
 #[cfg(test)]
-mod calls;
-#[cfg(test)]
 mod counting_tests;
 #[cfg(test)]
 mod drop_tests;
@@ -19,7 +17,5 @@ mod memory_tests;
 mod row_tests;
 #[cfg(test)]
 mod rows;
-#[cfg(test)]
-mod slow_map;
 #[cfg(test)]
 mod walk_tests;

@@ -1,65 +1,46 @@
 //! Maps for which there is not enough memory, at each of the four allocations: nothing stays allocated.
-use ix_cells::{InitError, RelocatableContainer, Table};
+use ix_cells::{RelocatableContainer, Table};
 use ix_maps::{Link, MetaSlotTable, SlotTable, UninitSlotTable};
 use linked_list_allocator::LocalHeap;
-use std::alloc::Global;
+use std::alloc::{AllocError, Global};
 use std::test::Fail;
-use test_support::{Findings, check_drawn_sizes, check_sizes};
+use test_support::{Findings, check_drawn_sizes, check_makings};
 
-/// Checks a making of a map with `capacity` keys, which succeeds if `found`. Before it `used` bytes of the heap were in
-/// use.
-fn check_made<S: Table<u64>, L: Table<Link>, E: Drop>(
+/// Checks a map whose making is refused or did not fail, and returns how many bytes of the heap are in use with it: it is
+/// empty, and full if it has no key.
+fn used_with<S: Table<u64>, L: Table<Link>, E: Drop>(
     findings: &Findings,
     heap: &LocalHeap,
-    used: usize,
     made: Result<MetaSlotTable<u64, S, L>, E>,
-    (capacity, found): (usize, bool),
-) {
-    match made {
-        Ok(map) => {
-            findings.expect(found, "the making succeeds");
-            let sizes = (map.capacity(), map.len(), map.is_full());
-            findings.expect_same(sizes, (capacity, 0, capacity == 0), "in the heap");
-        }
-        Err(_) => findings.expect(!found, "the making fails"),
-    }
-    findings.expect_same(heap.used(), used, "bytes in use after it");
+    capacity: usize,
+) -> Option<usize> {
+    let Ok(map) = made else {
+        return None;
+    };
+    let sizes = (map.capacity(), map.len(), map.is_full());
+    findings.expect_same(sizes, (capacity, 0, capacity == 0), "an empty map");
+    Some(heap.used())
 }
 
-/// Checks that a refused value can be initialised from `ample`.
-fn check_again(
+/// Checks a making in two steps, as [`used_with`] does. A refused value can be initialised from `ample`, which has enough
+/// memory.
+fn used_in_two_steps(
     findings: &Findings,
-    refused: Option<InitError<UninitSlotTable<u64>>>,
+    heap: &LocalHeap,
     ample: Global,
     capacity: usize,
-) {
-    if let Some(error) = refused {
-        match error.into_uninit().init(ample) {
-            Ok(map) => {
-                let sizes = (map.capacity(), map.len());
-                findings.expect_same(sizes, (capacity, 0), "in ample memory");
-            }
-            Err(_) => findings.miss("from ample memory"),
+) -> Option<usize> {
+    let used = heap.used();
+    match UninitSlotTable::<u64>::new_uninit(capacity).init(heap) {
+        Ok(map) => used_with(findings, heap, Ok::<_, AllocError>(map), capacity),
+        Err(error) => {
+            findings.expect_same(heap.used(), used, "bytes in use after a refusal");
+            let again = error.into_uninit().init(ample);
+            let is_made = used_with(findings, heap, again, capacity).is_some();
+            findings.expect(is_made, "from ample memory");
+            None
         }
     }
-}
-
-/// Checks makings of maps with `capacity` keys, which succeed if `found`. `ample` has enough memory.
-fn check_heap(
-    findings: &Findings,
-    heap: &LocalHeap,
-    ample: Global,
-    (capacity, found): (usize, bool),
-) {
-    let used = heap.used();
-    let wanted = (capacity, found);
-    check_made(findings, heap, used, SlotTable::new(heap, capacity), wanted);
-    let made = UninitSlotTable::new_uninit(capacity).init(heap);
-    check_made(findings, heap, used, made, wanted);
-    let refused = UninitSlotTable::new_uninit(capacity).init(heap).err();
-    findings.expect_same(refused.is_none(), found, "in two steps");
-    findings.expect_same(heap.used(), used, "bytes in use after a refusal");
-    check_again(findings, refused, ample, capacity);
 }
 
 /// The capacity of a map, and the number of blocks of 16 bytes that it takes: 8 bytes for each value and 24 for each link,
@@ -78,13 +59,21 @@ const SIZES: &[(usize, u16)] = &[
 fn makings_refused(rt: HostRuntime) -> Result<(), Fail> {
     let findings = Findings::new();
     let alloc = rt.alloc();
-    check_sizes(
+    check_makings(
         &findings,
         alloc,
         SIZES,
-        |heap: &LocalHeap, capacity, found| {
-            check_heap(&findings, heap, alloc, (capacity, found));
+        "`new`",
+        |heap: &LocalHeap, capacity| {
+            used_with(&findings, heap, SlotTable::new(heap, capacity), capacity)
         },
+    );
+    check_makings(
+        &findings,
+        alloc,
+        SIZES,
+        "`init`",
+        |heap: &LocalHeap, capacity| { used_in_two_steps(&findings, heap, alloc, capacity) },
     );
     findings.verdict()
 }

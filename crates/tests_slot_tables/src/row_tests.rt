@@ -1,8 +1,7 @@
 //! The worked examples on each kind of map and in each memory.
-use crate::calls::{Line, check_calls, check_made};
 use crate::rows::{
     EVERY_CALL, FIRST_KEY_INSERTED, KEYS_AFTER_THE_FIRST, KEYS_OUT_OF_RANGE, MIDDLE_KEY_INSERTED,
-    NO_KEY, ONE_KEY, REMOVED_KEY_IS_FIRST, REMOVED_KEY_IS_NEXT, SIZE_ZERO, VALUE_REPLACED,
+    NO_KEY, ONE_KEY, REMOVED_KEY_IS_FIRST, REMOVED_KEY_IS_NEXT, Row, SIZE_ZERO, VALUE_REPLACED,
 };
 use bumpalo::Bump;
 use ix_cells::RelocatableContainer;
@@ -11,13 +10,13 @@ use linked_list_allocator::LocalHeap;
 use std::alloc::Allocator;
 use std::fmt::Debug;
 use std::test::Fail;
-use test_support::Findings;
+use test_support::{Findings, check_rows, check_tables};
 
 /// Examples on a map with two keys.
-const OF_TWO: &[&[Line<char>]] = &[KEYS_OUT_OF_RANGE, EVERY_CALL];
+const OF_TWO: &[&[Row<char>]] = &[KEYS_OUT_OF_RANGE, EVERY_CALL];
 
 /// Examples on a map with three keys.
-const OF_THREE: &[&[Line<char>]] = &[
+const OF_THREE: &[&[Row<char>]] = &[
     REMOVED_KEY_IS_FIRST,
     FIRST_KEY_INSERTED,
     VALUE_REPLACED,
@@ -28,30 +27,22 @@ const OF_THREE: &[&[Line<char>]] = &[
 #[test]
 fn in_the_value_itself() -> Result<(), Fail> {
     let findings = Findings::new();
-    for lines in OF_THREE {
-        check_calls(
-            &findings,
-            FixedSizeSlotTable::<char, 3>::new(),
-            lines,
-            "of three",
-        );
+    for rows in OF_THREE {
+        let mut three = FixedSizeSlotTable::<char, 3>::new();
+        check_rows(&findings, &mut three, rows, "of three");
     }
-    for lines in OF_TWO {
-        check_calls(
-            &findings,
-            FixedSizeSlotTable::<char, 2>::new(),
-            lines,
-            "of two",
-        );
+    for rows in OF_TWO {
+        let mut two = FixedSizeSlotTable::<char, 2>::new();
+        check_rows(&findings, &mut two, rows, "of two");
     }
-    let four = FixedSizeSlotTable::<char, 4>::new();
-    check_calls(&findings, four, MIDDLE_KEY_INSERTED, "of four");
-    let one = FixedSizeSlotTable::<char, 1>::new();
-    check_calls(&findings, one, ONE_KEY, "of one");
-    let none = FixedSizeSlotTable::<char, 0>::new();
-    check_calls(&findings, none, NO_KEY, "of none");
-    let units = FixedSizeSlotTable::<(), 3>::new();
-    check_calls(&findings, units, SIZE_ZERO, "of size zero");
+    let mut four = FixedSizeSlotTable::<char, 4>::new();
+    check_rows(&findings, &mut four, MIDDLE_KEY_INSERTED, "of four");
+    let mut one = FixedSizeSlotTable::<char, 1>::new();
+    check_rows(&findings, &mut one, ONE_KEY, "of one");
+    let mut none = FixedSizeSlotTable::<char, 0>::new();
+    check_rows(&findings, &mut none, NO_KEY, "of none");
+    let mut units = FixedSizeSlotTable::<(), 3>::new();
+    check_rows(&findings, &mut units, SIZE_ZERO, "of size zero");
     findings.verdict()
 }
 
@@ -60,22 +51,22 @@ fn check_example<T: Copy + PartialEq + Debug, A: Allocator + Copy>(
     findings: &Findings,
     alloc: A,
     capacity: usize,
-    lines: &[Line<T>],
+    rows: &[Row<T>],
     memory: &str,
 ) {
     let allocated = SlotTable::new(alloc, capacity);
-    check_made(findings, allocated, lines, memory);
+    check_tables(findings, allocated, &[rows], memory);
     let relocatable = UninitSlotTable::new_uninit(capacity).init(alloc);
-    check_made(findings, relocatable, lines, memory);
+    check_tables(findings, relocatable, &[rows], memory);
 }
 
 /// Checks each example on a map of each kind, allocated from `alloc`.
 fn check_examples<A: Allocator + Copy>(findings: &Findings, alloc: A, memory: &str) {
-    for lines in OF_THREE {
-        check_example(findings, alloc, 3, lines, memory);
+    for rows in OF_THREE {
+        check_example(findings, alloc, 3, rows, memory);
     }
-    for lines in OF_TWO {
-        check_example(findings, alloc, 2, lines, memory);
+    for rows in OF_TWO {
+        check_example(findings, alloc, 2, rows, memory);
     }
     check_example(findings, alloc, 4, MIDDLE_KEY_INSERTED, memory);
     check_example(findings, alloc, 1, ONE_KEY, memory);

@@ -1,4 +1,4 @@
--- What the slow map does to its list of free keys.
+-- What the slow table does to its list of free keys.
 use Rattle.std.proofs.Common.{◌≡◌, ℕ, zero, suc, ◌+◌, ◌≤◌, inl, inr, List, [], ◌∷◌, ◌++◌, length, Bool, true, false, Option, Some, None, refl, sym, ap, ◌∙◌, arith}
 use Rattle.std.specs.Prelude.{nat_eq, nat_lt, if◌then◌else◌, not, cond}
 use Rattle.std.specs.List.{range_with_len, remove, position, position_or_len}

@@ -1,0 +1,23 @@
+//! Values by their traits alone.
+use crate::Findings;
+use std::cmp::Ordering;
+use std::fmt::{Debug, InlineText};
+use std::hash::{DefaultHasher, Hash, Hasher};
+
+/// Returns the hash of a value.
+pub fn hash_of<T: Hash>(value: &T) -> u64 {
+    let mut hasher = DefaultHasher::new();
+    value.hash(&mut hasher);
+    hasher.finish()
+}
+
+/// Returns the order of two values.
+pub fn order_of<T: Ord>(value: &T, other: &T) -> Ordering {
+    value.cmp(other)
+}
+
+/// Checks the `Debug` text of a value, of which the first 80 bytes are compared.
+pub fn check_text<T: Debug>(findings: &Findings, value: &T, text: &str) {
+    let found = InlineText::<80>::of(format_args!("{value:?}"));
+    findings.expect_same(found.as_str(), text, "the text");
+}
