@@ -21,10 +21,7 @@ mod noted;
 mod numbers;
 mod recorder;
 mod rows;
-<<<<<<< HEAD
-=======
 mod slow_table;
->>>>>>> rows2
 mod walks;
 
 pub use blocks::{check_makings, check_sizes};
@@ -35,8 +32,5 @@ pub use noted::{Noted, Notes, names_of};
 pub use numbers::Numbers;
 pub use recorder::fed_by;
 pub use rows::{check_rows, check_tables};
-<<<<<<< HEAD
-=======
 pub use slow_table::{SlowTable, reply_of_key, reply_of_option};
->>>>>>> rows2
 pub use walks::walk;
