@@ -29,7 +29,7 @@ class Contracts:
         self.calls, self.members = collections.defaultdict(list), collections.defaultdict(set)
         self.home, self.same, self.records, self.words = {}, collections.defaultdict(set), {}, set()
         files = [(path, text_of(path)) for crate in libraries_of_crates() for path in paths(crate, "**/*")
-                 if path.endswith((".rt", ".antt"))]
+                 if path.endswith((".rt", ".antt")) and "/out/" not in path]
         for path, text in files:
             if "/specs/" in path:
                 self.records.update((name, set(FIELD.findall(body))) for _, name, body in RECORD.findall(text))
