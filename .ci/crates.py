@@ -46,7 +46,6 @@ def files(crate, parts):
                 yield os.path.relpath(os.path.join(folder, name), ROOT)
 
 
-def digest(words, paths):
-    """Returns a hash of words, and of files with their paths."""
-    lines = [*words, *(f"{path} {hashlib.sha256(read(path)).hexdigest()}" for path in paths)]
+def digest(lines):
+    """Returns a hash of lines."""
     return hashlib.sha256("\n".join(lines).encode()).hexdigest()

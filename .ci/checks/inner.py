@@ -1,14 +1,16 @@
-"""Shows that no public contract rests on a definition of specs/inner/, where the words of private contracts are.
+"""Shows that specs/inner/ has what private contracts alone rest on, and the rest of specs/ what public ones do.
 
-It fails if a public item of the library cites such a word in its contract or in what an impl of a trait pins, and if a file of
-specs/ outside inner/ and laws/ uses one of them.
+It fails if a public item of the library cites an inner word in its contract or in what an impl of a trait pins, and if a file of
+specs/ outside inner/ and laws/ uses one of them. And it fails if a definition outside of these is one that no public contract rests
+on: neither cites it, nor cites a definition that rests on it.
 """
 
 import re
 
-from checks.items import LIBRARY, is_shown, paths, public_modules, text_of, words_of
+from checks.items import LIBRARY, is_shown, items_of, paths, public_modules, text_of, trait_of, words_of
 
 WORD = re.compile(r"[^\W\d][\w-]*")
+DEFINITION = re.compile(r"^( *)(?:unfoldable |abbrev )?pub (?!mod |use )(?:record |data )?(\S+)(?=[ :])")
 PINNED = re.compile(r"^ *ghost (?!use|view|invariant|coded|inverse)\w+ = .*?;$", re.M | re.S)
 ROOMS = ("/specs/inner/", "/specs/laws/")
 
@@ -41,6 +43,49 @@ def used(crate):
             yield f"{path} uses a file of specs/inner/"
 
 
+def definitions(path):
+    """Returns the definitions of a specification, each with its lines; a record has its fields."""
+    found, indent = [], ""
+    for line in text_of(path).splitlines():
+        match = DEFINITION.match(line)
+        if match and (not found or len(match.group(1)) <= len(indent) or "record" not in found[-1][1][0]):
+            indent = match.group(1)
+            found.append((match.group(2), [line]))
+        elif found and not line.lstrip().startswith("--"):
+            found[-1][1].append(line)
+    return found
+
+
+def words_of_models(crate):
+    """Returns the words of the types of models."""
+    lines = []
+    for path in paths(crate, "src/**/*.rt"):
+        models = [it for it in items_of(text_of(path).splitlines()) if trait_of(it.name) == "Model"]
+        lines += [line for it in models for name in ("Value", "coded") for line in it.ghosts.get(name, [])]
+    return WORD.findall("\n".join(lines))
+
+
+def uncited():
+    """Yields each definition outside the rooms that no public contract rests on."""
+    rests_on, homes = {}, {}
+    for path in (path for crate in LIBRARY for path in paths(crate, "specs/**/*.antt")):
+        for word, lines in definitions(path):
+            rests_on.setdefault(word, set()).update(WORD.findall("\n".join(lines)))
+            if not any(room in path for room in ROOMS):
+                homes.setdefault(word, path)
+    left = {word for crate in LIBRARY for word in words_of_models(crate)}
+    for path, items in (it for crate in LIBRARY for module in public_modules(crate) for it in module.items):
+        lines = text_of(path).splitlines()
+        left |= {word for item in items for text in contracts(item, lines) for word in WORD.findall(text)}
+    reached = set()
+    while left:
+        reached |= left
+        left = {lower for word in left for lower in rests_on.get(word, ())} - reached
+    for word, path in homes.items():
+        if word not in reached:
+            yield f"{path}: no public contract rests on {word}, which so is an inner word"
+
+
 def check():
     """Returns what is wrong."""
-    return [fault for crate in LIBRARY for fault in (*cited(crate), *used(crate))]
+    return [*(fault for crate in LIBRARY for fault in (*cited(crate), *used(crate))), *uncited()]

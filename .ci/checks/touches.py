@@ -13,10 +13,10 @@ from checks.items import extent, paths, text_of
 FILES = [path for path in paths("ix_maps", "src/slot*/*.rt") if not path.endswith("/kinds.rt")]
 # By file, the functions that go through places, as their documentation says: those that make, end, walk or print a container.
 WALKS = {
-    "free_list": ("link_all", "drop_all"),
+    "free_list": ("link_all",),
     "generation_table": ("new", "drop", "fill", "empty"),
     "iter": ("next", "fmt"),
-    "meta_slot_table": ("from_tables", "held_from", "drop", "fmt"),
+    "meta_slot_table": ("from_tables", "held_from", "drop_all", "drop", "fmt"),
     "meta_slot_map": ("fmt",),
 }
 # Calls of a single step: those of counted tables, of new values, and of std.

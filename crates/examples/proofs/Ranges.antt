@@ -6,7 +6,7 @@ use Rattle.std.proofs.lemmas.Option.{slice_get-get_or}
 use Rattle.std.proofs.lemmas.List.Elements.{All-contains, Contains-push_cases}
 use Rattle.std.specs.Option.{IfSome}
 use Rattle.std.proofs.lemmas.Option.{IfSome_then}
-use Rattle.ix_atomic.specs.History.{Begins, Reader, value_at}
+use Rattle.ix_atomic.specs.History.{Begins, Reader, history_value}
 use Rattle.ix_atomic.specs.Writers.{Writer, Writes, AreOwn, HoldsEach, places_merge}
 use Rattle.ix_atomic.proofs.OwnPlaces.{merge-cases}
 use Rattle.ix_atomic.proofs.EveryValue.{every_value}
@@ -74,17 +74,17 @@ merged_in_order one other after begins begins' same own kept kept' = let longer 
 }
 
 -- if each place but the first is the seat's, all ranges are in order
-pub all_in_order : (writer : Writer Range) → AreInOrder writer → HoldsEach (length writer.known) writer.places → (version : ℕ) (range : Range) → value_at writer.known version ≡ Some range → IsInOrder range
+pub all_in_order : (writer : Writer Range) → AreInOrder writer → HoldsEach (length writer.known) writer.places → (version : ℕ) (range : Range) → history_value writer.known version ≡ Some range → IsInOrder range
 all_in_order writer kept each = every_value IsInOrder writer.known writer.places each
     (λ range at. kept.ranges 0 range (0, omega arith, refl) at)
     (λ place range has at. kept.ranges place range (Contains-cons 0 place writer.places has) at)
 
 -- what holds of a history holds of each beginning
-pub all_earlier : (history later : List Range) → Begins history later → ((version : ℕ) (range : Range) → value_at later version ≡ Some range → IsInOrder range)
-    → (version : ℕ) (range : Range) → value_at history version ≡ Some range → IsInOrder range
-all_earlier history later begins all version range at = all version range (subst (λ list. value_at list version ≡ Some range) (sym begins.1) (slice_get-longer history begins.0 (version / 2) range at))
+pub all_earlier : (history later : List Range) → Begins history later → ((version : ℕ) (range : Range) → history_value later version ≡ Some range → IsInOrder range)
+    → (version : ℕ) (range : Range) → history_value history version ≡ Some range → IsInOrder range
+all_earlier history later begins all version range at = all version range (subst (λ list. history_value list version ≡ Some range) (sym begins.1) (slice_get-longer history begins.0 (version / 2) range at))
 
 -- a range that a reader knows of is in the history that its seat was merged into
 pub read_in_order : (reader : Reader Range) (history : List Range) (read : Option Range) → Begins reader.known history → IfSome read (KnowsOf reader)
-    → ((version : ℕ) (range : Range) → value_at history version ≡ Some range → IsInOrder range) → IfSome read IsInOrder
+    → ((version : ℕ) (range : Range) → history_value history version ≡ Some range → IsInOrder range) → IfSome read IsInOrder
 read_in_order reader history read begins known all = IfSome_then read known (λ range knows. all_earlier reader.known history begins all knows.0 range knows.1)

@@ -9,7 +9,7 @@ use Rattle.std.specs.List.{Contains}
 use Rattle.std.specs.List.Sorted.{IsNonDecreasing}
 use Rattle.ix_atomic.specs.declared.sequenced.errors.TryWriteError.{TryWriteError}
 use Rattle.ix_atomic.specs.declared.sequenced.errors.TryWriteError.TheVariants.{Busy, VersionsUsedUp}
-use Rattle.ix_atomic.specs.History.{Begins, IsEven, IsOdd, Loads, LoadsTwice, value_at}
+use Rattle.ix_atomic.specs.History.{Begins, IsEven, IsOdd, Loads, LoadsTwice, history_value}
 use Rattle.ix_atomic.specs.Versions.{last_version}
 use Rattle.ix_atomic.specs.Writers.{Writer, Writes, Refuses, AreOwn, HoldsEach, IsRising, as_reader, places_merge}
 use Rattle.ix_atomic.proofs.OwnPlaces.{merge-cases}
@@ -88,9 +88,9 @@ all_written history places values rising within count stand =
     get_or_from_slice_get history i (get_or values i 0) 0 (ap (slice_get history) (sym (all_places places rising inside i (omega (arith, below, count)))) ∙ at))
 
 -- what is read later is not less, if the history does not fall
-pub never_lower : (history known : List ℕ) → Begins known history → IsNonDecreasing history → (earlier later first second : ℕ) → earlier ≤ later → value_at known earlier ≡ Some first → value_at known later ≡ Some second → first ≤ second
+pub never_lower : (history known : List ℕ) → Begins known history → IsNonDecreasing history → (earlier later first second : ℕ) → earlier ≤ later → history_value known earlier ≡ Some first → history_value known later ≡ Some second → first ≤ second
 never_lower history known begins grows earlier later first second order one two =
-    let longer : (version value : ℕ) → value_at known version ≡ Some value → slice_get history (version / 2) ≡ Some value = λ version value at.
+    let longer : (version value : ℕ) → history_value known version ≡ Some value → slice_get history (version / 2) ≡ Some value = λ version value at.
     subst (λ (list : List ℕ). slice_get list (version / 2) ≡ Some value) (sym begins.1) (slice_get-longer known begins.0 (version / 2) value at) in
     let at_first = longer earlier first one in let at_second = longer later second two in
     let inside = slice_get_within history (later / 2) second at_second in
@@ -128,9 +128,9 @@ module _ {T : Type 0} where
   -- if two seats have all places but the first, each value is the opening one or one that they wrote
   pub merged_values : (history : List T) (merged places places' : List ℕ) (values values' : List T) → merged ≡ places_merge places places' → HoldsEach (length history) merged
       → StandAt history places values → StandAt history places' values'
-      → (version : ℕ) (value : T) → value_at history version ≡ Some value → (value_at history 0 ≡ Some value) ⊎ (Contains values value ⊎ Contains values' value)
+      → (version : ℕ) (value : T) → history_value history version ≡ Some value → (history_value history 0 ≡ Some value) ⊎ (Contains values value ⊎ Contains values' value)
   merged_values history merged places places' values values' is each stand stand' =
-      every_value (λ value. (value_at history 0 ≡ Some value) ⊎ (Contains values value ⊎ Contains values' value)) history merged each (λ value at. inl at)
+      every_value (λ value. (history_value history 0 ≡ Some value) ⊎ (Contains values value ⊎ Contains values' value)) history merged each (λ value at. inl at)
       (λ place value has at. inr (⊎_elim (λ (mine : Contains places place). inl (StandAt-Contains history places values stand place value mine at))
       (λ (theirs : Contains places' place). inr (StandAt-Contains history places' values' stand' place value theirs at))
       (merge-cases places places' place (subst (λ list. Contains list place) is has))))

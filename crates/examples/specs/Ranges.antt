@@ -1,7 +1,7 @@
 -- Ranges that are in order.
 use Rattle.std.specs.Prelude.{◌≡◌, ℕ, ◌<◌, ◌≤◌, ◌∷◌, length, Some, slice_get}
 use Rattle.std.specs.List.{Contains}
-use Rattle.ix_atomic.specs.History.{value_at, Reader}
+use Rattle.ix_atomic.specs.History.{history_value, Reader}
 use Rattle.ix_atomic.specs.Writers.{Writer, AreOwn}
 use Rattle.examples.specs.declared.own_fields.Range.{Range}
 
@@ -16,4 +16,4 @@ pub record AreInOrder (writer : Writer Range) : Type 0 where
 
 -- the seat knows of a version with this range
 abbrev pub KnowsOf : Reader Range → Range → Type 0
-KnowsOf reader range = (version : ℕ) × (value_at reader.known version ≡ Some range)
+KnowsOf reader range = (version : ℕ) × (history_value reader.known version ≡ Some range)

@@ -1,6 +1,6 @@
 //! A limit that threads set and read, none of which waits for another.
 ghost use Rattle.std.specs.Prelude.{◌≡◌, ◌<◌, ◌⊎◌, ℕ, Some, IfOk, IfErr};
-ghost use Rattle.ix_atomic.specs.History.{IsEven, IsOdd, LoadsTwice, value_at};
+ghost use Rattle.ix_atomic.specs.History.{IsEven, IsOdd, LoadsTwice, history_value};
 ghost use Rattle.ix_atomic.specs.Writers.{Writes, Refuses};
 
 use ix_atomic::{ReaderSeat, SequencedByteAtomic, TryWriteError, WriterSeat};
@@ -28,7 +28,7 @@ pub fn limit_or(limit: &Limit, reader: &mut ReaderSeat<u64>, cached: u64) -> u64
     requires { reader.old.cell ≡ limit.now }
     ensures cell { reader.new.cell ≡ reader.old.cell }
     ensures value { (first last : ℕ) × LoadsTwice reader.old reader.new first last
-        × (((first ≡ last) × IsEven first × (value_at reader.new.known first ≡ Some result))
+        × (((first ≡ last) × IsEven first × (history_value reader.new.known first ≡ Some result))
         ⊎ ((IsOdd first ⊎ (first < last)) × (result ≡ cached))) }
 {
     match limit.try_read(reader) {

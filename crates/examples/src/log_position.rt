@@ -1,7 +1,7 @@
 //! Positions of a log that two threads publish, neither of which waits for the other.
 ghost use Rattle.std.specs.Prelude.{◌≡◌, ◌⊎◌, ◌++◌, ◌∷◌, ℕ, [], List, Some, IfOk, IfErr};
 ghost use Rattle.std.specs.List.{Contains};
-ghost use Rattle.ix_atomic.specs.History.{value_at};
+ghost use Rattle.ix_atomic.specs.History.{history_value};
 ghost use Rattle.ix_atomic.specs.Shares.{IsWhole};
 ghost use Rattle.ix_atomic.specs.Writers.{AreOwn, AreApart, IsRising, Refuses, places_merge};
 ghost use Rattle.examples.specs.Written.{HasWritten, StandAt};
@@ -51,8 +51,8 @@ pub fn take_back(position: &Position, seat: &mut WriterSeat<u64>, other: WriterS
     ensures order { IsRising seat.old.places × IsRising other.places }
     ensures all { IsWhole (seat.old.share ++ other.share) → (values others : List ℕ)
         → HasWritten seat.old values → HasWritten other others
-        → (version value : ℕ) → value_at seat.new.known version ≡ Some value
-        → (value_at seat.new.known 0 ≡ Some value) ⊎ (Contains values value ⊎ Contains others value) }
+        → (version value : ℕ) → history_value seat.new.known version ≡ Some value
+        → (history_value seat.new.known 0 ≡ Some value) ⊎ (Contains values value ⊎ Contains others value) }
 {
     position.merge(seat, other);
 }

@@ -1,7 +1,7 @@
 //! A limit that only grows, so that no reader ever reads a lower one after a higher one.
 ghost use Rattle.std.specs.Prelude.{◌≡◌, ◌<◌, ◌≤◌, ◌+◌, ◌⊎◌, ◌++◌, ◌∷◌, ℕ, [], List, Some, length, cond, true, false};
 ghost use Rattle.std.specs.List.Sorted.{IsNonDecreasing};
-ghost use Rattle.ix_atomic.specs.History.{Begins, value_at};
+ghost use Rattle.ix_atomic.specs.History.{Begins, history_value};
 ghost use Rattle.ix_atomic.specs.Writers.{AreOwn, Refuses};
 ghost use Rattle.ix_atomic.specs.declared.sequenced.errors.TryWriteError.{TryWriteError};
 ghost use Rattle.examples.specs.Written.{HasSet, GrewTo};
@@ -58,7 +58,7 @@ pub fn take_back(
     ensures never_lower { result ≡ true → (limits : List ℕ) → HasSet writer.old limits
         → IsNonDecreasing limits
         → (earlier later first second : ℕ) → earlier ≤ later
-        → value_at reader.known earlier ≡ Some first → value_at reader.known later ≡ Some second
+        → history_value reader.known earlier ≡ Some first → history_value reader.known later ≡ Some second
         → first ≤ second }
 {
     limit.merge_reader(writer, reader);

@@ -1,6 +1,6 @@
 //! A range that two threads set while two others read it, none of which waits. Each range that is set is in order.
 ghost use Rattle.std.specs.Prelude.{◌≡◌, ◌++◌, ◌∷◌, ℕ, [], Some, length, true, false, IfOk, IfSome};
-ghost use Rattle.ix_atomic.specs.History.{Begins, value_at};
+ghost use Rattle.ix_atomic.specs.History.{Begins, history_value};
 ghost use Rattle.ix_atomic.specs.Shares.{IsWhole};
 ghost use Rattle.ix_atomic.specs.Writers.{Writes, AreApart, HoldsEach, places_merge};
 ghost use Rattle.examples.specs.Ranges.{IsInOrder, AreInOrder, KnowsOf};
@@ -186,7 +186,7 @@ pub fn set_and_read<R: Threads + Sync>(
     ensures cell { seat.new.cell ≡ seat.old.cell }
     ensures share { IsWhole seat.new.share }
     ensures all { HoldsEach (length seat.new.known) seat.new.places }
-    ensures in_order { (version : ℕ) (range : Range) → value_at seat.new.known version ≡ Some range
+    ensures in_order { (version : ℕ) (range : Range) → history_value seat.new.known version ≡ Some range
         → IsInOrder range }
     ensures read { IfSome result.0 IsInOrder × IfSome result.1 IsInOrder }
 {

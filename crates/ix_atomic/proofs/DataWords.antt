@@ -5,7 +5,8 @@ use Rattle.std.proofs.Math.Seq.{take-add, take-append-add}
 use Rattle.std.proofs.lemmas.Bool.{cases_lt}
 use Rattle.std.proofs.lemmas.List.{take_at, drop_at, take_all, take-take, drop-drop, drop-take, drop_all, take_min, length-take, length-take-le, take_more}
 use Rattle.std.proofs.lemmas.Slice.{drop-append-drop}
-use Rattle.ix_atomic.specs.Words.{word_of, bytes_of_word, word_count, words_of}
+use Rattle.ix_atomic.specs.Words.{word_of, bytes_of_word, word_count}
+use Rattle.ix_atomic.specs.inner.DataWords.{words_of}
 use Rattle.ix_atomic.proofs.Beginnings.{AreBelow, AreBelow-take, AreBelow-drop, AreBelow-append}
 use Rattle.ix_atomic.specs.inner.SequencedSteps.{bytes_at}
 use Rattle.ix_atomic.proofs.StageBytes.{bytes_at-next}

@@ -5,7 +5,7 @@ use Rattle.std.specs.List.{filter_map, cons_option, last_or, slice_get}
 use Rattle.std.proofs.lemmas.List.Elements.{filter_map-append}
 use Rattle.ix_atomic.specs.declared.byte_atomic.steps.plain.Act.{Act}
 use Rattle.ix_atomic.specs.ByteActs.{stored_at, byte_after}
-use Rattle.ix_atomic.specs.inner.StepWalks.{next_byte}
+use Rattle.ix_atomic.specs.inner.StepTests.{next_byte}
 
 module _ {A : Type 0} where
   pub last_or-append : (o : Option A) (xs ys : List A) → last_or o (xs ++ ys) ≡ last_or (last_or o xs) ys

@@ -1,4 +1,4 @@
--- The walk over the writer's steps tells whether they are whole writes in turn.
+-- The test over the writer's steps tells whether they are whole writes in turn.
 use Rattle.std.proofs.Common.{◌≡◌, ℕ, ◌+◌, ◌-◌, ◌≤◌, List, [], ◌∷◌, ◌++◌, length, replicate, Option, Some, None, true, refl, sym, ap, ◌∙◌, arith, lt-ltb, ltb-true, eq-eqb, eqb-true}
 use Rattle.std.specs.List.{All, filter, flat_map}
 use Rattle.std.proofs.lemmas.List.{length-replicate}
@@ -7,7 +7,7 @@ use Rattle.std.proofs.lemmas.Bool.{and_parts, and_from}
 use Rattle.ix_atomic.specs.declared.byte_atomic.steps.versioned.VersionedStep.{VersionedStep}
 use Rattle.ix_atomic.specs.declared.byte_atomic.steps.versioned.VersionedStep.TheVariants.{Begin, Store, End, LoadVersion, LoadByte}
 use Rattle.ix_atomic.specs.VersionedSteps.{is_of_writer, byte_steps, write_of, AreWrites}
-use Rattle.ix_atomic.specs.inner.StepWalks.{are_in_turn}
+use Rattle.ix_atomic.specs.inner.StepTests.{are_in_turn}
 
 -- what is left of the write in progress, which has stored so many bytes and these are to come
 abbrev pub rest_of : Option ℕ → List ℕ → List VersionedStep
@@ -66,8 +66,8 @@ goes_on len stored (LoadByte reader place byte ∷ steps) within passes =
     let r = goes_on len stored steps within passes in
     record { bytes = r.bytes; values = r.values; missing = r.missing; completes = r.completes; sizes = r.sizes; in_turn = r.in_turn }
 
-pub AreWrites-walk : (len : ℕ) (steps : List VersionedStep) → are_in_turn len None steps ≡ true → (values : List (List ℕ)) × AreWrites len steps values
-AreWrites-walk len steps passes = let r = goes_on len None steps tt passes in (r.values, record { sizes = r.sizes; missing = r.missing; in_turn = r.in_turn })
+pub AreWrites-steps_pass : (len : ℕ) (steps : List VersionedStep) → are_in_turn len None steps ≡ true → (values : List (List ℕ)) × AreWrites len steps values
+AreWrites-steps_pass len steps passes = let r = goes_on len None steps tt passes in (r.values, record { sizes = r.sizes; missing = r.missing; in_turn = r.in_turn })
 
 passes_on : (len : ℕ) (stored : Option ℕ) (steps : List VersionedStep) (bytes : List ℕ) (values : List (List ℕ)) (missing : List VersionedStep)
     → Completes len stored bytes → All (IsOfLength len) values → filter is_of_writer steps ++ missing ≡ rest_of stored bytes ++ flat_map write_of values

@@ -5,7 +5,7 @@ use Rattle.std.proofs.lemmas.List.Elements.{All-push}
 use Rattle.atomic_table.specs.Seated.{TableId}
 use Rattle.ix_atomic.specs.declared.sequenced.rule.SeatView.{SeatView}
 use Rattle.ix_atomic.specs.declared.sequenced.rule.Stage.TheVariants.{Reading, Writing}
-use Rattle.ix_atomic.specs.History.{Begins, IsEven, Loads, LoadsTwice, version_of, value_at, data_words, all_words}
+use Rattle.ix_atomic.specs.History.{Begins, IsEven, Loads, LoadsTwice, version_of, history_value, data_words, all_words}
 use Rattle.ix_atomic.specs.Versions.{last_version}
 use Rattle.ix_atomic.specs.Shares.{IsWhole}
 use Rattle.ix_atomic.specs.Writers.{IsRising, AreOwn, HoldsEach, Writes}
@@ -120,7 +120,7 @@ module _ {T : Type 0} (IsEncoding : T → List ℕ → Type 0) where
   -- a whole read: the version, the bytes, and the version again
   pub record Read (size : ℕ) (view after : SeatView T) (first last : ℕ) (bytes : List ℕ) : Type 0 where
     pub seat : (cell cell' : TableId) → cell' ≡ cell → LoadsTwice (reader_of cell view) (reader_of cell' after) first last
-    pub whole : first ≡ last → IsEven first → (value : T) × IsEncoding value bytes × (value_at after.known first ≡ Some value)
+    pub whole : first ≡ last → IsEven first → (value : T) × IsEncoding value bytes × (history_value after.known first ≡ Some value)
     pub places : after.places ≡ view.places
     pub touched : after.touched ≡ view.touched ++ all_words size
 
@@ -139,7 +139,7 @@ module _ {T : Type 0} (IsEncoding : T → List ℕ → Type 0) where
         whole = λ same even. let front = two.front (sym same) even in (
           front.0,
           subst (IsEncoding front.0) (sym (front.4 ∙ ap (λ n. take n front.1) (long ∙ sym (sized front.0 front.1 front.2)) ∙ take-length front.1)) front.2,
-          subst (λ n. value_at after.known n ≡ Some front.0) (sym same) front.3,
+          subst (λ n. history_value after.known n ≡ Some front.0) (sym same) front.3,
         );
         places = two.places ∙ one.places;
         touched = two.touched ∙ ap (λ before. (before ++ words) ++ 0 ∷ []) one.touched ∙ touch_all view.touched words;

@@ -15,7 +15,8 @@ use Rattle.ix_atomic.specs.declared.sequenced.rule.SeatView.{SeatView}
 use Rattle.ix_atomic.specs.declared.sequenced.rule.Stage.{Stage}
 use Rattle.ix_atomic.specs.declared.sequenced.rule.Stage.TheVariants.{Idle, Reading, Writing}
 use Rattle.ix_atomic.specs.History.{Begins, IsEven, IsOdd, last_value}
-use Rattle.ix_atomic.specs.Words.{word_of, bytes_of_word, words_of}
+use Rattle.ix_atomic.specs.Words.{word_of, bytes_of_word}
+use Rattle.ix_atomic.specs.inner.DataWords.{words_of}
 use Rattle.ix_atomic.specs.Shares.{IsWhole, halved}
 use Rattle.ix_atomic.specs.Writers.{IsRising, AreApart, HoldsEach}
 use Rattle.ix_atomic.specs.inner.SequencedRule.{Content, history, cell_bytes, parity, Holds, Knows, ApartSeats, HaveOwners, AreDealt, SequencedRule}

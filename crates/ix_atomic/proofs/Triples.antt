@@ -2,7 +2,7 @@
 use Rattle.std.proofs.Common.{◌≡◌, ◌↔◌, ℕ, List, ◌++◌, length, take, drop, Option, Some, None, refl, sym, ap, ◌∙◌}
 use Rattle.std.proofs.lemmas.List.{take-append-drop}
 use Rattle.std.proofs.Math.Seq.{take-append_seam, drop-append_seam}
-use Rattle.ix_atomic.specs.Encoding.{triple_of}
+use Rattle.ix_atomic.specs.inner.Decoding.{triple_of}
 
 module _ {A B C : Type 0} where
   triple_of-is : (first : Option A) (rest : Option (B × C)) (t : A × B × C) → (triple_of first rest ≡ Some t) ↔ ((first ≡ Some t.0) × (rest ≡ Some (t.1, t.2)))

@@ -7,8 +7,8 @@ use Rattle.ix_atomic.specs.declared.byte_atomic.steps.versioned.VersionedStep.{V
 use Rattle.ix_atomic.specs.declared.byte_atomic.steps.versioned.VersionedStep.TheVariants.{Begin, Store, End, LoadVersion, LoadByte}
 use Rattle.ix_atomic.specs.EachStep.{EachAfter}
 use Rattle.ix_atomic.specs.VersionedSteps.{is_of_writer, is_begin_or_end, version_after, HasVersion}
-use Rattle.ix_atomic.specs.inner.StepWalks.{version_agrees, next_version, versions_agree}
-use Rattle.ix_atomic.proofs.EachStep.{EachAfter-walk, walk-EachAfter}
+use Rattle.ix_atomic.specs.inner.StepTests.{version_agrees, next_version, versions_agree}
+use Rattle.ix_atomic.proofs.EachStep.{EachAfter-steps_pass, steps_pass-EachAfter}
 
 -- by how much a step raises the version
 abbrev pub raise : VersionedStep → ℕ
@@ -54,8 +54,8 @@ version_agrees-from before version End is has = refl
 version_agrees-from before version (LoadVersion reader loaded) is has = eq-eqb _ _ (has ∙ is)
 version_agrees-from before version (LoadByte reader place byte) is has = refl
 
-pub HasVersion-walk : (steps : List VersionedStep) → versions_agree 0 steps ≡ true → EachAfter HasVersion steps
-HasVersion-walk steps passes = EachAfter-walk version_agrees next_version (λ before version. version_after before ≡ version) HasVersion version_after-push version_agrees-tells 0 steps refl passes
+pub HasVersion-steps_pass : (steps : List VersionedStep) → versions_agree 0 steps ≡ true → EachAfter HasVersion steps
+HasVersion-steps_pass steps passes = EachAfter-steps_pass version_agrees next_version (λ before version. version_after before ≡ version) HasVersion version_after-push version_agrees-tells 0 steps refl passes
 
 pub versions_agree-each : (steps : List VersionedStep) → EachAfter HasVersion steps → versions_agree 0 steps ≡ true
-versions_agree-each steps each = walk-EachAfter version_agrees next_version (λ before version. version_after before ≡ version) HasVersion version_after-push version_agrees-from 0 steps refl each
+versions_agree-each steps each = steps_pass-EachAfter version_agrees next_version (λ before version. version_after before ≡ version) HasVersion version_after-push version_agrees-from 0 steps refl each

@@ -2,13 +2,13 @@
 use Rattle.std.proofs.Common.{◌≡◌, ℕ, ◌≤◌, [], ◌∷◌, Some, refl, arith}
 use Rattle.std.proofs.lemmas.List.Elements.{All-nil, All-cons}
 use Rattle.atomic_table.specs.Seated.{TableId}
-use Rattle.ix_atomic.specs.History.{Reader, LoadsTwice, version_of, value_at, last_value, all_words}
+use Rattle.ix_atomic.specs.History.{Reader, LoadsTwice, version_of, history_value, last_value, all_words}
 
 version_of-written : version_of {T = ℕ} (0 ∷ 7 ∷ []) ≡ 2
 version_of-written = refl
 
-value_at-written : value_at {T = ℕ} (0 ∷ 7 ∷ []) 2 ≡ Some 7
-value_at-written = refl
+history_value-written : history_value {T = ℕ} (0 ∷ 7 ∷ []) 2 ≡ Some 7
+history_value-written = refl
 
 last_value-written : last_value {T = ℕ} (0 ∷ 7 ∷ []) ≡ Some 7
 last_value-written = refl

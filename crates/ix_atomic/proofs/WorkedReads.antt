@@ -4,8 +4,8 @@ use Rattle.ix_atomic.specs.declared.byte_atomic.steps.plain.Act.TheVariants.{Sto
 use Rattle.ix_atomic.specs.declared.byte_atomic.steps.plain.Step.{Step}
 use Rattle.ix_atomic.specs.PlainSteps.{IsLegal}
 use Rattle.ix_atomic.specs.Operations.{Takes, IsStepOf, times_stored, times_loaded, IsWrite, IsRead, AreReadsAndWrites, Lasts, OverlapsNoWrite, IsBefore, IsLastWriteBefore}
-use Rattle.ix_atomic.specs.inner.StepWalks.{loads_agree}
-use Rattle.ix_atomic.proofs.LegalActs.{AreLegal-walks}
+use Rattle.ix_atomic.specs.inner.StepTests.{loads_agree}
+use Rattle.ix_atomic.proofs.LegalActs.{AreLegal-passes}
 use Rattle.ix_atomic.proofs.PlainReads.{after_last_write}
 
 -- operation 1 writes a value of one byte, and then operation 2 reads it
@@ -103,7 +103,7 @@ AreReadsAndWrites-steps op index step = elim (operation_at op index step) [
 ]
 
 IsLegal-steps : IsLegal first_value steps
-IsLegal-steps = AreLegal-walks first_value (Store 0 5 ∷ Load 0 5 ∷ []) refl (place_0 (λ place. loads_agree place (slice_index first_value place) (Store 0 5 ∷ Load 0 5 ∷ []) ≡ true) refl)
+IsLegal-steps = AreLegal-passes first_value (Store 0 5 ∷ Load 0 5 ∷ []) refl (place_0 (λ place. loads_agree place (slice_index first_value place) (Store 0 5 ∷ Load 0 5 ∷ []) ≡ true) refl)
 
 -- so the read has the byte that the write stored
 Takes-write : Takes steps 1 (Store 0 5)

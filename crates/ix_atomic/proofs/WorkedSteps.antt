@@ -10,10 +10,10 @@ use Rattle.ix_atomic.specs.declared.byte_atomic.steps.versioned.VersionedStep.Th
 use Rattle.ix_atomic.specs.ByteActs.{byte_after}
 use Rattle.ix_atomic.specs.PlainSteps.{IsLegal}
 use Rattle.ix_atomic.specs.Operations.{Overlap}
-use Rattle.ix_atomic.specs.inner.StepWalks.{loads_agree}
+use Rattle.ix_atomic.specs.inner.StepTests.{loads_agree}
 use Rattle.ix_atomic.specs.VersionedSteps.{byte_act, write_of, AreWrites, version_after, IsLegalVersioned, IsVersionedRead}
-use Rattle.ix_atomic.proofs.LegalActs.{AreLegal-walks}
-use Rattle.ix_atomic.proofs.Versions.{HasVersion-walk}
+use Rattle.ix_atomic.proofs.LegalActs.{AreLegal-passes}
+use Rattle.ix_atomic.proofs.Versions.{HasVersion-steps_pass}
 use Rattle.ix_atomic.proofs.VersionedReads.{versioned_read}
 
 -- of two bytes 3 and 4 the first is replaced twice
@@ -43,7 +43,7 @@ places_of_two P first second (suc zero) below = second
 places_of_two P first second (suc (suc place)) below = absurd (omega arith)
 
 IsLegal-torn : IsLegal (0 ∷ 0 ∷ []) torn
-IsLegal-torn = AreLegal-walks (0 ∷ 0 ∷ []) _ refl (places_of_two _ refl refl)
+IsLegal-torn = AreLegal-passes (0 ∷ 0 ∷ []) _ refl (places_of_two _ refl refl)
 
 -- the two overlap, so that the law says nothing of this read
 Overlap-torn : Overlap (0 ∷ 0 ∷ []) torn 1 2
@@ -79,8 +79,8 @@ AreWrites-read = record { sizes = All-two (λ value. length value ≡ 1) (7 ∷ 
 IsLegalVersioned-read : IsLegalVersioned (0 ∷ []) read
 IsLegalVersioned-read = record {
   writes = ((7 ∷ []) ∷ (1 ∷ []) ∷ [], AreWrites-read);
-  versions = HasVersion-walk read refl;
-  bytes = AreLegal-walks (0 ∷ []) _ refl one_place;
+  versions = HasVersion-steps_pass read refl;
+  bytes = AreLegal-passes (0 ∷ []) _ refl one_place;
 }
   where
     one_place : (place : ℕ) → place < 1 → loads_agree place (slice_index (0 ∷ []) place) (filter_map byte_act read) ≡ true

@@ -1,6 +1,7 @@
 -- Worked examples: bytes that are packed into words of eight.
 use Rattle.std.proofs.Common.{◌≡◌, [], ◌∷◌, refl}
-use Rattle.ix_atomic.specs.Words.{word_of, bytes_of_word, word_count, words_of}
+use Rattle.ix_atomic.specs.Words.{word_of, bytes_of_word, word_count}
+use Rattle.ix_atomic.specs.inner.DataWords.{words_of}
 
 word_of-two_bytes : word_of (4 ∷ 6 ∷ []) ≡ 1540
 word_of-two_bytes = refl

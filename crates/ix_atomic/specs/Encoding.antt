@@ -1,5 +1,5 @@
 -- Encodings: the bytes of a value.
-use Rattle.std.specs.Prelude.{ℕ, ℤ, Bool, true, false, List, [], ◌∷◌, Option, Some, None}
+use Rattle.std.specs.Prelude.{ℕ, ℤ, Bool, true, false, List, [], ◌∷◌}
 use Rattle.std.specs.Int.{w64, cast_unsigned, to_le_bytes}
 
 abbrev pub bool_encoding : Bool → List ℕ
@@ -9,9 +9,3 @@ bool_encoding true = 1 ∷ []
 -- the bytes of the number with the same bits in two's complement
 abbrev pub i64_encoding : ℤ → List ℕ
 i64_encoding z = to_le_bytes w64 (cast_unsigned w64 z)
-
--- all three values, if there are all
-abbrev pub triple_of : {A B C : Type 0} → Option A → Option (B × C) → Option (A × B × C)
-triple_of None rest = None
-triple_of (Some first) None = None
-triple_of (Some first) (Some rest) = Some (first, rest.0, rest.1)

@@ -8,8 +8,8 @@ abbrev pub version_of : {T : Type 0} → List T → ℕ
 version_of history = 2 * (length history - 1)
 
 -- the value of an even version
-abbrev pub value_at : {T : Type 0} → List T → ℕ → Option T
-value_at history version = slice_get history (version / 2)
+abbrev pub history_value : {T : Type 0} → List T → ℕ → Option T
+history_value history version = slice_get history (version / 2)
 
 abbrev pub last_value : {T : Type 0} → List T → Option T
 last_value history = slice_get history (length history - 1)

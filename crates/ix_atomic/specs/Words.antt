@@ -1,6 +1,5 @@
 -- Words of eight bytes, the least byte first.
-use Rattle.std.specs.Prelude.{ℕ, zero, suc, ◌+◌, ◌*◌, ◌/◌, ◌%◌, List, [], ◌∷◌, map, length}
-use Rattle.std.specs.Simd.{first_chunks}
+use Rattle.std.specs.Prelude.{ℕ, zero, suc, ◌+◌, ◌*◌, ◌/◌, ◌%◌, List, [], ◌∷◌}
 
 -- the number with these digits in base 256, the least one first
 abbrev pub word_of : List ℕ → ℕ
@@ -15,7 +14,3 @@ bytes_of_word (suc count) word = word % 256 ∷ bytes_of_word count (word / 256)
 -- how many words so many bytes take, eight a word
 abbrev pub word_count : ℕ → ℕ
 word_count len = (len + 7) / 8
-
--- the bytes, eight a word; those that the last word lacks count as 0
-abbrev pub words_of : List ℕ → List ℕ
-words_of bytes = map word_of (first_chunks 8 (word_count (length bytes)) bytes)

@@ -1,4 +1,6 @@
 -- What no public contract cites: what the code behind it means.
-pub mod StepWalks
+pub mod DataWords
+pub mod Decoding
+pub mod StepTests
 pub mod SequencedRule
 pub mod SequencedSteps

@@ -1,6 +1,5 @@
 -- What a table or a vector is once a `&mut` into it ends: as it was, with the last value behind the reference r.
 use Rattle.std.specs.Prelude.{ℕ, List, Option, Some, slice_set}
-use Rattle.std.specs.contracts.option.Option as option
 use Rattle.std.specs.Borrow.{Fml, RattleType, MutBor, Lends, Array}
 use Rattle.std.specs.declared.alloc.Allocator.{Ghosts}
 use Rattle.ix_cells.specs.contracts.cells.counted.Counted as counted
@@ -17,10 +16,6 @@ counted_lends S T with_item s i r = Lends (counted.the_row S) T s r (with_item s
 -- at place i of the row in memory of an A
 abbrev pub raw_slots_lends : (T A : RattleType) → Ghosts A.Denot → MutBor (List (Option T.Denot)) → ℕ → MutBor T.Denot → Fml
 raw_slots_lends T A g s i r = Lends (raw_slots.the_row T A g) T s r (λ w. slice_set s.now i (Some w))
-
--- as the item
-abbrev pub option_lends : (T : RattleType) → MutBor (Option T.Denot) → MutBor T.Denot → Fml
-option_lends T s r = Lends (option.the_row T) T s r Some
 
 -- as the items
 abbrev pub vec_lends : (V T : RattleType) → (V.Denot → List T.Denot → V.Denot) → MutBor V.Denot → MutBor (List T.Denot) → Fml

@@ -1,5 +1,6 @@
 -- What no public contract cites: what the code behind it means.
 pub mod FullArrays
+pub mod HeldItem
 pub mod RawLending
 pub mod RawMemory
 pub mod RawRows

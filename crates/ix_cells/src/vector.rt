@@ -10,6 +10,7 @@
 mod modification_error;
 mod polymorphic_vec;
 mod relocatable_vec;
+mod shifts;
 mod static_vec;
 mod vector_trait;
 

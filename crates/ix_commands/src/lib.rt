@@ -11,21 +11,21 @@
 #![tactic(auto)]
 
 mod command;
-mod flats;
-mod queues;
+mod flatmap;
+mod queue;
 mod reply;
 mod runs;
-mod slot_maps;
-mod slot_tables;
-mod strings;
-mod vectors;
+mod slotmap;
+mod slottable;
+mod string;
+mod vector;
 
 pub use command::{FlatCommand, QueueCommand, SlotCommand, TableCommand, TextCommand, VecCommand};
-pub use flats::run_flat;
-pub use queues::run_queue;
+pub use flatmap::run_flat;
+pub use queue::run_queue;
 pub use reply::{Reply, ReplyError};
 pub use runs::{Runs, run_all};
-pub use slot_maps::{dead_law, run_slot};
-pub use slot_tables::run_table;
-pub use strings::run_text;
-pub use vectors::run_vec;
+pub use slotmap::{dead_law, run_slot};
+pub use slottable::run_table;
+pub use string::run_text;
+pub use vector::run_vec;

@@ -5,22 +5,22 @@ use Rattle.std.proofs.Math.ListN.{get_or-map}
 use Rattle.std.proofs.lemmas.Bool.{cases_eq}
 use Rattle.std.proofs.lemmas.List.{get_or-set_same, get_or-set_other, length-map, length-set, map-set}
 use Rattle.ix_cells.specs.Places.{place_at}
-use Rattle.ix_maps.specs.inner.GenerationTable.{numbers_in, HasEachPlace}
+use Rattle.ix_maps.specs.inner.GenerationTable.{generations_in, HasEachPlace}
 
-pub numbers_in-at : (row : List (Option ℕ)) (place number : ℕ) → place_at row place ≡ Some number → get_or (numbers_in row) place 0 ≡ number
-numbers_in-at row place number at = get_or-map (λ (p : Option ℕ). unwrap_or p 0) row place None ∙ ap (λ (p : Option ℕ). unwrap_or p 0) at
+pub generations_in-at : (row : List (Option ℕ)) (place number : ℕ) → place_at row place ≡ Some number → get_or (generations_in row) place 0 ≡ number
+generations_in-at row place number at = get_or-map (λ (p : Option ℕ). unwrap_or p 0) row place None ∙ ap (λ (p : Option ℕ). unwrap_or p 0) at
 
-pub numbers_in-set : (row : List (Option ℕ)) (place number : ℕ) → numbers_in (set row place (Some number)) ≡ set (numbers_in row) place number
-numbers_in-set row place number = map-set (λ (p : Option ℕ). unwrap_or p 0) row place (Some number)
+pub generations_in-set : (row : List (Option ℕ)) (place number : ℕ) → generations_in (set row place (Some number)) ≡ set (generations_in row) place number
+generations_in-set row place number = map-set (λ (p : Option ℕ). unwrap_or p 0) row place (Some number)
 
-pub length-numbers_in : (row : List (Option ℕ)) → length (numbers_in row) ≡ length row
-length-numbers_in row = length-map row (λ (p : Option ℕ). unwrap_or p 0)
+pub length-generations_in : (row : List (Option ℕ)) → length (generations_in row) ≡ length row
+length-generations_in row = length-map row (λ (p : Option ℕ). unwrap_or p 0)
 
 -- all places hold one number
-pub numbers_in-filled : (row : List (Option ℕ)) (number : ℕ) → ((i : ℕ) → i < length row → place_at row i ≡ Some number) → numbers_in row ≡ replicate (length row) number
-numbers_in-filled [] number filled = refl
-numbers_in-filled (v ∷ row) number filled =
-    ap₂ ◌∷◌ (ap (λ (p : Option ℕ). unwrap_or p 0) (filled 0 (omega arith))) (numbers_in-filled row number (λ i below. filled (suc i) (omega arith)))
+pub generations_in-filled : (row : List (Option ℕ)) (number : ℕ) → ((i : ℕ) → i < length row → place_at row i ≡ Some number) → generations_in row ≡ replicate (length row) number
+generations_in-filled [] number filled = refl
+generations_in-filled (v ∷ row) number filled =
+    ap₂ ◌∷◌ (ap (λ (p : Option ℕ). unwrap_or p 0) (filled 0 (omega arith))) (generations_in-filled row number (λ i below. filled (suc i) (omega arith)))
 
 pub HasEachPlace-filled : (row : List (Option ℕ)) (number : ℕ) → ((i : ℕ) → i < length row → place_at row i ≡ Some number) → HasEachPlace row
 HasEachPlace-filled row number filled i below = subst IsSome (sym (filled i below)) refl
@@ -33,5 +33,5 @@ HasEachPlace-set row place number each i below =
       | inr there ↦ subst IsSome (sym (get_or-set_other row place i (Some number) None there)) (each i (omega arith))
     ]
 
-pub numbers_in-within : (row : List (Option ℕ)) (numbers : List ℕ) (place : ℕ) → numbers_in row ≡ numbers → place < length numbers → place < length row
-numbers_in-within row numbers place is below = let same = length-numbers_in row in let as_long = ap length is in omega arith
+pub generations_in-within : (row : List (Option ℕ)) (numbers : List ℕ) (place : ℕ) → generations_in row ≡ numbers → place < length numbers → place < length row
+generations_in-within row numbers place is below = let same = length-generations_in row in let as_long = ap length is in omega arith

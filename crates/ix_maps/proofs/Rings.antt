@@ -213,18 +213,18 @@ module _ {T : Type 0} where
       omega arith
 
   -- the place after the last item is empty
-  pub IsEmptyAt-end : (list : Bounded T) (row : List (Option T)) (start len capacity place : ℕ) → Shows list row start len → length list.items < list.capacity → capacity ≡ length row → place ≡ ring_place start len capacity → IsEmptyAt row place
+  pub IsEmptyAt-end : (list : Bounded T) (row : List (Option T)) (start len capacity place : ℕ) → Shows list row start len → length list.items < list.capacity → capacity ≡ list.capacity → place ≡ ring_place start len capacity → IsEmptyAt row place
   IsEmptyAt-end list row start len capacity place shows room rows at =
       let facts = facts_of list row start len shows in
       let ring = facts.ring in
       let space : length list.items < length row = let same = facts.rows in omega arith in
-      let there = at ∙ ap₂ (ring_place start) facts.counted rows in (
+      let there = at ∙ ap₂ (ring_place start) facts.counted (rows ∙ sym facts.rows) in (
         subst (λ p. p < length row) (sym there) (ring_place_within start _ (length row) ring.within space),
         ap (place_at row) there ∙ place_at-ring_place row start _ ring.within space ∙ ap (λ r. place_at r (length list.items)) ring.in_turn ∙ place_at-row_of_end list.items _ space,
       )
 
   -- an item is put at the place after the last one
-  pub Shows-push : (list : Bounded T) (row row' : List (Option T)) (start len capacity place : ℕ) (x : T) → Shows list row start len → length list.items < list.capacity → capacity ≡ length row → place ≡ ring_place start len capacity → row' ≡ set row place (Some x) → Shows (with_items list (push list.items x)) row' start (len + 1)
+  pub Shows-push : (list : Bounded T) (row row' : List (Option T)) (start len capacity place : ℕ) (x : T) → Shows list row start len → length list.items < list.capacity → capacity ≡ list.capacity → place ≡ ring_place start len capacity → row' ≡ set row place (Some x) → Shows (with_items list (push list.items x)) row' start (len + 1)
   Shows-push list row row' start len capacity place x shows room rows at put =
       let facts = facts_of list row start len shows in
       let ring = facts.ring in
@@ -234,7 +234,7 @@ module _ {T : Type 0} where
       let more = length-append list.items (x ∷ []) in
       let last = length list.items in
       let kept = length-set row (ring_place start last (length row)) (Some x) in
-      let there = put ∙ ap (λ p. set row p (Some x)) (at ∙ ap₂ (ring_place start) counted rows) in
+      let there = put ∙ ap (λ p. set row p (Some x)) (at ∙ ap₂ (ring_place start) counted (rows ∙ sym same)) in
       let steps = ring_row-set row start last (Some x) within (omega arith) ∙ ap (λ r. set r last (Some x)) ring.in_turn ∙ set-row_of_end list.items (length row) x (omega arith) in
       Shows-from (with_items list (push list.items x)) _ row' start start (len + 1) there refl (record {
         ring = record {

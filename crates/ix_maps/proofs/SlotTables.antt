@@ -6,7 +6,7 @@ use Rattle.ix_cells.specs.Places.{place_at, IsEmptyAt, IsHeldAt, IsVacant}
 use Rattle.ix_maps.specs.declared.slottable.link.Link.{Link}
 use Rattle.ix_maps.specs.SlotState.{SlotState, value_at, IsHeld, IsFree, IsWellFormed}
 use Rattle.ix_maps.specs.SlotSteps.{keys_without}
-use Rattle.ix_maps.specs.inner.FreeList.{no_key, held_link, free_link, first_or, last_or, links_keys_from, IsChain, IsLinkTable, IsKeyOrNone, IsLinkWithin, slots_of, MatchesLink, MatchesLinks, Represents}
+use Rattle.ix_maps.specs.inner.FreeList.{no_key, held_link, free_link, first_or, last_or, links_keys_from, IsChain, IsLinkTable, IsKeyOrNone, IsLinkWithin, slots_of, IsLinkOf, MatchesLink, MatchesLinks, Represents}
 use Rattle.ix_maps.proofs.FreeKeys.{key_count, key_count-cons, hit, hit_same, key_count-append, split_at_key, first_occurs, apart_from_last_or, apart_from_first_or}
 use Rattle.ix_cells.proofs.Places.{place_at_within}
 use Rattle.ix_maps.proofs.Chains.{chain_parts, place_at-chain, links_keys_from-chain}
@@ -190,6 +190,13 @@ module _ {T : Type 0} where
       let known = (represents_of s values links first len shown).0 in
       let lengths = known.lengths in (IsLinkTable-links s links first len known).held key (omega arith)
 
+  -- the link of a key in the table is its link
+  pub IsLinkOf-shown : (s : SlotState T) (values : List (Option T)) (links : List (Option Link)) (first len key : ℕ) (link : Link) → Shows s values links first len → place_at links key ≡ Some link → IsLinkOf link s key
+  IsLinkOf-shown s values links first len key link shown at = λ before after is.
+      let chain = (represents_of s values links first len shown).0.chain in
+      let parts = chain_parts links no_key before key after no_key (subst (λ keys. IsChain links no_key keys no_key) is chain) in
+      let same : Some link ≡ Some (free_link (last_or no_key before) (first_or after no_key)) = sym at ∙ parts.at_key in cc
+
   pub free_by_link : (s : SlotState T) (values : List (Option T)) (links : List (Option Link)) (first len key : ℕ) (link : Link) → Shows s values links first len → place_at links key ≡ Some link → link.is_free ≡ true → IsFree s key
   free_by_link s values links first len key link shown at is_free =
       let r = (represents_of s values links first len shown).0 in
@@ -236,6 +243,13 @@ module _ {T : Type 0} where
 
       pub IsLinkWithin-shown : IsFree s key → IsLinkWithin (place_at links key) links
       IsLinkWithin-shown is_free = IsLinkWithin-free s links first len known.0 key (occurs-free is_free)
+
+      -- the link of a free key is the one in the table
+      pub place_at-free : (link : Link) → IsFree s key → IsLinkOf link s key → place_at links key ≡ Some link
+      place_at-free link is_free is_link =
+          let split = split_at_key key s.free (occurs-free is_free) in
+          let parts = chain_parts links no_key split.front key split.back no_key (subst (λ keys. IsChain links no_key keys no_key) split.is known.0.chain) in
+          parts.at_key ∙ ap Some (sym (is_link split.front split.back split.is))
 
       pub IsEmptyAt-free : IsFree s key → IsEmptyAt values key
       IsEmptyAt-free is_free = subst (λ vs. IsEmptyAt vs key) (sym known.1) is_free

@@ -1,4 +1,4 @@
-//! Containers over tables: queues, slot tables and flat maps.
+//! Containers over tables: queues, slot maps, slot tables and flat maps.
 //!
 //! Each container is generic over the [`Table`](ix_cells::Table) that holds its items, and the kinds of storage are
 //! aliases of one type. Contracts see a container as its bounded model, whatever the table is.

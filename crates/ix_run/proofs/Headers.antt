@@ -10,8 +10,8 @@ use Rattle.std.proofs.lemmas.List.Splits.{slice_split_at, slice_split_none, join
 use Rattle.std.proofs.lemmas.Option.{IfSome_then}
 use Rattle.std.proofs.lemmas.Slice.Eq.{bytes_eq-Decides}
 use Rattle.ix_maps.specs.Generations.{greatest_generation}
-use Rattle.ix_run.specs.Words.{is_space, fits_generation, words_text, numbers_in, make_named, one}
-use Rattle.ix_run.specs.Headers.{IsStorage, IsStart, capacity_of, with_start, starting_at, started, fixed_capacity, container_name, containers, named_container, storage_text, storage_forms, fixed, fixed_capacities, up_to_max, header_of_words, header_of, header_text}
+use Rattle.ix_run.specs.Words.{is_space, fits_generation, words_text, numbers_in, make_named, takes_one}
+use Rattle.ix_run.specs.Headers.{IsStorage, IsStart, capacity_of, with_start, starting_at, container_with_start, fixed_capacity, container_name, containers, named_container, storage_text, storage_forms, takes_fixed_capacity, fixed_capacities, up_to_max, header_of_words, header_of, header_text}
 use Rattle.ix_run.specs.declared.run.grammar.header.FixedCapacity.{FixedCapacity}
 use Rattle.ix_run.specs.declared.run.grammar.header.FixedCapacity.TheVariants.{Zero, One, Three, Eight}
 use Rattle.ix_run.specs.declared.run.devices.limits.TheConstants.{MAX_CAPACITY}
@@ -35,8 +35,8 @@ up_to_max_made make (Some []) = refl
 up_to_max_made make (Some (n ∷ [])) = cond-up_to_max make n (nat_le n MAX_CAPACITY)
 up_to_max_made make (Some (n ∷ m ∷ ns)) = refl
 
-pub fixed_made : (numbers : Option (List ℕ)) → option_and_then fixed numbers
-    ≡ option_and_then (λ n. option_map Fixed (find (λ capacity. fixed_capacity capacity == n) fixed_capacities)) (option_and_then (one (λ n. n)) numbers)
+pub fixed_made : (numbers : Option (List ℕ)) → option_and_then takes_fixed_capacity numbers
+    ≡ option_and_then (λ n. option_map Fixed (find (λ capacity. fixed_capacity capacity == n) fixed_capacities)) (option_and_then (takes_one (λ n. n)) numbers)
 fixed_made None = refl
 fixed_made (Some []) = refl
 fixed_made (Some (n ∷ [])) = refl
@@ -59,7 +59,7 @@ fixed-found : (n : ℕ) (capacity : Option FixedCapacity) → IfSome capacity (�
 fixed-found n None h = tt
 fixed-found n (Some c) h = (tt, ap (λ k. words_text (codes "fixed") (k ∷ [])) (sym (eqb-true (fixed_capacity c) n h)))
 
-fixed-text : (numbers : List ℕ) → IfSome (fixed numbers) (IsStorageText (codes "fixed") numbers)
+fixed-text : (numbers : List ℕ) → IfSome (takes_fixed_capacity numbers) (IsStorageText (codes "fixed") numbers)
 fixed-text [] = tt
 fixed-text (n ∷ []) = fixed-found n (find (λ c. fixed_capacity c == n) fixed_capacities) (find-passes (λ c. fixed_capacity c == n) fixed_capacities)
 fixed-text (n ∷ m ∷ ns) = tt
@@ -78,7 +78,7 @@ at_name : (name form numbers : List ℕ) (storage : Option Storage) → bytes_eq
 at_name name form numbers storage e h = rw ((bytes_eq-Decides name form).0 e) h
 
 cond-make : (name numbers : List ℕ) (is_fixed is_heap is_arena : Bool) → bytes_eq name (codes "fixed") ≡ is_fixed → bytes_eq name (codes "heap") ≡ is_heap → bytes_eq name (codes "arena") ≡ is_arena
-    → IfSome (option_and_then (λ m. option_and_then m (Some numbers)) (cond is_fixed (Some fixed) (cond is_heap (Some (up_to_max Heap)) (cond is_arena (Some (up_to_max Arena)) None)))) (IsStorageText name numbers)
+    → IfSome (option_and_then (λ m. option_and_then m (Some numbers)) (cond is_fixed (Some takes_fixed_capacity) (cond is_heap (Some (up_to_max Heap)) (cond is_arena (Some (up_to_max Arena)) None)))) (IsStorageText name numbers)
 cond-make name numbers true b c d e f = at_name name (codes "fixed") numbers _ d (fixed-text numbers)
 cond-make name numbers false true c d e f = at_name name (codes "heap") numbers _ e (up_to_max-text (codes "heap") Heap numbers (λ k h. (h, refl)))
 cond-make name numbers false false true d e f = at_name name (codes "arena") numbers _ f (up_to_max-text (codes "arena") Arena numbers (λ k h. (h, refl)))
@@ -131,7 +131,7 @@ starting-text word words true (Some []) e t = tt
 starting-text word words true (Some (n ∷ [])) e t = cond-starting word words n (fits_generation n) refl ((bytes_eq-Decides word (codes "at")).0 e) t.0
 starting-text word words true (Some (n ∷ m ∷ ns)) e t = tt
 
-started-text : (container : Container) (word : List ℕ) (words : List (List ℕ)) → IfSome (started container (word ∷ words)) (IsStarted (container_name container) word words)
+started-text : (container : Container) (word : List ℕ) (words : List (List ℕ)) → IfSome (container_with_start container (word ∷ words)) (IsStarted (container_name container) word words)
 started-text (Slot start) word words = starting-text word words (bytes_eq word (codes "at")) (numbers_in words) refl (numbers_in-IsText word words)
 started-text Queue word words = tt
 started-text Vec word words = tt
@@ -155,15 +155,15 @@ header-started name storage number word words s (Some c) is h t =
     (h, (is.0, left ∙ sym right))
 
 header-words : (name storage number : List ℕ) (words : List (List ℕ)) (c : Container) (s : Storage) → name ≡ container_name c → IsPlain c → IsStorage s → storage ++ (32 ∷ number) ≡ storage_text s
-    → IfSome (option_map (λ c'. record { container = c'; storage = s }) (started c words)) (IsHeaderText (name ∷ storage ∷ number ∷ words))
+    → IfSome (option_map (λ c'. record { container = c'; storage = s }) (container_with_start c words)) (IsHeaderText (name ∷ storage ∷ number ∷ words))
 header-words name storage number [] c s named plain h t =
     (h, (plain.0, ap (λ l. name ++ (32 ∷ l)) t ∙ ap (λ l. l ++ (32 ∷ storage_text s)) named ∙ sym (plain.1 (container_name c ++ (32 ∷ storage_text s)))))
 header-words name storage number (word ∷ words) c s named plain h t =
-    header-started name storage number word words s (started c (word ∷ words)) (rw named (started-text c word words)) h t
+    header-started name storage number word words s (container_with_start c (word ∷ words)) (rw named (started-text c word words)) h t
 
 header-found : (name storage number : List ℕ) (words : List (List ℕ)) (container : Option Container) (made : Option Storage) → IfSome container (λ c. (name ≡ container_name c) × IsPlain c)
     → IfSome made (λ s. IsStorage s × (storage ++ (32 ∷ number) ≡ storage_text s))
-    → IfSome (option_and_then (λ c. option_and_then (λ s. option_map (λ c'. record { container = c'; storage = s }) (started c words)) made) container) (IsHeaderText (name ∷ storage ∷ number ∷ words))
+    → IfSome (option_and_then (λ c. option_and_then (λ s. option_map (λ c'. record { container = c'; storage = s }) (container_with_start c words)) made) container) (IsHeaderText (name ∷ storage ∷ number ∷ words))
 header-found name storage number words None made h t = tt
 header-found name storage number words (Some c) None h t = tt
 header-found name storage number words (Some c) (Some s) h t = header-words name storage number words c s h.0 h.1 t.0 t.1
@@ -225,11 +225,11 @@ storage-made (Heap n) h = let small : nat_le n MAX_CAPACITY ≡ true = grind (ar
 storage-made (Arena n) h = let small : nat_le n MAX_CAPACITY ≡ true = grind (arith, common_steps) in rw (one-number n (omega (arith, h)), small) refl
 
 -- the header of a name, a storage, and the words after it
-words-made : (container container' : Container) (name : List ℕ) (storage : Storage) (words : List (List ℕ)) → IsStorage storage → named_container name ≡ Some container → started container words ≡ Some container'
+words-made : (container container' : Container) (name : List ℕ) (storage : Storage) (words : List (List ℕ)) → IsStorage storage → named_container name ≡ Some container → container_with_start container words ≡ Some container'
     → header_of_words (name ∷ storage_name storage ∷ decimal (capacity_of storage) ∷ words) ≡ Some (record { container = container'; storage = storage })
 words-made container container' name storage words h named is =
-    ap (option_and_then (λ c. option_and_then (λ s. option_map (λ c'. record { container = c'; storage = s }) (started c words)) (make_named storage_forms (storage_name storage) (numbers_in (decimal (capacity_of storage) ∷ []))))) named
-    ∙ (ap (option_and_then (λ s. option_map (λ c'. record { container = c'; storage = s }) (started container words))) (storage-made storage h)
+    ap (option_and_then (λ c. option_and_then (λ s. option_map (λ c'. record { container = c'; storage = s }) (container_with_start c words)) (make_named storage_forms (storage_name storage) (numbers_in (decimal (capacity_of storage) ∷ []))))) named
+    ∙ (ap (option_and_then (λ s. option_map (λ c'. record { container = c'; storage = s }) (container_with_start container words))) (storage-made storage h)
     ∙ ap (option_map (λ c'. record { container = c'; storage = storage })) is)
 
 plain-read : (container : Container) (storage : Storage) → IsStorage storage → named_container (container_name container) ≡ Some container
@@ -238,7 +238,7 @@ plain-read : (container : Container) (storage : Storage) → IsStorage storage �
 plain-read container storage h named words =
     ap header_of_words (words ∙ ap (λ ws. container_name container ∷ ws) (storage-split storage h)) ∙ words-made container container (container_name container) storage [] h named refl
 
-at-made : (n : ℕ) → n ≤ greatest_generation → started (Slot None) (codes "at" ∷ decimal n ∷ []) ≡ Some (Slot (Some n))
+at-made : (n : ℕ) → n ≤ greatest_generation → container_with_start (Slot None) (codes "at" ∷ decimal n ∷ []) ≡ Some (Slot (Some n))
 at-made n h = let fits : fits_generation n ≡ true = grind (arith, common_steps) in rw (one-number n (omega (arith, h)), fits) refl
 
 started-read : (n : ℕ) (storage : Storage) → IsStorage storage → n ≤ greatest_generation

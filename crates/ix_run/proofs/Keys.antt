@@ -5,7 +5,7 @@ use Rattle.std.specs.Option.{option_and_then}
 use Rattle.std.proofs.lemmas.List.Sums.{prefix_len-le-length}
 use Rattle.ix_maps.specs.Generations.{SlotKey}
 use Rattle.ix_run.specs.Reading.{number_of}
-use Rattle.ix_run.specs.Words.{is_colon, fits_generation, numbers_in, one, key_of_numbers, key_of}
+use Rattle.ix_run.specs.Words.{is_colon, fits_generation, numbers_in, takes_one, key_of_numbers, key_of}
 use Rattle.ix_run.proofs.Words.{cons_number, split_first, split_last, number_of_last_part}
 
 -- the key of two numbers, if there are both
@@ -16,7 +16,7 @@ one_part : (first : Option ℕ) → option_and_then key_of_numbers (cons_number 
 one_part None = refl
 one_part (Some i) = refl
 
-two_parts : (first : Option ℕ) (numbers : Option (List ℕ)) → option_and_then key_of_numbers (cons_number first numbers) ≡ key_of_parts first (option_and_then (one (λ n. n)) numbers)
+two_parts : (first : Option ℕ) (numbers : Option (List ℕ)) → option_and_then key_of_numbers (cons_number first numbers) ≡ key_of_parts first (option_and_then (takes_one (λ n. n)) numbers)
 two_parts None numbers = refl
 two_parts (Some i) None = refl
 two_parts (Some i) (Some []) = refl

@@ -10,7 +10,7 @@ use Rattle.std.proofs.lemmas.Slice.Eq.{bytes_eq-Decides}
 use Rattle.std.specs.List.{onto_first}
 use Rattle.ix_commands.specs.Run.{run_replies}
 use Rattle.ix_run.specs.Headers.{IsStorage, IsStart, capacity_of, fixed_capacity, container_name, storage_text, with_start}
-use Rattle.ix_run.specs.Laws.{header_line, AreRead, IsRunBy}
+use Rattle.ix_run.specs.Laws.{header_line, AreLinesOf, IsRunBy}
 use Rattle.ix_run.specs.Lines.{line_feed, IsOneLine, with_line_feed, text_of_lines, lines_of, limited_line}
 use Rattle.ix_run.specs.Script.{replies_to, script_replies, container_replies, replies_to_lines, read_reply, read_after}
 use Rattle.ix_run.specs.Words.{words_text}
@@ -169,30 +169,30 @@ replies_to-header_line container storage lines h start all =
     ∙ rw (limited_line-header_line container storage h start, header) refl
 
 module _ {M C R : Type 0} (read : List ℕ → Option C) (text : R → List ℕ) (reply : M → C → R) (after : M → C → M) (shown : M → List ℕ) where
-  All-AreRead : (lines : List (List ℕ)) (commands : List C) → AreRead read text lines commands → All IsOneLine lines
-  All-AreRead [] [] h = All-nil IsOneLine
-  All-AreRead [] (command ∷ commands) h = absurd h
-  All-AreRead (line ∷ lines) [] h = absurd h
-  All-AreRead (line ∷ lines) (command ∷ commands) (h, rest) = All-cons IsOneLine line lines h.0 (All-AreRead lines commands rest)
+  All-AreLinesOf : (lines : List (List ℕ)) (commands : List C) → AreLinesOf read text lines commands → All IsOneLine lines
+  All-AreLinesOf [] [] h = All-nil IsOneLine
+  All-AreLinesOf [] (command ∷ commands) h = absurd h
+  All-AreLinesOf (line ∷ lines) [] h = absurd h
+  All-AreLinesOf (line ∷ lines) (command ∷ commands) (h, rest) = All-cons IsOneLine line lines h.0 (All-AreLinesOf lines commands rest)
 
   -- a line that spells a command does not show the container
   not_show : read (codes "show") ≡ None → (line : List ℕ) (command : C) (t : Bool) → bytes_eq line (codes "show") ≡ t → read line ≡ Some command → t ≡ false
   not_show none line command true e is = let wrong = sym none ∙ ap read (sym ((bytes_eq-Decides line (codes "show")).0 e)) ∙ is in absurd (cc)
   not_show none line command false e is = refl
 
-  replies_to_lines-AreRead : read (codes "show") ≡ None → (model : M) (lines : List (List ℕ)) (commands : List C) → AreRead read text lines commands
+  replies_to_lines-AreLinesOf : read (codes "show") ≡ None → (model : M) (lines : List (List ℕ)) (commands : List C) → AreLinesOf read text lines commands
       → replies_to_lines (read_reply read text reply) (read_after read after) shown model (map limited_line lines) ≡ text_of_lines (map text (run_replies reply after model commands))
-  replies_to_lines-AreRead none model [] [] h = refl
-  replies_to_lines-AreRead none model [] (command ∷ commands) h = absurd h
-  replies_to_lines-AreRead none model (line ∷ lines) [] h = absurd h
-  replies_to_lines-AreRead none model (line ∷ lines) (command ∷ commands) ((one, short, is), rest) =
+  replies_to_lines-AreLinesOf none model [] [] h = refl
+  replies_to_lines-AreLinesOf none model [] (command ∷ commands) h = absurd h
+  replies_to_lines-AreLinesOf none model (line ∷ lines) [] h = absurd h
+  replies_to_lines-AreLinesOf none model (line ∷ lines) (command ∷ commands) ((one, short, is), rest) =
       rw (limited_line-short line short, not_show none line command (bytes_eq line (codes "show")) refl is, is)
-      (ap (λ l. with_line_feed (text (reply model command)) ++ l) (replies_to_lines-AreRead none (after model command) lines commands rest))
+      (ap (λ l. with_line_feed (text (reply model command)) ++ l) (replies_to_lines-AreLinesOf none (after model command) lines commands rest))
 
   -- the law of one container
   pub IsRunBy-container : (container : Container) (storage : Storage) (model : M) → read (codes "show") ≡ None
       → ((lines : List (Option (List ℕ))) → container_replies container (capacity_of storage) lines ≡ replies_to_lines (read_reply read text reply) (read_after read after) shown model lines)
       → IsRunBy read text reply after container storage model
   IsRunBy-container container storage model none same h start lines commands are =
-      replies_to-header_line container storage lines h start (All-AreRead lines commands are)
-      ∙ ap (λ l. with_line_feed (codes "ready") ++ l) (same (map limited_line lines) ∙ replies_to_lines-AreRead none model lines commands are)
+      replies_to-header_line container storage lines h start (All-AreLinesOf lines commands are)
+      ∙ ap (λ l. with_line_feed (codes "ready") ++ l) (same (map limited_line lines) ∙ replies_to_lines-AreLinesOf none model lines commands are)

@@ -4,9 +4,9 @@ use Rattle.std.specs.Iterator.{YieldsFirstBy}
 use Rattle.std.specs.Slice.Iter.{iter_rest, iter_steps}
 use Rattle.ix_run.specs.ReplyTexts.{items_text, more_items_text}
 use Rattle.ix_run.specs.inner.Listing.{YieldsTexts}
-use Rattle.ix_run.specs.inner.Writing.{Writes, WritesPart}
+use Rattle.ix_run.specs.inner.Writing.{WriterAppends, WriterAppendsPart}
 use Rattle.ix_run.specs.declared.run.devices.reply_writer.ReplyWriter.{ReplyWriter}
-use Rattle.ix_run.proofs.Writing.{Writes-append, WritesPart-Writes, WritesPart_append, WritesPart-same}
+use Rattle.ix_run.proofs.Writing.{WriterAppends-append, WriterAppendsPart-WriterAppends, WriterAppendsPart_append, WriterAppendsPart-same}
 
 module _ {X : Type 0} (text : X → List ℕ) where
   more_items_text-map : (items : List X) → more_items_text (λ t. t) (map text items) ≡ more_items_text text items
@@ -36,7 +36,7 @@ YieldsTexts-slice text old (Some item) new gives = ap (map text) gives
 module _ {W : Type 0} (contents : W → Option (List ℕ)) where
   -- the text of the items is written or pending, but for that of the items that are left
   abbrev pub WritesUpTo : List ℕ → List (List ℕ) → ReplyWriter W → ReplyWriter W → Type 0
-  WritesUpTo all left old new = (so_far : List ℕ) × (all ≡ so_far ++ more_items_text (λ t. t) left) × Writes contents old so_far new
+  WritesUpTo all left old new = (so_far : List ℕ) × (all ≡ so_far ++ more_items_text (λ t. t) left) × WriterAppends contents old so_far new
 
   items_text-next : (all so_far : List ℕ) (left rest : List (List ℕ)) (word : List ℕ) → left ≡ word ∷ rest → all ≡ so_far ++ more_items_text (λ t. t) left
       → all ≡ (so_far ++ (codes " " ++ word)) ++ more_items_text (λ t. t) rest
@@ -45,20 +45,20 @@ module _ {W : Type 0} (contents : W → Option (List ℕ)) where
 
   -- one more item is written or pending
   pub WritesUpTo-next : (all : List ℕ) (left rest : List (List ℕ)) (word : List ℕ) (a b c : ReplyWriter W) → left ≡ word ∷ rest → WritesUpTo all left a b
-      → Writes contents b (codes " " ++ word) c → WritesUpTo all rest a c
+      → WriterAppends contents b (codes " " ++ word) c → WritesUpTo all rest a c
   WritesUpTo-next all left rest word a b c step (so_far, whole, before) now =
-      (so_far ++ (codes " " ++ word), items_text-next all so_far left rest word step whole, Writes-append contents a b c so_far (codes " " ++ word) before now)
+      (so_far ++ (codes " " ++ word), items_text-next all so_far left rest word step whole, WriterAppends-append contents a b c so_far (codes " " ++ word) before now)
 
   -- the writer fails at the next item
   pub WritesUpTo-part : (all : List ℕ) (left rest : List (List ℕ)) (word : List ℕ) (a b c : ReplyWriter W) → left ≡ word ∷ rest → WritesUpTo all left a b
-      → WritesPart contents b (codes " " ++ word) c → WritesPart contents a all c
+      → WriterAppendsPart contents b (codes " " ++ word) c → WriterAppendsPart contents a all c
   WritesUpTo-part all left rest word a b c step (so_far, whole, before) now =
       let next = so_far ++ (codes " " ++ word) in
-      WritesPart-same contents a c (next ++ more_items_text (λ t. t) rest) all (items_text-next all so_far left rest word step whole)
-      (WritesPart_append contents a c next (more_items_text (λ t. t) rest) (WritesPart-Writes contents a b c so_far (codes " " ++ word) before now))
+      WriterAppendsPart-same contents a c (next ++ more_items_text (λ t. t) rest) all (items_text-next all so_far left rest word step whole)
+      (WriterAppendsPart_append contents a c next (more_items_text (λ t. t) rest) (WriterAppendsPart-WriterAppends contents a b c so_far (codes " " ++ word) before now))
 
   -- no item is left
-  pub WritesUpTo-end : (all : List ℕ) (left : List (List ℕ)) (a b : ReplyWriter W) → left ≡ [] → WritesUpTo all left a b → Writes contents a all b
+  pub WritesUpTo-end : (all : List ℕ) (left : List (List ℕ)) (a b : ReplyWriter W) → left ≡ [] → WritesUpTo all left a b → WriterAppends contents a all b
   WritesUpTo-end all left a b none (so_far, whole, before) =
       let same : all ≡ so_far = whole ∙ ap (λ l. so_far ++ more_items_text (λ t. t) l) none ∙ append-nil so_far in
-      subst (λ l. Writes contents a l b) (sym same) before
+      subst (λ l. WriterAppends contents a l b) (sym same) before

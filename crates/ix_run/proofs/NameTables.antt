@@ -6,7 +6,7 @@ use Rattle.std.specs.Map.{lookup}
 use Rattle.std.proofs.lemmas.Option.{none-some}
 use Rattle.std.proofs.lemmas.Map.Made.{lookup-map_values}
 use Rattle.ix_maps.specs.Generations.{SlotKey}
-use Rattle.ix_run.specs.Words.{Form, KeyForm, is_space, numbers_in, words_of, fits_byte, make_named, command_of, key_and_numbers, name_key_numbers, make_with_key, key_command_of}
+use Rattle.ix_run.specs.Words.{Form, KeyForm, is_space, numbers_in, line_words, fits_byte, make_named, command_of, key_and_numbers, name_key_numbers, make_with_key, key_command_of}
 use Rattle.ix_run.specs.inner.NameTables.{first_word, IsNamed, numbers_taken, items_taken, bytes_taken, forms_by}
 use Rattle.ix_run.specs.declared.run.grammar.name_table.Takes.{Takes}
 use Rattle.ix_run.specs.declared.run.grammar.name_table.Takes.TheVariants.{Nothing, Number, TwoNumbers, Numbers, Byte, NumberAndByte, Bytes, NumberAndBytes}
@@ -106,7 +106,7 @@ module _ {V C : Type 0} (with : V → ℕ → ℕ → C) where
   -- the command of a line, completed by its numbers
   pub command_completed : (table : List (List ℕ × (Takes × V))) (line : List ℕ)
       → command_of (forms_by with table) line ≡ option_map (completed with) (command_of (forms_by (λ v n m. (v, (n, m))) table) line)
-  command_completed table line = words-made table (words_of line)
+  command_completed table line = words-made table (line_words line)
 
 module _ {C : Type 0} where
   -- what a list makes, from the numbers and the list that were read

@@ -8,7 +8,7 @@ use Rattle.ix_commands.specs.declared.reply.Reply.TheVariants as reply
 use Rattle.ix_commands.specs.declared.reply.ReplyError.{ReplyError}
 use Rattle.ix_commands.specs.declared.reply.ReplyError.TheVariants.{OutOfBounds, InsertWouldExceedCapacity, InvalidCharacter, KeyAlreadyExists, IsFull, IndexPastEnd}
 use Rattle.ix_string.specs.Escape.{hex_digit, escaped_byte, escaped_text}
-use Rattle.ix_run.specs.Laws.{HasU64s, HasU64sAnd, IsKey, IsU64}
+use Rattle.ix_run.specs.Laws.{HasU64s, HasU64sAnd, IsSlotKey, IsU64}
 use Rattle.ix_maps.specs.Generations.{SlotKey}
 use Rattle.ix_run.specs.Words.{key_text}
 use Rattle.ix_run.specs.Lines.{line_feed, IsOneLine}
@@ -47,14 +47,14 @@ module _ {K : Type 0} (text : K → List ℕ) (Is : K → Type 0) (lacks : (key 
 pub IsOneLine-reply_text : (reply : Reply ℕ ℕ) → HasU64s reply → IsOneLine (reply_text reply)
 IsOneLine-reply_text = IsOneLine-reply_text_by decimal IsU64 Lacks-decimal
 
-Lacks-key_text : (key : SlotKey) → IsKey key → Lacks (key_text key)
+Lacks-key_text : (key : SlotKey) → IsSlotKey key → Lacks (key_text key)
 Lacks-key_text key (h, g) =
     Lacks-append (decimal key.index) (codes ":" ++ decimal key.generation) (Lacks-decimal key.index h) (refl, Lacks-decimal key.generation (omega (arith, g)))
 
-pub IsOneLine-slot_reply_text : (reply : Reply SlotKey ℕ) → HasU64sAnd IsKey reply → IsOneLine (slot_reply_text reply)
-IsOneLine-slot_reply_text = IsOneLine-reply_text_by key_text IsKey Lacks-key_text
+pub IsOneLine-slot_reply_text : (reply : Reply SlotKey ℕ) → HasU64sAnd IsSlotKey reply → IsOneLine (slot_reply_text reply)
+IsOneLine-slot_reply_text = IsOneLine-reply_text_by key_text IsSlotKey Lacks-key_text
 
-pub Lacks-key_entry_text : (entry : SlotKey × ℕ) → IsKey entry.0 × IsU64 entry.1 → Lacks (key_entry_text entry)
+pub Lacks-key_entry_text : (entry : SlotKey × ℕ) → IsSlotKey entry.0 × IsU64 entry.1 → Lacks (key_entry_text entry)
 Lacks-key_entry_text entry (h, g) = Lacks-append (key_text entry.0) (codes "=" ++ decimal entry.1) (Lacks-key_text entry.0 h) (refl, Lacks-decimal entry.1 g)
 
 module _ {X : Type 0} (text : X → List ℕ) (Is : X → Type 0) (lacks : (x : X) → Is x → Lacks (text x)) where

@@ -13,9 +13,9 @@ use Rattle.std.proofs.lemmas.Map.Views.{Contains-from_lookup, lookup-from_Contai
 use Rattle.std.proofs.lemmas.Slice.Eq.{bytes_eq-Decides}
 use Rattle.std.proofs.lemmas.Grind.{common_steps}
 use Rattle.ix_maps.specs.Generations.{SlotKey}
-use Rattle.ix_run.specs.Laws.{IsKey}
+use Rattle.ix_run.specs.Laws.{IsSlotKey}
 use Rattle.ix_run.specs.Reading.{number_of}
-use Rattle.ix_run.specs.Words.{Form, KeyForm, HasNames, is_space, is_colon, is_name, fits_generation, words_text, words_of, numbers_in, name_and_numbers, make_named, command_of, key_text, key_of_numbers, key_of, key_and_numbers, name_key_numbers, key_words_of, key_words_text, make_with_key, key_command_of}
+use Rattle.ix_run.specs.Words.{Form, KeyForm, HasNames, is_space, is_colon, is_name, fits_generation, words_text, line_words, numbers_in, name_and_numbers, make_named, command_of, key_text, key_of_numbers, key_of, key_and_numbers, name_key_numbers, key_words_of, key_words_text, make_with_key, key_command_of}
 use Rattle.ix_run.proofs.Numbers.{IsNumeral-decimal, number_of-IfSome, number_of_decimal}
 use Rattle.ix_run.proofs.Pieces.{not_true}
 use Rattle.ix_run.proofs.Words.{cons_number, decimal-All, digits-no_colon}
@@ -60,9 +60,9 @@ numbers_in-decimal [] a = refl
 numbers_in-decimal (n ∷ ns) a = rw (number_of_decimal (decimal n) n (All-head (λ k. k < 2 ^ 64) n ns a) refl, numbers_in-decimal ns (All-tail (λ k. k < 2 ^ 64) n ns a)) refl
 
 -- a text has one name and one list of numbers
-words_of-words_text : (name : List ℕ) (numbers : List ℕ) → is_name name ≡ true → All (λ n. n < 2 ^ 64) numbers → words_of (words_text name numbers) ≡ Some (name, numbers)
-words_of-words_text [] numbers h a = absurd (cc)
-words_of-words_text (b ∷ name) numbers h a =
+line_words-words_text : (name : List ℕ) (numbers : List ℕ) → is_name name ≡ true → All (λ n. n < 2 ^ 64) numbers → line_words (words_text name numbers) ≡ Some (name, numbers)
+line_words-words_text [] numbers h a = absurd (cc)
+line_words-words_text (b ∷ name) numbers h a =
     let none = not_true (list_any is_space (b ∷ name)) (λ e. let t = rw e at (and_parts (nat_lt 0 (length (b ∷ name))) (not (list_any is_space (b ∷ name))) h).1 in cc) in
     rw (slice_split-words_text (b ∷ name) numbers (All-is_name (b ∷ name) none) a, numbers_in-decimal numbers a) refl
 
@@ -72,8 +72,8 @@ IsText-name_and_numbers ([] ∷ words) = tt
 IsText-name_and_numbers ((b ∷ name) ∷ words) = IsText-named (b ∷ name) words (numbers_in words) (numbers_in-IsText (b ∷ name) words)
 
 -- a line is the text of its name and its numbers
-words_of-IsText : (line : List ℕ) → IfSome (words_of line) (λ w. (line ≡ words_text w.0 w.1) × All (λ n. n < 2 ^ 64) w.1)
-words_of-IsText line = rw (join_with_byte-slice_split 32 line) at (IsText-name_and_numbers (slice_split is_space line))
+line_words-IsText : (line : List ℕ) → IfSome (line_words line) (λ w. (line ≡ words_text w.0 w.1) × All (λ n. n < 2 ^ 64) w.1)
+line_words-IsText line = rw (join_with_byte-slice_split 32 line) at (IsText-name_and_numbers (slice_split is_space line))
 
 module _ {C : Type 0} where
   -- the line is the text of a form's name and of numbers that make the command
@@ -94,7 +94,7 @@ module _ {C : Type 0} where
 
   -- a line that has a command is the text of a form and of numbers that make it
   pub command_of-Spells : (forms : List (Form C)) (line : List ℕ) (command : C) → command_of forms line ≡ Some command → Spells forms line command
-  command_of-Spells forms line command e = Spells-words forms line command (words_of line) (words_of-IsText line) e
+  command_of-Spells forms line command e = Spells-words forms line command (line_words line) (line_words-IsText line) e
 
   is_name-form : (forms : List (Form C)) (form : Form C) → Contains forms form → list_all is_name (keys_of forms) ≡ true → is_name form.0 ≡ true
   is_name-form [] form (k, l, e) h = absurd (omega (arith, l))
@@ -105,15 +105,15 @@ module _ {C : Type 0} where
   pub command_of-words_text : (forms : List (Form C)) (form : Form C) (numbers : List ℕ) → HasNames forms → Contains forms form → All (λ n. n < 2 ^ 64) numbers
       → command_of forms (words_text form.0 numbers) ≡ form.1 numbers
   command_of-words_text forms form numbers (names, distinct) has a =
-      rw (words_of-words_text form.0 numbers (is_name-form forms form has names) a, lookup-from_Contains nat_list_eq_equiv form.0 form.1 forms distinct has) refl
+      rw (line_words-words_text form.0 numbers (is_name-form forms form has names) a, lookup-from_Contains nat_list_eq_equiv form.0 form.1 forms distinct has) refl
 
 key-fits : (p q : List ℕ) (i g : ℕ) (fits : Bool) → fits_generation g ≡ fits → (p ≡ decimal i) × (i < 2 ^ 64) → (q ≡ decimal g) × (g < 2 ^ 64)
-    → IfSome (cond fits (Some (record { index = i; generation = g })) None) (λ key. (p ++ (58 ∷ q) ≡ key_text key) × IsKey key)
+    → IfSome (cond fits (Some (record { index = i; generation = g })) None) (λ key. (p ++ (58 ∷ q) ≡ key_text key) × IsSlotKey key)
 key-fits p q i g true e d c = (ap (λ l. l ++ (58 ∷ q)) d.0 ∙ ap (λ l. decimal i ++ (58 ∷ l)) c.0, (d.1, grind (arith, common_steps)))
 key-fits p q i g false e d c = tt
 
 key-two : (p q : List ℕ) (first second : Option ℕ) → IfSome first (λ n. (p ≡ decimal n) × (n < 2 ^ 64)) → IfSome second (λ n. (q ≡ decimal n) × (n < 2 ^ 64))
-    → IfSome (option_and_then key_of_numbers (cons_number first (cons_number second (Some [])))) (λ key. (p ++ (58 ∷ q) ≡ key_text key) × IsKey key)
+    → IfSome (option_and_then key_of_numbers (cons_number first (cons_number second (Some [])))) (λ key. (p ++ (58 ∷ q) ≡ key_text key) × IsSlotKey key)
 key-two p q None second d c = tt
 key-two p q (Some i) None d c = tt
 key-two p q (Some i) (Some g) d c = key-fits p q i g (fits_generation g) refl d c
@@ -129,18 +129,18 @@ key-many (Some i) (Some g) None numbers = refl
 key-many (Some i) (Some g) (Some n) None = refl
 key-many (Some i) (Some g) (Some n) (Some ns) = refl
 
-key-parts : (parts : List (List ℕ)) → IfSome (option_and_then key_of_numbers (numbers_in parts)) (λ key. (join_with_byte 58 parts ≡ key_text key) × IsKey key)
+key-parts : (parts : List (List ℕ)) → IfSome (option_and_then key_of_numbers (numbers_in parts)) (λ key. (join_with_byte 58 parts ≡ key_text key) × IsSlotKey key)
 key-parts [] = tt
 key-parts (p ∷ []) = rw (key-one (number_of p)) tt
 key-parts (p ∷ q ∷ []) = key-two p q (number_of p) (number_of q) (number_of-IfSome p) (number_of-IfSome q)
 key-parts (p ∷ q ∷ r ∷ parts) = rw (key-many (number_of p) (number_of q) (number_of r) (numbers_in parts)) tt
 
 -- a word that is read as a key is its text
-key_of-text : (word : List ℕ) → IfSome (key_of word) (λ key. (word ≡ key_text key) × IsKey key)
+key_of-text : (word : List ℕ) → IfSome (key_of word) (λ key. (word ≡ key_text key) × IsSlotKey key)
 key_of-text word = rw (join_with_byte-slice_split 58 word) at (key-parts (slice_split is_colon word))
 
 -- the text of a key has no space
-key_text-All : (key : SlotKey) → IsKey key → All (λ b. is_space b ≡ false) (key_text key)
+key_text-All : (key : SlotKey) → IsSlotKey key → All (λ b. is_space b ≡ false) (key_text key)
 key_text-All key (i, g) =
     All-append (λ b. is_space b ≡ false) (decimal key.index) (58 ∷ decimal key.generation) (decimal-All key.index i)
     (All-cons (λ b. is_space b ≡ false) 58 (decimal key.generation) refl (decimal-All key.generation (omega (arith, g))))
@@ -149,7 +149,7 @@ decimal-no_colon : (n : ℕ) → n < 2 ^ 64 → All (λ b. is_colon b ≡ false)
 decimal-no_colon n h = digits-no_colon (decimal n) (IsNumeral-decimal (decimal n) n h refl).digits
 
 -- the text of a key is read as that key
-key_of-key_text : (key : SlotKey) → IsKey key → key_of (key_text key) ≡ Some key
+key_of-key_text : (key : SlotKey) → IsSlotKey key → key_of (key_text key) ≡ Some key
 key_of-key_text key (i, g) =
     let below : key.generation < 2 ^ 64 = omega (arith, g) in
     let parts = slice_split_at is_colon (decimal key.index) 58 (decimal key.generation) (decimal-no_colon key.index i) refl
@@ -160,14 +160,14 @@ key_of-key_text key (i, g) =
 
 -- the parts are the text of a name, a key and numbers
 abbrev IsKeyWords : List (List ℕ) → List ℕ × (SlotKey × List ℕ) → Type 0
-IsKeyWords parts w = (join_with_byte 32 parts ≡ key_words_text w.0 w.1.0 w.1.1) × (IsKey w.1.0 × All (λ n. n < 2 ^ 64) w.1.1)
+IsKeyWords parts w = (join_with_byte 32 parts ≡ key_words_text w.0 w.1.0 w.1.1) × (IsSlotKey w.1.0 × All (λ n. n < 2 ^ 64) w.1.1)
 
-key-numbers : (name word : List ℕ) (words : List (List ℕ)) (key : SlotKey) (numbers : Option (List ℕ)) → (word ≡ key_text key) × IsKey key → IfSome numbers (IsText word words)
+key-numbers : (name word : List ℕ) (words : List (List ℕ)) (key : SlotKey) (numbers : Option (List ℕ)) → (word ≡ key_text key) × IsSlotKey key → IfSome numbers (IsText word words)
     → IfSome {T = List ℕ × (SlotKey × List ℕ)} (option_map (λ w. (name, w)) (option_map (λ ns. (key, ns)) numbers)) (IsKeyWords (name ∷ word ∷ words))
 key-numbers name word words key None h t = tt
 key-numbers name word words key (Some ns) h t = (ap (λ l. name ++ (32 ∷ l)) (t.0 ∙ ap (λ w. words_text w ns) h.0), (h.1, t.1))
 
-key-named : (name word : List ℕ) (words : List (List ℕ)) (key : Option SlotKey) → IfSome key (λ k. (word ≡ key_text k) × IsKey k)
+key-named : (name word : List ℕ) (words : List (List ℕ)) (key : Option SlotKey) → IfSome key (λ k. (word ≡ key_text k) × IsSlotKey k)
     → IfSome {T = List ℕ × (SlotKey × List ℕ)} (option_map (λ w. (name, w)) (option_and_then {U = SlotKey × List ℕ} (λ w. option_map (λ ns. (w.0, ns)) (numbers_in w.1)) (option_map {U = SlotKey × List (List ℕ)} (λ k. (k, words)) key)))
     (IsKeyWords (name ∷ word ∷ words))
 key-named name word words None h = tt
@@ -180,11 +180,11 @@ name_key_numbers-text ((b ∷ name) ∷ []) = tt
 name_key_numbers-text ((b ∷ name) ∷ word ∷ words) = key-named (b ∷ name) word words (key_of word) (key_of-text word)
 
 -- a line is the text of its name, its key and its numbers
-key_words_of-text : (line : List ℕ) → IfSome (key_words_of line) (λ w. (line ≡ key_words_text w.0 w.1.0 w.1.1) × (IsKey w.1.0 × All (λ n. n < 2 ^ 64) w.1.1))
+key_words_of-text : (line : List ℕ) → IfSome (key_words_of line) (λ w. (line ≡ key_words_text w.0 w.1.0 w.1.1) × (IsSlotKey w.1.0 × All (λ n. n < 2 ^ 64) w.1.1))
 key_words_of-text line =
-    subst (λ text. IfSome (key_words_of line) (λ w. (text ≡ key_words_text w.0 w.1.0 w.1.1) × (IsKey w.1.0 × All (λ n. n < 2 ^ 64) w.1.1))) (join_with_byte-slice_split 32 line) (name_key_numbers-text (slice_split is_space line))
+    subst (λ text. IfSome (key_words_of line) (λ w. (text ≡ key_words_text w.0 w.1.0 w.1.1) × (IsSlotKey w.1.0 × All (λ n. n < 2 ^ 64) w.1.1))) (join_with_byte-slice_split 32 line) (name_key_numbers-text (slice_split is_space line))
 
-key_words_of-key_words_text : (name : List ℕ) (key : SlotKey) (numbers : List ℕ) → is_name name ≡ true → IsKey key → All (λ n. n < 2 ^ 64) numbers
+key_words_of-key_words_text : (name : List ℕ) (key : SlotKey) (numbers : List ℕ) → is_name name ≡ true → IsSlotKey key → All (λ n. n < 2 ^ 64) numbers
     → key_words_of (key_words_text name key numbers) ≡ Some (name, (key, numbers))
 key_words_of-key_words_text [] key numbers h k a = absurd (cc)
 key_words_of-key_words_text (b ∷ name) key numbers h k a =
@@ -217,17 +217,17 @@ module _ {C : Type 0} where
   -- the line is the text of a form's name, a key and numbers that make the command
   abbrev SpellsKey : List (KeyForm C) → List ℕ → C → Type 0
   SpellsKey forms line command =
-      (form : KeyForm C) × (key : SlotKey) × (numbers : List ℕ) × Contains forms form × IsKey key × All (λ n. n < 2 ^ 64) numbers × (form.1 key numbers ≡ Some command)
+      (form : KeyForm C) × (key : SlotKey) × (numbers : List ℕ) × Contains forms form × IsSlotKey key × All (λ n. n < 2 ^ 64) numbers × (form.1 key numbers ≡ Some command)
       × (line ≡ key_words_text form.0 key numbers)
 
   SpellsKey-make : (forms : List (KeyForm C)) (line name : List ℕ) (key : SlotKey) (numbers : List ℕ) (command : C) (make : Option (SlotKey → List ℕ → Option C)) → lookup (bytes_eq name) forms ≡ make
-      → option_and_then (λ m. m key numbers) make ≡ Some command → line ≡ key_words_text name key numbers → IsKey key → All (λ n. n < 2 ^ 64) numbers → SpellsKey forms line command
+      → option_and_then (λ m. m key numbers) make ≡ Some command → line ≡ key_words_text name key numbers → IsSlotKey key → All (λ n. n < 2 ^ 64) numbers → SpellsKey forms line command
   SpellsKey-make forms line name key numbers command None found e text k a = absurd (cc)
   SpellsKey-make forms line name key numbers command (Some make) found e text k a =
       ((name, make), key, numbers, Contains-from_lookup (λ x y same. (bytes_eq-Decides x y).0 same) name make forms found, k, a, e, text)
 
   SpellsKey-words : (forms : List (KeyForm C)) (line : List ℕ) (command : C) (words : Option (List ℕ × (SlotKey × List ℕ)))
-      → IfSome words (λ w. (line ≡ key_words_text w.0 w.1.0 w.1.1) × (IsKey w.1.0 × All (λ n. n < 2 ^ 64) w.1.1))
+      → IfSome words (λ w. (line ≡ key_words_text w.0 w.1.0 w.1.1) × (IsSlotKey w.1.0 × All (λ n. n < 2 ^ 64) w.1.1))
       → option_and_then (λ w. make_with_key forms w.0 (Some w.1)) words ≡ Some command → SpellsKey forms line command
   SpellsKey-words forms line command None t e = absurd (cc)
   SpellsKey-words forms line command (Some (name, (key, numbers))) t e = SpellsKey-make forms line name key numbers command (lookup (bytes_eq name) forms) refl e t.0 t.1.0 t.1.1
@@ -242,16 +242,16 @@ module _ {C : Type 0} where
   is_name-key_form (f ∷ forms) form (suc k, l, e) h = is_name-key_form forms form (k, omega (arith, l), e) (and_parts (is_name f.0) (list_all is_name (keys_of forms)) h).1
 
   -- the text of a form's name, a key and numbers is what the form makes of them
-  pub key_command_of-key_words_text : (forms : List (KeyForm C)) (form : KeyForm C) (key : SlotKey) (numbers : List ℕ) → HasNames forms → Contains forms form → IsKey key → All (λ n. n < 2 ^ 64) numbers
+  pub key_command_of-key_words_text : (forms : List (KeyForm C)) (form : KeyForm C) (key : SlotKey) (numbers : List ℕ) → HasNames forms → Contains forms form → IsSlotKey key → All (λ n. n < 2 ^ 64) numbers
       → key_command_of forms (key_words_text form.0 key numbers) ≡ form.1 key numbers
   key_command_of-key_words_text forms form key numbers (names, distinct) has k a =
       rw (key_words_of-key_words_text form.0 key numbers (is_name-key_form forms form has names) k a, lookup-from_Contains nat_list_eq_equiv form.0 form.1 forms distinct has) refl
 
-  either-words : (forms : List (Form C)) (key_forms : List (KeyForm C)) (line : List ℕ) (command : C) (words : Option (List ℕ × List ℕ)) → words_of line ≡ words
+  either-words : (forms : List (Form C)) (key_forms : List (KeyForm C)) (line : List ℕ) (command : C) (words : Option (List ℕ × List ℕ)) → line_words line ≡ words
       → option_and_then (λ w. make_named forms w.0 (Some w.1)) words ≡ Some command → key_command_of key_forms line ≡ None
   either-words forms key_forms line command None is e = absurd (cc)
   either-words forms key_forms line command (Some w) is e = rw (no_key (slice_split is_space line) w is) refl
 
   -- a line that spells a command without a key spells none with one
   pub command_of-either : (forms : List (Form C)) (key_forms : List (KeyForm C)) (line : List ℕ) (command : C) → command_of forms line ≡ Some command → key_command_of key_forms line ≡ None
-  command_of-either forms key_forms line command e = either-words forms key_forms line command (words_of line) refl e
+  command_of-either forms key_forms line command e = either-words forms key_forms line command (line_words line) refl e

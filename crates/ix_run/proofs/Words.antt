@@ -16,7 +16,7 @@ use Rattle.std.proofs.lemmas.Slice.Eq.{bytes_eq-Decides}
 use Rattle.ix_run.specs.inner.NameTables.{first_word, IsAfterName}
 use Rattle.ix_run.proofs.Pieces.{not_true}
 use Rattle.ix_run.specs.Reading.{number_of}
-use Rattle.ix_run.specs.Words.{Form, is_space, is_colon, numbers_in, name_and_numbers, fits_byte, make_named, command_of, alone, one, two, one_byte, number_byte, many_bytes, number_many_bytes}
+use Rattle.ix_run.specs.Words.{Form, is_space, is_colon, numbers_in, name_and_numbers, fits_byte, make_named, command_of, takes_none, takes_one, takes_two, one_byte, number_byte, many_bytes, number_many_bytes}
 use Rattle.ix_run.specs.inner.LineRest.{words_after, len_after, byte_of}
 use Rattle.ix_run.proofs.Numbers.{IsNumeral-decimal, number_of-IfSome}
 
@@ -169,36 +169,36 @@ decimal-All n h = digits-All (decimal n) (IsNumeral-decimal (decimal n) n h refl
 abbrev pub cons_number : Option ℕ → Option (List ℕ) → Option (List ℕ)
 cons_number number numbers = option_and_then (λ n. option_map (λ ns. n ∷ ns) numbers) number
 
-one-two_words : (first second : Option ℕ) (numbers : Option (List ℕ)) → option_and_then (one (λ n. n)) (cons_number first (cons_number second numbers)) ≡ None
+one-two_words : (first second : Option ℕ) (numbers : Option (List ℕ)) → option_and_then (takes_one (λ n. n)) (cons_number first (cons_number second numbers)) ≡ None
 one-two_words None second numbers = refl
 one-two_words (Some n) None numbers = refl
 one-two_words (Some n) (Some m) None = refl
 one-two_words (Some n) (Some m) (Some ns) = refl
 
 -- parts are one number only if they are one part
-one-parts : (separator : ℕ) (parts : List (List ℕ)) (bytes : List ℕ) → join_with_byte separator parts ≡ bytes → number_of bytes ≡ None → option_and_then (one (λ n. n)) (numbers_in parts) ≡ None
+one-parts : (separator : ℕ) (parts : List (List ℕ)) (bytes : List ℕ) → join_with_byte separator parts ≡ bytes → number_of bytes ≡ None → option_and_then (takes_one (λ n. n)) (numbers_in parts) ≡ None
 one-parts separator [] bytes e none = refl
 one-parts separator (part ∷ []) bytes e none = rw (e, none) refl
 one-parts separator (part ∷ next ∷ parts) bytes e none = one-two_words (number_of part) (number_of next) (numbers_in parts)
 
 number_of_last-by : (separator : ℕ) (bytes : List ℕ) (r : Option ℕ) → ((digits : List ℕ) → all_ascii_digits digits ≡ true → All (λ b. is_byte separator b ≡ false) digits)
-    → number_of bytes ≡ r → IfSome r (λ n. (bytes ≡ decimal n) × (n < 2 ^ 64)) → r ≡ option_and_then (one (λ n. n)) (numbers_in (slice_split (is_byte separator) bytes))
+    → number_of bytes ≡ r → IfSome r (λ n. (bytes ≡ decimal n) × (n < 2 ^ 64)) → r ≡ option_and_then (takes_one (λ n. n)) (numbers_in (slice_split (is_byte separator) bytes))
 number_of_last-by separator bytes None apart e h = sym (one-parts separator (slice_split (is_byte separator) bytes) bytes (join_with_byte-slice_split separator bytes) e)
 number_of_last-by separator bytes (Some n) apart e (d, h) =
     let word : slice_split (is_byte separator) bytes ≡ bytes ∷ [] = slice_split_none (is_byte separator) bytes (apart bytes (IsNumeral-decimal bytes n h d).digits) in
     rw (word, e) refl
 
 -- a number is one word
-pub number_of_last : (bytes : List ℕ) → number_of bytes ≡ option_and_then (one (λ n. n)) (numbers_in (slice_split is_space bytes))
+pub number_of_last : (bytes : List ℕ) → number_of bytes ≡ option_and_then (takes_one (λ n. n)) (numbers_in (slice_split is_space bytes))
 number_of_last bytes = number_of_last-by 32 bytes (number_of bytes) digits-All refl (number_of-IfSome bytes)
 
 -- a number has no colon
-pub number_of_last_part : (bytes : List ℕ) → number_of bytes ≡ option_and_then (one (λ n. n)) (numbers_in (slice_split is_colon bytes))
+pub number_of_last_part : (bytes : List ℕ) → number_of bytes ≡ option_and_then (takes_one (λ n. n)) (numbers_in (slice_split is_colon bytes))
 number_of_last_part bytes = number_of_last-by 58 bytes (number_of bytes) digits-no_colon refl (number_of-IfSome bytes)
 
 -- a second number after the first
 pub two_after_number : (n : ℕ) (numbers : Option (List ℕ))
-    → option_and_then {U = ℕ × ℕ} (two (λ m k. (m, k))) (option_map (λ ns. n ∷ ns) numbers) ≡ option_map (λ m. (n, m)) (option_and_then (one (λ m. m)) numbers)
+    → option_and_then {U = ℕ × ℕ} (takes_two (λ m k. (m, k))) (option_map (λ ns. n ∷ ns) numbers) ≡ option_map (λ m. (n, m)) (option_and_then (takes_one (λ m. m)) numbers)
 two_after_number n None = refl
 two_after_number n (Some []) = refl
 two_after_number n (Some (m ∷ [])) = refl
@@ -209,7 +209,7 @@ cond-byte make b true = refl
 cond-byte make b false = refl
 
 -- one byte, as one number that is a byte
-one_byte-one : (numbers : Option (List ℕ)) → option_and_then (one_byte (λ b. b)) numbers ≡ option_and_then (λ n. cond (fits_byte n) (Some n) None) (option_and_then (one (λ n. n)) numbers)
+one_byte-one : (numbers : Option (List ℕ)) → option_and_then (one_byte (λ b. b)) numbers ≡ option_and_then (λ n. cond (fits_byte n) (Some n) None) (option_and_then (takes_one (λ n. n)) numbers)
 one_byte-one None = refl
 one_byte-one (Some []) = refl
 one_byte-one (Some (n ∷ [])) = refl
@@ -237,17 +237,17 @@ pub bytes_after_number : (n : ℕ) (numbers : Option (List ℕ))
 bytes_after_number n None = refl
 bytes_after_number n (Some bs) = cond-bytes (λ m. (n, m)) bs (list_all fits_byte bs)
 
-alone-word : {C : Type 0} (command : C) (first : Option ℕ) (numbers : Option (List ℕ)) → option_and_then (alone command) (cons_number first numbers) ≡ None
+alone-word : {C : Type 0} (command : C) (first : Option ℕ) (numbers : Option (List ℕ)) → option_and_then (takes_none command) (cons_number first numbers) ≡ None
 alone-word command None numbers = refl
 alone-word command (Some n) None = refl
 alone-word command (Some n) (Some ns) = refl
 
-alone-parts : {C : Type 0} (command : C) (parts : List (List ℕ)) → 0 < length parts → option_and_then (alone command) (numbers_in parts) ≡ None
+alone-parts : {C : Type 0} (command : C) (parts : List (List ℕ)) → 0 < length parts → option_and_then (takes_none command) (numbers_in parts) ≡ None
 alone-parts command [] h = absurd (omega (arith, h))
 alone-parts command (word ∷ parts) h = alone-word command (number_of word) (numbers_in parts)
 
 -- no command without numbers has a further word
-pub alone_not_last : {C : Type 0} (command : C) (bytes : List ℕ) → None ≡ option_and_then (alone command) (numbers_in (slice_split is_space bytes))
+pub alone_not_last : {C : Type 0} (command : C) (bytes : List ℕ) → None ≡ option_and_then (takes_none command) (numbers_in (slice_split is_space bytes))
 alone_not_last command bytes = sym (alone-parts command (slice_split is_space bytes) (let l = length-slice_split is_space bytes in omega (arith, l)))
 
 -- the items of a list of words, one item more
@@ -272,12 +272,12 @@ byte_of-length-by word b (Some n) e h = number_of-length word n e
 pub byte_of-length : (word : List ℕ) (b : ℕ) → byte_of word ≡ Some b → 0 < length word
 byte_of-length word b e = byte_of-length-by word b (number_of word) refl e
 
-bytes-cons : (n : ℕ) (bs : List ℕ) (one others : Bool) → cond (one && others) (Some (n ∷ bs)) None ≡ option_and_then (λ b. option_map (λ ns. b ∷ ns) (cond others (Some bs) None)) (cond one (Some n) None)
+bytes-cons : (n : ℕ) (bs : List ℕ) (fits others : Bool) → cond (fits && others) (Some (n ∷ bs)) None ≡ option_and_then (λ b. option_map (λ ns. b ∷ ns) (cond others (Some bs) None)) (cond fits (Some n) None)
 bytes-cons n bs false others = refl
 bytes-cons n bs true true = refl
 bytes-cons n bs true false = refl
 
-bytes-None : (n : ℕ) (one : Bool) → None ≡ option_and_then {U = List ℕ} (λ b. None) (cond one (Some n) None)
+bytes-None : (n : ℕ) (fits : Bool) → None ≡ option_and_then {U = List ℕ} (λ b. None) (cond fits (Some n) None)
 bytes-None n true = refl
 bytes-None n false = refl
 

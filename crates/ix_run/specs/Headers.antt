@@ -72,9 +72,9 @@ abbrev pub named_container : List ℕ → Option Container
 named_container name = find (λ container. bytes_eq name (container_name container)) containers
 
 -- one number, which is a fixed capacity
-abbrev pub fixed : List ℕ → Option Storage
-fixed (n ∷ []) = option_map Fixed (find (λ capacity. fixed_capacity capacity == n) fixed_capacities)
-fixed other = None
+abbrev pub takes_fixed_capacity : List ℕ → Option Storage
+takes_fixed_capacity (n ∷ []) = option_map Fixed (find (λ capacity. fixed_capacity capacity == n) fixed_capacities)
+takes_fixed_capacity other = None
 
 -- one number, which is at most MAX_CAPACITY
 abbrev pub up_to_max : {C : Type 0} → (ℕ → C) → List ℕ → Option C
@@ -82,7 +82,7 @@ up_to_max make (n ∷ []) = if nat_le n MAX_CAPACITY then Some (make n) else Non
 up_to_max make other = None
 
 abbrev pub storage_forms : List (Form Storage)
-storage_forms = (codes "fixed", fixed) ∷ (codes "heap", up_to_max Heap) ∷ (codes "arena", up_to_max Arena) ∷ []
+storage_forms = (codes "fixed", takes_fixed_capacity) ∷ (codes "heap", up_to_max Heap) ∷ (codes "arena", up_to_max Arena) ∷ []
 
 -- one number, which is the generation of a slot map's places at first
 abbrev pub starting_at : List ℕ → Option Container
@@ -90,16 +90,16 @@ starting_at (n ∷ []) = if fits_generation n then Some (Slot (Some n)) else Non
 starting_at other = None
 
 -- the container, by the words after its storage
-abbrev pub started : Container → List (List ℕ) → Option Container
-started container [] = Some container
-started (Slot start) (word ∷ words) = if bytes_eq word (codes "at") then option_and_then starting_at (numbers_in words) else None
-started other (word ∷ words) = None
+abbrev pub container_with_start : Container → List (List ℕ) → Option Container
+container_with_start container [] = Some container
+container_with_start (Slot start) (word ∷ words) = if bytes_eq word (codes "at") then option_and_then starting_at (numbers_in words) else None
+container_with_start other (word ∷ words) = None
 
 -- a container's name, the name and the number of a storage, and where generations start
 abbrev pub header_of_words : List (List ℕ) → Option Header
 header_of_words (name ∷ storage ∷ number ∷ words) =
     option_and_then (λ c.
-    option_and_then (λ s. option_map (λ c'. record { container = c'; storage = s }) (started c words)) (make_named storage_forms storage (numbers_in (number ∷ []))))
+    option_and_then (λ s. option_map (λ c'. record { container = c'; storage = s }) (container_with_start c words)) (make_named storage_forms storage (numbers_in (number ∷ []))))
     (named_container name)
 header_of_words other = None
 

@@ -21,8 +21,8 @@ abbrev pub IsU64 : ℕ → Type 0
 IsU64 n = n < 2 ^ 64
 
 -- the numbers of a key are those of the keys that calls return
-abbrev pub IsKey : SlotKey → Type 0
-IsKey key = IsU64 key.index × (key.generation ≤ greatest_generation)
+abbrev pub IsSlotKey : SlotKey → Type 0
+IsSlotKey key = IsU64 key.index × (key.generation ≤ greatest_generation)
 
 -- the numbers of a reply are those that the calls return
 abbrev pub HasU64sAnd : {K : Type 0} → (K → Type 0) → Reply K ℕ → Type 0
@@ -38,19 +38,19 @@ HasU64s reply = HasU64sAnd IsU64 reply
 -- read: the command that a line spells, if any; text: the text of a reply
 module _ {C R : Type 0} (read : List ℕ → Option C) (text : R → List ℕ) where
   -- the line is no longer than a line that is read, and spells the command
-  abbrev pub IsRead : List ℕ → C → Type 0
-  IsRead line command = IsOneLine line × (length line ≤ MAX_LINE_LEN) × (read line ≡ Some command)
+  abbrev pub IsLineOf : List ℕ → C → Type 0
+  IsLineOf line command = IsOneLine line × (length line ≤ MAX_LINE_LEN) × (read line ≡ Some command)
 
   -- each line spells the command beside it
-  abbrev pub AreRead : List (List ℕ) → List C → Type 0
-  AreRead [] [] = ⊤
-  AreRead (line ∷ lines) (command ∷ commands) = IsRead line command × AreRead lines commands
-  AreRead lines commands = ⊥
+  abbrev pub AreLinesOf : List (List ℕ) → List C → Type 0
+  AreLinesOf [] [] = ⊤
+  AreLinesOf (line ∷ lines) (command ∷ commands) = IsLineOf line command × AreLinesOf lines commands
+  AreLinesOf lines commands = ⊥
 
   -- the replies to a header, and to lines that spell commands, are `ready` and the replies of their run, each on a line
   abbrev pub IsRunBy : {M : Type 0} → (M → C → R) → (M → C → M) → Container → Storage → M → Type 0
   IsRunBy reply after container storage model =
-      IsStorage storage → IsStart container → (lines : List (List ℕ)) (commands : List C) → AreRead lines commands
+      IsStorage storage → IsStart container → (lines : List (List ℕ)) (commands : List C) → AreLinesOf lines commands
       → replies_to (text_of_lines (header_line container storage ∷ lines)) ≡ text_of_lines (codes "ready" ∷ map text (run_replies reply after model commands))
 
 -- the same by a table of forms

@@ -27,8 +27,8 @@ name_and_numbers ((b ∷ name) ∷ words) = option_map (λ numbers. (b ∷ name,
 name_and_numbers other = None
 
 -- the name and the numbers whose text the line is
-abbrev pub words_of : List ℕ → Option (List ℕ × List ℕ)
-words_of line = name_and_numbers (slice_split is_space line)
+abbrev pub line_words : List ℕ → Option (List ℕ × List ℕ)
+line_words line = name_and_numbers (slice_split is_space line)
 
 -- a number is a byte
 abbrev pub fits_byte : ℕ → Bool
@@ -100,7 +100,7 @@ module _ {C : Type 0} where
 
   -- the command that a line spells
   abbrev pub command_of : List (Form C) → List ℕ → Option C
-  command_of forms line = option_and_then (λ words. make_named forms words.0 (Some words.1)) (words_of line)
+  command_of forms line = option_and_then (λ words. make_named forms words.0 (Some words.1)) (line_words line)
 
   -- what the form with this name makes of a key and numbers
   abbrev pub make_with_key : List (KeyForm C) → List ℕ → Option (SlotKey × List ℕ) → Option C
@@ -111,23 +111,23 @@ module _ {C : Type 0} where
   key_command_of forms line = option_and_then (λ words. make_with_key forms words.0 (Some words.1)) (key_words_of line)
 
   -- no numbers
-  abbrev pub alone : C → List ℕ → Option C
-  alone command [] = Some command
-  alone command other = None
+  abbrev pub takes_none : C → List ℕ → Option C
+  takes_none command [] = Some command
+  takes_none command other = None
 
   -- one number
-  abbrev pub one : (ℕ → C) → List ℕ → Option C
-  one make (n ∷ []) = Some (make n)
-  one make other = None
+  abbrev pub takes_one : (ℕ → C) → List ℕ → Option C
+  takes_one make (n ∷ []) = Some (make n)
+  takes_one make other = None
 
   -- two numbers
-  abbrev pub two : (ℕ → ℕ → C) → List ℕ → Option C
-  two make (n ∷ m ∷ []) = Some (make n m)
-  two make other = None
+  abbrev pub takes_two : (ℕ → ℕ → C) → List ℕ → Option C
+  takes_two make (n ∷ m ∷ []) = Some (make n m)
+  takes_two make other = None
 
   -- zero or more numbers
-  abbrev pub many : (List ℕ → C) → List ℕ → Option C
-  many make ns = Some (make ns)
+  abbrev pub takes_any : (List ℕ → C) → List ℕ → Option C
+  takes_any make ns = Some (make ns)
 
   -- one byte
   abbrev pub one_byte : (ℕ → C) → List ℕ → Option C

@@ -1,4 +1,4 @@
--- Lemmas on items that are inserted into a row which grows by appending alone.
+-- Lemmas on items that are inserted into a buffer which grows by appending alone.
 use Rattle.std.proofs.Common.{ℕ, ◌≡◌, ◌+◌, ◌-◌, ◌<◌, ◌≤◌, ◌∙◌, List, [], ◌∷◌, ◌++◌, ◌⊎◌, inl, inr, refl, length, take, drop, get_or, length-append, length-drop, append_assoc, min, slice_range, sym, ap, arith}
 use Rattle.std.specs.List.{insert_slice}
 use Rattle.std.proofs.lemmas.Bool.{cases_lt}
@@ -55,8 +55,8 @@ module _ {X : Type 0} where
 
   -- the last new items and the last b own ones are appended, and then the first b new ones are inserted into the gap
   pub insert_slice-parts : (xs bytes : List X) (i b e n : ℕ) → n ≡ length xs → i ≤ n → b ≡ min (length bytes) (n - i) → e ≡ n - b
-      → let row = (xs ++ drop b bytes) ++ slice_range (xs ++ drop b bytes) e n in
-      insert_slice (take e row) i (take b bytes) ++ drop (e + b) row ≡ insert_slice xs i bytes
+      → let buffer = (xs ++ drop b bytes) ++ slice_range (xs ++ drop b bytes) e n in
+      insert_slice (take e buffer) i (take b bytes) ++ drop (e + b) buffer ≡ insert_slice xs i bytes
   insert_slice-parts xs bytes i b e n whole within least start =
       let back = drop b bytes in
       let longer = xs ++ back in
@@ -67,9 +67,9 @@ module _ {X : Type 0} where
       let room : e ≤ length longer = omega (arith, length-append xs back) in
       let front = take-append-le e longer (slice_range longer e n) room ∙ take-append-le e xs back most in
       let end : e + b ≡ n = grind (arith, common_steps) in
-      let row = longer ++ slice_range longer e n in
-      let behind : drop (e + b) row ≡ back ++ drop e xs =
-      ap (λ (k : ℕ). drop k row) end ∙ ap (drop n) (append_assoc xs back (slice_range longer e n)) ∙ drop_at xs (back ++ slice_range longer e n) n (sym whole)
+      let buffer = longer ++ slice_range longer e n in
+      let behind : drop (e + b) buffer ≡ back ++ drop e xs =
+      ap (λ (k : ℕ). drop k buffer) end ∙ ap (drop n) (append_assoc xs back (slice_range longer e n)) ∙ drop_at xs (back ++ slice_range longer e n) n (sym whole)
       ∙ ap (λ (r : List X). back ++ r) last in
       let gap = take-take i e xs order in
       let whole_bytes = take-append-drop b bytes in

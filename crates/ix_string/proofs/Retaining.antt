@@ -39,27 +39,27 @@ module _ {X : Type 0} where
   drop-last xs i n d next le = rw next (drop_more xs i d (omega arith))
 
   -- rows with the same first n items have the same item i
-  pub get_or-front : (row old : List X) (i n : ℕ) (d : X) → i < n → take n row ≡ take n old → get_or row i d ≡ get_or old i d
-  get_or-front row old i n d lt same = sym (get_or-take n row i d lt) ∙ ap (λ (r : List X). get_or r i d) same ∙ get_or-take n old i d lt
+  pub get_or-front : (buffer old : List X) (i n : ℕ) (d : X) → i < n → take n buffer ≡ take n old → get_or buffer i d ≡ get_or old i d
+  get_or-front buffer old i n d lt same = sym (get_or-take n buffer i d lt) ∙ ap (λ (r : List X). get_or r i d) same ∙ get_or-take n old i d lt
 
   -- and the same first i items
-  pub take-front : (row old : List X) (i n : ℕ) → i ≤ n → take n row ≡ take n old → take i row ≡ take i old
-  take-front row old i n le same = sym (take-take i n row le) ∙ ap (take i) same ∙ take-take i n old le
+  pub take-front : (buffer old : List X) (i n : ℕ) → i ≤ n → take n buffer ≡ take n old → take i buffer ≡ take i old
+  take-front buffer old i n le same = sym (take-take i n buffer le) ∙ ap (take i) same ∙ take-take i n old le
 
   -- an item is written before the last ones
-  pub drop-put : (row : List X) (s t : ℕ) (x : X) → t ≡ s + 1 → t ≤ length row → drop s (set row s x) ≡ x ∷ drop t row
-  drop-put row s t x next le = rw next (drop-set row s x (omega arith))
+  pub drop-put : (buffer : List X) (s t : ℕ) (x : X) → t ≡ s + 1 → t ≤ length buffer → drop s (set buffer s x) ≡ x ∷ drop t buffer
+  drop-put buffer s t x next le = rw next (drop-set buffer s x (omega arith))
 
-  -- one more call, at the item before index n, which the row still has there
-  pub Retains-back : {F : Type 0} (step : F → X → Bool → F → Type 0) (f : F) (row old : List X) (n : ℕ) (d : X) (results : List Bool) (g : F) (b : Bool) (h : F)
-      → 0 < n → n ≤ length old → take n row ≡ take n old → ResultsAt step f (reverse (drop n old)) results g → step g (get_or row (n - 1) d) b h
+  -- one more call, at the item before index n, which the buffer still has there
+  pub Retains-back : {F : Type 0} (step : F → X → Bool → F → Type 0) (f : F) (buffer old : List X) (n : ℕ) (d : X) (results : List Bool) (g : F) (b : Bool) (h : F)
+      → 0 < n → n ≤ length old → take n buffer ≡ take n old → ResultsAt step f (reverse (drop n old)) results g → step g (get_or buffer (n - 1) d) b h
       → (more : List Bool) × ResultsAt step f (reverse (drop (n - 1) old)) more h
-      × ((if b then retained_items results (drop n old) else get_or row (n - 1) d ∷ retained_items results (drop n old)) ≡ retained_items more (drop (n - 1) old))
-  Retains-back step f row old n d results g b h some within front calls called =
+      × ((if b then retained_items results (drop n old) else get_or buffer (n - 1) d ∷ retained_items results (drop n old)) ≡ retained_items more (drop (n - 1) old))
+  Retains-back step f buffer old n d results g b h some within front calls called =
       let i = n - 1 in
-      let behind : drop i old ≡ get_or row i d ∷ drop n old =
-      drop-last old i n d (omega arith) within ∙ ap (λ (x : X). x ∷ drop n old) (sym (get_or-front row old i n d (omega arith) front)) in
-      rw behind (Retains-more step f (get_or row i d) (drop n old) (retained_items results (drop n old)) results g b h calls refl called)
+      let behind : drop i old ≡ get_or buffer i d ∷ drop n old =
+      drop-last old i n d (omega arith) within ∙ ap (λ (x : X). x ∷ drop n old) (sym (get_or-front buffer old i n d (omega arith) front)) in
+      rw behind (Retains-more step f (get_or buffer i d) (drop n old) (retained_items results (drop n old)) results g b h calls refl called)
 
   -- what holds of all items holds of those that are kept
   All-items_where_true : (P : X → Type 0) (results : List Bool) (xs : List X) → All P xs → All P (items_where_true (map not results) xs)
@@ -82,7 +82,7 @@ module _ {F : Type 0} {step : F → ℕ → Bool → F → Type 0} {pre : F → 
   pub IsCallableAtText-on : (b : Bool) (g : F) → step f byte b g → IsCallableAtText step pre g
   IsCallableAtText-on b g called bytes h next calls text = callable (byte ∷ bytes) h next (g, (b, called), calls) (All-cons (λ x. IsTextByte x) byte bytes is text)
 
--- byte i of a row that still has the first n bytes of a text
-pub IsTextByte-front : (row old : List ℕ) (i n d : ℕ) → i < n → n ≤ length old → take n row ≡ take n old → IsText old → IsTextByte (get_or row i d)
-IsTextByte-front row old i n d lt within front text =
-    subst IsTextByte (sym (get_or-front row old i n d lt front)) (text i d (omega arith))
+-- byte i of a buffer that still has the first n bytes of a text
+pub IsTextByte-front : (buffer old : List ℕ) (i n d : ℕ) → i < n → n ≤ length old → take n buffer ≡ take n old → IsText old → IsTextByte (get_or buffer i d)
+IsTextByte-front buffer old i n d lt within front text =
+    subst IsTextByte (sym (get_or-front buffer old i n d lt front)) (text i d (omega arith))

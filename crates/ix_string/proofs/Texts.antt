@@ -11,7 +11,8 @@ use Rattle.std.specs.Str.{IsAscii, IsUtf8}
 use Rattle.std.proofs.lemmas.Str.{IsUtf8-from_ascii}
 use Rattle.std.proofs.lemmas.List.Sums.{list_all-from_AllPass}
 use Rattle.std.specs.Prelude.{Result, Ok, Err, IsOk, ◌↔◌, true, false}
-use Rattle.ix_string.specs.Text.{IsText, IsTextByte, IsPadded, padded_text, is_text, is_text_byte}
+use Rattle.ix_string.specs.Text.{IsText, IsTextByte, padded_text, is_text, is_text_byte}
+use Rattle.ix_string.specs.inner.Padding.{IsPadded}
 use Rattle.ix_string.specs.TextSteps.{StringFromBytes}
 use Rattle.ix_string.specs.declared.string.modification_error.StringModificationError.{StringModificationError}
 use Rattle.ix_string.specs.declared.string.modification_error.StringModificationError.TheVariants.{InvalidCharacter, InsertWouldExceedCapacity}
@@ -58,14 +59,14 @@ IsPadded-from_text capacity count text bytes parts counted within is =
     }
 
 -- a shorter text, and zeros where the last n bytes of the longer one were
-pub IsPadded-shortened : (capacity count n : ℕ) (bytes text row : List ℕ) → IsPadded capacity count bytes → n ≤ count → length text ≡ count - n → IsText text
-    → row ≡ text ++ (replicate n 0 ++ drop count bytes) → IsPadded capacity (count - n) row
-IsPadded-shortened capacity count n bytes text row was le shorter is parts =
+pub IsPadded-shortened : (capacity count n : ℕ) (bytes text buffer : List ℕ) → IsPadded capacity count bytes → n ≤ count → length text ≡ count - n → IsText text
+    → buffer ≡ text ++ (replicate n 0 ++ drop count bytes) → IsPadded capacity (count - n) buffer
+IsPadded-shortened capacity count n bytes text buffer was le shorter is parts =
     let within = was.within in
     let zeros : drop count bytes ≡ replicate (capacity - count) 0 = simp unary_clauses at (drop-IsPadded capacity count bytes 0 was) in
     let sum : n + (capacity - count) ≡ capacity - (count - n) = omega arith in
     let more : replicate {A = ℕ} n 0 ++ replicate {A = ℕ} (capacity - count) 0 ≡ replicate (capacity - (count - n)) 0 = replicate-append-replicate n (capacity - count) 0 ∙ ap (λ (k : ℕ). replicate {A = ℕ} k 0) sum in
-    IsPadded-from_text capacity (count - n) text row (rw (parts, zeros, more)) shorter (omega arith) is
+    IsPadded-from_text capacity (count - n) text buffer (rw (parts, zeros, more)) shorter (omega arith) is
 
 -- the test for a text
 pub is_text-yes : (bytes : List ℕ) → IsText bytes → is_text bytes ≡ true

@@ -4,3 +4,4 @@ pub mod Escape
 pub mod Retain
 pub mod Text
 pub mod TextSteps
+pub mod inner

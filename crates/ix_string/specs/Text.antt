@@ -21,13 +21,6 @@ is_text = list_all is_text_byte
 abbrev pub padded_text : ℕ → List ℕ → List ℕ
 padded_text capacity text = text ++ replicate (capacity - length text) 0
 
--- the bytes, as many as the capacity, are a text of count bytes and then zeros
-pub record IsPadded (capacity count : ℕ) (bytes : List ℕ) : Type 0 where
-  pub within : count ≤ capacity
-  pub whole : length bytes ≡ capacity
-  pub text : IsText (take count bytes)
-  pub zeros : bytes ≡ padded_text capacity (take count bytes)
-
 -- the index of the first zero, or the length if there is none
 abbrev pub nul_position : List ℕ → ℕ
 nul_position bytes = position_or_len (λ b. b == 0) bytes

@@ -17,6 +17,7 @@ mod retaining;
 mod static_string;
 mod static_traits;
 mod string_trait;
+mod text;
 mod vector_text;
 
 pub use escape::{EscapedByte, as_escaped_string, escape_byte};

@@ -1,7 +1,7 @@
 //! Values by their traits alone.
 use crate::Findings;
 use std::cmp::Ordering;
-use std::fmt::{Debug, InlineText};
+use std::fmt::{Debug, Display, InlineText};
 use std::hash::{DefaultHasher, Hash, Hasher};
 
 /// Returns the hash of a value.
@@ -20,4 +20,21 @@ pub fn order_of<T: Ord>(value: &T, other: &T) -> Ordering {
 pub fn check_text<T: Debug>(findings: &Findings, value: &T, text: &str) {
     let found = InlineText::<80>::of(format_args!("{value:?}"));
     findings.expect_same(found.as_str(), text, "the text");
+}
+
+/// Checks the `Display` text of a value, of which the first 80 bytes are compared.
+pub fn check_display<T: Display>(findings: &Findings, value: &T, text: &str) {
+    let found = InlineText::<80>::of(format_args!("{value}"));
+    findings.expect_same(found.as_str(), text, "the text");
+}
+
+/// Checks the text of a value by `Display`, and then by `Debug`, as [`check_display`] and [`check_text`] do.
+pub fn check_printed<T: Display + Debug>(
+    findings: &Findings,
+    value: &T,
+    displayed: &str,
+    debugged: &str,
+) {
+    check_display(findings, value, displayed);
+    check_text(findings, value, debugged);
 }

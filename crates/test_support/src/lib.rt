@@ -2,7 +2,7 @@
 //! of commands and the replies to them, [`walk`], which runs random commands on two containers, [`SlowTable`], of which slow
 //! containers are made, items that note their drops, [`hash_of`], [`order_of`] and [`check_text`], which know a value by a
 //! trait alone, [`fed_by`], which tells what a value feeds to a hasher, [`check_makings`], which has heaps of a few blocks,
-//! [`check_drawn_sizes`], which has ample memory, and [`devices`] that fail.
+//! [`read_with`], which reads how many bytes are in use with a container, [`check_drawn_sizes`], which has ample memory, and [`devices`] that fail.
 //!
 //! ```text
 //! let notes = Notes::new(0);
@@ -17,6 +17,7 @@ mod by_traits;
 pub mod devices;
 mod drawn_sizes;
 mod findings;
+mod makings;
 mod noted;
 mod numbers;
 mod recorder;
@@ -25,12 +26,13 @@ mod slow_table;
 mod walks;
 
 pub use blocks::{check_makings, check_sizes};
-pub use by_traits::{check_text, hash_of, order_of};
+pub use by_traits::{check_display, check_printed, check_text, hash_of, order_of};
 pub use drawn_sizes::check_drawn_sizes;
 pub use findings::Findings;
+pub use makings::{MAKINGS, Making, read_again, read_with};
 pub use noted::{Noted, Notes, names_of};
 pub use numbers::Numbers;
 pub use recorder::fed_by;
-pub use rows::{check_rows, check_tables};
+pub use rows::{check_rows, check_tables, made};
 pub use slow_table::{SlowTable, reply_of_key, reply_of_option};
 pub use walks::walk;

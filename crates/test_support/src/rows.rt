@@ -1,6 +1,7 @@
 //! Tables of commands and the replies to them, for whatever runs commands.
 use crate::Findings;
 use ix_commands::Runs;
+use std::alloc::AllocError;
 use std::fmt::Debug;
 
 /// Runs the command of each row in turn, and notes the first row whose reply is another one, and `place`.
@@ -20,6 +21,11 @@ pub fn check_rows<C: Copy, Y: Copy + PartialEq + Debug, R: Runs<C, Reply = Y>>(
         let found = container.run_command(*command);
         findings.expect_same_at(found, *reply, number, place);
     }
+}
+
+/// Returns a container whose making can't fail as one whose making did not.
+pub fn made<C>(container: C) -> Result<C, AllocError> {
+    Ok(container)
 }
 
 /// Runs the rows of each table in turn, as [`check_rows`] does, on one container. Notes `place` if it could not be made.

@@ -3,17 +3,20 @@ ghost use Rattle.std.specs.Prelude.{◌≡◌, ◌≤◌};
 
 use crate::foo::Foo;
 use bumpalo::Bump;
-use ix_atomic::{AtomicCopy, FixedSizeByteAtomic, RelocatableByteAtomic, UninitByteAtomic};
+use ix_atomic::{
+    AtomicCopy, FixedSizeByteAtomic, RelocatableByteAtomic, SequencedByteAtomic, UninitByteAtomic,
+};
 use ix_cells::InitError;
 use ix_string::StaticString;
 use linked_list_allocator::LocalHeap;
-use std::alloc::Allocator;
+use std::alloc::{Allocator, Global};
+use std::array;
 use std::fmt::Debug;
 use std::test::Fail;
 use test_support::Findings;
 
 /// Checks a fixed cell that is made with the first value and then holds the second.
-pub fn check_fixed<T: AtomicCopy + PartialEq + Debug, const SIZE: usize>(
+fn check_fixed<T: AtomicCopy + PartialEq + Debug, const SIZE: usize>(
     findings: &Findings,
     first: T,
     second: T,
@@ -29,7 +32,7 @@ pub fn check_fixed<T: AtomicCopy + PartialEq + Debug, const SIZE: usize>(
 }
 
 /// As `check_fixed`, of a relocatable cell that was made.
-pub fn check_made<T: AtomicCopy + PartialEq + Debug, const SIZE: usize, A: Allocator>(
+fn check_made<T: AtomicCopy + PartialEq + Debug, const SIZE: usize, A: Allocator>(
     findings: &Findings,
     made: Result<RelocatableByteAtomic<T, SIZE, A>, InitError<UninitByteAtomic<T, SIZE>>>,
     first: T,
@@ -48,24 +51,102 @@ pub fn check_made<T: AtomicCopy + PartialEq + Debug, const SIZE: usize, A: Alloc
     }
 }
 
+/// As `check_fixed`, of a sequenced cell, which has so many words.
+fn check_sequenced<T: AtomicCopy + PartialEq + Debug, const SIZE: usize>(
+    findings: &Findings,
+    alloc: Global,
+    first: T,
+    second: T,
+    words: usize,
+    place: &str,
+)
+    requires { SIZE ≡ T.SIZE }
+{
+    match SequencedByteAtomic::<T, SIZE>::new(alloc, first) {
+        Ok((cell, mut writer, mut reader)) => {
+            findings.expect_same(cell.words(), words, place);
+            findings.expect_same(cell.try_read(&mut reader), Ok(first), place);
+            findings.expect_same(cell.try_write(&mut writer, second), Ok(()), place);
+            findings.expect_same(cell.try_read(&mut reader), Ok(second), place);
+            findings.expect_same(cell.read_own(&mut writer), Ok(second), place);
+            findings.expect_same(cell.close(writer), Ok(second), place);
+        }
+        Err(_) => findings.miss(place),
+    }
+}
+
+/// Checks a cell of each kind. Sequenced ones have `words` words.
+fn check_cells<T: AtomicCopy + PartialEq + Debug, const SIZE: usize>(
+    findings: &Findings,
+    alloc: Global,
+    first: T,
+    second: T,
+    words: usize,
+    place: &str,
+)
+    requires size { SIZE ≡ T.SIZE }
+    requires fits { SIZE ≤ 1000 }
+{
+    check_fixed::<T, SIZE>(findings, first, second, place);
+    let made = RelocatableByteAtomic::<T, SIZE>::new_uninit().init(alloc, first);
+    check_made(findings, made, first, second, place);
+    check_sequenced::<T, SIZE>(findings, alloc, first, second, words, place);
+}
+
 const FIRST: Foo = Foo { bar: 0, baz: 0 };
 
 const SECOND: Foo = Foo { bar: 4, baz: 6 };
 
+const THIRD: Foo = Foo {
+    bar: 255,
+    baz: 0x0102_0304_0506_0708,
+};
+
 #[test]
-fn a_fixed_cell() -> Result<(), Fail> {
+fn cells_of_each_type(rt: HostRuntime) -> Result<(), Fail> {
     let findings = Findings::new();
-    check_fixed::<Foo, 9>(&findings, FIRST, SECOND, "Foo");
-    check_fixed::<(), 0>(&findings, (), (), "()");
-    check_fixed::<bool, 1>(&findings, true, false, "bool");
-    check_fixed::<u8, 1>(&findings, 255, 0, "u8");
-    check_fixed::<u16, 2>(&findings, 1, 65535, "u16");
-    check_fixed::<u32, 4>(&findings, 1 << 31, 1, "u32");
-    check_fixed::<u64, 8>(&findings, 0, u64::MAX, "u64");
-    check_fixed::<i64, 8>(&findings, i64::MIN, -1, "i64");
-    if let (Ok(first), Ok(second)) = (StaticString::try_from("ab"), StaticString::try_from("c")) {
-        check_fixed::<StaticString<3>, 3>(&findings, first, second, "a string");
-    }
+    let alloc = rt.alloc();
+    check_cells::<Foo, 9>(&findings, alloc, FIRST, SECOND, 3, "Foo");
+    check_cells::<Foo, 9>(&findings, alloc, Foo { bar: 1, baz: 2 }, THIRD, 3, "Foo");
+    check_cells::<(), 0>(&findings, alloc, (), (), 1, "()");
+    check_cells::<bool, 1>(&findings, alloc, true, false, 2, "bool");
+    check_cells::<u8, 1>(&findings, alloc, 255, 0, 2, "u8");
+    check_cells::<u8, 1>(&findings, alloc, 7, 9, 2, "u8");
+    check_cells::<u16, 2>(&findings, alloc, 1, 65535, 2, "u16");
+    check_cells::<u32, 4>(&findings, alloc, 1 << 31, 1, 2, "u32");
+    check_cells::<u64, 8>(&findings, alloc, 0, u64::MAX, 2, "u64");
+    check_cells::<u64, 8>(&findings, alloc, u64::MAX, 1, 2, "u64");
+    check_cells::<i64, 8>(&findings, alloc, i64::MIN, -1, 2, "i64");
+    let none = StaticString::new();
+    let text = StaticString::try_from("ab").expect(&rt, "a text of two bytes");
+    let other = StaticString::try_from("c").expect(&rt, "a text of one byte");
+    check_cells::<StaticString<3>, 3>(&findings, alloc, none, text, 2, "a text");
+    check_cells::<StaticString<3>, 3>(&findings, alloc, text, other, 2, "a text");
+    findings.verdict()
+}
+
+/// Checks cells of bytes that are all 7, and then 0, 1, 2, and so on.
+fn check_size<const SIZE: usize>(findings: &Findings, alloc: Global, words: usize, place: &str)
+    requires { SIZE ≤ 1000 }
+{
+    let rising: [u8; SIZE] = array::from_fn(|i| (i & 0xff) as u8);
+    check_cells::<[u8; SIZE], SIZE>(findings, alloc, [7; SIZE], rising, words, place);
+}
+
+/// Sizes around one word of eight bytes and two, and of many words.
+#[test]
+fn cells_of_each_size(rt: HostRuntime) -> Result<(), Fail> {
+    let findings = Findings::new();
+    check_size::<0>(&findings, rt.alloc(), 1, "no bytes");
+    check_size::<1>(&findings, rt.alloc(), 2, "1 byte");
+    check_size::<7>(&findings, rt.alloc(), 2, "7 bytes");
+    check_size::<8>(&findings, rt.alloc(), 2, "8 bytes");
+    check_size::<9>(&findings, rt.alloc(), 3, "9 bytes");
+    check_size::<16>(&findings, rt.alloc(), 3, "16 bytes");
+    check_size::<17>(&findings, rt.alloc(), 4, "17 bytes");
+    check_size::<64>(&findings, rt.alloc(), 9, "64 bytes");
+    check_size::<256>(&findings, rt.alloc(), 33, "256 bytes");
+    check_size::<1_000>(&findings, rt.alloc(), 126, "1,000 bytes");
     findings.verdict()
 }
 

@@ -48,27 +48,15 @@ fn integers() -> Result<(), Fail> {
     check(&findings, 0x1234_5678u32, [0x78, 0x56, 0x34, 0x12], "u32");
     check(&findings, 6u64, [6, 0, 0, 0, 0, 0, 0, 0], "u64");
     check(&findings, u64::MAX, [255; 8], "u64");
-    check(
-        &findings,
-        0x0102_0304_0506_0708u64,
-        [8, 7, 6, 5, 4, 3, 2, 1],
-        "u64",
-    );
+    let rising = 0x0102_0304_0506_0708u64;
+    check(&findings, rising, [8, 7, 6, 5, 4, 3, 2, 1], "u64");
     check(&findings, 5i64, [5, 0, 0, 0, 0, 0, 0, 0], "i64");
     check(&findings, -1i64, [255; 8], "i64");
-    check(
-        &findings,
-        -256i64,
-        [0, 255, 255, 255, 255, 255, 255, 255],
-        "i64",
-    );
+    let bytes = [0, 255, 255, 255, 255, 255, 255, 255];
+    check(&findings, -256i64, bytes, "i64");
     check(&findings, i64::MIN, [0, 0, 0, 0, 0, 0, 0, 128], "i64");
-    check(
-        &findings,
-        i64::MAX,
-        [255, 255, 255, 255, 255, 255, 255, 127],
-        "i64",
-    );
+    let bytes = [255, 255, 255, 255, 255, 255, 255, 127];
+    check(&findings, i64::MAX, bytes, "i64");
     findings.verdict()
 }
 
@@ -107,19 +95,20 @@ fn strings() -> Result<(), Fail> {
     let findings = Findings::new();
     check_string(&findings, "ab", [97, 98, 0]);
     check_string(&findings, "abc", [97, 98, 99]);
+    // The bytes of two texts may be those of a third.
+    check_string(&findings, "cb", [99, 98, 0]);
     check_string(&findings, "", [0, 0, 0]);
     check_string(&findings, "", []);
     check_string(&findings, "\u{1}\u{7f}", [1, 127, 0, 0]);
-    let no_text: &[[u8; 3]] = &[
-        [97, 0, 98],
-        [0, 98, 0],
-        [0, 0, 1],
-        [97, 200, 0],
-        [128, 0, 0],
-        [97, 98, 255],
-        [97, 0, 200],
-    ];
-    for bytes in no_text {
+    for bytes in [
+        b"a\0b",
+        b"\0b\0",
+        b"\0\0\x01",
+        b"a\xc8\0",
+        b"\x80\0\0",
+        b"ab\xff",
+        b"a\0\xc8",
+    ] {
         check_none::<StaticString<3>, 3>(&findings, *bytes, "no text");
     }
     findings.verdict()

@@ -1,106 +1,62 @@
 //! The errors of sequenced cells: their texts, and which of them are equal.
 use ix_atomic::TryWriteError::{Busy, VersionsUsedUp};
 use ix_atomic::{Interfered, TryWriteError, Unfinished};
-use std::error::Error;
 use std::fmt::InlineText;
 use std::test::Fail;
-use test_support::Findings;
+use test_support::{Findings, check_printed};
 
-/// The errors of a write, and their texts by `Debug`.
-const WRITE_ERRORS: &[(TryWriteError, &str)] = &[
-    (
-        Busy {
-            loaded: 1,
-            found: 1,
-        },
-        "Busy { loaded: 1, found: 1 }",
-    ),
-    (
-        Busy {
-            loaded: 0,
-            found: 1,
-        },
-        "Busy { loaded: 0, found: 1 }",
-    ),
-    (
-        Busy {
-            loaded: 18_446_744_073_709_551_612,
-            found: 18_446_744_073_709_551_614,
-        },
-        "Busy { loaded: 18446744073709551612, found: 18446744073709551614 }",
-    ),
-    (VersionsUsedUp, "VersionsUsedUp"),
+/// Two versions that an error has.
+const VERSIONS: &[(u64, u64)] = &[
+    (1, 1),
+    (0, 1),
+    (1, 2),
+    (18_446_744_073_709_551_612, 18_446_744_073_709_551_614),
 ];
 
-/// The errors of a read, and their texts by `Debug`.
-const READ_ERRORS: &[(Interfered, &str)] = &[
-    (
-        Interfered { first: 1, last: 1 },
-        "Interfered { first: 1, last: 1 }",
-    ),
-    (
-        Interfered { first: 0, last: 1 },
-        "Interfered { first: 0, last: 1 }",
-    ),
-    (
-        Interfered { first: 1, last: 2 },
-        "Interfered { first: 1, last: 2 }",
-    ),
-];
-
-/// Checks the texts of an error.
-fn check_printed<E: Error + Copy>(findings: &Findings, error: E, displayed: &str, debugged: &str) {
-    let found = InlineText::<80>::of(format_args!("{error}"));
-    findings.expect_same(found.as_str(), displayed, "the `Display` text");
-    let found = InlineText::<80>::of(format_args!("{error:?}"));
-    findings.expect_same(found.as_str(), debugged, "the `Debug` text");
+fn busy((loaded, found): (u64, u64)) -> TryWriteError {
+    Busy { loaded, found }
 }
 
-/// Returns the text of an error of a write by `Display`.
-fn displayed(error: TryWriteError) -> &'static str {
-    match error {
-        Busy { .. } => "another write is in progress",
-        VersionsUsedUp => "all versions are used up",
-    }
+fn interfered((first, last): (u64, u64)) -> Interfered {
+    Interfered { first, last }
 }
 
 #[test]
 fn printed_errors() -> Result<(), Fail> {
     let findings = Findings::new();
-    for (error, debugged) in WRITE_ERRORS {
-        check_printed(&findings, *error, displayed(*error), debugged);
+    for (one, other) in VERSIONS {
+        let versions = (*one, *other);
+        let debugged = format_args!("Busy {{ loaded: {one}, found: {other} }}");
+        let debugged = InlineText::<80>::of(debugged);
+        let text = "another write is in progress";
+        check_printed(&findings, &busy(versions), text, debugged.as_str());
+        let debugged = format_args!("Interfered {{ first: {one}, last: {other} }}");
+        let debugged = InlineText::<80>::of(debugged);
+        let text = "a write interfered with the read";
+        check_printed(&findings, &interfered(versions), text, debugged.as_str());
     }
-    for (error, debugged) in READ_ERRORS {
-        check_printed(
-            &findings,
-            *error,
-            "a write interfered with the read",
-            debugged,
-        );
-    }
-    check_printed(
-        &findings,
-        Unfinished,
-        "a write is in progress",
-        "Unfinished",
-    );
+    let text = "all versions are used up";
+    check_printed(&findings, &VersionsUsedUp, text, "VersionsUsedUp");
+    let text = "a write is in progress";
+    check_printed(&findings, &Unfinished, text, "Unfinished");
     findings.verdict()
-}
-
-/// Checks that each error equals itself and no other one.
-fn check_equality<E: PartialEq + Copy>(findings: &Findings, errors: &[(E, &str)]) {
-    for (row, (error, _)) in errors.iter().enumerate() {
-        for (other, (second, _)) in errors.iter().enumerate() {
-            findings.expect_same_at(*error == *second, row == other, row, "equality");
-        }
-    }
 }
 
 #[test]
 fn equal_errors() -> Result<(), Fail> {
     let findings = Findings::new();
-    check_equality(&findings, WRITE_ERRORS);
-    check_equality(&findings, READ_ERRORS);
+    for (row, one) in VERSIONS.iter().enumerate() {
+        for (other, second) in VERSIONS.iter().enumerate() {
+            let same = (row == other, row == other);
+            let found = (
+                busy(*one) == busy(*second),
+                interfered(*one) == interfered(*second),
+            );
+            findings.expect_same_at(found, same, row, "equality");
+        }
+        findings.expect_at(busy(*one) != VersionsUsedUp, row, "equality");
+    }
+    findings.expect_same(VersionsUsedUp, VersionsUsedUp, "all versions");
     findings.expect_same(Unfinished, Unfinished, "the error of a cell that is closed");
     let converted = TryWriteError::from(ix_atomic::VersionsUsedUp);
     findings.expect_same(converted, VersionsUsedUp, "the error of the versions");

@@ -23,12 +23,8 @@ mod sequenced_threads;
 #[cfg(test)]
 mod several_writers;
 #[cfg(test)]
-mod size_tests;
-#[cfg(test)]
 mod steps;
 #[cfg(test)]
 mod thread_tests;
-#[cfg(test)]
-mod torn_tests;
 #[cfg(test)]
 mod word_tests;

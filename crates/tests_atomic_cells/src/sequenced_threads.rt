@@ -50,29 +50,15 @@ fn rises(cell: &Counter, reader: &mut ReaderSeat<()>) -> bool
     expected
 }
 
-fn count_in_threads<R: Threads>(
-    rt: &R,
-    cell: &Counter,
-    writer: &mut WriterSeat<()>,
-    reader: &mut ReaderSeat<()>,
-) -> (bool, bool)
-    requires writer { writer.old.cell ≡ cell.now }
-    requires reader { reader.old.cell ≡ cell.now }
-    ensures writer { writer.new.cell ≡ writer.old.cell }
-    ensures reader { reader.new.cell ≡ reader.old.cell }
-{
-    thread::join_mut(
-        rt,
-        &mut || count_up(cell, writer),
-        &mut || rises(cell, reader),
-    )
-}
-
 #[test]
 fn versions_beside_writes(rt: HostRuntime) -> Result<(), Fail> {
     let (cell, mut writer, mut reader) = Counter::new(rt.alloc(), ())?;
     let findings = Findings::new();
-    let (succeeded, expected) = count_in_threads(&rt, &cell, &mut writer, &mut reader);
+    let (succeeded, expected) = thread::join_mut(
+        &rt,
+        &mut || count_up(&cell, &mut writer),
+        &mut || rises(&cell, &mut reader),
+    );
     findings.expect(succeeded, "the writes");
     findings.expect(expected, "the versions beside them");
     findings.expect_same(cell.version(&mut reader), 2_000, "the version after them");
@@ -177,29 +163,15 @@ fn read_texts(cell: &TextCell, reader: &mut ReaderSeat<Text>) -> bool
     readings.are_expected()
 }
 
-fn read_in_threads<R: Threads>(
-    rt: &R,
-    cell: &TextCell,
-    writer: &mut WriterSeat<Text>,
-    reader: &mut ReaderSeat<Text>,
-) -> (bool, bool)
-    requires writer { writer.old.cell ≡ cell.now }
-    requires reader { reader.old.cell ≡ cell.now }
-    ensures writer { writer.new.cell ≡ writer.old.cell }
-    ensures reader { reader.new.cell ≡ reader.old.cell }
-{
-    thread::join_mut(
-        rt,
-        &mut || write_texts(cell, writer),
-        &mut || read_texts(cell, reader),
-    )
-}
-
 #[test]
 fn texts_are_whole(rt: HostRuntime) -> Result<(), Fail> {
     let (cell, mut writer, mut reader) = TextCell::new(rt.alloc(), Text::new())?;
     let findings = Findings::new();
-    let (succeeded, expected) = read_in_threads(&rt, &cell, &mut writer, &mut reader);
+    let (succeeded, expected) = thread::join_mut(
+        &rt,
+        &mut || write_texts(&cell, &mut writer),
+        &mut || read_texts(&cell, &mut reader),
+    );
     findings.expect(succeeded, "the writes");
     findings.expect(expected, "the reads beside them");
     let last = three_times(WRITES);

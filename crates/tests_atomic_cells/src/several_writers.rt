@@ -83,29 +83,15 @@ fn count_often(cell: &Counter, writer: &mut WriterSeat<()>) -> Tries
     write_often(cell, writer, |_| ())
 }
 
-fn count_in_threads<R: Threads>(
-    rt: &R,
-    cell: &Counter,
-    first: &mut WriterSeat<()>,
-    second: &mut WriterSeat<()>,
-) -> (Tries, Tries)
-    requires first { first.old.cell ≡ cell.now }
-    requires second { second.old.cell ≡ cell.now }
-    ensures first { first.new.cell ≡ first.old.cell }
-    ensures second { second.new.cell ≡ second.old.cell }
-{
-    thread::join_mut(
-        rt,
-        &mut || count_often(cell, first),
-        &mut || count_often(cell, second),
-    )
-}
-
 #[test]
 fn two_threads_count(rt: HostRuntime) -> Result<(), Fail> {
     let (cell, mut first, _reader) = Counter::new(rt.alloc(), ())?;
     let mut second = cell.writer(rt.alloc(), &mut first).unwrap();
-    let (by_first, by_second) = count_in_threads(&rt, &cell, &mut first, &mut second);
+    let (by_first, by_second) = thread::join_mut(
+        &rt,
+        &mut || count_often(&cell, &mut first),
+        &mut || count_often(&cell, &mut second),
+    );
     cell.merge(&mut first, second);
     let findings = Findings::new();
     findings.expect(by_first.have_written(WRITES), "the first seat's writes");
@@ -130,30 +116,16 @@ fn write_by_further_seats(cell: &Counter, alloc: Global, writer: &mut WriterSeat
     tries
 }
 
-fn merge_in_threads<R: Threads>(
-    rt: &R,
-    cell: &Counter,
-    alloc: Global,
-    first: &mut WriterSeat<()>,
-    second: &mut WriterSeat<()>,
-) -> (Tries, Tries)
-    requires first { first.old.cell ≡ cell.now }
-    requires second { second.old.cell ≡ cell.now }
-    ensures first { first.new.cell ≡ first.old.cell }
-    ensures second { second.new.cell ≡ second.old.cell }
-{
-    thread::join_mut(
-        rt,
-        &mut || write_by_further_seats(cell, alloc, first),
-        &mut || count_often(cell, second),
-    )
-}
-
 #[test]
 fn seats_are_merged_beside_writes(rt: HostRuntime) -> Result<(), Fail> {
     let (cell, mut first, mut reader) = Counter::new(rt.alloc(), ())?;
     let mut second = cell.writer(rt.alloc(), &mut first).unwrap();
-    let (by_first, by_second) = merge_in_threads(&rt, &cell, rt.alloc(), &mut first, &mut second);
+    let alloc = rt.alloc();
+    let (by_first, by_second) = thread::join_mut(
+        &rt,
+        &mut || write_by_further_seats(&cell, alloc, &mut first),
+        &mut || count_often(&cell, &mut second),
+    );
     cell.merge(&mut first, second);
     let findings = Findings::new();
     findings.expect(by_first.are_expected, "the first seat's tries");
@@ -188,31 +160,17 @@ fn write_until_busy(cell: &Cell, writer: &mut Writer, is_busy: &AtomicBool) -> T
     tries
 }
 
-fn busy_in_threads<R: Threads>(
-    rt: &R,
-    cell: &Cell,
-    first: &mut Writer,
-    second: &mut Writer,
-) -> (Tries, Tries)
-    requires first { first.old.cell ≡ cell.now }
-    requires second { second.old.cell ≡ cell.now }
-    ensures first { first.new.cell ≡ first.old.cell }
-    ensures second { second.new.cell ≡ second.old.cell }
-{
-    let is_busy = AtomicBool::new(false);
-    thread::join_mut(
-        rt,
-        &mut || write_until_busy(cell, first, &is_busy),
-        &mut || write_until_busy(cell, second, &is_busy),
-    )
-}
-
 /// Neither of two threads that write at once waits: one is told that the cell is busy, and has changed nothing then.
 #[test]
 fn a_busy_cell(rt: HostRuntime) -> Result<(), Fail> {
     let (cell, mut first, mut reader) = Cell::new(rt.alloc(), [0; 256])?;
     let mut second = cell.writer(rt.alloc(), &mut first).unwrap();
-    let (by_first, by_second) = busy_in_threads(&rt, &cell, &mut first, &mut second);
+    let is_busy = AtomicBool::new(false);
+    let (by_first, by_second) = thread::join_mut(
+        &rt,
+        &mut || write_until_busy(&cell, &mut first, &is_busy),
+        &mut || write_until_busy(&cell, &mut second, &is_busy),
+    );
     cell.merge(&mut second, first);
     let findings = Findings::new();
     findings.expect(by_first.are_expected, "the first seat's tries");

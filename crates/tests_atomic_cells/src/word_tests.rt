@@ -1,11 +1,5 @@
-//! Words of eight bytes: bytes that are packed and unpacked again, and how many words a sequenced cell has.
-ghost use Rattle.std.specs.Prelude.{◌≡◌};
-
-use crate::foo::Foo;
-use ix_atomic::{AtomicCopy, SequencedByteAtomic, pack_word, unpack_word};
-use ix_string::StaticString;
-use std::alloc::Global;
-use std::fmt::Debug;
+//! Words of eight bytes: bytes that are packed and unpacked again.
+use ix_atomic::{pack_word, unpack_word};
 use std::test::Fail;
 use test_support::Findings;
 
@@ -16,11 +10,8 @@ fn packed_bytes() -> Result<(), Fail> {
     findings.expect_same(pack_word(&[4, 6]), 1540, "4, 6");
     findings.expect_same(pack_word(&[97, 98, 0, 2]), 33579617, "97, 98, 0, 2");
     findings.expect_same(pack_word(&[255; 8]), u64::MAX, "eight times 255");
-    findings.expect_same(
-        pack_word(&[1, 2, 3, 4, 5, 6, 7, 8]),
-        0x0807_0605_0403_0201,
-        "1 to 8",
-    );
+    let packed = pack_word(&[1, 2, 3, 4, 5, 6, 7, 8]);
+    findings.expect_same(packed, 0x0807_0605_0403_0201, "1 to 8");
     findings.verdict()
 }
 
@@ -42,53 +33,5 @@ fn unpacked_words() -> Result<(), Fail> {
     let mut none: [u8; 0] = [];
     unpack_word(u64::MAX, &mut none);
     findings.expect_same(none.len(), 0, "to nothing");
-    findings.verdict()
-}
-
-/// Checks a cell of so many words that is made with the first value and then holds the second.
-pub fn check_sequenced<T: AtomicCopy + PartialEq + Debug, const SIZE: usize>(
-    findings: &Findings,
-    alloc: Global,
-    first: T,
-    second: T,
-    words: usize,
-    place: &str,
-)
-    requires { SIZE ≡ T.SIZE }
-{
-    match SequencedByteAtomic::<T, SIZE>::new(alloc, first) {
-        Ok((cell, mut writer, mut reader)) => {
-            findings.expect_same(cell.words(), words, place);
-            findings.expect_same(cell.try_read(&mut reader), Ok(first), place);
-            findings.expect_same(cell.try_write(&mut writer, second), Ok(()), place);
-            findings.expect_same(cell.try_read(&mut reader), Ok(second), place);
-            findings.expect_same(cell.read_own(&mut writer), Ok(second), place);
-            findings.expect_same(cell.close(writer), Ok(second), place);
-        }
-        Err(_) => findings.miss(place),
-    }
-}
-
-#[test]
-fn words_of_cells(rt: HostRuntime) -> Result<(), Fail> {
-    let findings = Findings::new();
-    let text = StaticString::try_from("ab").expect(&rt, "a text of two bytes");
-    let one = Foo { bar: 1, baz: 2 };
-    let other = Foo {
-        bar: 255,
-        baz: 0x0102_0304_0506_0708,
-    };
-    check_sequenced::<(), 0>(&findings, rt.alloc(), (), (), 1, "()");
-    check_sequenced::<u8, 1>(&findings, rt.alloc(), 7, 9, 2, "u8");
-    check_sequenced::<u64, 8>(&findings, rt.alloc(), u64::MAX, 1, 2, "u64");
-    check_sequenced::<StaticString<3>, 3>(
-        &findings,
-        rt.alloc(),
-        StaticString::new(),
-        text,
-        2,
-        "a text",
-    );
-    check_sequenced::<Foo, 9>(&findings, rt.alloc(), one, other, 3, "Foo");
     findings.verdict()
 }

@@ -8,15 +8,9 @@ use ix_maps::{
     RelocatableFlatMap, UninitFlatMap,
 };
 use std::alloc::{AllocError, Global};
-use std::fmt::{Debug, Display, InlineText};
+use std::fmt::Debug;
 use std::test::Fail;
-use test_support::{Findings, check_text, hash_of};
-
-/// Checks the `Display` text of a value.
-fn check_display<T: Display>(findings: &Findings, value: &T, text: &str) {
-    let found = InlineText::<80>::of(format_args!("{value}"));
-    findings.expect_same(found.as_str(), text, "the `Display` text");
-}
+use test_support::{Findings, check_display, check_text, hash_of};
 
 /// Changes an empty map of 3, so that slot order is not the order of the insertions.
 fn insert_two<S: Table<Pair<u64, u64>>, L: Table<Link>>(
@@ -100,11 +94,8 @@ fn texts() -> Result<(), Fail> {
     let findings = Findings::new();
     check_text(&findings, &KeyAlreadyExists, "KeyAlreadyExists");
     check_text(&findings, &IsFull, "IsFull");
-    check_display(
-        &findings,
-        &KeyAlreadyExists,
-        "FlatMapError::KeyAlreadyExists",
-    );
+    let text = "FlatMapError::KeyAlreadyExists";
+    check_display(&findings, &KeyAlreadyExists, text);
     check_display(&findings, &IsFull, "FlatMapError::IsFull");
     check_text(&findings, &CallbackProgression::Continue, "Continue");
     check_text(&findings, &CallbackProgression::Stop, "Stop");

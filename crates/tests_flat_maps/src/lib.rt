@@ -8,19 +8,13 @@ mod caseless;
 #[cfg(test)]
 mod checks;
 #[cfg(test)]
-mod clone_tests;
-#[cfg(test)]
-mod compared_tests;
-#[cfg(test)]
-mod drop_tests;
-#[cfg(test)]
 mod function_tests;
 #[cfg(test)]
 mod keys;
 #[cfg(test)]
 mod memory_tests;
 #[cfg(test)]
-mod noted_calls;
+mod noted_tests;
 #[cfg(test)]
 mod refusal_tests;
 #[cfg(test)]

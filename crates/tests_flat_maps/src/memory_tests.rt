@@ -1,11 +1,12 @@
-//! Maps for which there is not enough memory, at each of the four allocations: nothing stays allocated.
+//! Maps for which there is not enough memory, at each of the four allocations: nothing stays allocated. Where there is memory,
+//! none is refused.
 use ix_cells::{RelocatableContainer, Table};
 use ix_maps::FlatMapError::IsFull;
 use ix_maps::{FlatMap, Link, MetaFlatMap, Pair, UninitFlatMap};
 use linked_list_allocator::LocalHeap;
-use std::alloc::{AllocError, Global};
+use std::alloc::{Allocator, Global};
 use std::test::Fail;
-use test_support::{Findings, check_drawn_sizes, check_makings};
+use test_support::{Findings, MAKINGS, Making, check_drawn_sizes, check_makings, made};
 
 /// Checks that an empty map has room for just `capacity` keys.
 fn check_room<S: Table<Pair<u64, u64>>, L: Table<Link>>(
@@ -20,41 +21,55 @@ fn check_room<S: Table<Pair<u64, u64>>, L: Table<Link>>(
     findings.expect_same(map.insert(capacity as u64, 0), Err(IsFull), "no more room");
 }
 
-/// Checks a map whose making is refused or did not fail, and returns how many bytes of the heap are in use with it.
-fn used_with<S: Table<Pair<u64, u64>>, L: Table<Link>, E: Drop>(
+/// Checks a map, and returns what `read` returns then, or `None` if the making was refused. A large map is filled where its
+/// memory may be refused: that takes O(capacity^2).
+fn read_with<S: Table<Pair<u64, u64>>, L: Table<Link>, E: Drop, F: Fn() -> usize>(
     findings: &Findings,
-    heap: &LocalHeap,
     made: Result<MetaFlatMap<Pair<u64, u64>, S, L>, E>,
     capacity: usize,
-) -> Option<usize> {
+    is_filled: bool,
+    read: &F,
+) -> Option<usize>
+    requires { F.IsAlwaysCallable read.now }
+{
     let Ok(mut map) = made else {
         return None;
     };
-    check_room(findings, &mut map, capacity);
-    Some(heap.used())
+    if is_filled || capacity <= 33 {
+        check_room(findings, &mut map, capacity);
+    } else {
+        findings.expect(map.is_empty() && !map.is_full(), "an empty map");
+    }
+    Some(read())
 }
 
-/// Checks a making in two steps, as [`used_with`] does. A refused value can be initialised from `ample`, which has enough
-/// memory.
-fn used_in_two_steps(
+/// Makes a map, as [`read_with`] says. A refused value can be initialised from `ample`.
+fn read_made<A: Allocator + Copy, F: Fn() -> usize>(
     findings: &Findings,
-    heap: &LocalHeap,
+    making: Making,
+    alloc: A,
     ample: Global,
     capacity: usize,
-) -> Option<usize> {
-    let used = heap.used();
-    match UninitFlatMap::<u64, u64>::new_uninit(capacity).init(heap) {
-        Ok(map) => used_with(findings, heap, Ok::<_, AllocError>(map), capacity),
-        Err(error) => {
-            findings.expect_same(heap.used(), used, "bytes in use after a refusal");
-            match error.into_uninit().init(ample) {
-                // A larger one is filled once, where its making succeeds: that takes O(capacity^2).
-                Ok(mut map) if capacity <= 33 => check_room(findings, &mut map, capacity),
-                Ok(map) => findings.expect(map.is_empty() && !map.is_full(), "an empty map"),
-                Err(_) => findings.miss("from ample memory"),
-            }
-            None
+    is_filled: bool,
+    read: F,
+) -> Option<usize>
+    requires { F.IsAlwaysCallable read }
+{
+    match making {
+        Making::New => {
+            let made = FlatMap::<u64, u64, A>::new(alloc, capacity);
+            read_with(findings, made, capacity, is_filled, &read)
         }
+        Making::Init => match UninitFlatMap::<u64, u64>::new_uninit(capacity).init(alloc) {
+            Ok(map) => read_with(findings, made(map), capacity, is_filled, &read),
+            Err(error) => {
+                let again = error.into_uninit().init(ample);
+                let found = read_with(findings, again, capacity, false, &read);
+                let is_possible = capacity < usize::MAX / 16;
+                findings.expect_same_at(found.is_some(), is_possible, capacity, "made again");
+                None
+            }
+        },
     }
 }
 
@@ -71,56 +86,20 @@ const SIZES: &[(usize, u16)] = &[
 ];
 
 #[test]
-fn makings_refused(rt: HostRuntime) -> Result<(), Fail> {
+fn each_making(rt: HostRuntime) -> Result<(), Fail> {
     let findings = Findings::new();
     let alloc = rt.alloc();
-    check_makings(
-        &findings,
-        alloc,
-        SIZES,
-        "`new`",
-        |heap: &LocalHeap, capacity| {
-            used_with(&findings, heap, FlatMap::new(heap, capacity), capacity)
-        },
-    );
-    check_makings(
-        &findings,
-        alloc,
-        SIZES,
-        "`init`",
-        |heap: &LocalHeap, capacity| { used_in_two_steps(&findings, heap, alloc, capacity) },
-    );
-    findings.verdict()
-}
-
-#[test]
-fn past_all_memory(rt: HostRuntime) -> Result<(), Fail> {
-    let findings = Findings::new();
-    for capacity in &[usize::MAX, usize::MAX / 16] {
-        let made = FlatMap::<u64, u64, Global>::new(rt.alloc(), *capacity);
-        findings.expect(made.is_err(), "`new` refuses");
-        match UninitFlatMap::<u64, u64>::new_uninit(*capacity).init(rt.alloc()) {
-            Ok(_map) => findings.miss("`init` refuses"),
-            Err(error) => {
-                let again = error.into_uninit().init(rt.alloc());
-                findings.expect(again.is_err(), "the capacity is kept");
-            }
+    for (making, name) in MAKINGS {
+        check_makings(&findings, alloc, SIZES, name, |heap: &LocalHeap, n| {
+            read_made(&findings, *making, heap, alloc, n, true, || heap.used())
+        });
+        check_drawn_sizes(&findings, 60, name, |n| {
+            read_made(&findings, *making, alloc, alloc, n, false, || 0).is_some()
+        });
+        for past_all in &[usize::MAX, usize::MAX / 16] {
+            let made = read_made(&findings, *making, alloc, alloc, *past_all, false, || 0);
+            findings.expect_at(made.is_none(), *past_all, name);
         }
     }
-    findings.verdict()
-}
-
-#[test]
-fn ample_memory(rt: HostRuntime) -> Result<(), Fail> {
-    let findings = Findings::new();
-    let alloc = rt.alloc();
-    check_drawn_sizes(&findings, 60, "`new`", |capacity| {
-        FlatMap::<u64, u64, Global>::new(alloc, capacity).is_ok()
-    });
-    check_drawn_sizes(&findings, 60, "`init`", |capacity| {
-        UninitFlatMap::<u64, u64>::new_uninit(capacity)
-            .init(alloc)
-            .is_ok()
-    });
     findings.verdict()
 }

@@ -8,7 +8,7 @@ use linked_list_allocator::LocalHeap;
 use std::alloc::{AllocError, Global};
 use std::marker::Model;
 use std::test::Fail;
-use test_support::Findings;
+use test_support::{Findings, made};
 
 /// A number in a block of a heap. A clone has a block of its own. Contracts see the number.
 #[derive(Drop)]
@@ -148,7 +148,7 @@ fn check_made<'a, S: Table<Pair<u64, Boxed<'a>>>, L: Table<Link>, E: Drop>(
 
 /// Checks a map of each kind, with values in a heap of four blocks.
 fn check_kinds(findings: &Findings, alloc: Global, heap: &LocalHeap) {
-    let fixed = Ok::<_, AllocError>(FixedSizeFlatMap::<u64, Boxed, 3>::new());
+    let fixed = made(FixedSizeFlatMap::<u64, Boxed, 3>::new());
     check_made(findings, fixed, heap);
     findings.expect_same(heap.used(), 0, "bytes in use after a fixed map");
     let allocated = FlatMap::<u64, Boxed, Global>::new(alloc, 3);

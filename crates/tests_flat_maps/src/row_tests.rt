@@ -9,8 +9,8 @@ use crate::rows::{
     SLOT_ORDER, UNIT_VALUES, VALUE_WRITTEN, case_ignored, ports, texts,
 };
 use bumpalo::Bump;
-use ix_cells::RelocatableContainer;
-use ix_maps::{FixedSizeFlatMap, FlatMap, UninitFlatMap};
+use ix_cells::{RelocatableContainer, Table};
+use ix_maps::{FixedSizeFlatMap, FlatMap, Link, MetaFlatMap, Pair, UninitFlatMap};
 use ix_string::StaticString;
 use linked_list_allocator::LocalHeap;
 use std::alloc::{AllocError, Allocator};
@@ -24,52 +24,24 @@ const OF_TWO: &[Example] = &[VALUE_WRITTEN, EVERY_CALL];
 /// Examples on a map of 3.
 const OF_THREE: &[Example] = &[SLOT_ORDER, LISTINGS, LAST_REMOVED_FIRST];
 
-#[test]
-fn in_the_value_itself() -> Result<(), Fail> {
-    let findings = Findings::new();
-    let place = "in the value itself";
-    let mut none = FixedSizeFlatMap::<u64, u64, 0>::new();
-    check_example(&findings, &mut none, NO_PLACE, place);
-    let mut one = FixedSizeFlatMap::<u64, u64, 1>::new();
-    check_example(&findings, &mut one, HELD_BEFORE_FULL, place);
-    for rows in OF_TWO {
-        let mut two = FixedSizeFlatMap::<u64, u64, 2>::new();
-        check_example(&findings, &mut two, rows, place);
-    }
-    for rows in OF_THREE {
-        let mut three = FixedSizeFlatMap::<u64, u64, 3>::new();
-        check_example(&findings, &mut three, rows, place);
-    }
-    findings.verdict()
-}
-
-#[test]
-fn other_keys_in_the_value_itself() -> Result<(), Fail> {
-    let findings = Findings::new();
-    let place = "in the value itself";
-    let mut caseless = FixedSizeFlatMap::<Caseless, u64, 2>::new();
-    check_example(&findings, &mut caseless, &case_ignored(), place);
-    let mut strings = FixedSizeFlatMap::<StaticString<16>, char, 2>::new();
-    check_example(&findings, &mut strings, &texts(), place);
-    let mut parts = FixedSizeFlatMap::<Port, u64, 3>::new();
-    check_example(&findings, &mut parts, &ports(), place);
-    let mut set = FixedSizeFlatMap::<u64, (), 3>::new();
-    check_example(&findings, &mut set, UNIT_VALUES, place);
-    let mut units = FixedSizeFlatMap::<(), (), 2>::new();
-    check_example(&findings, &mut units, SIZE_ZERO, place);
-    findings.verdict()
-}
-
-/// Checks the example on a map of `capacity` of each kind that allocates from `alloc`.
-fn check_kinds<K: Eq + Copy + Debug, V: Copy + PartialEq + Debug, A: Allocator + Copy>(
+/// Checks the example on `fixed`, and on a map of each other kind, which is allocated from `alloc`.
+fn check_kinds<
+    K: Eq + Copy + Debug,
+    V: Copy + PartialEq + Debug,
+    S: Table<Pair<K, V>>,
+    L: Table<Link>,
+    A: Allocator + Copy,
+>(
     findings: &Findings,
     alloc: A,
+    fixed: &mut MetaFlatMap<Pair<K, V>, S, L>,
     capacity: usize,
     rows: &[Row<K, V>],
     memory: &str,
 )
     requires { AreEqualClones V.is_clone }
 {
+    check_example(findings, fixed, rows, memory);
     match FlatMap::<K, V, A>::new(alloc, capacity) {
         Ok(mut map) => check_example(findings, &mut map, rows, memory),
         Err(AllocError) => findings.miss(memory),
@@ -80,21 +52,30 @@ fn check_kinds<K: Eq + Copy + Debug, V: Copy + PartialEq + Debug, A: Allocator +
     }
 }
 
-/// Checks each example on a map of each kind that allocates from `alloc`.
+/// Checks each example on a map of each kind.
 fn check_examples<A: Allocator + Copy>(findings: &Findings, alloc: A, memory: &str) {
-    check_kinds::<u64, u64, A>(findings, alloc, 0, NO_PLACE, memory);
-    check_kinds::<u64, u64, A>(findings, alloc, 1, HELD_BEFORE_FULL, memory);
+    let mut none = FixedSizeFlatMap::<u64, u64, 0>::new();
+    check_kinds(findings, alloc, &mut none, 0, NO_PLACE, memory);
+    let mut one = FixedSizeFlatMap::<u64, u64, 1>::new();
+    check_kinds(findings, alloc, &mut one, 1, HELD_BEFORE_FULL, memory);
     for rows in OF_TWO {
-        check_kinds::<u64, u64, A>(findings, alloc, 2, rows, memory);
+        let mut two = FixedSizeFlatMap::<u64, u64, 2>::new();
+        check_kinds(findings, alloc, &mut two, 2, rows, memory);
     }
     for rows in OF_THREE {
-        check_kinds::<u64, u64, A>(findings, alloc, 3, rows, memory);
+        let mut three = FixedSizeFlatMap::<u64, u64, 3>::new();
+        check_kinds(findings, alloc, &mut three, 3, rows, memory);
     }
-    check_kinds::<Caseless, u64, A>(findings, alloc, 2, &case_ignored(), memory);
-    check_kinds::<StaticString<16>, char, A>(findings, alloc, 2, &texts(), memory);
-    check_kinds::<Port, u64, A>(findings, alloc, 3, &ports(), memory);
-    check_kinds::<u64, (), A>(findings, alloc, 3, UNIT_VALUES, memory);
-    check_kinds::<(), (), A>(findings, alloc, 2, SIZE_ZERO, memory);
+    let mut caseless = FixedSizeFlatMap::<Caseless, u64, 2>::new();
+    check_kinds(findings, alloc, &mut caseless, 2, &case_ignored(), memory);
+    let mut strings = FixedSizeFlatMap::<StaticString<16>, char, 2>::new();
+    check_kinds(findings, alloc, &mut strings, 2, &texts(), memory);
+    let mut parts = FixedSizeFlatMap::<Port, u64, 3>::new();
+    check_kinds(findings, alloc, &mut parts, 3, &ports(), memory);
+    let mut set = FixedSizeFlatMap::<u64, (), 3>::new();
+    check_kinds(findings, alloc, &mut set, 3, UNIT_VALUES, memory);
+    let mut units = FixedSizeFlatMap::<(), (), 2>::new();
+    check_kinds(findings, alloc, &mut units, 2, SIZE_ZERO, memory);
 }
 
 /// Does what `check_examples` does. All of the memory is deallocated.

@@ -61,23 +61,16 @@ fn check_map<const CAPACITY: usize>(
         };
         comparisons.set(0);
         let found = map.get_ref(&SmallKey { number }).copied();
-        let wanted = if number.value < 9 {
-            Some(number.value)
-        } else {
-            None
-        };
+        let is_held = number.value < 9;
+        let wanted = if is_held { Some(number.value) } else { None };
         findings.expect_same(found, wanted, "the value");
         let expected = if map.is_full() {
             *of_a_full_map
         } else {
             *of_another
         };
-        findings.expect_same_at(
-            comparisons.get(),
-            expected,
-            number.value as usize,
-            "comparisons",
-        );
+        let row = number.value as usize;
+        findings.expect_same_at(comparisons.get(), expected, row, "comparisons");
     }
 }
 
@@ -86,22 +79,10 @@ fn eight_at_a_time() -> Result<(), Fail> {
     let findings = Findings::new();
     findings.expect_same(size_of::<SmallKey<'_>>(), 8, "the size of a key");
     let comparisons = Cell::new(0);
-    let number = |value: u64| Number {
+    let numbers = [0, 1, 2, 3, 4, 5, 6, 7, 8, 9].map(|value| Number {
         value,
         comparisons: &comparisons,
-    };
-    let numbers = [
-        number(0),
-        number(1),
-        number(2),
-        number(3),
-        number(4),
-        number(5),
-        number(6),
-        number(7),
-        number(8),
-        number(9),
-    ];
+    });
     check_map::<9>(&findings, &numbers, &comparisons);
     check_map::<10>(&findings, &numbers, &comparisons);
     findings.verdict()

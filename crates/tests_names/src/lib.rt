@@ -1,20 +1,13 @@
-//! Tests of semantic strings beside their contracts: worked examples, rules of several kinds, texts that the rules refuse
-//! at every change, each function once, how normal forms are compared and hashed, and the printed texts.
+//! Tests of semantic strings beside their contracts: rows of commands under each kind of rules, every function once, how
+//! often a closure is called, how comparisons and hashes agree, the printed texts, and code over any rules.
 #![tactic(auto)]
 
-#[cfg(test)]
-mod calls;
-#[cfg(test)]
-mod function_tests;
-#[cfg(test)]
-mod generic_tests;
 #[cfg(test)]
 mod making_tests;
 #[cfg(test)]
 mod order_tests;
 #[cfg(test)]
 mod own_rules;
-#[cfg(test)]
 #[cfg(test)]
 mod retain_tests;
 #[cfg(test)]

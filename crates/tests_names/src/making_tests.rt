@@ -1,11 +1,21 @@
-//! How semantic strings are made, and what is refused.
+//! How semantic strings are made, what is refused, what is not judged, and what the sample rules say of bytes.
+ghost use Rattle.std.specs.Prelude.{◌<◌};
+
+use crate::own_rules::{EvenLengthRules, NonEmptyRules};
 use ix_names::SemanticStringError::{ExceedsMaximumLength, InvalidContent};
-use ix_names::{GroupName, Rules, Semantic, SemanticStringError, TrailingSlashRules};
+use ix_names::{
+    GroupName, GroupNameRules, Rules, Semantic, SemanticStringError, TrailingSlashRules,
+};
 use ix_string::String;
+use std::str::from_utf8;
 use std::test::Fail;
 use test_support::Findings;
 
-/// Compares what a conversion returns: the bytes, or the error.
+/// Bytes, and the text that is made of them or the error.
+type Made = (&'static [u8], Result<&'static str, SemanticStringError>);
+
+/// Compares what a conversion returns: the text, or the error. Checks what else the string returns, and what is made of it
+/// unchecked.
 fn check_made<R: Rules<CAPACITY>, const CAPACITY: usize>(
     findings: &Findings,
     made: Result<Semantic<R, CAPACITY>, SemanticStringError>,
@@ -14,66 +24,75 @@ fn check_made<R: Rules<CAPACITY>, const CAPACITY: usize>(
     call: &str,
 ) {
     match made {
-        Ok(string) => findings.expect_same_at(Ok(string.as_string().as_str()), *wanted, row, call),
+        Ok(string) => {
+            let text = string.as_string().as_str();
+            findings.expect_same_at(Ok(text), *wanted, row, call);
+            let sizes = (
+                string.capacity(),
+                Semantic::<R, CAPACITY>::max_len(),
+                string.len(),
+            );
+            findings.expect_same_at(sizes, (CAPACITY, CAPACITY, text.len()), row, "sizes");
+            let bytes = (string.as_bytes(), string.as_bytes_const());
+            findings.expect_same_at(bytes, (text.as_bytes(), text.as_bytes()), row, "bytes");
+            let made = Semantic::<R, CAPACITY>::new_unchecked(bytes.0);
+            findings.expect_same_at(made.as_bytes(), bytes.0, row, "new_unchecked");
+            let made = Semantic::<R, CAPACITY>::new_unchecked_const(bytes.0);
+            findings.expect_same_at(made.as_bytes(), bytes.0, row, "new_unchecked_const");
+        }
         Err(error) => findings.expect_same_at(Err(error), *wanted, row, call),
     }
 }
 
-/// Texts, and what group names of them are.
-const NAMES: &[(&str, Result<&str, SemanticStringError>)] = &[
-    ("", Err(InvalidContent)),
-    ("1a", Err(InvalidContent)),
-    ("aB", Err(InvalidContent)),
-    ("ab-1", Ok("ab-1")),
-    ("-a", Err(InvalidContent)),
-    ("a", Ok("a")),
-    ("z09-", Ok("z09-")),
-    ("a b", Err(InvalidContent)),
-    ("a{", Err(InvalidContent)),
-    ("a`", Err(InvalidContent)),
-    ("a/", Err(InvalidContent)),
-    ("a:", Err(InvalidContent)),
-    ("a\u{e9}", Err(InvalidContent)),
+/// Makes strings of the bytes, and of the texts that they are.
+fn check_new<R: Rules<CAPACITY>, const CAPACITY: usize>(findings: &Findings, rows: &[Made])
+    requires { CAPACITY < 256 }
+{
+    for (row, (bytes, wanted)) in rows.iter().enumerate() {
+        let made = Semantic::<R, CAPACITY>::new(bytes);
+        check_made(findings, made, wanted, row, "new");
+        if let Ok(text) = from_utf8(bytes) {
+            let made = Semantic::<R, CAPACITY>::try_from(text);
+            check_made(findings, made, wanted, row, "try_from");
+        }
+    }
+}
+
+/// As `check_new`, of bytes before a zero.
+fn check_ended<R: Rules<CAPACITY>, const CAPACITY: usize>(findings: &Findings, rows: &[Made])
+    requires { CAPACITY < 256 }
+{
+    for (row, (bytes, wanted)) in rows.iter().enumerate() {
+        let made = Semantic::<R, CAPACITY>::from_c_str(bytes);
+        check_made(findings, made, wanted, row, "from_c_str");
+    }
+}
+
+/// Bytes without a zero, and what group names of them are.
+const NAMES: &[Made] = &[
+    (b"", Err(InvalidContent)),
+    (b"1a", Err(InvalidContent)),
+    (b"aB", Err(InvalidContent)),
+    (b"ab-1", Ok("ab-1")),
+    (b"-a", Err(InvalidContent)),
+    (b"a", Ok("a")),
+    (b"z09-", Ok("z09-")),
+    (b"a b", Err(InvalidContent)),
+    (b"a{", Err(InvalidContent)),
+    (b"a`", Err(InvalidContent)),
+    (b"a/", Err(InvalidContent)),
+    (b"a:", Err(InvalidContent)),
+    (b"a\xc3\xa9", Err(InvalidContent)),
+    (&[b'a'; 31], Ok("aaaaaaaaaaaaaaaaaaaaaaaaaaaaaaa")),
+    (&[b'a'; 32], Err(ExceedsMaximumLength)),
     (
-        "aaaaaaaaaaaaaaaaaaaaaaaaaaaaaaa",
-        Ok("aaaaaaaaaaaaaaaaaaaaaaaaaaaaaaa"),
-    ),
-    (
-        "aaaaaaaaaaaaaaaaaaaaaaaaaaaaaaaa",
-        Err(ExceedsMaximumLength),
-    ),
-    (
-        "1AAAAAAAAAAAAAAAAAAAAAAAAAAAAAA\u{e9}",
+        b"1AAAAAAAAAAAAAAAAAAAAAAAAAAAAAA\xc3\xa9",
         Err(ExceedsMaximumLength),
     ),
 ];
 
-#[test]
-fn group_names() -> Result<(), Fail> {
-    let findings = Findings::new();
-    for (row, (text, wanted)) in NAMES.iter().enumerate() {
-        let bytes = text.as_bytes();
-        check_made(&findings, GroupName::new(bytes), wanted, row, "new");
-        check_made(
-            &findings,
-            GroupName::try_from(*text),
-            wanted,
-            row,
-            "try_from",
-        );
-        check_made(
-            &findings,
-            GroupName::from_c_str(bytes),
-            wanted,
-            row,
-            "from_c_str",
-        );
-    }
-    findings.verdict()
-}
-
-/// Bytes, and what group names of those before the first zero are.
-const C_STRINGS: &[(&[u8], Result<&str, SemanticStringError>)] = &[
+/// Bytes, and what group names of those before the first zero are. No group name is made of all of them.
+const C_STRINGS: &[Made] = &[
     (b"ab\0", Ok("ab")),
     (b"ab\0C\xff", Ok("ab")),
     (b"\0ab", Err(InvalidContent)),
@@ -84,27 +103,11 @@ const C_STRINGS: &[(&[u8], Result<&str, SemanticStringError>)] = &[
     ),
 ];
 
-#[test]
-fn names_that_end_with_a_zero() -> Result<(), Fail> {
-    let findings = Findings::new();
-    for (row, (bytes, wanted)) in C_STRINGS.iter().enumerate() {
-        check_made(
-            &findings,
-            GroupName::from_c_str(bytes),
-            wanted,
-            row,
-            "from_c_str",
-        );
-        let whole = GroupName::new(bytes).is_ok();
-        findings.expect_at(!whole, row, "no byte of a text is 0");
-    }
-    findings.verdict()
-}
-
-/// Each text is accepted, but for its length and bytes that no text holds.
-const TEXTS: &[(&[u8], Result<&str, SemanticStringError>)] = &[
+/// Each text with slashes is accepted, but for its length and bytes that no text holds.
+const TEXTS: &[Made] = &[
     (b"", Ok("")),
     (b"/", Ok("/")),
+    (b"/a//", Ok("/a//")),
     (b"\x01\x7f", Ok("\u{1}\u{7f}")),
     (b"\0", Err(InvalidContent)),
     (b"/\x80", Err(InvalidContent)),
@@ -113,13 +116,85 @@ const TEXTS: &[(&[u8], Result<&str, SemanticStringError>)] = &[
 ];
 
 #[test]
-fn texts_with_slashes() -> Result<(), Fail> {
+fn makings() -> Result<(), Fail> {
     let findings = Findings::new();
-    for (row, (bytes, wanted)) in TEXTS.iter().enumerate() {
-        let made = Semantic::<TrailingSlashRules, 255>::new(bytes);
-        check_made(&findings, made, wanted, row, "new");
+    check_new::<GroupNameRules, 31>(&findings, NAMES);
+    check_ended::<GroupNameRules, 31>(&findings, NAMES);
+    check_ended::<GroupNameRules, 31>(&findings, C_STRINGS);
+    for (row, (bytes, _)) in C_STRINGS.iter().enumerate() {
+        findings.expect_at(
+            GroupName::new(bytes).is_err(),
+            row,
+            "no byte of a text is 0",
+        );
     }
+    check_new::<TrailingSlashRules, 255>(&findings, TEXTS);
+    check_new::<EvenLengthRules, 0>(&findings, &[(b"", Ok(""))]);
+    check_new::<NonEmptyRules, 1>(&findings, &[(b"a", Ok("a"))]);
     let full = Semantic::<TrailingSlashRules, 255>::new(&[b'/'; 255]);
     findings.expect_same(full.map(|text| text.is_full()), Ok(true), "255 bytes");
+    findings.verdict()
+}
+
+#[test]
+fn copies_and_clones() -> Result<(), Fail> {
+    let findings = Findings::new();
+    let Ok(mut name) = GroupName::new(b"ab") else {
+        findings.miss("a name");
+        return findings.verdict();
+    };
+    let copy = name;
+    findings.expect_same(name.push(b'c'), Ok(()), "push");
+    findings.expect_same(copy.as_bytes(), b"ab".as_slice(), "a copy");
+    findings.expect(copy.clone().is_ok_and(|clone| clone == copy), "a clone");
+    findings.expect(!copy.eq_bytes(b"ab\xff"), "a byte above 127");
+    findings.expect(!copy.eq_bytes(b"ab\0"), "a zero");
+    findings.expect(!copy.eq_bytes(&[b'a'; 32]), "too many bytes");
+    findings.verdict()
+}
+
+#[test]
+fn bytes_that_are_not_judged() -> Result<(), Fail> {
+    let findings = Findings::new();
+    let mut path = Semantic::<TrailingSlashRules, 255>::new_unchecked(b"ho");
+    path.insert_bytes_unchecked(1, b"ell");
+    findings.expect_same(path.as_bytes(), b"hello".as_slice(), "in the middle");
+    let mut name = GroupName::new_unchecked(b"a");
+    name.insert_bytes_unchecked(1, b"-1");
+    findings.expect_same(name.as_bytes(), b"a-1".as_slice(), "at the end");
+    findings.verdict()
+}
+
+/// Bytes, and what `invalid_content` and `invalid_characters` of group names return.
+const JUDGED: &[(&[u8], bool, bool)] = &[
+    (b"", true, false),
+    (b"-", true, false),
+    (b"0a", true, false),
+    (b"9", true, false),
+    (b"a", false, false),
+    (b"z-09", false, false),
+    (b"/a", false, true),
+    (b"a:", false, true),
+    (b"A", false, true),
+    (b"a{", false, true),
+    (b"`", false, true),
+    (b"1\xff", true, true),
+    (b"a\0", false, true),
+];
+
+/// Returns what both predicates return.
+fn judged<R: Rules<CAPACITY>, const CAPACITY: usize>(bytes: &[u8]) -> (bool, bool) {
+    (R::invalid_content(bytes), R::invalid_characters(bytes))
+}
+
+#[test]
+fn predicates_of_the_sample_rules() -> Result<(), Fail> {
+    let findings = Findings::new();
+    for (row, (bytes, content, characters)) in JUDGED.iter().enumerate() {
+        let found = judged::<GroupNameRules, 31>(bytes);
+        findings.expect_same_at(found, (*content, *characters), row, "group names");
+        let found = judged::<TrailingSlashRules, 255>(bytes);
+        findings.expect_same_at(found, (false, false), row, "trailing slashes");
+    }
     findings.verdict()
 }

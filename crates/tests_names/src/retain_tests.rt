@@ -35,51 +35,33 @@ const NAMES: &[Row] = &[
     ("a-c", &[false, false, true], INVALID, "a-c", 99_045_097),
 ];
 
+/// The bytes of "abcd", from the last to the first.
+const ABCD: u64 = 100_099_098_097;
+
 /// Of texts of an even length.
 const PAIRS: &[Row] = &[
     ("", &[], Ok(()), "", 0),
-    (
-        "abcd",
-        &[true, false, true, false],
-        Ok(()),
-        "ac",
-        100_099_098_097,
-    ),
-    (
-        "abcd",
-        &[false, true, false, false],
-        INVALID,
-        "abcd",
-        100_099_098_097,
-    ),
+    ("abcd", &[true, false, true, false], Ok(()), "ac", ABCD),
+    ("abcd", &[false, true, false, false], INVALID, "abcd", ABCD),
 ];
-
-fn check_row<R: Rules<CAPACITY>, const CAPACITY: usize>(
-    findings: &Findings,
-    string: &mut Semantic<R, CAPACITY>,
-    (_, results, returned, left, digits): &Row,
-    row: usize,
-) {
-    let (calls, asked) = (Cell::new(0usize), Cell::new(0u64));
-    let found = string.retain(|byte: u8| {
-        asked.set(asked.get().wrapping_mul(1000).wrapping_add(byte as u64));
-        let call = calls.replace(calls.get().wrapping_add(1));
-        results.get(call).copied().unwrap_or(false)
-    });
-    findings.expect_same_at(found, *returned, row, "the result");
-    findings.expect_same_at(string.as_bytes(), left.as_bytes(), row, "the text");
-    let found = (calls.get(), asked.get());
-    findings.expect_same_at(found, (results.len(), *digits), row, "the calls");
-}
 
 fn check_rows<R: Rules<CAPACITY>, const CAPACITY: usize>(findings: &Findings, rows: &[Row])
     requires { CAPACITY < 256 }
 {
-    for (number, row) in rows.iter().enumerate() {
-        match Semantic::<R, CAPACITY>::new(row.0.as_bytes()) {
-            Ok(mut string) => check_row(findings, &mut string, row, number),
-            Err(_) => findings.miss(row.0),
-        }
+    for (row, (text, results, returned, left, digits)) in rows.iter().enumerate() {
+        let Ok(mut string) = Semantic::<R, CAPACITY>::new(text.as_bytes()) else {
+            return findings.miss(text);
+        };
+        let (calls, asked) = (Cell::new(0usize), Cell::new(0u64));
+        let found = string.retain(|byte: u8| {
+            asked.set(asked.get().wrapping_mul(1000).wrapping_add(byte as u64));
+            let call = calls.replace(calls.get().wrapping_add(1));
+            results.get(call).copied().unwrap_or(false)
+        });
+        findings.expect_same_at(found, *returned, row, "the result");
+        findings.expect_same_at(string.as_bytes(), left.as_bytes(), row, "the text");
+        let found = (calls.get(), asked.get());
+        findings.expect_same_at(found, (results.len(), *digits), row, "the calls");
     }
 }
 

@@ -1,251 +1,241 @@
-//! Worked examples under each kind of rules.
-use crate::calls::Call::{
-    CopyTo, Equals, Find, Insert, InsertBytes, IsEmptyIsFull, Normalize, Pop, Push, PushBytes,
-    Remove, RemoveRange, RetainOne, StripPrefix, StripSuffix, Truncate,
+//! Rows of commands under each kind of rules.
+ghost use Rattle.std.specs.Prelude.{◌<◌};
+
+use ix_commands::Reply::{self, Bool, Done, Key, Value};
+use ix_commands::TextCommand::{
+    self, Append, Empty, Find, Full, Insert, InsertBytes, Pop, Push, Remove, RemoveRange, Rfind,
+    StripPrefix, StripSuffix, Truncate,
 };
-use crate::calls::Returned::{Both, Byte, Changed, Copied, Found, Same, Stripped};
-use crate::calls::Start::{Then, With};
-use crate::calls::{Returned, Row};
-use ix_names::SemanticStringError::{ExceedsMaximumLength, InvalidContent};
+use ix_names::SemanticStringError::{self, ExceedsMaximumLength, InvalidContent};
+use ix_names::{Rules, Semantic};
+use test_support::{Findings, reply_of_key, reply_of_option};
 
-const DONE: Returned = Changed(Ok(()));
+/// What the call that a command names returns.
+type Outcome = Result<Reply<usize, u8>, SemanticStringError>;
 
-const INVALID: Returned = Changed(Err(InvalidContent));
+/// A text, a command, the outcome, and the text that is left.
+type Row<'a> = (&'a str, TextCommand<'a>, Outcome, &'a str);
 
-const TOO_LONG: Returned = Changed(Err(ExceedsMaximumLength));
+const DONE: Outcome = Ok(Done);
+
+const NONE: Outcome = Ok(Reply::None);
+
+const INVALID: Outcome = Err(InvalidContent);
+
+const TOO_LONG: Outcome = Err(ExceedsMaximumLength);
 
 const THIRTY: &[u8] = b"aaaaaaaaaaaaaaaaaaaaaaaaaaaaaa";
 
+const FULL_NAME: &str = "aaaaaaaaaaaaaaaaaaaaaaaaaaaaaaa";
+
 /// Of group names, whose first byte is a letter.
 pub const NAMES: &[Row] = &[
-    (With("ab"), Insert(0, b'1'), INVALID, "ab"),
-    (Then, Push(200), INVALID, "ab"),
-    (Then, PushBytes(THIRTY), TOO_LONG, "ab"),
-    (With("a1"), Remove(0), Byte(Err(InvalidContent)), "a1"),
-    (Then, StripPrefix("a"), Stripped(Err(InvalidContent)), "a1"),
-    (Then, Truncate(0), INVALID, "a1"),
-    (Then, Remove(9), Byte(Ok(None)), "a1"),
-    (Then, RemoveRange(1, usize::MAX), DONE, "a1"),
-    (Then, StripPrefix("b"), Stripped(Ok(false)), "a1"),
-    (Then, StripSuffix("1"), Stripped(Ok(true)), "a"),
-    (Then, Pop, Byte(Err(InvalidContent)), "a"),
-    (With("abab"), Find("ab"), Found(Some(0), Some(2)), "abab"),
-    (Then, Find(""), Found(Some(0), Some(4)), "abab"),
-    (Then, Find("ba-"), Found(None, None), "abab"),
-    (Then, Equals("abab"), Both(true, true), "abab"),
-    (Then, Equals("aba"), Both(false, false), "abab"),
-    (Then, Equals("1a"), Both(false, false), "abab"),
-    (Then, Normalize("abab"), Same(true), "abab"),
-    (Then, IsEmptyIsFull, Both(false, false), "abab"),
-    (With("ab"), CopyTo(4), Copied(Some(3), [97, 98, 0, 9]), "ab"),
-    (Then, CopyTo(3), Copied(Some(3), [97, 98, 0, 9]), "ab"),
-    (Then, CopyTo(2), Copied(None, [9, 9, 9, 9]), "ab"),
-];
-
-/// Of group names: each change once, where the rules accept the whole text.
-pub const CHANGED_NAMES: &[Row] = &[
-    (With("ad"), Insert(1, b'-'), DONE, "a-d"),
-    (With("ad"), InsertBytes(1, b"bc"), DONE, "abcd"),
-    (With("ad"), InsertBytes(0, b""), DONE, "ad"),
-    (Then, Push(b'9'), DONE, "ad9"),
-    (Then, PushBytes(b"-x"), DONE, "ad9-x"),
-    (Then, Pop, Byte(Ok(Some(b'x'))), "ad9-"),
-    (Then, Remove(1), Byte(Ok(Some(b'd'))), "a9-"),
-    (Then, Remove(3), Byte(Ok(None)), "a9-"),
-    (Then, RemoveRange(1, 2), DONE, "a"),
-    (Then, RemoveRange(1, 0), DONE, "a"),
-    (Then, RemoveRange(2, 0), DONE, "a"),
-    (With("abcab"), Truncate(5), DONE, "abcab"),
-    (Then, Truncate(4), DONE, "abca"),
-    (Then, RetainOne(b'b'), DONE, "aca"),
-    (Then, RetainOne(b'x'), DONE, "aca"),
-    (Then, StripPrefix("ac"), Stripped(Ok(true)), "a"),
-    (Then, StripPrefix(""), Stripped(Ok(true)), "a"),
-    (Then, StripSuffix("b"), Stripped(Ok(false)), "a"),
-    (Then, StripSuffix("xa"), Stripped(Ok(false)), "a"),
-    (
-        Then,
-        PushBytes(THIRTY),
-        DONE,
-        "aaaaaaaaaaaaaaaaaaaaaaaaaaaaaaa",
-    ),
-    (
-        Then,
-        IsEmptyIsFull,
-        Both(false, true),
-        "aaaaaaaaaaaaaaaaaaaaaaaaaaaaaaa",
-    ),
-    (Then, Push(200), TOO_LONG, "aaaaaaaaaaaaaaaaaaaaaaaaaaaaaaa"),
-];
-
-/// Of group names: bytes that no text holds, and bytes that the rules refuse, at the end and in the middle.
-pub const REFUSED_BYTES: &[Row] = &[
-    (With("ab"), Push(0), INVALID, "ab"),
-    (Then, Insert(1, 0), INVALID, "ab"),
-    (Then, Insert(1, 128), INVALID, "ab"),
-    (Then, Insert(1, b'A'), INVALID, "ab"),
-    (Then, Insert(2, b'_'), INVALID, "ab"),
-    (Then, InsertBytes(1, &[b'c', 255]), INVALID, "ab"),
-    (Then, InsertBytes(0, b"-c"), INVALID, "ab"),
-    (Then, InsertBytes(1, b"c d"), INVALID, "ab"),
-    (Then, PushBytes(b"cD"), INVALID, "ab"),
-    (
-        With("a-b"),
-        StripPrefix("a"),
-        Stripped(Err(InvalidContent)),
-        "a-b",
-    ),
-    (Then, RemoveRange(0, 1), INVALID, "a-b"),
-    (Then, RemoveRange(0, 3), INVALID, "a-b"),
-    (Then, RetainOne(b'a'), INVALID, "a-b"),
-    (
-        Then,
-        StripSuffix("a-b"),
-        Stripped(Err(InvalidContent)),
-        "a-b",
-    ),
+    ("ab", Insert(0, b'1'), INVALID, "ab"),
+    ("ab", Push(200), INVALID, "ab"),
+    ("ab", Append(THIRTY), TOO_LONG, "ab"),
+    ("a1", Remove(0), INVALID, "a1"),
+    ("a1", StripPrefix(b"a"), INVALID, "a1"),
+    ("a1", Truncate(0), INVALID, "a1"),
+    ("a1", Remove(9), NONE, "a1"),
+    ("a1", RemoveRange(1, usize::MAX), DONE, "a1"),
+    ("a1", StripPrefix(b"b"), Ok(Bool(false)), "a1"),
+    ("a1", StripSuffix(b"1"), Ok(Bool(true)), "a"),
+    ("a", Pop, INVALID, "a"),
+    ("abab", Find(b"ab"), Ok(Key(0)), "abab"),
+    ("abab", Rfind(b"ab"), Ok(Key(2)), "abab"),
+    ("abab", Find(b""), Ok(Key(0)), "abab"),
+    ("abab", Rfind(b""), Ok(Key(4)), "abab"),
+    ("abab", Find(b"ba-"), NONE, "abab"),
+    ("abab", Rfind(b"ba-"), NONE, "abab"),
+    ("abab", Empty, Ok(Bool(false)), "abab"),
+    ("abab", Full, Ok(Bool(false)), "abab"),
+    ("ad", Insert(1, b'-'), DONE, "a-d"),
+    ("ad", InsertBytes(1, b"bc"), DONE, "abcd"),
+    ("ad", InsertBytes(0, b""), DONE, "ad"),
+    ("ad", Push(b'9'), DONE, "ad9"),
+    ("ad9", Append(b"-x"), DONE, "ad9-x"),
+    ("ad9-x", Pop, Ok(Value(b'x')), "ad9-"),
+    ("ad9-", Remove(1), Ok(Value(b'd')), "a9-"),
+    ("a9-", Remove(3), NONE, "a9-"),
+    ("a9-", RemoveRange(1, 2), DONE, "a"),
+    ("a", RemoveRange(1, 0), DONE, "a"),
+    ("a", RemoveRange(2, 0), DONE, "a"),
+    ("abcab", Truncate(5), DONE, "abcab"),
+    ("abcab", Truncate(4), DONE, "abca"),
+    ("abca", TextCommand::Drop(b'b'), DONE, "aca"),
+    ("aca", TextCommand::Drop(b'x'), DONE, "aca"),
+    ("aca", StripPrefix(b"ac"), Ok(Bool(true)), "a"),
+    ("a", StripPrefix(b""), Ok(Bool(true)), "a"),
+    ("a", StripSuffix(b"b"), Ok(Bool(false)), "a"),
+    ("a", StripSuffix(b"xa"), Ok(Bool(false)), "a"),
+    ("a", Append(THIRTY), DONE, FULL_NAME),
+    (FULL_NAME, Empty, Ok(Bool(false)), FULL_NAME),
+    (FULL_NAME, Full, Ok(Bool(true)), FULL_NAME),
+    (FULL_NAME, Push(200), TOO_LONG, FULL_NAME),
+    ("ab", Push(0), INVALID, "ab"),
+    ("ab", Insert(1, 0), INVALID, "ab"),
+    ("ab", Insert(1, 128), INVALID, "ab"),
+    ("ab", Insert(1, b'A'), INVALID, "ab"),
+    ("ab", Insert(2, b'_'), INVALID, "ab"),
+    ("ab", InsertBytes(1, b"c\xff"), INVALID, "ab"),
+    ("ab", InsertBytes(0, b"-c"), INVALID, "ab"),
+    ("ab", InsertBytes(1, b"c d"), INVALID, "ab"),
+    ("ab", Append(b"cD"), INVALID, "ab"),
+    ("a-b", StripPrefix(b"a"), INVALID, "a-b"),
+    ("a-b", RemoveRange(0, 1), INVALID, "a-b"),
+    ("a-b", RemoveRange(0, 3), INVALID, "a-b"),
+    ("a-b", TextCommand::Drop(b'a'), INVALID, "a-b"),
+    ("a-b", StripSuffix(b"a-b"), INVALID, "a-b"),
 ];
 
 /// Of texts of an even length and at most six bytes: each change by an odd number of bytes is refused.
 pub const EVEN_LENGTHS: &[Row] = &[
-    (With("abcd"), Push(b'e'), INVALID, "abcd"),
-    (Then, PushBytes(b"e"), INVALID, "abcd"),
-    (Then, PushBytes(b"efg"), TOO_LONG, "abcd"),
-    (Then, Insert(0, b'e'), INVALID, "abcd"),
-    (Then, Insert(2, b'e'), INVALID, "abcd"),
-    (Then, Insert(4, b'e'), INVALID, "abcd"),
-    (Then, InsertBytes(0, b"e"), INVALID, "abcd"),
-    (Then, InsertBytes(3, b"e"), INVALID, "abcd"),
-    (Then, Pop, Byte(Err(InvalidContent)), "abcd"),
-    (Then, Remove(0), Byte(Err(InvalidContent)), "abcd"),
-    (Then, Remove(2), Byte(Err(InvalidContent)), "abcd"),
-    (Then, Remove(3), Byte(Err(InvalidContent)), "abcd"),
-    (Then, Remove(4), Byte(Ok(None)), "abcd"),
-    (Then, RemoveRange(0, 3), INVALID, "abcd"),
-    (Then, RemoveRange(1, 1), INVALID, "abcd"),
-    (Then, RemoveRange(3, 1), INVALID, "abcd"),
-    (Then, RemoveRange(3, 3), DONE, "abcd"),
-    (Then, Truncate(3), INVALID, "abcd"),
-    (Then, Truncate(1), INVALID, "abcd"),
-    (Then, Truncate(5), DONE, "abcd"),
-    (
-        Then,
-        StripPrefix("a"),
-        Stripped(Err(InvalidContent)),
-        "abcd",
-    ),
-    (
-        Then,
-        StripPrefix("abc"),
-        Stripped(Err(InvalidContent)),
-        "abcd",
-    ),
-    (Then, StripPrefix("b"), Stripped(Ok(false)), "abcd"),
-    (
-        Then,
-        StripSuffix("d"),
-        Stripped(Err(InvalidContent)),
-        "abcd",
-    ),
-    (
-        Then,
-        StripSuffix("bcd"),
-        Stripped(Err(InvalidContent)),
-        "abcd",
-    ),
-    (Then, StripSuffix("c"), Stripped(Ok(false)), "abcd"),
-    (Then, RetainOne(b'b'), INVALID, "abcd"),
-    (Then, InsertBytes(2, b"ef"), DONE, "abefcd"),
-    (Then, Push(b'g'), TOO_LONG, "abefcd"),
-    (Then, RemoveRange(2, 2), DONE, "abcd"),
-    (Then, StripPrefix("ab"), Stripped(Ok(true)), "cd"),
-    (Then, StripSuffix("cd"), Stripped(Ok(true)), ""),
-    (Then, Pop, Byte(Ok(None)), ""),
-    (Then, Remove(0), Byte(Ok(None)), ""),
-    (Then, IsEmptyIsFull, Both(true, false), ""),
+    ("abcd", Push(b'e'), INVALID, "abcd"),
+    ("abcd", Append(b"e"), INVALID, "abcd"),
+    ("abcd", Append(b"efg"), TOO_LONG, "abcd"),
+    ("abcd", Insert(0, b'e'), INVALID, "abcd"),
+    ("abcd", Insert(2, b'e'), INVALID, "abcd"),
+    ("abcd", Insert(4, b'e'), INVALID, "abcd"),
+    ("abcd", InsertBytes(0, b"e"), INVALID, "abcd"),
+    ("abcd", InsertBytes(3, b"e"), INVALID, "abcd"),
+    ("abcd", Pop, INVALID, "abcd"),
+    ("abcd", Remove(0), INVALID, "abcd"),
+    ("abcd", Remove(2), INVALID, "abcd"),
+    ("abcd", Remove(3), INVALID, "abcd"),
+    ("abcd", Remove(4), NONE, "abcd"),
+    ("abcd", RemoveRange(0, 3), INVALID, "abcd"),
+    ("abcd", RemoveRange(1, 1), INVALID, "abcd"),
+    ("abcd", RemoveRange(3, 1), INVALID, "abcd"),
+    ("abcd", RemoveRange(3, 3), DONE, "abcd"),
+    ("abcd", Truncate(3), INVALID, "abcd"),
+    ("abcd", Truncate(1), INVALID, "abcd"),
+    ("abcd", Truncate(5), DONE, "abcd"),
+    ("abcd", StripPrefix(b"a"), INVALID, "abcd"),
+    ("abcd", StripPrefix(b"abc"), INVALID, "abcd"),
+    ("abcd", StripPrefix(b"b"), Ok(Bool(false)), "abcd"),
+    ("abcd", StripSuffix(b"d"), INVALID, "abcd"),
+    ("abcd", StripSuffix(b"bcd"), INVALID, "abcd"),
+    ("abcd", StripSuffix(b"c"), Ok(Bool(false)), "abcd"),
+    ("abcd", TextCommand::Drop(b'b'), INVALID, "abcd"),
+    ("abcd", InsertBytes(2, b"ef"), DONE, "abefcd"),
+    ("abefcd", Push(b'g'), TOO_LONG, "abefcd"),
+    ("abefcd", RemoveRange(2, 2), DONE, "abcd"),
+    ("abcd", StripPrefix(b"ab"), Ok(Bool(true)), "cd"),
+    ("cd", StripSuffix(b"cd"), Ok(Bool(true)), ""),
+    ("", Pop, NONE, ""),
+    ("", Remove(0), NONE, ""),
+    ("", Empty, Ok(Bool(true)), ""),
+    ("", Full, Ok(Bool(false)), ""),
 ];
 
 /// Of a text that has no room, and that may be empty.
 pub const NO_ROOM: &[Row] = &[
-    (With(""), IsEmptyIsFull, Both(true, true), ""),
-    (Then, Push(b'a'), TOO_LONG, ""),
-    (Then, Push(0), TOO_LONG, ""),
-    (Then, PushBytes(b""), DONE, ""),
-    (Then, PushBytes(b"ab"), TOO_LONG, ""),
-    (Then, Insert(0, 200), TOO_LONG, ""),
-    (Then, InsertBytes(0, b""), DONE, ""),
-    (Then, InsertBytes(0, b"ab"), TOO_LONG, ""),
-    (Then, Pop, Byte(Ok(None)), ""),
-    (Then, Remove(0), Byte(Ok(None)), ""),
-    (Then, Remove(usize::MAX), Byte(Ok(None)), ""),
-    (Then, RemoveRange(0, 0), DONE, ""),
-    (Then, RemoveRange(0, 1), DONE, ""),
-    (Then, RemoveRange(1, usize::MAX), DONE, ""),
-    (Then, Truncate(0), DONE, ""),
-    (Then, Truncate(usize::MAX), DONE, ""),
-    (Then, StripPrefix(""), Stripped(Ok(true)), ""),
-    (Then, StripPrefix("a"), Stripped(Ok(false)), ""),
-    (Then, StripSuffix("a"), Stripped(Ok(false)), ""),
-    (Then, RetainOne(b'a'), DONE, ""),
-    (Then, Find(""), Found(Some(0), Some(0)), ""),
-    (Then, Find("a"), Found(None, None), ""),
-    (Then, Normalize(""), Same(true), ""),
-    (Then, CopyTo(1), Copied(Some(1), [0, 9, 9, 9]), ""),
-    (Then, CopyTo(0), Copied(None, [9, 9, 9, 9]), ""),
-    (Then, Equals(""), Both(true, true), ""),
-    (Then, Equals("a"), Both(false, false), ""),
+    ("", Empty, Ok(Bool(true)), ""),
+    ("", Full, Ok(Bool(true)), ""),
+    ("", Push(b'a'), TOO_LONG, ""),
+    ("", Push(0), TOO_LONG, ""),
+    ("", Append(b""), DONE, ""),
+    ("", Append(b"ab"), TOO_LONG, ""),
+    ("", Insert(0, 200), TOO_LONG, ""),
+    ("", InsertBytes(0, b""), DONE, ""),
+    ("", InsertBytes(0, b"ab"), TOO_LONG, ""),
+    ("", Pop, NONE, ""),
+    ("", Remove(0), NONE, ""),
+    ("", Remove(usize::MAX), NONE, ""),
+    ("", RemoveRange(0, 0), DONE, ""),
+    ("", RemoveRange(0, 1), DONE, ""),
+    ("", RemoveRange(1, usize::MAX), DONE, ""),
+    ("", Truncate(0), DONE, ""),
+    ("", Truncate(usize::MAX), DONE, ""),
+    ("", StripPrefix(b""), Ok(Bool(true)), ""),
+    ("", StripPrefix(b"a"), Ok(Bool(false)), ""),
+    ("", StripSuffix(b"a"), Ok(Bool(false)), ""),
+    ("", TextCommand::Drop(b'a'), DONE, ""),
+    ("", Find(b""), Ok(Key(0)), ""),
+    ("", Rfind(b""), Ok(Key(0)), ""),
+    ("", Find(b"a"), NONE, ""),
+    ("", Rfind(b"a"), NONE, ""),
 ];
 
 /// Of texts of an even length and at most one byte: of no bytes.
 pub const NO_SINGLE_BYTE: &[Row] = &[
-    (With(""), IsEmptyIsFull, Both(true, false), ""),
-    (Then, Push(b'a'), INVALID, ""),
-    (Then, Insert(0, 0), INVALID, ""),
-    (Then, PushBytes(b"ab"), TOO_LONG, ""),
-    (Then, Pop, Byte(Ok(None)), ""),
+    ("", Empty, Ok(Bool(true)), ""),
+    ("", Full, Ok(Bool(false)), ""),
+    ("", Push(b'a'), INVALID, ""),
+    ("", Insert(0, 0), INVALID, ""),
+    ("", Append(b"ab"), TOO_LONG, ""),
+    ("", Pop, NONE, ""),
 ];
 
 /// Of texts of one byte, none of which is empty.
 pub const SINGLE_BYTES: &[Row] = &[
-    (With("a"), IsEmptyIsFull, Both(false, true), "a"),
-    (Then, Push(b'b'), TOO_LONG, "a"),
-    (Then, PushBytes(b""), DONE, "a"),
-    (Then, Insert(0, b'b'), TOO_LONG, "a"),
-    (Then, Insert(1, 0), TOO_LONG, "a"),
-    (Then, InsertBytes(1, b""), DONE, "a"),
-    (Then, Pop, Byte(Err(InvalidContent)), "a"),
-    (Then, Remove(0), Byte(Err(InvalidContent)), "a"),
-    (Then, Remove(1), Byte(Ok(None)), "a"),
-    (Then, RemoveRange(0, 1), INVALID, "a"),
-    (Then, RemoveRange(1, 1), DONE, "a"),
-    (Then, Truncate(0), INVALID, "a"),
-    (Then, Truncate(1), DONE, "a"),
-    (Then, StripPrefix("a"), Stripped(Err(InvalidContent)), "a"),
-    (Then, StripSuffix("a"), Stripped(Err(InvalidContent)), "a"),
-    (Then, StripPrefix("ab"), Stripped(Ok(false)), "a"),
-    (Then, RetainOne(b'a'), INVALID, "a"),
-    (Then, RetainOne(b'b'), DONE, "a"),
-    (Then, Find("a"), Found(Some(0), Some(0)), "a"),
-    (Then, Find(""), Found(Some(0), Some(1)), "a"),
-    (Then, CopyTo(2), Copied(Some(2), [97, 0, 9, 9]), "a"),
-    (Then, CopyTo(1), Copied(None, [9, 9, 9, 9]), "a"),
-    (Then, Equals("a"), Both(true, true), "a"),
-    (Then, Equals("ab"), Both(false, false), "a"),
-    (Then, Normalize("a"), Same(true), "a"),
+    ("a", Empty, Ok(Bool(false)), "a"),
+    ("a", Full, Ok(Bool(true)), "a"),
+    ("a", Push(b'b'), TOO_LONG, "a"),
+    ("a", Append(b""), DONE, "a"),
+    ("a", Insert(0, b'b'), TOO_LONG, "a"),
+    ("a", Insert(1, 0), TOO_LONG, "a"),
+    ("a", InsertBytes(1, b""), DONE, "a"),
+    ("a", Pop, INVALID, "a"),
+    ("a", Remove(0), INVALID, "a"),
+    ("a", Remove(1), NONE, "a"),
+    ("a", RemoveRange(0, 1), INVALID, "a"),
+    ("a", RemoveRange(1, 1), DONE, "a"),
+    ("a", Truncate(0), INVALID, "a"),
+    ("a", Truncate(1), DONE, "a"),
+    ("a", StripPrefix(b"a"), INVALID, "a"),
+    ("a", StripSuffix(b"a"), INVALID, "a"),
+    ("a", StripPrefix(b"ab"), Ok(Bool(false)), "a"),
+    ("a", TextCommand::Drop(b'a'), INVALID, "a"),
+    ("a", TextCommand::Drop(b'b'), DONE, "a"),
+    ("a", Find(b"a"), Ok(Key(0)), "a"),
+    ("a", Rfind(b"a"), Ok(Key(0)), "a"),
+    ("a", Find(b""), Ok(Key(0)), "a"),
+    ("a", Rfind(b""), Ok(Key(1)), "a"),
 ];
 
-/// Of texts whose trailing slashes mean nothing.
-pub const SLASHES: &[Row] = &[
-    (With("/tmp/"), Equals("/tmp"), Both(true, true), "/tmp/"),
-    (Then, Equals("/tmp//"), Both(true, true), "/tmp/"),
-    (Then, Equals("/tm"), Both(false, false), "/tmp/"),
-    (Then, Equals("tmp"), Both(false, false), "/tmp/"),
-    (Then, Normalize("/tmp"), Same(true), "/tmp/"),
-    (With("////"), Normalize("/"), Same(true), "////"),
-    (With("/"), Normalize("/"), Same(true), "/"),
-    (With(""), Normalize(""), Same(true), ""),
-    (Then, Equals("/"), Both(false, false), ""),
-    (With("/a//"), Equals("/a"), Both(true, true), "/a//"),
-    (Then, Normalize("/a"), Same(true), "/a//"),
-    (With("a/b"), Normalize("a/b"), Same(true), "a/b"),
-];
+/// Makes the call that the command names.
+fn run<R: Rules<CAPACITY>, const CAPACITY: usize>(
+    string: &mut Semantic<R, CAPACITY>,
+    command: TextCommand,
+) -> Outcome {
+    match command {
+        Push(byte) => string.push(byte)?,
+        Append(bytes) => string.push_bytes(bytes)?,
+        Insert(index, byte) if index <= string.len() => string.insert(index, byte)?,
+        InsertBytes(index, bytes) if index <= string.len() => string.insert_bytes(index, bytes)?,
+        Pop => return Ok(reply_of_option(string.pop()?)),
+        Remove(index) => return Ok(reply_of_option(string.remove(index)?)),
+        RemoveRange(index, n) => string.remove_range(index, n)?,
+        Truncate(n) => string.truncate(n)?,
+        StripPrefix(bytes) => return Ok(Bool(string.strip_prefix(bytes)?)),
+        StripSuffix(bytes) => return Ok(Bool(string.strip_suffix(bytes)?)),
+        TextCommand::Drop(one) => string.retain(|byte: u8| byte == one)?,
+        Find(needle) => return Ok(reply_of_key(string.find(needle))),
+        Rfind(needle) => return Ok(reply_of_key(string.rfind(needle))),
+        Empty => return Ok(Bool(string.is_empty())),
+        Full => return Ok(Bool(string.is_full())),
+        _ => return NONE,
+    }
+    DONE
+}
+
+/// Runs each row on a string of its text.
+pub fn check_rows<R: Rules<CAPACITY>, const CAPACITY: usize>(
+    findings: &Findings,
+    rows: &[Row],
+    place: &str,
+)
+    requires { CAPACITY < 256 }
+{
+    for (number, (text, command, outcome, left)) in rows.iter().enumerate() {
+        match Semantic::<R, CAPACITY>::new(text.as_bytes()) {
+            Ok(mut string) => {
+                findings.expect_same_at(run(&mut string, *command), *outcome, number, place);
+                findings.expect_same_at(string.as_bytes(), left.as_bytes(), number, place);
+                findings.expect_same_at(string.len(), left.len(), number, place);
+            }
+            Err(_) => findings.miss(text),
+        }
+    }
+}

@@ -3,30 +3,9 @@ use crate::own_rules::EvenLengthRules;
 use ix_names::SemanticStringError::{ExceedsMaximumLength, InvalidContent};
 use ix_names::{GroupName, Rules, Semantic, SemanticStringError, TrailingSlashRules};
 use ix_string::StringModificationError;
-use std::alloc::{AllocError, Global};
-use std::fmt::{Debug, Display, InlineText};
+use std::alloc::Global;
 use std::test::Fail;
-use test_support::Findings;
-
-fn check_text(findings: &Findings, made: Result<std::string::String, AllocError>, wanted: &str) {
-    match made {
-        Ok(text) => findings.expect_same(text.as_str(), wanted, "a text"),
-        Err(AllocError) => findings.miss(wanted),
-    }
-}
-
-/// Checks what `Display` and `Debug` print.
-fn check_printed<T: Display + Debug>(
-    findings: &Findings,
-    value: &T,
-    displayed: &str,
-    debugged: &str,
-) {
-    let found = InlineText::<80>::of(format_args!("{value}"));
-    findings.expect_same(found.as_str(), displayed, "the `Display` text");
-    let found = InlineText::<80>::of(format_args!("{value:?}"));
-    findings.expect_same(found.as_str(), debugged, "the `Debug` text");
-}
+use test_support::{Findings, check_printed};
 
 /// Checks what is printed of the string, and its text in memory of `alloc`.
 fn check_string<R: Rules<CAPACITY>, const CAPACITY: usize>(
@@ -38,7 +17,8 @@ fn check_string<R: Rules<CAPACITY>, const CAPACITY: usize>(
     match made {
         Ok(string) => {
             check_printed(findings, &string, displayed, debugged);
-            check_text(findings, string.to_text(alloc), text);
+            let copy = string.to_text(alloc);
+            findings.expect(copy.is_ok_and(|copy| copy.as_str() == text), text);
         }
         Err(_) => findings.miss(text),
     }
@@ -52,8 +32,7 @@ fn strings(rt: HostRuntime) -> Result<(), Fail> {
     check_string(&findings, rt.alloc(), GroupName::new(b"abab"), wanted);
     let made = Semantic::<TrailingSlashRules, 255>::new(b"a\t/");
     let debugged = "Semantic { text: StaticString<255> { len: 3, data: \"a\\t/\" } }";
-    let wanted = ("a\t/", "a\\t/", debugged);
-    check_string(&findings, rt.alloc(), made, wanted);
+    check_string(&findings, rt.alloc(), made, ("a\t/", "a\\t/", debugged));
     let made = Semantic::<TrailingSlashRules, 255>::new(b"");
     let debugged = "Semantic { text: StaticString<255> { len: 0, data: \"\" } }";
     check_string(&findings, rt.alloc(), made, ("", "", debugged));
@@ -66,14 +45,6 @@ fn strings(rt: HostRuntime) -> Result<(), Fail> {
 /// Texts of many bytes, which are printed as they are.
 const LONG: &[&[u8]] = &[&[b'a'; 31], &[b'b'; 101], &[b'c'; 200], &[b'd'; 255]];
 
-/// Compares the bytes of a text, if it was made.
-fn check_bytes(findings: &Findings, made: Result<std::string::String, AllocError>, bytes: &[u8]) {
-    match made {
-        Ok(text) => findings.expect_same(text.as_bytes(), bytes, "a long text"),
-        Err(AllocError) => findings.miss("there is memory for a long text"),
-    }
-}
-
 #[test]
 fn long_texts(rt: HostRuntime) -> Result<(), Fail> {
     let findings = Findings::new();
@@ -81,10 +52,13 @@ fn long_texts(rt: HostRuntime) -> Result<(), Fail> {
     for bytes in LONG {
         match Semantic::<TrailingSlashRules, 255>::new(bytes) {
             Ok(path) => {
-                check_bytes(&findings, path.to_text(alloc), bytes);
-                check_bytes(&findings, format!(in alloc; "{path}"), bytes);
-                let debugged = format!(in alloc; "{path:?}");
-                findings.expect(debugged.is_ok(), "a long text by Debug");
+                let text = path.to_text(alloc);
+                findings.expect(text.is_ok_and(|text| text.as_bytes() == *bytes), "to_text");
+                let text = format!(in alloc; "{path}");
+                let is_same = text.is_ok_and(|text| text.as_bytes() == *bytes);
+                findings.expect(is_same, "by Display");
+                let text = format!(in alloc; "{path:?}");
+                findings.expect(text.is_ok(), "by Debug");
             }
             Err(_) => findings.miss("a long text is accepted"),
         }

@@ -9,37 +9,41 @@ fn count(calls: &Cell<u64>) {
     calls.set(calls.get().saturating_add(1));
 }
 
-#[test]
-fn map_calls_once() -> Result<(), Fail> {
-    let findings = Findings::new();
-    let calls = Cell::new(0u64);
-    let halved = RelocatableOption::Some(8u64).map(|value| {
-        count(&calls);
-        value / 2
-    });
-    findings.expect_same(halved, RelocatableOption::Some(4), "map");
-    findings.expect_same(calls.get(), 1, "a value");
-    let none = RelocatableOption::<u64>::None.map(|value| {
-        count(&calls);
-        value / 2
-    });
-    findings.expect_same(none, RelocatableOption::None, "map of none");
-    findings.expect_same(calls.get(), 1, "no value");
-    findings.verdict()
-}
+const EIGHT: RelocatableOption<u64> = RelocatableOption::Some(8);
+
+const FOUR: RelocatableOption<u64> = RelocatableOption::Some(4);
+
+const NOTHING: RelocatableOption<u64> = RelocatableOption::None;
+
+/// An option, the half of its value, its value or 5, and the number of calls of a closure that is passed the value.
+const OPTIONS: &[(RelocatableOption<u64>, RelocatableOption<u64>, u64, u64)] = &[
+    (EIGHT, FOUR, 8, 1),
+    (NOTHING, NOTHING, 5, 0),
+];
 
 #[test]
-fn inspect_calls_once() -> Result<(), Fail> {
+fn calls_once() -> Result<(), Fail> {
     let findings = Findings::new();
-    let seen = Cell::new(0u64);
-    let same = RelocatableOption::Some(8u64).inspect(|value| {
-        seen.set(seen.get().wrapping_mul(10).wrapping_add(*value));
-    });
-    findings.expect_same(same, RelocatableOption::Some(8), "inspect");
-    findings.expect_same(seen.get(), 8, "a value");
-    let none = RelocatableOption::<u64>::None.inspect(|_| seen.set(1));
-    findings.expect_same(none, RelocatableOption::None, "inspect of none");
-    findings.expect_same(seen.get(), 8, "no value");
+    let calls = Cell::new(0u64);
+    for (row, (option, half, value_or_five, number)) in OPTIONS.iter().enumerate() {
+        let halved = option.map(|value| {
+            count(&calls);
+            value / 2
+        });
+        findings.expect_same_at(halved, *half, row, "map");
+        findings.expect_same_at(calls.replace(0), *number, row, "calls by map");
+        let same = option.inspect(|value| calls.set(calls.get().wrapping_add(*value)));
+        findings.expect_same_at(same, *option, row, "inspect");
+        let seen = calls.replace(0);
+        findings.expect_same_at(seen, number.wrapping_mul(8), row, "values seen by inspect");
+        let value = option.unwrap_or_else(|| {
+            count(&calls);
+            5
+        });
+        findings.expect_same_at(value, *value_or_five, row, "unwrap_or_else");
+        let called = calls.replace(0).wrapping_add(*number);
+        findings.expect_same_at(called, 1, row, "calls by unwrap_or_else");
+    }
     findings.verdict()
 }
 
@@ -55,7 +59,7 @@ const TAKEN_IF: &[(bool, Option<u64>, u64)] = &[
 fn take_if_calls_once() -> Result<(), Fail> {
     let findings = Findings::new();
     let calls = Cell::new(0u64);
-    let mut option = RelocatableOption::Some(8u64);
+    let mut option = EIGHT;
     for (row, (answer, taken, number)) in TAKEN_IF.iter().enumerate() {
         let value = option.take_if(|_| {
             count(&calls);
@@ -64,23 +68,6 @@ fn take_if_calls_once() -> Result<(), Fail> {
         findings.expect_same_at(value.to_option(), *taken, row, "taken");
         findings.expect_same_at(calls.get(), *number, row, "calls");
     }
-    findings.expect_same(option, RelocatableOption::None, "after it was taken");
-    findings.verdict()
-}
-
-#[test]
-fn unwrap_or_else_calls_once() -> Result<(), Fail> {
-    let findings = Findings::new();
-    let calls = Cell::new(0u64);
-    let value = RelocatableOption::Some(8u64).unwrap_or_else(|| {
-        count(&calls);
-        5
-    });
-    findings.expect_same((value, calls.get()), (8, 0), "a value");
-    let value = RelocatableOption::<u64>::None.unwrap_or_else(|| {
-        count(&calls);
-        5
-    });
-    findings.expect_same((value, calls.get()), (5, 1), "no value");
+    findings.expect_same(option, NOTHING, "after it was taken");
     findings.verdict()
 }

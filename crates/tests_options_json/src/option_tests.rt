@@ -1,43 +1,31 @@
 //! Each function of options once, with a value and without one.
 use ix_names::RelocatableOption;
 use std::alloc::{AllocError, Global};
-use std::hash::{DefaultHasher, Hash, Hasher};
 use std::test::Fail;
-use test_support::Findings;
+use test_support::{Findings, hash_of};
 
 const NOTHING: RelocatableOption<u64> = RelocatableOption::None;
 
 const FOUR: RelocatableOption<u64> = RelocatableOption::Some(4);
 
+/// Options, and those of std that they are converted to and from.
+const OPTIONS: &[(RelocatableOption<u64>, Option<u64>)] = &[(FOUR, Some(4)), (NOTHING, None)];
+
 #[test]
 fn conversions() -> Result<(), Fail> {
     let findings = Findings::new();
-    findings.expect_same(FOUR.to_option(), Some(4), "to_option");
-    findings.expect_same(NOTHING.to_option(), None, "to_option of none");
-    findings.expect_same(RelocatableOption::from(Some(4u64)), FOUR, "from");
-    let none: Option<u64> = None;
-    findings.expect_same(RelocatableOption::from(none), NOTHING, "from none");
-    let option: Option<u64> = FOUR.into();
-    findings.expect_same(option, Some(4), "into");
-    let option: Option<u64> = NOTHING.into();
-    findings.expect_same(option, None, "none into");
+    for (row, (option, other)) in OPTIONS.iter().enumerate() {
+        findings.expect_same_at(option.to_option(), *other, row, "to_option");
+        findings.expect_same_at(RelocatableOption::from(*other), *option, row, "from");
+        let converted: Option<u64> = (*option).into();
+        findings.expect_same_at(converted, *other, row, "into");
+        findings.expect_same_at(option.as_option_ref(), other.as_ref(), row, "as_option_ref");
+        let is_same = option.as_ref() == RelocatableOption::from(other.as_ref());
+        findings.expect_at(is_same, row, "as_ref");
+        findings.expect_same_at(option.is_some(), other.is_some(), row, "is_some");
+        findings.expect_same_at(option.is_none(), other.is_none(), row, "is_none");
+    }
     findings.expect_same(RelocatableOption::default(), NOTHING, "the default");
-    findings.verdict()
-}
-
-#[test]
-fn references() -> Result<(), Fail> {
-    let findings = Findings::new();
-    let (four, nothing) = (FOUR, NOTHING);
-    findings.expect_same(four.as_option_ref(), Some(&4), "as_option_ref");
-    findings.expect_same(nothing.as_option_ref(), None, "as_option_ref of none");
-    findings.expect(four.as_ref() == RelocatableOption::Some(&4), "as_ref");
-    findings.expect(
-        nothing.as_ref() == RelocatableOption::None,
-        "as_ref of none",
-    );
-    findings.expect(four.is_some() && !four.is_none(), "a value");
-    findings.expect(nothing.is_none() && !nothing.is_some(), "no value");
     findings.verdict()
 }
 
@@ -139,13 +127,6 @@ fn taken_if() -> Result<(), Fail> {
     findings.expect_same(option, NOTHING, "nothing stays");
     findings.expect_same(option.take_if(|_| true), NOTHING, "take_if of none");
     findings.verdict()
-}
-
-/// Returns the hash of a value.
-fn hash_of<T: Hash>(value: &T) -> u64 {
-    let mut hasher = DefaultHasher::new();
-    value.hash(&mut hasher);
-    hasher.finish()
 }
 
 #[test]

@@ -13,6 +13,14 @@ use test_support::Findings;
 /// A text, and what is read.
 type Row<W> = (&'static str, Result<W, JsonFault>);
 
+/// Returns what a text is read as. One that is no JSON is read as `OutOfMemory`, which no row has.
+fn read<T: JsonForm>(alloc: Global, text: &str) -> Result<T, JsonFault> {
+    match Value::from_str(alloc, text) {
+        Ok(value) => T::from_value(&value),
+        Err(_) => Err(JsonFault::OutOfMemory),
+    }
+}
+
 /// Checks what each text is read as.
 fn check_rows<T: JsonForm + PartialEq + Debug + Copy>(
     findings: &Findings,
@@ -20,10 +28,18 @@ fn check_rows<T: JsonForm + PartialEq + Debug + Copy>(
     rows: &[Row<T>],
 ) {
     for (text, wanted) in rows {
-        match Value::from_str(alloc, text) {
-            Ok(value) => findings.expect_same(T::from_value(&value), *wanted, text),
-            Err(_) => findings.miss(text),
-        }
+        findings.expect_same(read::<T>(alloc, text), *wanted, text);
+    }
+}
+
+/// Checks the fault of each text.
+fn check_faults<T: JsonForm + Drop>(
+    findings: &Findings,
+    alloc: Global,
+    rows: &[(&str, JsonFault)],
+) {
+    for (text, fault) in rows {
+        findings.expect_same(read::<T>(alloc, text).err(), Some(*fault), text);
     }
 }
 
@@ -97,12 +113,9 @@ fn check_strings<S: JsonForm + String + Drop>(
     rows: &[Row<&str>],
 ) {
     for (text, wanted) in rows {
-        match Value::from_str(alloc, text) {
-            Ok(value) => match S::from_value(&value) {
-                Ok(string) => findings.expect_same(Ok(string.as_str()), *wanted, text),
-                Err(fault) => findings.expect_same(Err(fault), *wanted, text),
-            },
-            Err(_) => findings.miss(text),
+        match read::<S>(alloc, text) {
+            Ok(string) => findings.expect_same(Ok(string.as_str()), *wanted, text),
+            Err(fault) => findings.expect_same(Err(fault), *wanted, text),
         }
     }
 }
@@ -183,12 +196,9 @@ fn check_vectors<V: JsonForm + Vector<u64> + Drop>(
     rows: &[Row<&[u64]>],
 ) {
     for (text, wanted) in rows {
-        match Value::from_str(alloc, text) {
-            Ok(value) => match V::from_value(&value) {
-                Ok(vector) => findings.expect_same(Ok(vector.as_slice()), *wanted, text),
-                Err(fault) => findings.expect_same(Err(fault), *wanted, text),
-            },
-            Err(_) => findings.miss(text),
+        match read::<V>(alloc, text) {
+            Ok(vector) => findings.expect_same(Ok(vector.as_slice()), *wanted, text),
+            Err(fault) => findings.expect_same(Err(fault), *wanted, text),
         }
     }
 }
@@ -199,34 +209,18 @@ fn lists(rt: HostRuntime) -> Result<(), Fail> {
     check_vectors::<StaticVec<u64, 3>>(&findings, rt.alloc(), LISTS);
     check_vectors::<StaticVec<u64, 0>>(&findings, rt.alloc(), LISTS_WITHOUT_ROOM);
     check_vectors::<StaticVec<u64, 1>>(&findings, rt.alloc(), SINGLE_ITEMS);
-    for (text, fault) in LISTS_OF_TEXTS {
-        check_fault::<StaticVec<StaticString<2>, 3>>(&findings, rt.alloc(), text, *fault);
-    }
+    check_faults::<StaticVec<StaticString<2>, 3>>(&findings, rt.alloc(), LISTS_OF_TEXTS);
     findings.verdict()
 }
 
 /// One more than the greatest capacity of a vector that is stored inline.
 const TOO_MANY: usize = 4_294_967_296;
 
-/// Checks the fault of a text.
-fn check_fault<T: JsonForm + Drop>(
-    findings: &Findings,
-    alloc: Global,
-    text: &str,
-    wanted: JsonFault,
-) {
-    match Value::from_str(alloc, text) {
-        Ok(value) => findings.expect_same(T::from_value(&value).err(), Some(wanted), text),
-        Err(_) => findings.miss(text),
-    }
-}
-
 #[test]
 fn past_the_greatest_fixed_capacity(rt: HostRuntime) -> Result<(), Fail> {
     let findings = Findings::new();
-    for (text, fault) in [("[]", TooLong), ("[5]", TooLong), ("5", WrongKind)] {
-        check_fault::<StaticVec<Empty, TOO_MANY>>(&findings, rt.alloc(), text, fault);
-    }
+    let rows = [("[]", TooLong), ("[5]", TooLong), ("5", WrongKind)];
+    check_faults::<StaticVec<Empty, TOO_MANY>>(&findings, rt.alloc(), &rows);
     findings.verdict()
 }
 
@@ -249,16 +243,14 @@ fn options(rt: HostRuntime) -> Result<(), Fail> {
     let findings = Findings::new();
     check_rows(&findings, rt.alloc(), OPTIONS);
     check_rows(&findings, rt.alloc(), OPTIONS_OF_OPTIONS);
-    for (text, fault) in [
+    let texts = [
         ("\"abcd\"", TooLong),
         ("\"\\u0000\"", BadByte),
         ("5", WrongKind),
-    ] {
-        check_fault::<RelocatableOption<StaticString<3>>>(&findings, rt.alloc(), text, fault);
-    }
-    for (text, fault) in [("[1, 2, 3, 4]", TooLong), ("[true]", WrongKind)] {
-        check_fault::<RelocatableOption<StaticVec<u64, 3>>>(&findings, rt.alloc(), text, fault);
-    }
+    ];
+    check_faults::<RelocatableOption<StaticString<3>>>(&findings, rt.alloc(), &texts);
+    let lists = [("[1, 2, 3, 4]", TooLong), ("[true]", WrongKind)];
+    check_faults::<RelocatableOption<StaticVec<u64, 3>>>(&findings, rt.alloc(), &lists);
     findings.verdict()
 }
 
@@ -285,12 +277,9 @@ const GROUP_NAMES: &[Row<&str>] = &[
 fn group_names(rt: HostRuntime) -> Result<(), Fail> {
     let findings = Findings::new();
     for (text, wanted) in GROUP_NAMES {
-        match Value::from_str(rt.alloc(), text) {
-            Ok(value) => match GroupName::from_value(&value) {
-                Ok(name) => findings.expect_same(Ok(name.as_string().as_str()), *wanted, text),
-                Err(fault) => findings.expect_same(Err(fault), *wanted, text),
-            },
-            Err(_) => findings.miss(text),
+        match read::<GroupName>(rt.alloc(), text) {
+            Ok(name) => findings.expect_same(Ok(name.as_string().as_str()), *wanted, text),
+            Err(fault) => findings.expect_same(Err(fault), *wanted, text),
         }
     }
     findings.verdict()
@@ -299,10 +288,7 @@ fn group_names(rt: HostRuntime) -> Result<(), Fail> {
 #[test]
 fn items_of_size_zero(rt: HostRuntime) -> Result<(), Fail> {
     let findings = Findings::new();
-    check_rows(
-        &findings,
-        rt.alloc(),
-        &[("false", Ok(Empty)), ("0", Err(WrongKind))],
-    );
+    let rows = [("false", Ok(Empty)), ("0", Err(WrongKind))];
+    check_rows(&findings, rt.alloc(), &rows);
     findings.verdict()
 }

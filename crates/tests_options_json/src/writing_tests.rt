@@ -96,6 +96,7 @@ fn a_long_text(rt: HostRuntime) -> Result<(), Fail> {
     findings.verdict()
 }
 
+/// A path whose normal form is shorter is written as it is.
 #[test]
 fn semantic_strings(rt: HostRuntime) -> Result<(), Fail> {
     let findings = Findings::new();
@@ -103,13 +104,6 @@ fn semantic_strings(rt: HostRuntime) -> Result<(), Fail> {
         Ok(name) => check(&findings, rt.alloc(), name, "\"ab\""),
         Err(_) => findings.miss("a group name"),
     }
-    findings.verdict()
-}
-
-/// A path whose normal form is shorter is written as it is.
-#[test]
-fn raw_texts(rt: HostRuntime) -> Result<(), Fail> {
-    let findings = Findings::new();
     match Semantic::<TrailingSlashRules, 255>::new(b"/tmp/") {
         Ok(path) => check(&findings, rt.alloc(), path, "\"/tmp/\""),
         Err(_) => findings.miss("a path"),
@@ -151,10 +145,11 @@ fn lists(rt: HostRuntime) -> Result<(), Fail> {
     let empty = Ok::<_, VectorModificationError>(StaticVec::<u64, 0>::new());
     check_vector(&findings, rt.alloc(), empty, "[]");
     let empties = [Empty, Empty].as_slice();
-    match (
+    let (vector, same) = (
         StaticVec::<Empty, 2>::try_from(empties),
         StaticVec::try_from(empties),
-    ) {
+    );
+    match (vector, same) {
         (Ok(vector), Ok(same)) => check_back(&findings, rt.alloc(), &vector, "[true,true]", same),
         _ => findings.miss("two items of size zero"),
     }
@@ -168,20 +163,11 @@ fn options(rt: HostRuntime) -> Result<(), Fail> {
     check(&findings, rt.alloc(), RelocatableOption::Some(5u64), "5");
     let none: RelocatableOption<u64> = RelocatableOption::None;
     check(&findings, rt.alloc(), none, "null");
-    check(
-        &findings,
-        rt.alloc(),
-        RelocatableOption::Some(RelocatableOption::Some(5u64)),
-        "5",
-    );
+    let nested = RelocatableOption::Some(RelocatableOption::Some(5u64));
+    check(&findings, rt.alloc(), nested, "5");
     let hidden = RelocatableOption::Some(none);
-    check_back(
-        &findings,
-        rt.alloc(),
-        &hidden,
-        "null",
-        RelocatableOption::None,
-    );
+    let back = RelocatableOption::None;
+    check_back(&findings, rt.alloc(), &hidden, "null", back);
     findings.verdict()
 }
 

@@ -2,9 +2,9 @@
 use crate::drop_tests::Call::{Clear, Pop, Push, PushWithOverflow, Write};
 use ix_cells::{RelocatableContainer, Table};
 use ix_maps::{FixedSizeQueue, MetaQueue, Queue, RelocatableQueue};
-use std::alloc::{AllocError, Global};
+use std::alloc::Global;
 use std::test::Fail;
-use test_support::{Findings, Noted, Notes};
+use test_support::{Findings, Noted, Notes, made};
 
 /// A call. The number is the name of the new item.
 enum Call {
@@ -18,6 +18,9 @@ enum Call {
 
 /// A call, the names of all items that are dropped so far, and those once the returned item is dropped too.
 type Row = (Call, u64, u64);
+
+/// Calls, and the names that are dropped once the queue is dropped.
+type Example<'a> = (&'a [Row], u64);
 
 /// Replaces the front item.
 fn write<'a, S: Table<Noted<'a>>>(queue: &mut MetaQueue<Noted<'a>, S>, item: Noted<'a>) {
@@ -64,7 +67,7 @@ fn check_made<'a, S: Table<Noted<'a>>, E: Drop>(
     findings: &Findings,
     made: Result<MetaQueue<Noted<'a>, S>, E>,
     notes: &'a Notes,
-    (rows, end): &(&[Row], u64),
+    (rows, end): &Example,
 ) {
     notes.take_drops();
     match made {
@@ -86,6 +89,7 @@ const REFUSALS: &[Row] = &[
     (Push(4), 1, 1),
     (Push(5), 15, 15),
     (PushWithOverflow(6), 15, 152),
+    (Write(7), 1523, 1523),
 ];
 
 /// Calls of a queue of capacity 3.
@@ -95,26 +99,17 @@ const CLEARS: &[Row] = &[
     (Push(3), 0, 0),
     (Pop, 0, 1),
     (Push(4), 1, 1),
-    (Clear, 1234, 1234),
-    (Clear, 1234, 1234),
-    (Push(5), 1234, 1234),
-];
-
-/// Calls of a queue of capacity 3.
-const WRITES: &[Row] = &[
-    (Push(1), 0, 0),
-    (Push(2), 0, 0),
-    (Push(3), 0, 0),
-    (Pop, 0, 1),
-    (Push(4), 1, 1),
     (Write(7), 12, 12),
+    (Clear, 12_734, 12_734),
+    (Clear, 12_734, 12_734),
+    (Push(5), 12_734, 12_734),
 ];
 
 /// Calls of queues of capacity 3, and the names that are dropped once the queue is dropped.
-const OF_THREE: &[(&[Row], u64)] = &[(REFUSALS, 152_346), (CLEARS, 12_345), (WRITES, 12_734)];
+const OF_THREE: &[Example] = &[(REFUSALS, 1_523_746), (CLEARS, 127_345)];
 
 /// Calls of a queue of capacity 0.
-const OF_NONE: (&[Row], u64) = (
+const OF_NONE: Example = (
     &[
         (Push(1), 1, 1),
         (PushWithOverflow(2), 1, 12),
@@ -123,13 +118,25 @@ const OF_NONE: (&[Row], u64) = (
     12,
 );
 
+/// Calls of a queue of capacity 9, which is dropped when it is not full.
+const OF_NINE: Example = (
+    &[
+        (Push(1), 0, 0),
+        (Push(2), 0, 0),
+        (Push(3), 0, 0),
+        (Push(4), 0, 0),
+        (Push(5), 0, 0),
+    ],
+    12_345,
+);
+
 /// Makes the calls on a queue of each kind, allocated from `alloc`.
 fn check_in_memory(
     findings: &Findings,
     notes: &Notes,
     alloc: Global,
     capacity: usize,
-    example: &(&[Row], u64),
+    example: &Example,
 ) {
     check_made(findings, Queue::new(alloc, capacity), notes, example);
     let relocatable = RelocatableQueue::<Noted, Global>::new_uninit(capacity).init(alloc);
@@ -141,32 +148,13 @@ fn each_kind(rt: HostRuntime) -> Result<(), Fail> {
     let findings = Findings::new();
     let notes = Notes::new(0);
     for example in OF_THREE {
-        let fixed = Ok::<_, AllocError>(FixedSizeQueue::<Noted, 3>::new());
+        let fixed = made(FixedSizeQueue::<Noted, 3>::new());
         check_made(&findings, fixed, &notes, example);
         check_in_memory(&findings, &notes, rt.alloc(), 3, example);
     }
-    let fixed = Ok::<_, AllocError>(FixedSizeQueue::<Noted, 0>::new());
+    let fixed = made(FixedSizeQueue::<Noted, 0>::new());
     check_made(&findings, fixed, &notes, &OF_NONE);
     check_in_memory(&findings, &notes, rt.alloc(), 0, &OF_NONE);
-    findings.verdict()
-}
-
-/// Appends five items to a queue, which is dropped at the end of this function.
-fn fill<'a>(findings: &Findings, notes: &'a Notes, mut queue: Queue<Noted<'a>>) {
-    for name in 1..6 {
-        findings.expect(queue.push(Noted::new(name, notes)), "there is room");
-    }
-    findings.expect_same(notes.drops(), 0, "no item is dropped yet");
-}
-
-#[test]
-fn dropped_at_the_end_of_a_scope(rt: HostRuntime) -> Result<(), Fail> {
-    let findings = Findings::new();
-    let notes = Notes::new(0);
-    match Queue::new(rt.alloc(), 9) {
-        Ok(queue) => fill(&findings, &notes, queue),
-        Err(AllocError) => findings.miss("there is memory"),
-    }
-    findings.expect_same(notes.drops(), 12_345, "the queue is dropped");
+    check_in_memory(&findings, &notes, rt.alloc(), 9, &OF_NINE);
     findings.verdict()
 }

@@ -5,7 +5,6 @@ ghost use Rattle.std.specs.Ordering.{on};
 ghost use Rattle.std.specs.Prelude.{nat_eq};
 
 use crate::equality_tests::Side::{One, Other};
-use crate::rows::made;
 use crate::turning::{TURNS, Turn};
 use ix_cells::{RelocatableContainer, Table};
 use ix_commands::QueueCommand::{self, Clear, Len, Pop, Push};
@@ -13,7 +12,7 @@ use ix_commands::Runs;
 use ix_maps::{FixedSizeQueue, MetaQueue, Queue, RelocatableQueue};
 use std::cell::Cell;
 use std::test::Fail;
-use test_support::{Findings, check_rows};
+use test_support::{Findings, check_rows, made};
 
 /// One of two queues.
 enum Side {
@@ -85,23 +84,15 @@ const DIFFERENT: &[Step] = &[
 ];
 
 #[test]
-fn fixed_queues() -> Result<(), Fail> {
+fn each_kind(rt: HostRuntime) -> Result<(), Fail> {
     let findings = Findings::new();
+    let alloc = rt.alloc();
     for turn in TURNS {
         for steps in &[EQUAL, DIFFERENT] {
             let one = made(FixedSizeQueue::<u64, 3>::new());
             let other = made(FixedSizeQueue::<u64, 3>::new());
             check_made(&findings, one, other, steps, turn);
         }
-    }
-    findings.verdict()
-}
-
-#[test]
-fn queues_in_memory(rt: HostRuntime) -> Result<(), Fail> {
-    let findings = Findings::new();
-    let alloc = rt.alloc();
-    for turn in TURNS {
         let one = RelocatableQueue::<u64>::new_uninit(3).init(alloc);
         check_made(&findings, one, Queue::new(alloc, 3), EQUAL, turn);
         let other = RelocatableQueue::<u64>::new_uninit(5).init(alloc);

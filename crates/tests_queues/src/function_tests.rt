@@ -11,15 +11,17 @@ use ix_commands::Reply::{self, Bool, Done, Number, Value};
 use ix_maps::{FixedSizeQueue, MetaQueue, Queue, RelocatableQueue, UninitQueue};
 use linked_list_allocator::LocalHeap;
 use std::alloc::{AllocError, Allocator, Global};
-use std::fmt::{Debug, InlineText};
 use std::test::Fail;
-use test_support::{Findings, check_rows};
+use test_support::{Findings, check_rows, check_tables, check_text};
 
-const SIZES: &[Row<u64>] = &[
+/// Commands of a queue of capacity 2.
+const TWO: &[Row<u64>] = &[
     (Capacity, Number(2)),
     (Len, Number(0)),
     (Empty, Bool(true)),
     (Full, Bool(false)),
+    (Peek, Reply::None),
+    (Set(9), Bool(false)),
     (Push(1), Bool(true)),
     (Len, Number(1)),
     (Empty, Bool(false)),
@@ -29,11 +31,6 @@ const SIZES: &[Row<u64>] = &[
     (Len, Number(2)),
     (Empty, Bool(false)),
     (Full, Bool(true)),
-];
-
-const PUSHES: &[Row<u64>] = &[
-    (Push(1), Bool(true)),
-    (Push(2), Bool(true)),
     (Push(3), Bool(false)),
     (Over(3), Value(1)),
     (Pop, Value(2)),
@@ -41,23 +38,12 @@ const PUSHES: &[Row<u64>] = &[
     (Pop, Value(3)),
     (Pop, Value(4)),
     (Pop, Reply::None),
-];
-
-const READS: &[Row<u64>] = &[
-    (Peek, Reply::None),
-    (Set(9), Bool(false)),
     (Push(5), Bool(true)),
     (Push(6), Bool(true)),
     (Peek, Value(5)),
     (Len, Number(2)),
     (At(0), Value(5)),
     (At(1), Value(6)),
-];
-
-const CHANGES: &[Row<u64>] = &[
-    (Push(5), Bool(true)),
-    (Push(6), Bool(true)),
-    (Peek, Value(5)),
     (Set(7), Bool(true)),
     (Pop, Value(7)),
     (Clear, Done),
@@ -124,15 +110,6 @@ const OVERFLOWS: &[Row<u64>] = &[
     (Pop, Reply::None),
 ];
 
-/// Commands of a queue of capacity 2.
-const OF_TWO: &[&[Row<u64>]] = &[SIZES, PUSHES, READS, CHANGES];
-
-/// Checks the `Debug` text of a value.
-pub fn check_text<T: Debug>(findings: &Findings, value: &T, text: &str) {
-    let found = InlineText::<80>::of(format_args!("{value:?}"));
-    findings.expect_same(found.as_str(), text, "the text");
-}
-
 /// Appends 1, 2 and 3 to an empty queue of capacity 2, so that its items lie round the end of the ring.
 fn append_three<S: Table<u64>>(queue: &mut MetaQueue<u64, S>) {
     for n in 1..4 {
@@ -160,9 +137,7 @@ fn texts(rt: HostRuntime) -> Result<(), Fail> {
 
 /// Checks each example on a queue of each kind.
 fn check_examples<A: Allocator + Copy>(findings: &Findings, alloc: A, memory: &str) {
-    for rows in OF_TWO {
-        check_kinds::<A, 2>(findings, alloc, &[*rows], memory);
-    }
+    check_kinds::<A, 2>(findings, alloc, &[TWO], memory);
     check_kinds::<A, 3>(findings, alloc, &[OVERFLOWS], memory);
     check_kinds::<A, 1>(findings, alloc, &[ONE], memory);
     check_kinds::<A, 0>(findings, alloc, &[NONE], memory);
@@ -186,49 +161,34 @@ fn in_each_memory(rt: HostRuntime) -> Result<(), Fail> {
     findings.verdict()
 }
 
-/// Checks the capacity of a queue whose making did not fail.
-fn check_capacity<T: Drop, S: Table<T>, E: Drop>(
-    findings: &Findings,
-    made: Result<MetaQueue<T, S>, E>,
-    capacity: usize,
-) {
-    match made {
-        Ok(queue) => findings.expect_same(queue.capacity(), capacity, "in two steps"),
-        Err(_) => findings.miss("in two steps"),
-    }
-}
-
 #[test]
 fn two_steps(rt: HostRuntime) -> Result<(), Fail> {
     let findings = Findings::new();
     let uninit = InitError::new(RelocatableQueue::<u64>::new_uninit(5)).into_uninit();
-    check_capacity(&findings, uninit.init(rt.alloc()), 5);
-    let uninit = <UninitQueue<u8> as RelocatableContainer<Global>>::new_uninit(6);
-    check_capacity(&findings, uninit.init(rt.alloc()), 6);
-    check_capacity(
+    let five: &[Row<u64>] = &[(Capacity, Number(5))];
+    check_tables(
         &findings,
-        UninitQueue::<u8>::new_uninit(7).init(rt.alloc()),
-        7,
+        uninit.init(rt.alloc()),
+        &[five],
+        "returned by an error",
     );
+    let uninit = <UninitQueue<u8> as RelocatableContainer<Global>>::new_uninit(6);
+    let six: &[Row<u8>] = &[(Capacity, Number(6))];
+    check_tables(&findings, uninit.init(rt.alloc()), &[six], "by the trait");
+    let made = UninitQueue::<u8>::new_uninit(7).init(rt.alloc());
+    let seven: &[Row<u8>] = &[(Capacity, Number(7))];
+    check_tables(&findings, made, &[seven], "by the type");
     findings.verdict()
 }
 
 /// Replaces the front item of a queue of capacity 2.
 fn check_replaced<S: Table<u64>>(findings: &Findings, queue: &mut MetaQueue<u64, S>, kind: &str) {
     findings.expect_same(replace_front(queue, 1), None, kind);
-    check_rows(
-        findings,
-        queue,
-        &[(Push(2), Bool(true)), (Push(3), Bool(true))],
-        kind,
-    );
+    let pushes = [(Push(2), Bool(true)), (Push(3), Bool(true))];
+    check_rows(findings, queue, &pushes, kind);
     findings.expect_same(replace_front(queue, 4), Some(2), kind);
-    check_rows(
-        findings,
-        queue,
-        &[(Pop, Value(4)), (Pop, Value(3)), (Pop, Reply::None)],
-        kind,
-    );
+    let pops = [(Pop, Value(4)), (Pop, Value(3)), (Pop, Reply::None)];
+    check_rows(findings, queue, &pops, kind);
 }
 
 #[test]
@@ -236,10 +196,6 @@ fn replaced_front_items() -> Result<(), Fail> {
     let findings = Findings::new();
     check_replaced(&findings, &mut FixedSizeQueue::<u64, 2>::new(), "fixed");
     let table = CountedPuts::new(InlineTable::<u64, 2>::new());
-    check_replaced(
-        &findings,
-        &mut MetaQueue::from_table(table),
-        "over an own table",
-    );
+    check_replaced(&findings, &mut MetaQueue::from_table(table), "an own table");
     findings.verdict()
 }

@@ -1,15 +1,14 @@
 //! Iterators over queues: the order of the items wherever the front item lies, walks that stop early, and which items
 //! are dropped with an iterator.
-use crate::function_tests::check_text;
 use crate::iter_tests::Step::{Back, Left, Next};
 use crate::own_table::CountedPuts;
-use crate::rows::{Row, made};
+use crate::rows::Row;
 use crate::turning::TURNS;
 use ix_cells::{InlineTable, RelocatableContainer, Table};
 use ix_maps::{FixedSizeQueue, MetaQueue, Queue, RelocatableQueue};
 use std::alloc::{AllocError, Global};
 use std::test::Fail;
-use test_support::{Findings, Noted, Notes, check_rows};
+use test_support::{Findings, Noted, Notes, check_rows, check_text, made};
 
 /// A call of an iterator and its result.
 enum Step {
@@ -23,8 +22,8 @@ enum Step {
 /// The items of a queue of capacity 3, and steps of an iterator over it.
 type Walk<'a> = (&'a [u64], &'a [Step]);
 
-/// Walks that every iterator can go.
-const FORWARD: &[Walk] = &[
+/// Walks over a queue, of which an iterator by value goes the steps up to the first from the back.
+const WALKS: &[Walk] = &[
     (&[], &[Left(0), Next(None), Next(None), Left(0)]),
     (&[4], &[Left(1), Next(Some(4)), Left(0), Next(None)]),
     (
@@ -47,10 +46,6 @@ const FORWARD: &[Walk] = &[
     ),
     (&[4, 5, 6], &[Next(Some(4)), Next(Some(5))]),
     (&[4, 5, 6], &[]),
-];
-
-/// Walks that take items from the back too.
-const FROM_BOTH_ENDS: &[Walk] = &[
     (&[], &[Back(None), Next(None), Left(0)]),
     (&[4], &[Back(Some(4)), Left(0), Back(None), Next(None)]),
     (
@@ -95,13 +90,13 @@ fn walk<S: Table<u64>>(findings: &Findings, queue: &MetaQueue<u64, S>, steps: &[
     }
 }
 
-/// Takes the steps, none of which is from the back, and drops what is left of the queue.
+/// Takes the steps up to the first from the back, and drops what is left of the queue.
 fn walk_by_value<S: Table<u64>>(findings: &Findings, queue: MetaQueue<u64, S>, steps: &[Step]) {
     let mut iter = queue.into_iter();
     for (number, step) in steps.iter().enumerate() {
         match step {
             Next(item) => findings.expect_same_at(iter.next(), *item, number, "next by value"),
-            Back(_) => findings.miss("no step is from the back"),
+            Back(_) => return,
             Left(left) => {
                 findings.expect_same_at(iter.len(), *left, number, "len by value");
                 findings.expect_same_at(iter.size_hint(), (*left, Some(*left)), number, "hint");
@@ -127,53 +122,41 @@ fn fill<S: Table<u64>>(
     }
 }
 
-/// Goes the walk over a queue whose making did not fail, twice; and once more by value, if `is_forward`.
+/// Goes the walk over a queue whose making did not fail, twice, and once more by value.
 fn check_made<S: Table<u64>, E: Drop>(
     findings: &Findings,
     made: Result<MetaQueue<u64, S>, E>,
     turn: &[Row<u64>],
     (items, steps): &Walk,
-    is_forward: bool,
 ) {
     match made {
         Ok(mut queue) => {
             fill(findings, &mut queue, turn, items);
             walk(findings, &queue, steps);
             walk(findings, &queue, steps);
-            if is_forward {
-                walk_by_value(findings, queue, steps);
-            }
+            walk_by_value(findings, queue, steps);
         }
         Err(_) => findings.miss("there is memory"),
     }
 }
 
 /// Goes the walk over a queue of each kind.
-fn check_walk(
-    findings: &Findings,
-    alloc: Global,
-    turn: &[Row<u64>],
-    example: &Walk,
-    is_forward: bool,
-) {
+fn check_walk(findings: &Findings, alloc: Global, turn: &[Row<u64>], example: &Walk) {
     let fixed = made(FixedSizeQueue::<u64, 3>::new());
-    check_made(findings, fixed, turn, example, is_forward);
-    check_made(findings, Queue::new(alloc, 3), turn, example, is_forward);
+    check_made(findings, fixed, turn, example);
+    check_made(findings, Queue::new(alloc, 3), turn, example);
     let relocatable = RelocatableQueue::<u64, Global>::new_uninit(3).init(alloc);
-    check_made(findings, relocatable, turn, example, is_forward);
+    check_made(findings, relocatable, turn, example);
     let own = MetaQueue::from_table(CountedPuts::new(InlineTable::<u64, 3>::new()));
-    check_made(findings, made(own), turn, example, is_forward);
+    check_made(findings, made(own), turn, example);
 }
 
 #[test]
 fn walks(rt: HostRuntime) -> Result<(), Fail> {
     let findings = Findings::new();
     for (turn, _) in TURNS {
-        for example in FORWARD {
-            check_walk(&findings, rt.alloc(), turn, example, true);
-        }
-        for example in FROM_BOTH_ENDS {
-            check_walk(&findings, rt.alloc(), turn, example, false);
+        for example in WALKS {
+            check_walk(&findings, rt.alloc(), turn, example);
         }
     }
     findings.verdict()
@@ -184,8 +167,8 @@ fn capacity_0(rt: HostRuntime) -> Result<(), Fail> {
     let findings = Findings::new();
     let none: Walk = (&[7], &[Left(0), Next(None), Left(0)]);
     let fixed = made(FixedSizeQueue::<u64, 0>::new());
-    check_made(&findings, fixed, &[], &none, true);
-    check_made(&findings, Queue::new(rt.alloc(), 0), &[], &none, true);
+    check_made(&findings, fixed, &[], &none);
+    check_made(&findings, Queue::new(rt.alloc(), 0), &[], &none);
     findings.verdict()
 }
 

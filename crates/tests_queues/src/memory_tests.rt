@@ -1,47 +1,44 @@
-//! Queues for which there is not enough memory, at each of their allocations: nothing stays allocated.
-use crate::rows::made;
+//! Queues for which there is not enough memory, at each of their allocations: nothing stays allocated. Where there is memory,
+//! none is refused.
 use bumpalo::Bump;
-use ix_cells::{RelocatableContainer, Table};
-use ix_maps::{MetaQueue, Queue, UninitQueue};
+use ix_cells::RelocatableContainer;
+use ix_commands::QueueCommand::{Capacity, Len, Push};
+use ix_commands::Reply::{Bool, Number};
+use ix_maps::{Queue, UninitQueue};
 use linked_list_allocator::LocalHeap;
-use std::alloc::{Allocator, Global};
+use std::alloc::Allocator;
 use std::test::Fail;
-use test_support::{Findings, check_drawn_sizes, check_makings};
+use test_support::{
+    Findings, MAKINGS, Making, check_drawn_sizes, check_makings, made, read_again, read_with,
+};
 
-/// Checks a queue whose making is refused or did not fail, and returns how many bytes of the heap are in use with it: it
-/// is empty, and an item can be appended unless the capacity is 0.
-fn used_with<S: Table<u64>, E: Drop>(
+/// Makes a queue, and returns what `read` returns then, or `None` if the making is refused. It is empty, and an item can be
+/// appended unless the capacity is 0. A value that the first of `memories` refuses can be
+/// initialised from the second.
+fn read_made<A: Allocator + Copy, B: Allocator + Copy, F: Fn() -> usize>(
     findings: &Findings,
-    heap: &LocalHeap,
-    queue: Result<MetaQueue<u64, S>, E>,
+    making: Making,
+    memories: (A, B),
     capacity: usize,
-) -> Option<usize> {
-    let Ok(mut queue) = queue else {
-        return None;
-    };
-    let found = (queue.capacity(), queue.len(), queue.push(7));
-    findings.expect_same(found, (capacity, 0, capacity > 0), "an empty queue");
-    Some(heap.used())
-}
-
-/// Checks a making in two steps, as [`used_with`] does. A refused value can be initialised from `ample`, which has enough
-/// memory.
-fn used_in_two_steps(
-    findings: &Findings,
-    heap: &LocalHeap,
-    ample: Global,
-    capacity: usize,
-) -> Option<usize> {
-    let used = heap.used();
-    match UninitQueue::<u64>::new_uninit(capacity).init(heap) {
-        Ok(queue) => used_with(findings, heap, made(queue), capacity),
-        Err(error) => {
-            findings.expect_same(heap.used(), used, "bytes in use after a refusal");
-            let again = error.into_uninit().init(ample);
-            let is_made = used_with(findings, heap, again, capacity).is_some();
-            findings.expect(is_made, "from ample memory");
-            None
-        }
+    read: F,
+) -> Option<usize>
+    requires { F.IsAlwaysCallable read }
+{
+    let (alloc, ample) = memories;
+    let rows = [
+        (Capacity, Number(capacity)),
+        (Len, Number(0)),
+        (Push(7u64), Bool(capacity > 0)),
+    ];
+    match making {
+        Making::New => read_with(findings, Queue::new(alloc, capacity), &rows, &read),
+        Making::Init => match UninitQueue::<u64>::new_uninit(capacity).init(alloc) {
+            Ok(queue) => read_with(findings, made(queue), &rows, &read),
+            Err(error) => {
+                let again = error.into_uninit().init(ample);
+                read_again(findings, again, capacity, &rows, &read)
+            }
+        },
     }
 }
 
@@ -57,75 +54,51 @@ const SIZES: &[(usize, u16)] = &[
 ];
 
 #[test]
-fn makings_refused(rt: HostRuntime) -> Result<(), Fail> {
+fn each_making(rt: HostRuntime) -> Result<(), Fail> {
     let findings = Findings::new();
     let alloc = rt.alloc();
-    check_makings(
-        &findings,
-        alloc,
-        SIZES,
-        "`new`",
-        |heap: &LocalHeap, capacity| {
-            used_with(&findings, heap, Queue::new(heap, capacity), capacity)
-        },
-    );
-    check_makings(
-        &findings,
-        alloc,
-        SIZES,
-        "`init`",
-        |heap: &LocalHeap, capacity| { used_in_two_steps(&findings, heap, alloc, capacity) },
-    );
+    for (making, name) in MAKINGS {
+        check_makings(&findings, alloc, SIZES, name, |heap: &LocalHeap, n| {
+            read_made(&findings, *making, (heap, alloc), n, || heap.used())
+        });
+        check_drawn_sizes(&findings, 200, name, |n| {
+            read_made(&findings, *making, (alloc, alloc), n, || 0).is_some()
+        });
+    }
     findings.verdict()
 }
 
-/// Checks makings of queues of more numbers than any memory has.
-fn check_past_all_memory<A: Allocator + Copy>(findings: &Findings, alloc: A, capacity: usize) {
-    let refused = Queue::<u64, A>::new(alloc, capacity).is_err();
-    findings.expect(refused, "`new` refuses");
-    match UninitQueue::<u64>::new_uninit(capacity).init(alloc) {
-        Ok(_queue) => findings.miss("`init` refuses"),
-        Err(error) => {
-            let again = error.into_uninit().init(alloc);
-            findings.expect(again.is_err(), "the capacity is kept");
+/// Checks makings of queues for which neither memory is enough.
+fn check_refused<A: Allocator + Copy, B: Allocator + Copy>(
+    findings: &Findings,
+    memories: (A, B),
+    capacities: &[usize],
+) {
+    for (making, name) in MAKINGS {
+        for capacity in capacities {
+            let made = read_made(findings, *making, memories, *capacity, || 0);
+            findings.expect_at(made.is_none(), *capacity, name);
         }
     }
 }
 
-/// Checks makings that fail; `heap` has 64 bytes.
-fn check_too_little(findings: &Findings, alloc: Global, heap: &LocalHeap) {
-    let bump = Bump::new(alloc);
-    for capacity in &[usize::MAX, usize::MAX / 8, usize::MAX / 16 + 1] {
-        check_past_all_memory(findings, alloc, *capacity);
-        check_past_all_memory(findings, &bump, *capacity);
-        check_past_all_memory(findings, heap, *capacity);
-    }
-    let is_refused = used_with(findings, heap, Queue::new(heap, 1000), 1000).is_none();
-    findings.expect(is_refused, "`new` with 64 bytes");
-    let is_refused = used_in_two_steps(findings, heap, alloc, 1000).is_none();
-    findings.expect(is_refused, "`init` with 64 bytes");
-    findings.expect_same(heap.used(), 0, "bytes in use after all");
-}
+/// Capacities for which no memory is enough.
+const PAST_ALL: &[usize] = &[usize::MAX, usize::MAX / 8, usize::MAX / 16 + 1];
 
 #[test]
 fn too_little_memory(rt: HostRuntime) -> Result<(), Fail> {
     let findings = Findings::new();
-    match LocalHeap::new(rt.alloc(), 64) {
-        Ok(heap) => check_too_little(&findings, rt.alloc(), &heap),
+    let alloc = rt.alloc();
+    let bump = Bump::new(alloc);
+    check_refused(&findings, (alloc, alloc), PAST_ALL);
+    check_refused(&findings, (&bump, &bump), PAST_ALL);
+    match LocalHeap::new(alloc, 64) {
+        Ok(heap) => {
+            check_refused(&findings, (&heap, &heap), PAST_ALL);
+            check_refused(&findings, (&heap, alloc), &[1000]);
+            findings.expect_same(heap.used(), 0, "bytes in use after all");
+        }
         Err(_) => findings.miss("a heap"),
     }
-    findings.verdict()
-}
-
-#[test]
-fn ample_memory(rt: HostRuntime) -> Result<(), Fail> {
-    let findings = Findings::new();
-    let alloc = rt.alloc();
-    check_drawn_sizes(&findings, 200, "`new`", |capacity| {
-        Queue::<u64, Global>::new(alloc, capacity).is_ok()
-    });
-    check_drawn_sizes(&findings, 200, "`init`", |capacity| {
-        UninitQueue::<u64>::new_uninit(capacity).init(alloc).is_ok()
-    });
     findings.verdict()
 }

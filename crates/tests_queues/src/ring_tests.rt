@@ -5,7 +5,7 @@ use ix_commands::QueueCommand::{At, Clear, Len, Over, Peek, Pop, Push, Set};
 use ix_commands::Reply::{self, Bool, Done, Number, Value};
 use ix_maps::{FixedSizeQueue, Queue};
 use std::test::Fail;
-use test_support::{Findings, check_rows, check_tables};
+use test_support::{Findings, check_tables, made};
 
 const OVERFLOWS: &[Row<u64>] = &[
     (Push(1), Bool(true)),
@@ -86,10 +86,14 @@ const OF_SIZE_ZERO: &[Row<()>] = &[
 #[test]
 fn items_of_size_zero(rt: HostRuntime) -> Result<(), Fail> {
     let findings = Findings::new();
-    let mut fixed = FixedSizeQueue::<(), 3>::new();
-    check_rows(&findings, &mut fixed, OF_SIZE_ZERO, "fixed");
-    let allocated = Queue::<()>::new(rt.alloc(), 3);
-    check_tables(&findings, allocated, &[OF_SIZE_ZERO], "allocated");
+    let fixed = made(FixedSizeQueue::<(), 3>::new());
+    check_tables(&findings, fixed, &[OF_SIZE_ZERO], "fixed");
+    check_tables(
+        &findings,
+        Queue::<()>::new(rt.alloc(), 3),
+        &[OF_SIZE_ZERO],
+        "allocated",
+    );
     findings.verdict()
 }
 

@@ -5,16 +5,11 @@ use crate::own_table::CountedPuts;
 use ix_cells::{InlineTable, RelocatableContainer};
 use ix_commands::{QueueCommand, Reply};
 use ix_maps::{FixedSizeQueue, MetaQueue, Queue, RelocatableQueue};
-use std::alloc::{AllocError, Allocator};
-use test_support::{Findings, check_tables};
+use std::alloc::Allocator;
+use test_support::{Findings, check_tables, made};
 
 /// A command of a queue and the reply to it.
 pub type Row<T> = (QueueCommand<T>, Reply<usize, T>);
-
-/// Returns a container whose making can't fail as one whose making did not.
-pub fn made<C>(container: C) -> Result<C, AllocError> {
-    Ok(container)
-}
 
 /// Runs the rows of each table in turn on one queue of each kind. Those that are allocated are allocated from `alloc`.
 pub fn check_kinds<A: Allocator + Copy, const CAPACITY: usize>(

@@ -2,240 +2,127 @@
 use crate::reading_tests::check_reading;
 use ix_maps::SlotMapKey;
 use ix_run::run::{
-    FlatCommand, MAX_LINE_LEN, MAX_NUMBERS, QueueCommand, SlotCommand, TableCommand, TextCommand,
-    VecCommand, read_flat_command, read_queue_command, read_slot_command, read_table_command,
-    read_text_command, read_vec_command,
+    FlatCommand as Flat, MAX_LINE_LEN, MAX_NUMBERS, QueueCommand as Queue, SlotCommand as Slot,
+    TableCommand as Table, TextCommand, VecCommand, read_flat_command, read_queue_command,
+    read_slot_command, read_table_command, read_text_command, read_vec_command,
 };
 use std::test::Fail;
 use test_support::Findings;
 
-const QUEUE_LINES: &[(&str, QueueCommand<u64>)] = &[
-    ("push 0", QueueCommand::Push(0)),
-    ("push 18446744073709551615", QueueCommand::Push(u64::MAX)),
-    ("over 4294967296", QueueCommand::Over(4_294_967_296)),
-    ("pop", QueueCommand::Pop),
-    ("peek", QueueCommand::Peek),
-    ("set 7", QueueCommand::Set(7)),
-    ("at 3", QueueCommand::At(3)),
-    ("clear", QueueCommand::Clear),
-    ("len", QueueCommand::Len),
-    ("capacity", QueueCommand::Capacity),
-    ("empty", QueueCommand::Empty),
-    ("full", QueueCommand::Full),
+const QUEUE_LINES: &[(&str, Queue<u64>)] = &[
+    ("push 0", Queue::Push(0)),
+    ("push 18446744073709551615", Queue::Push(u64::MAX)),
+    ("over 4294967296", Queue::Over(4_294_967_296)),
+    ("pop", Queue::Pop),
+    ("peek", Queue::Peek),
+    ("set 7", Queue::Set(7)),
+    ("at 3", Queue::At(3)),
+    ("clear", Queue::Clear),
+    ("len", Queue::Len),
+    ("capacity", Queue::Capacity),
+    ("empty", Queue::Empty),
+    ("full", Queue::Full),
 ];
 
-const NO_QUEUE_LINES: &[&str] = &[
-    "",
-    " ",
-    "push",
-    "push ",
-    "push  1",
-    "push 1 ",
-    "push 1 2",
-    "push 01",
-    "push +1",
-    "push 18446744073709551616",
-    "push1",
-    "push\t1",
-    "Push 1",
-    " push 1",
-    "pushes 1",
-    "over",
-    "over 00",
-    "pop ",
-    " pop",
-    "POP",
-    "pop 1",
-    "po",
-    "pops",
-    "set 1 2",
-    "at",
-    "clear 0",
-    "show",
-    "insert 0 1",
-    "7",
-    "queue fixed 1",
-];
+const NO_QUEUE_LINES: &str = concat!(
+    "| |push|push |push  1|push 1 |push 1 2|push 01|push +1|push 18446744073709551616|push1|",
+    "push\t1|Push 1| push 1|pushes 1|over|over 00|pop | pop|POP|pop 1|po|pops|set 1 2|at|",
+    "clear 0|show|insert 0 1|7|queue fixed 1",
+);
 
 #[test]
 fn queue_lines() -> Result<(), Fail> {
-    check_reading(
-        |text: &[u8]| read_queue_command(text),
-        QUEUE_LINES,
-        NO_QUEUE_LINES,
-    )
+    let read = |text: &[u8]| read_queue_command(text);
+    check_reading(read, QUEUE_LINES, NO_QUEUE_LINES)
 }
 
-const TABLE_LINES: &[(&str, TableCommand<u64>)] = &[
-    (
-        "insert 18446744073709551615",
-        TableCommand::Insert(u64::MAX),
-    ),
-    ("next", TableCommand::Next),
+const TABLE_LINES: &[(&str, Table<u64>)] = &[
+    ("insert 18446744073709551615", Table::Insert(u64::MAX)),
+    ("next", Table::Next),
     (
         "insert_at 18446744073709551615 2",
-        TableCommand::InsertAt(usize::MAX, 2),
+        Table::InsertAt(usize::MAX, 2),
     ),
-    ("remove 0", TableCommand::Remove(0)),
-    ("get 1", TableCommand::Get(1)),
-    ("set 2 3", TableCommand::Set(2, 3)),
-    ("contains 4", TableCommand::Contains(4)),
-    ("from 5", TableCommand::From(5)),
-    ("len", TableCommand::Len),
-    ("capacity", TableCommand::Capacity),
-    ("empty", TableCommand::Empty),
-    ("full", TableCommand::Full),
+    ("remove 0", Table::Remove(0)),
+    ("get 1", Table::Get(1)),
+    ("set 2 3", Table::Set(2, 3)),
+    ("contains 4", Table::Contains(4)),
+    ("from 5", Table::From(5)),
+    ("len", Table::Len),
+    ("capacity", Table::Capacity),
+    ("empty", Table::Empty),
+    ("full", Table::Full),
 ];
 
-const NO_TABLE_LINES: &[&str] = &[
-    "",
-    "insert",
-    "insert 1 2",
-    "insert_at 1",
-    "insert_at 1 2 3",
-    "insert_at  1 2",
-    "insert_at 1  2",
-    "insert_at 1 2 ",
-    "insert_at 1 18446744073709551616",
-    "insert_at 18446744073709551616 1",
-    "insert_at 01 2",
-    "insert_at 1 02",
-    "insert at 1 2",
-    "next 1",
-    "set 2",
-    "from",
-    "From 5",
-    "pop",
-    "show",
-];
+const NO_TABLE_LINES: &str = concat!(
+    "|insert|insert 1 2|insert_at 1|insert_at 1 2 3|insert_at  1 2|insert_at 1  2|",
+    "insert_at 1 2 |insert_at 1 18446744073709551616|insert_at 18446744073709551616 1|",
+    "insert_at 01 2|insert_at 1 02|insert at 1 2|next 1|set 2|from|From 5|pop|show",
+);
 
 #[test]
 fn table_lines() -> Result<(), Fail> {
-    check_reading(
-        |text: &[u8]| read_table_command(text),
-        TABLE_LINES,
-        NO_TABLE_LINES,
-    )
+    let read = |text: &[u8]| read_table_command(text);
+    check_reading(read, TABLE_LINES, NO_TABLE_LINES)
 }
 
-const NO_SLOT_MAP_LINES: &[&str] = &[
-    "",
-    "get 0",
-    "get 0:",
-    "get :0",
-    "get 0:00",
-    "get 0:4294967296",
-    "get 0: 0",
-    "insert_at 0:0 1",
-    "get",
-    "get ",
-    "get 0:0 1",
-    "get 00:0",
-    "get 0:0:0",
-    "get 0::0",
-    "get :",
-    "get 0:0 ",
-    "get  0:0",
-    "get +0:0",
-    "set 0:0",
-    "set 0:0 01",
-    "set 0 0 1",
-    "remove 0 0",
-    "insert 0:0",
-    "from 0:0",
-    "next 0:0",
-    "gets 0:0",
-    "Get 0:0",
-    " get 0:0",
-    "slot fixed 3",
-    "retired 0",
-    "insert",
-    "insert 1 2",
-    "insert_at 1",
-    "insert_at 1 2 3",
-    "remove",
-    "contains 1",
-    "pop",
-    "show",
-    "clear",
-];
+const NO_SLOT_MAP_LINES: &str = concat!(
+    "|get 0|get 0:|get :0|get 0:00|get 0:4294967296|get 0: 0|insert_at 0:0 1|get|get |",
+    "get 0:0 1|get 00:0|get 0:0:0|get 0::0|get :|get 0:0 |get  0:0|get +0:0|set 0:0|",
+    "set 0:0 01|set 0 0 1|remove 0 0|insert 0:0|from 0:0|next 0:0|gets 0:0|Get 0:0| get 0:0|",
+    "slot fixed 3|retired 0|insert|insert 1 2|insert_at 1|insert_at 1 2 3|remove|contains 1|",
+    "pop|show|clear",
+);
 
 #[test]
 fn slot_lines() -> Result<(), Fail> {
     let first = SlotMapKey::new(0, 0);
     let last = SlotMapKey::new(usize::MAX, u32::MAX);
     let lines = [
-        ("insert 18446744073709551615", SlotCommand::Insert(u64::MAX)),
-        ("next", SlotCommand::Next),
+        ("insert 18446744073709551615", Slot::Insert(u64::MAX)),
+        ("next", Slot::Next),
         (
             "insert_at 18446744073709551615 2",
-            SlotCommand::InsertAt(usize::MAX, 2),
+            Slot::InsertAt(usize::MAX, 2),
         ),
-        ("remove 0:0", SlotCommand::Remove(first)),
-        (
-            "get 18446744073709551615:4294967295",
-            SlotCommand::Get(last),
-        ),
-        ("set 0:0 3", SlotCommand::Set(first, 3)),
+        ("remove 0:0", Slot::Remove(first)),
+        ("get 18446744073709551615:4294967295", Slot::Get(last)),
+        ("set 0:0 3", Slot::Set(first, 3)),
         (
             "set 18446744073709551615:4294967295 18446744073709551615",
-            SlotCommand::Set(last, u64::MAX),
+            Slot::Set(last, u64::MAX),
         ),
-        (
-            "contains 12:34",
-            SlotCommand::Contains(SlotMapKey::new(12, 34)),
-        ),
-        ("from 5", SlotCommand::From(5)),
-        ("retired", SlotCommand::Retired),
-        ("len", SlotCommand::Len),
-        ("capacity", SlotCommand::Capacity),
-        ("empty", SlotCommand::Empty),
-        ("full", SlotCommand::Full),
+        ("contains 12:34", Slot::Contains(SlotMapKey::new(12, 34))),
+        ("from 5", Slot::From(5)),
+        ("retired", Slot::Retired),
+        ("len", Slot::Len),
+        ("capacity", Slot::Capacity),
+        ("empty", Slot::Empty),
+        ("full", Slot::Full),
     ];
-    check_reading(
-        |text: &[u8]| read_slot_command(text),
-        &lines,
-        NO_SLOT_MAP_LINES,
-    )
+    let read = |text: &[u8]| read_slot_command(text);
+    check_reading(read, &lines, NO_SLOT_MAP_LINES)
 }
 
-const FLAT_LINES: &[(&str, FlatCommand<u64, u64>)] = &[
-    (
-        "insert 18446744073709551615 0",
-        FlatCommand::Insert(u64::MAX, 0),
-    ),
-    ("get 1", FlatCommand::Get(1)),
-    ("set 2 3", FlatCommand::Set(2, 3)),
-    ("remove 4", FlatCommand::Remove(4)),
-    ("contains 5", FlatCommand::Contains(5)),
-    ("key 6", FlatCommand::Key(6)),
-    ("len", FlatCommand::Len),
-    ("empty", FlatCommand::Empty),
-    ("full", FlatCommand::Full),
+const FLAT_LINES: &[(&str, Flat<u64, u64>)] = &[
+    ("insert 18446744073709551615 0", Flat::Insert(u64::MAX, 0)),
+    ("get 1", Flat::Get(1)),
+    ("set 2 3", Flat::Set(2, 3)),
+    ("remove 4", Flat::Remove(4)),
+    ("contains 5", Flat::Contains(5)),
+    ("key 6", Flat::Key(6)),
+    ("len", Flat::Len),
+    ("empty", Flat::Empty),
+    ("full", Flat::Full),
 ];
 
-const NO_FLAT_LINES: &[&str] = &[
-    "",
-    "insert 1",
-    "insert 1 2 3",
-    "insert 1 a",
-    "get",
-    "set 2",
-    "key",
-    "keys 0",
-    "capacity",
-    "LEN",
-    "full ",
-    "show",
-];
+const NO_FLAT_LINES: &str =
+    "|insert 1|insert 1 2 3|insert 1 a|get|set 2|key|keys 0|capacity|LEN|full |show";
 
 #[test]
 fn flat_lines() -> Result<(), Fail> {
-    check_reading(
-        |text: &[u8]| read_flat_command(text),
-        FLAT_LINES,
-        NO_FLAT_LINES,
-    )
+    let read = |text: &[u8]| read_flat_command(text);
+    check_reading(read, FLAT_LINES, NO_FLAT_LINES)
 }
 
 /// The name of a command and its numbers, with the length of a list in place of the list.
@@ -294,26 +181,11 @@ const VEC_LINES: &[(&str, Parts)] = &[
     ("full", ("full", 0, 0)),
 ];
 
-const NO_VEC_LINES: &[&str] = &[
-    "",
-    "push",
-    "insert 1",
-    "insert 1 2 3",
-    "extend ",
-    "extend  1",
-    "extend 1 ",
-    "extend 1  2",
-    "extend 1 02",
-    "extend 1 x 2",
-    "extend 1 18446744073709551616",
-    "Extend 1",
-    "resize 3",
-    "pop 0",
-    "set 7",
-    "truncate",
-    "over 1",
-    "show",
-];
+const NO_VEC_LINES: &str = concat!(
+    "|push|insert 1|insert 1 2 3|extend |extend  1|extend 1 |extend 1  2|extend 1 02|",
+    "extend 1 x 2|extend 1 18446744073709551616|Extend 1|resize 3|pop 0|set 7|truncate|",
+    "over 1|show",
+);
 
 #[test]
 fn vec_lines() -> Result<(), Fail> {
@@ -392,40 +264,17 @@ const TEXT_LINES: &[(&str, Parts)] = &[
     ("full", ("full", 0, 0)),
 ];
 
-const NO_TEXT_LINES: &[&str] = &[
-    "",
-    "push",
-    "push 256",
-    "push 1 2",
-    "push a",
-    "append 256",
-    "append 1 256 2",
-    "append 1  2",
-    "append ",
-    "insert 1",
-    "insert 1 256",
-    "insert 1 2 3",
-    "insert_bytes",
-    "insert_bytes 1 256",
-    "insert_bytes 1 2 ",
-    "remove_range 1",
-    "find 256",
-    "rfind 1 01",
-    "strip_prefix 257",
-    "strip_suffix -1",
-    "drop 256",
-    "drop",
-    "pop 1",
+const NO_TEXT_LINES: &str = concat!(
+    "|push|push 256|push 1 2|push a|append 256|append 1 256 2|append 1  2|append |insert 1|",
+    "insert 1 256|insert 1 2 3|insert_bytes|insert_bytes 1 256|insert_bytes 1 2 |",
+    "remove_range 1|find 256|rfind 1 01|strip_prefix 257|strip_suffix -1|drop 256|drop|pop 1|",
     "show",
-];
+);
 
 #[test]
 fn text_lines() -> Result<(), Fail> {
-    check_reading(
-        |text: &[u8]| read_text_parts(text),
-        TEXT_LINES,
-        NO_TEXT_LINES,
-    )
+    let read = |text: &[u8]| read_text_parts(text);
+    check_reading(read, TEXT_LINES, NO_TEXT_LINES)
 }
 
 #[test]

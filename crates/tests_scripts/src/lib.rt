@@ -14,7 +14,6 @@ mod oracle;
 #[cfg(test)]
 mod reading_tests;
 #[cfg(test)]
-#[cfg(test)]
 mod run_tests;
 #[cfg(test)]
 mod script_tests;

@@ -1,4 +1,6 @@
 //! The ring against the plain slow queue: every short list of commands at each small capacity, and random commands.
+ghost use Rattle.std.specs.Prelude.{◌≤◌};
+
 use crate::slow_queue::SlowQueue;
 use ix_cells::Table;
 use ix_commands::QueueCommand::{
@@ -64,38 +66,28 @@ fn check_list<S: Table<u64>>(
     }
 }
 
+/// Runs every list, after each number of turns.
+fn check_lists<const CAPACITY: usize>(findings: &Findings)
+    requires { CAPACITY ≤ 3 }
+{
+    for case in 0..LISTS * 4 {
+        let ring = FixedSizeQueue::<u64, CAPACITY>::new();
+        check_list(
+            findings,
+            ring,
+            SlowQueue::new(CAPACITY),
+            (case / 4, case % 4),
+        );
+    }
+}
+
 #[test]
 fn ring_and_slow_queue_agree() -> Result<(), Fail> {
     let findings = Findings::new();
-    for list in 0..LISTS {
-        for turns in 0..4 {
-            let case = (list, turns);
-            check_list(
-                &findings,
-                FixedSizeQueue::<u64, 0>::new(),
-                SlowQueue::new(0),
-                case,
-            );
-            check_list(
-                &findings,
-                FixedSizeQueue::<u64, 1>::new(),
-                SlowQueue::new(1),
-                case,
-            );
-            check_list(
-                &findings,
-                FixedSizeQueue::<u64, 2>::new(),
-                SlowQueue::new(2),
-                case,
-            );
-            check_list(
-                &findings,
-                FixedSizeQueue::<u64, 3>::new(),
-                SlowQueue::new(3),
-                case,
-            );
-        }
-    }
+    check_lists::<0>(&findings);
+    check_lists::<1>(&findings);
+    check_lists::<2>(&findings);
+    check_lists::<3>(&findings);
     findings.verdict()
 }
 

@@ -50,36 +50,26 @@ fn queues(rt: HostRuntime) -> Result<(), Fail> {
     let findings = Findings::new();
     let alloc = rt.alloc();
     let mut fixed = FixedSizeQueue::<u64, 1>::new();
-    check_run(&findings, alloc, &mut fixed, QUEUE_ROWS, "fixed queue");
+    check_run(&findings, alloc, &mut fixed, QUEUE_ROWS, "fixed");
     check_run(&findings, alloc, &mut fixed, &[], "no command");
     let many = [(QueueCommand::Len, Reply::Number(0)); 200];
     check_run(&findings, alloc, &mut fixed, &many, "200 commands");
     let mut allocated = Queue::<u64>::new(alloc, 1).expect(&rt, "an allocated queue");
-    check_run(
-        &findings,
-        alloc,
-        &mut allocated,
-        QUEUE_ROWS,
-        "allocated queue",
-    );
+    check_run(&findings, alloc, &mut allocated, QUEUE_ROWS, "allocated");
     findings.verdict()
 }
+
+const FULL: Reply<usize, u64> = Reply::Error(InsertWouldExceedCapacity);
 
 /// On a vector of capacity 3.
 const VEC_ROWS: &[(VecCommand<'static, u64>, Reply<usize, u64>)] = &[
     (VecCommand::Extend(&[1, 2]), Reply::Done),
     (VecCommand::Insert(9, 7), Reply::Error(OutOfBounds)),
-    (
-        VecCommand::Resize(4, 0),
-        Reply::Error(InsertWouldExceedCapacity),
-    ),
+    (VecCommand::Resize(4, 0), FULL),
     (VecCommand::Resize(3, 5), Reply::Done),
     (VecCommand::At(2), Reply::Value(5)),
-    (VecCommand::Push(8), Reply::Error(InsertWouldExceedCapacity)),
-    (
-        VecCommand::Extend(&[8]),
-        Reply::Error(InsertWouldExceedCapacity),
-    ),
+    (VecCommand::Push(8), FULL),
+    (VecCommand::Extend(&[8]), FULL),
     (VecCommand::Full, Reply::Bool(true)),
     (VecCommand::Truncate(9), Reply::Done),
     (VecCommand::Remove(0), Reply::Value(1)),
@@ -102,24 +92,12 @@ fn vectors(rt: HostRuntime) -> Result<(), Fail> {
     let findings = Findings::new();
     let alloc = rt.alloc();
     let mut fixed = StaticVec::<u64, 3>::new();
-    check_run(&findings, alloc, &mut fixed, VEC_ROWS, "fixed vector");
+    check_run(&findings, alloc, &mut fixed, VEC_ROWS, "fixed");
     let mut allocated = PolymorphicVec::<u64>::new(alloc, 3).expect(&rt, "an allocated vector");
-    check_run(
-        &findings,
-        alloc,
-        &mut allocated,
-        VEC_ROWS,
-        "allocated vector",
-    );
+    check_run(&findings, alloc, &mut allocated, VEC_ROWS, "allocated");
     let uninit = UninitVec::<u64>::new_uninit(3);
     let mut relocatable = uninit.init(alloc).expect(&rt, "a relocatable vector");
-    check_run(
-        &findings,
-        alloc,
-        &mut relocatable,
-        VEC_ROWS,
-        "relocatable vector",
-    );
+    check_run(&findings, alloc, &mut relocatable, VEC_ROWS, "relocatable");
     findings.verdict()
 }
 
@@ -144,15 +122,9 @@ fn slot_tables(rt: HostRuntime) -> Result<(), Fail> {
     let findings = Findings::new();
     let alloc = rt.alloc();
     let mut fixed = FixedSizeSlotTable::<u64, 3>::new();
-    check_run(&findings, alloc, &mut fixed, TABLE_ROWS, "fixed slot table");
+    check_run(&findings, alloc, &mut fixed, TABLE_ROWS, "fixed");
     let mut allocated = SlotTable::<u64>::new(alloc, 3).expect(&rt, "an allocated slot table");
-    check_run(
-        &findings,
-        alloc,
-        &mut allocated,
-        TABLE_ROWS,
-        "allocated slot table",
-    );
+    check_run(&findings, alloc, &mut allocated, TABLE_ROWS, "allocated");
     findings.verdict()
 }
 
@@ -181,15 +153,9 @@ fn flat_maps(rt: HostRuntime) -> Result<(), Fail> {
     let findings = Findings::new();
     let alloc = rt.alloc();
     let mut fixed = FixedSizeFlatMap::<u64, u64, 1>::new();
-    check_run(&findings, alloc, &mut fixed, FLAT_ROWS, "fixed flat map");
+    check_run(&findings, alloc, &mut fixed, FLAT_ROWS, "fixed");
     let mut allocated = FlatMap::<u64, u64>::new(alloc, 1).expect(&rt, "an allocated flat map");
-    check_run(
-        &findings,
-        alloc,
-        &mut allocated,
-        FLAT_ROWS,
-        "allocated flat map",
-    );
+    check_run(&findings, alloc, &mut allocated, FLAT_ROWS, "allocated");
     findings.verdict()
 }
 
@@ -213,46 +179,27 @@ fn named_runs(rt: HostRuntime) -> Result<(), Fail> {
     let alloc = rt.alloc();
     let commands = [QueueCommand::Push(7), QueueCommand::Pop];
     let found = run_queue(alloc, &mut FixedSizeQueue::<u64, 1>::new(), &commands);
-    expect_two(
-        &findings,
-        found,
-        [Reply::Bool(true), Reply::Value(7)],
-        "run_queue",
-    );
+    let wanted = [Reply::Bool(true), Reply::Value(7)];
+    expect_two(&findings, found, wanted, "run_queue");
     let commands = [VecCommand::Push(7), VecCommand::Pop];
     let found = run_vec(alloc, &mut StaticVec::<u64, 1>::new(), &commands);
     expect_two(&findings, found, [Reply::Done, Reply::Value(7)], "run_vec");
     let commands = [TextCommand::Push(97), TextCommand::Pop];
     let found = run_text(alloc, &mut StaticString::<1>::new(), &commands);
-    expect_two(
-        &findings,
-        found,
-        [Reply::Done, Reply::Value(97)],
-        "run_text",
-    );
+    let wanted = [Reply::Done, Reply::Value(97)];
+    expect_two(&findings, found, wanted, "run_text");
     let commands = [TableCommand::Insert(7), TableCommand::Remove(0)];
     let found = run_table(alloc, &mut FixedSizeSlotTable::<u64, 1>::new(), &commands);
-    expect_two(
-        &findings,
-        found,
-        [Reply::Key(0), Reply::Value(7)],
-        "run_table",
-    );
+    let wanted = [Reply::Key(0), Reply::Value(7)];
+    expect_two(&findings, found, wanted, "run_table");
     let key = SlotMapKey::new(0, 0);
     let commands = [SlotCommand::Insert(7), SlotCommand::Remove(key)];
     let found = run_slot(alloc, &mut FixedSizeSlotMap::<u64, 1>::new(), &commands);
-    expect_two(
-        &findings,
-        found,
-        [Reply::Key(key), Reply::Value(7)],
-        "run_slot",
-    );
+    let wanted = [Reply::Key(key), Reply::Value(7)];
+    expect_two(&findings, found, wanted, "run_slot");
     let commands = [FlatCommand::Insert(1, 7), FlatCommand::Remove(1)];
-    let found = run_flat(
-        alloc,
-        &mut FixedSizeFlatMap::<u64, u64, 1>::new(),
-        &commands,
-    );
+    let mut map = FixedSizeFlatMap::<u64, u64, 1>::new();
+    let found = run_flat(alloc, &mut map, &commands);
     expect_two(&findings, found, [Reply::Done, Reply::Value(7)], "run_flat");
     findings.verdict()
 }

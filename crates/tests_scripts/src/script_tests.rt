@@ -22,29 +22,15 @@ const OUTPUT: &[u8] = b"ready\ntrue\nfalse\nsome 123\nsome 456\nnone\n";
 /// A script and its output.
 pub type Example = (&'static [u8], &'static [u8]);
 
-const WORKED: &[Example] = &[
-    (INPUT, OUTPUT),
-    (
-        b"push 1\nqueue fixed 2\nqueue fixed 3\npush 01\npush 18446744073709551615\npush 18446744073709551616\nshow",
-        b"?\n?\nready\n?\ntrue\n?\n18446744073709551615\n",
-    ),
-    (b"", b""),
-    (
-        b"queue fixed 0\npush 1\nover 2\npop\nshow\n",
-        b"ready\nfalse\nsome 2\nnone\n-\n",
-    ),
-    (
-        b"queue fixed 3\npush 10\npush 20\npush 0\nover 40\nshow\n",
-        b"ready\ntrue\ntrue\ntrue\nsome 10\n20 0 40\n",
-    ),
-    (
-        b"queue fixed 1\npush 18446744073709551615\nover 0\npop",
-        b"ready\ntrue\nsome 18446744073709551615\nsome 0\n",
-    ),
-    (
-        b"queue fixed 8\nover 7\nshow\npop\nshow\n",
-        b"ready\nnone\n7\nsome 7\n-\n",
-    ),
+/// Scripts and their outputs, with `=>` between them.
+const WORKED: &[&str] = &[
+    "push 1\nqueue fixed 2\nqueue fixed 3\npush 01\npush 18446744073709551615\npush 18446744073709551616\nshow=>?\n?\nready\n?\ntrue\n?\n18446744073709551615\n",
+    "=>",
+    "queue fixed 0\npush 1\nover 2\npop\nshow\n=>ready\nfalse\nsome 2\nnone\n-\n",
+    "queue fixed 3\npush 10\npush 20\npush 0\nover 40\nshow\n=>ready\ntrue\ntrue\ntrue\nsome 10\n20 0 40\n",
+    "queue fixed 1\npush 18446744073709551615\nover 0\npop=>ready\ntrue\nsome 18446744073709551615\nsome 0\n",
+    "queue fixed 8\nover 7\nshow\npop\nshow\n=>ready\nnone\n7\nsome 7\n-\n",
+    "queue fixed 1=>ready\n",
 ];
 
 const BAD_INPUT: &[Example] = &[
@@ -54,7 +40,6 @@ const BAD_INPUT: &[Example] = &[
     (b"\x00", b"?\n"),
     (b"queue fixed 1\r\n", b"?\n"),
     (b"queue fixed 1\r", b"?\n"),
-    (b"queue fixed 1", b"ready\n"),
     (
         b"queue fixed 1\nqueue fixed 1\n\n\npop\n",
         b"ready\n?\n?\n?\nnone\n",
@@ -79,12 +64,23 @@ pub fn check_output(findings: &Findings, alloc: Global, input: &[u8], output: &[
     findings.expect_same_at(writer.as_slice(), output, case, "the output");
 }
 
+/// Runs the examples, each a script and its output, with `=>` between them.
+pub fn check_examples(findings: &Findings, alloc: Global, examples: &[&str]) {
+    for (case, example) in examples.iter().enumerate() {
+        match example.split_once("=>") {
+            Some((input, output)) => {
+                check_output(findings, alloc, input.as_bytes(), output.as_bytes(), case);
+            }
+            None => findings.miss(example),
+        }
+    }
+}
+
 #[test]
 fn examples(rt: HostRuntime) -> Result<(), Fail> {
     let findings = Findings::new();
-    for (i, (input, output)) in WORKED.iter().enumerate() {
-        check_output(&findings, rt.alloc(), input, output, i);
-    }
+    check_examples(&findings, rt.alloc(), WORKED);
+    check_output(&findings, rt.alloc(), INPUT, OUTPUT, 0);
     for (i, (input, output)) in BAD_INPUT.iter().enumerate() {
         check_output(&findings, rt.alloc(), input, output, i);
     }
@@ -107,17 +103,19 @@ fn with_run(
     Ok(bytes)
 }
 
-/// As `check_output`. There was memory for the script.
-fn check_made(
+/// As `check_output`. There was memory for the script and its output.
+pub fn check_both(
     findings: &Findings,
     alloc: Global,
     input: Result<Vec<u8>, AllocError>,
-    output: &[u8],
+    output: Result<Vec<u8>, AllocError>,
     case: usize,
 ) {
-    match input {
-        Ok(input) => check_output(findings, alloc, input.as_slice(), output, case),
-        Err(AllocError) => findings.miss("there is memory"),
+    match (input, output) {
+        (Ok(input), Ok(output)) => {
+            check_output(findings, alloc, input.as_slice(), output.as_slice(), case);
+        }
+        _ => findings.miss("there is memory"),
     }
 }
 
@@ -148,7 +146,8 @@ fn long_lines(rt: HostRuntime) -> Result<(), Fail> {
     for count in LONG_COUNTS {
         for (before, byte, after, output) in LONG_LINES {
             let input = with_run(rt.alloc(), before, *byte, *count, after);
-            check_made(&findings, rt.alloc(), input, output, *count);
+            let output = Vec::from_slice(rt.alloc(), output);
+            check_both(&findings, rt.alloc(), input, output, *count);
         }
     }
     findings.verdict()
@@ -168,19 +167,6 @@ fn repeated(
     Ok(bytes)
 }
 
-/// As `check_made`. There was memory for the output.
-fn check_both_made(
-    findings: &Findings,
-    alloc: Global,
-    input: Result<Vec<u8>, AllocError>,
-    output: Result<Vec<u8>, AllocError>,
-) {
-    match output {
-        Ok(output) => check_made(findings, alloc, input, output.as_slice(), 0),
-        Err(AllocError) => findings.miss("there is memory"),
-    }
-}
-
 /// So many lines that their replies fill the buffers of a script many times.
 #[test]
 fn many_lines(rt: HostRuntime) -> Result<(), Fail> {
@@ -188,10 +174,10 @@ fn many_lines(rt: HostRuntime) -> Result<(), Fail> {
     let alloc = rt.alloc();
     let input = repeated(alloc, b"queue fixed 1\n", b"over 7\npop\n\nshow\n", 10_000);
     let output = repeated(alloc, b"ready\n", b"none\nsome 7\n?\n-\n", 10_000);
-    check_both_made(&findings, alloc, input, output);
+    check_both(&findings, alloc, input, output, 0);
     let input = repeated(alloc, b"", b"\n", 80_000);
     let output = repeated(alloc, b"", b"?\n", 80_000);
-    check_both_made(&findings, alloc, input, output);
+    check_both(&findings, alloc, input, output, 0);
     findings.verdict()
 }
 

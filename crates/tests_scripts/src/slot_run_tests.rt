@@ -32,13 +32,7 @@ fn generations(rt: HostRuntime) -> Result<(), Fail> {
     let mut fixed = FixedSizeSlotMap::<u64, 3>::new();
     check_run(&findings, alloc, &mut fixed, &rows, "fixed slot map");
     let mut allocated = SlotMap::<u64>::new(alloc, 3).expect(&rt, "an allocated slot map");
-    check_run(
-        &findings,
-        alloc,
-        &mut allocated,
-        &rows,
-        "allocated slot map",
-    );
+    check_run(&findings, alloc, &mut allocated, &rows, "allocated");
     findings.verdict()
 }
 

@@ -2,11 +2,11 @@
 ghost use Rattle.std.specs.Prelude.{◌≡◌, ◌≤◌, length, nat_lt};
 ghost use Rattle.ix_cells.specs.Bounded.{has_room, bounded_new, bounded_push};
 ghost use Rattle.ix_maps.specs.QueueSteps.{queue_overflow, queue_overflow_item, queue_front, queue_pop, queue_set_front};
-ghost use Rattle.ix_commands.specs.Replies.{option_reply};
 
 use arrayvec::ArrayVec;
 use ix_commands::{QueueCommand, Reply, Runs};
 use std::marker::Model;
+use test_support::reply_of_option;
 
 /// A queue whose items are in order in a vector: removing the oldest one moves all others. Its capacity is at most 8.
 #[derive(Drop)]
@@ -91,16 +91,6 @@ impl<T: Default + Drop> SlowQueue<T> {
         }
         self.items.as_mut_slice()[0] = item;
         true
-    }
-}
-
-/// Returns an optional item as a reply.
-fn reply_of_option<T: Copy>(item: Option<T>) -> Reply<usize, T>
-    ensures { result ≡ option_reply item }
-{
-    match item {
-        Some(item) => Reply::Value(item),
-        None => Reply::None,
     }
 }
 

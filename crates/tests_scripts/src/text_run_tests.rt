@@ -8,9 +8,9 @@ use ix_run::run::TextCommand::{
 };
 use ix_run::run::{Reply, TextCommand};
 use ix_string::{PolymorphicString, StaticString, String, UninitString};
-use std::alloc::{AllocError, Global};
+use std::alloc::Global;
 use std::test::Fail;
-use test_support::Findings;
+use test_support::{Findings, made};
 
 /// A command, and the reply to it.
 type Row<'a> = (TextCommand<'a>, Reply<usize, u8>);
@@ -105,24 +105,12 @@ fn check_made<S: String + Drop, E: Drop>(
 fn strings_of_each_kind_run_commands(rt: HostRuntime) -> Result<(), Fail> {
     let findings = Findings::new();
     let alloc = rt.alloc();
-    check_made(
-        &findings,
-        alloc,
-        Ok::<_, AllocError>(StaticString::<0>::new()),
-        "fixed",
-    );
-    check_made(
-        &findings,
-        alloc,
-        Ok::<_, AllocError>(StaticString::<3>::new()),
-        "fixed",
-    );
-    check_made(
-        &findings,
-        alloc,
-        Ok::<_, AllocError>(StaticString::<5>::new()),
-        "fixed",
-    );
+    let fixed = made(StaticString::<0>::new());
+    check_made(&findings, alloc, fixed, "fixed");
+    let fixed = made(StaticString::<3>::new());
+    check_made(&findings, alloc, fixed, "fixed");
+    let fixed = made(StaticString::<5>::new());
+    check_made(&findings, alloc, fixed, "fixed");
     for capacity in [0, 3, 5] {
         let polymorphic = PolymorphicString::new(alloc, capacity);
         check_made(&findings, alloc, polymorphic, "polymorphic");

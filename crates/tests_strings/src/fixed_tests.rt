@@ -1,8 +1,10 @@
 //! Conversions into fixed strings, and the length of a text that ends with a zero.
-use crate::strings::holding;
+ghost use Rattle.std.specs.Prelude.{◌≤◌};
+
+use crate::kinds::holding;
 use ix_string::StringModificationError::{InsertWouldExceedCapacity, InvalidCharacter};
 use ix_string::{StaticString, String, StringModificationError, strnlen};
-use std::str::FromStr;
+use std::str::{FromStr, from_utf8};
 use std::test::Fail;
 use test_support::Findings;
 
@@ -13,16 +15,15 @@ type Made = (&'static [u8], Result<&'static str, StringModificationError>);
 fn check_made<const CAPACITY: usize>(
     findings: &Findings,
     made: Result<StaticString<CAPACITY>, StringModificationError>,
-    wanted: &Result<&str, StringModificationError>,
-    row: usize,
+    (bytes, wanted): &Made,
     call: &str,
 ) {
     match made {
         Ok(string) => {
-            findings.expect_same_at(Ok(string.as_str()), *wanted, row, call);
-            findings.expect_at(string.as_bytes_const() == string.as_bytes(), row, call);
+            findings.expect_same_at(Ok(string.as_str()), *wanted, bytes.len(), call);
+            findings.expect(string.as_bytes_const() == string.as_bytes(), call);
         }
-        Err(error) => findings.expect_same_at(Err(error), *wanted, row, call),
+        Err(error) => findings.expect_same_at(Err(error), *wanted, bytes.len(), call),
     }
 }
 
@@ -37,95 +38,77 @@ const WHOLE: &[Made] = &[
     (&[97, 98, 99], Err(InsertWouldExceedCapacity)),
     (&[97, 0, 98], Err(InsertWouldExceedCapacity)),
     (&[200, 97, 98], Err(InsertWouldExceedCapacity)),
+    (&[0xc3, 0xa9], Err(InvalidCharacter)),
+    (&[97, 0xc3, 0xa9], Err(InsertWouldExceedCapacity)),
 ];
 
-const TEXTS: &[(&str, Result<&str, StringModificationError>)] = &[
-    ("", Ok("")),
-    ("ab", Ok("ab")),
-    ("a\0", Err(InvalidCharacter)),
-    ("é", Err(InvalidCharacter)),
-    ("aé", Err(InsertWouldExceedCapacity)),
-    ("abc", Err(InsertWouldExceedCapacity)),
+/// Of a string with room for no byte.
+const WHOLE_OF_NONE: &[Made] = &[
+    (&[], Ok("")),
+    (&[0], Err(InsertWouldExceedCapacity)),
+    (&[97], Err(InsertWouldExceedCapacity)),
 ];
 
-fn check_whole_texts(findings: &Findings) {
-    for (row, (text, wanted)) in TEXTS.iter().enumerate() {
-        let made = StaticString::<2>::from_str(text);
-        check_made(findings, made, wanted, row, "from_str");
-        let made = StaticString::<2>::try_from(*text);
-        check_made(findings, made, wanted, row, "try_from a text");
+/// Converts the bytes, and the texts that they are.
+fn check_whole<const CAPACITY: usize>(findings: &Findings, rows: &[Made])
+    requires { CAPACITY ≤ 2 }
+{
+    for row in rows {
+        let made = StaticString::<CAPACITY>::from_bytes(row.0);
+        check_made(findings, made, row, "from_bytes");
+        let made = StaticString::<CAPACITY>::try_from(row.0);
+        check_made(findings, made, row, "try_from");
+        if let Ok(text) = from_utf8(row.0) {
+            let made = StaticString::<CAPACITY>::from_str(text);
+            check_made(findings, made, row, "from_str");
+            let made = StaticString::<CAPACITY>::try_from(text);
+            check_made(findings, made, row, "try_from a text");
+        }
     }
-}
-
-fn check_whole_arrays(findings: &Findings) {
-    let full = &Err(InsertWouldExceedCapacity);
-    let made = StaticString::<2>::try_from(b"ab");
-    check_made(findings, made, &Ok("ab"), 0, "try_from");
-    let made = StaticString::<2>::try_from(&[97u8, 0]);
-    check_made(findings, made, &Err(InvalidCharacter), 1, "try_from");
-    let made = StaticString::<2>::try_from(&[97u8, 0, 98]);
-    check_made(findings, made, full, 2, "try_from");
-    let made = StaticString::<0>::from_bytes(b"");
-    check_made(findings, made, &Ok(""), 3, "from_bytes");
-    let made = StaticString::<0>::from_bytes(&[0]);
-    check_made(findings, made, full, 4, "from_bytes");
-    let made = StaticString::<0>::try_from(&[0u8; 0]);
-    check_made(findings, made, &Ok(""), 5, "try_from");
-    let made = StaticString::<0>::from_str("");
-    check_made(findings, made, &Ok(""), 6, "from_str");
-    let made = StaticString::<0>::try_from("a");
-    check_made(findings, made, full, 7, "try_from a text");
-    let made = StaticString::<0>::from_c_str(&[0, 97]);
-    check_made(findings, made, &Ok(""), 8, "from_c_str");
-    let made = StaticString::<0>::from_c_str(&[97, 0]);
-    check_made(findings, made, full, 9, "from_c_str");
 }
 
 #[test]
 fn whole_conversions() -> Result<(), Fail> {
     let findings = Findings::new();
-    for (row, (bytes, wanted)) in WHOLE.iter().enumerate() {
-        let made = StaticString::<2>::from_bytes(bytes);
-        check_made(&findings, made, wanted, row, "from_bytes");
-        let made = StaticString::<2>::try_from(*bytes);
-        check_made(&findings, made, wanted, row, "try_from");
-    }
-    check_whole_texts(&findings);
-    check_whole_arrays(&findings);
+    check_whole::<2>(&findings, WHOLE);
+    check_whole::<0>(&findings, WHOLE_OF_NONE);
+    let made = StaticString::<2>::try_from(b"ab");
+    check_made(&findings, made, &WHOLE[2], "try_from an array");
+    let made = StaticString::<2>::try_from(&[97u8, 0]);
+    check_made(&findings, made, &WHOLE[4], "try_from an array");
+    let made = StaticString::<2>::try_from(&[97u8, 0, 98]);
+    check_made(&findings, made, &WHOLE[8], "try_from an array");
+    let made = StaticString::<0>::try_from(&[0u8; 0]);
+    check_made(&findings, made, &WHOLE[0], "try_from an array");
     findings.verdict()
 }
 
 const CUT: &[Made] = &[
     (&[], Ok("")),
     (&[97], Ok("a")),
+    (&[97, 98, 99], Ok("ab")),
     (&[97, 98, 200], Ok("ab")),
+    (&[97, 98, 0], Ok("ab")),
     (&[97, 98, 0, 99], Ok("ab")),
+    (&[97, 98, 0xc3, 0xa9], Ok("ab")),
+    (&[97, 0xc3, 0xa9], Err(InvalidCharacter)),
     (&[97, 0, 98], Err(InvalidCharacter)),
     (&[200], Err(InvalidCharacter)),
-];
-
-const CUT_TEXTS: &[(&str, Result<&str, StringModificationError>)] = &[
-    ("", Ok("")),
-    ("abc", Ok("ab")),
-    ("abé", Ok("ab")),
-    ("ab\0", Ok("ab")),
-    ("aé", Err(InvalidCharacter)),
-    ("a\0b", Err(InvalidCharacter)),
 ];
 
 #[test]
 fn cut_conversions() -> Result<(), Fail> {
     let findings = Findings::new();
-    for (row, (bytes, wanted)) in CUT.iter().enumerate() {
-        let made = StaticString::<2>::from_bytes_truncated(bytes);
-        check_made(&findings, made, wanted, row, "from_bytes_truncated");
-    }
-    for (row, (text, wanted)) in CUT_TEXTS.iter().enumerate() {
-        let made = StaticString::<2>::from_str_truncated(text);
-        check_made(&findings, made, wanted, row, "from_str_truncated");
+    for row in CUT {
+        let made = StaticString::<2>::from_bytes_truncated(row.0);
+        check_made(&findings, made, row, "from_bytes_truncated");
+        if let Ok(text) = from_utf8(row.0) {
+            let made = StaticString::<2>::from_str_truncated(text);
+            check_made(&findings, made, row, "from_str_truncated");
+        }
     }
     let made = StaticString::<0>::from_bytes_truncated(&[200]);
-    check_made(&findings, made, &Ok(""), 0, "no room");
+    check_made(&findings, made, &CUT[0], "no room");
     findings.verdict()
 }
 
@@ -137,6 +120,12 @@ const ENDED_BY_ZERO: &[Made] = &[
     (&[97, 200, 0], Err(InvalidCharacter)),
     (&[97, 98, 99], Err(InsertWouldExceedCapacity)),
     (&[97, 98, 200, 0], Err(InsertWouldExceedCapacity)),
+];
+
+/// Of a string with room for no byte.
+const ENDED_OF_NONE: &[Made] = &[
+    (&[0, 97], Ok("")),
+    (&[97, 0], Err(InsertWouldExceedCapacity)),
 ];
 
 /// Bytes, how many are searched, and how many of these are before the first zero.
@@ -151,28 +140,28 @@ const LENGTHS: &[(&[u8], usize, usize)] = &[
     (&[], 3, 0),
 ];
 
+fn check_ended<const CAPACITY: usize>(findings: &Findings, rows: &[Made])
+    requires { CAPACITY ≤ 2 }
+{
+    for row in rows {
+        check_made(
+            findings,
+            StaticString::<CAPACITY>::from_c_str(row.0),
+            row,
+            "from_c_str",
+        );
+    }
+}
+
 #[test]
 fn ended_by_zero() -> Result<(), Fail> {
     let findings = Findings::new();
-    for (row, (bytes, wanted)) in ENDED_BY_ZERO.iter().enumerate() {
-        let made = StaticString::<2>::from_c_str(bytes);
-        check_made(&findings, made, wanted, row, "from_c_str");
-    }
+    check_ended::<2>(&findings, ENDED_BY_ZERO);
+    check_ended::<0>(&findings, ENDED_OF_NONE);
     for (row, (bytes, n, length)) in LENGTHS.iter().enumerate() {
         findings.expect_same_at(strnlen(bytes, *n), *length, row, "strnlen");
     }
     findings.verdict()
-}
-
-fn check_unchecked_makings(findings: &Findings) {
-    let whole = StaticString::<5>::from_bytes_unchecked(b"hello");
-    findings.expect_same(whole.as_str(), "hello", "whole");
-    let cut = StaticString::<5>::from_bytes_unchecked_restricted(&[97, 98, 0, 200], 2);
-    findings.expect_same(cut.as_str(), "ab", "cut");
-    let none = StaticString::<5>::from_bytes_unchecked_restricted(&[0, 200], 0);
-    findings.expect_same(none.as_str(), "", "cut to nothing");
-    let none = StaticString::<0>::from_bytes_unchecked(b"");
-    findings.expect(none == StaticString::default(), "no room");
 }
 
 #[test]
@@ -186,6 +175,13 @@ fn other_makings() -> Result<(), Fail> {
     findings.expect_same(string.as_str(), "", "cleared after it was copied");
     findings.expect(string == StaticString::<5>::default(), "the default");
     findings.expect(string == StaticString::<5>::new(), "a new one");
-    check_unchecked_makings(&findings);
+    let whole = StaticString::<5>::from_bytes_unchecked(b"hello");
+    findings.expect_same(whole.as_str(), "hello", "whole");
+    let cut = StaticString::<5>::from_bytes_unchecked_restricted(&[97, 98, 0, 200], 2);
+    findings.expect_same(cut.as_str(), "ab", "cut");
+    let none = StaticString::<5>::from_bytes_unchecked_restricted(&[0, 200], 0);
+    findings.expect_same(none.as_str(), "", "cut to nothing");
+    let none = StaticString::<0>::from_bytes_unchecked(b"");
+    findings.expect(none == StaticString::default(), "no room");
     findings.verdict()
 }

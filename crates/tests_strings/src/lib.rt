@@ -1,29 +1,18 @@
-//! Tests of strings beside their contracts: worked examples at each kind and in each memory, every function once, each
-//! error by name, the printed texts, how comparisons and hashes agree, and code over any string.
+//! Tests of strings beside their contracts: rows of commands at each kind and in each memory, every function once, memory
+//! that is refused, the printed texts, how comparisons and hashes agree, and code over any string.
 #![tactic(auto)]
 
 #[cfg(test)]
-mod calls;
-#[cfg(test)]
-mod capacity_tests;
-#[cfg(test)]
-mod drawn_size_tests;
-#[cfg(test)]
 mod fixed_tests;
 #[cfg(test)]
-mod generic_tests;
-#[cfg(test)]
-mod kind_tests;
+mod kinds;
 #[cfg(test)]
 mod memory_tests;
 #[cfg(test)]
 mod order_tests;
 #[cfg(test)]
-mod refusals;
-#[cfg(test)]
+mod row_tests;
 #[cfg(test)]
 mod rows;
-#[cfg(test)]
-mod strings;
 #[cfg(test)]
 mod text_tests;

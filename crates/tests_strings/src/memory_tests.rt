@@ -1,11 +1,12 @@
-//! Memory that is refused to each call that makes a string: nothing stays allocated.
-use crate::strings::filled;
-use ix_cells::RelocatableContainer;
-use ix_string::{PolymorphicString, String, UninitString};
+//! Memory that is refused to each call that makes a string: nothing stays allocated. Where there is memory, none is refused.
+use ix_cells::{PolymorphicVec, RelocatableContainer, Vector};
+use ix_commands::Reply::{self, Number};
+use ix_commands::TextCommand::{self, Capacity, Len};
+use ix_string::{PolymorphicString, String, UninitString, as_escaped_string};
 use linked_list_allocator::LocalHeap;
-use std::alloc::{AllocError, Global};
+use std::alloc::{AllocError, Allocator, Global};
 use std::test::Fail;
-use test_support::Findings;
+use test_support::{Findings, check_drawn_sizes, check_makings, made, read_again, read_with};
 
 /// A call that makes a string.
 #[derive(Clone, Copy)]
@@ -15,75 +16,15 @@ enum Making {
     TryClone,
 }
 
-/// Calls, with their names.
-const MAKINGS: &[(Making, &str)] = &[
-    (Making::New, "new"),
-    (Making::Init, "init"),
-    (Making::TryClone, "try_clone"),
+/// Calls, with their names and how many strings they make.
+const MAKINGS: &[(Making, &str, u16)] = &[
+    (Making::New, "new", 1),
+    (Making::Init, "init", 1),
+    (Making::TryClone, "try_clone", 2),
 ];
 
-/// The capacity and the length of a string that was made, and the bytes of the heap that were in use beside it.
-type Sizes = (usize, usize, usize);
-
-fn sizes_of<S: String + Drop, E: Drop>(heap: &LocalHeap, made: Result<S, E>) -> Option<Sizes> {
-    match made {
-        Ok(string) => Some((string.capacity(), string.len(), heap.used())),
-        Err(_) => None,
-    }
-}
-
-/// Returns the sizes of a string that is made in two steps. If the second step is refused, the string is made in
-/// `ample`.
-fn init(findings: &Findings, heap: &LocalHeap, ample: Global, capacity: usize) -> Option<Sizes> {
-    match UninitString::new_uninit(capacity).init(heap) {
-        Ok(string) => Some((string.capacity(), string.len(), heap.used())),
-        Err(error) => {
-            let found = error
-                .into_uninit()
-                .init(ample)
-                .map(|string| string.capacity());
-            findings.expect(
-                found.is_ok_and(|n| n == capacity),
-                "the capacity is returned",
-            );
-            None
-        }
-    }
-}
-
-/// Makes the call with no free byte, and then with a block of 16 bytes more, until it succeeds at `needed` blocks.
-fn check_making(
-    findings: &Findings,
-    (making, name): &(Making, &str),
-    (heap, ample): (&LocalHeap, Global),
-    full: &PolymorphicString<&LocalHeap>,
-    needed: usize,
-) {
-    let capacity = full.capacity();
-    for blocks in 0..needed.saturating_add(1) {
-        let left = blocks.wrapping_mul(16);
-        let free = heap.free().saturating_sub(left);
-        let ballast = Vec::<u8, &LocalHeap>::with_capacity(heap, free);
-        let used = heap.used();
-        findings.expect_same_at(heap.free(), left, capacity, "free bytes before a call");
-        let (found, len) = match making {
-            Making::New => (sizes_of(heap, PolymorphicString::new(heap, capacity)), 0),
-            Making::Init => (init(findings, heap, ample, capacity), 0),
-            Making::TryClone => (sizes_of(heap, full.try_clone()), capacity),
-        };
-        let wanted = if blocks < needed {
-            None
-        } else {
-            Some((capacity, len, used.wrapping_add(left)))
-        };
-        findings.expect_same_at(found, wanted, capacity, name);
-        findings.expect_same_at(heap.used(), used, capacity, "nothing stays allocated");
-        drop(ballast);
-    }
-}
-
 /// Capacities, and the blocks of 16 bytes that each takes.
-const CAPACITIES: &[(usize, usize)] = &[
+const CAPACITIES: &[(usize, u16)] = &[
     (0, 0),
     (1, 1),
     (3, 1),
@@ -95,49 +36,101 @@ const CAPACITIES: &[(usize, usize)] = &[
     (255, 16),
 ];
 
-fn check_heap(findings: &Findings, heap: &LocalHeap, ample: Global) {
-    for (capacity, needed) in CAPACITIES {
-        if let Ok(empty) = PolymorphicString::new(heap, *capacity) {
-            let full = filled(empty);
-            for making in MAKINGS {
-                check_making(findings, making, (heap, ample), &full, *needed);
+/// Commands that read the sizes of a string, and the replies to them.
+fn sizes(capacity: usize, len: usize) -> [(TextCommand<'static>, Reply<usize, u8>); 2] {
+    [(Capacity, Number(capacity)), (Len, Number(len))]
+}
+
+/// Makes the call. Returns what `read` returns once the string is made, and `None` if it has not this capacity or was not
+/// made. A clone is one of a string that is half full.
+fn read_made<A: Allocator + Copy, F: Fn() -> usize>(
+    findings: &Findings,
+    making: Making,
+    alloc: A,
+    ample: Global,
+    capacity: usize,
+    read: F,
+) -> Option<usize>
+    requires { F.IsAlwaysCallable read }
+{
+    match making {
+        Making::New => {
+            let made = PolymorphicString::new(alloc, capacity);
+            read_with(findings, made, &sizes(capacity, 0), &read)
+        }
+        Making::Init => match UninitString::new_uninit(capacity).init(alloc) {
+            Ok(string) => read_with(findings, made(string), &sizes(capacity, 0), &read),
+            Err(error) => {
+                let again = error.into_uninit().init(ample);
+                read_again(findings, again, capacity, &sizes(capacity, 0), &read)
             }
-            findings.expect_same(full.len(), *capacity, "the string is as before");
-        } else {
-            findings.miss("there is memory");
+        },
+        Making::TryClone => {
+            let mut string = PolymorphicString::new(alloc, capacity).ok()?;
+            for _ in 0..capacity / 2 {
+                findings.expect_same(string.push(b'a'), Ok(()), "there is room");
+            }
+            let copy = string.try_clone();
+            let is_same = !copy.as_ref().is_ok_and(|copy| *copy != string);
+            findings.expect(is_same, "equal bytes");
+            read_with(findings, copy, &sizes(capacity, capacity / 2), &read)
         }
     }
-    findings.expect_same(heap.used(), 0, "at the end");
 }
 
 #[test]
 fn each_allocation_refused(rt: HostRuntime) -> Result<(), Fail> {
     let findings = Findings::new();
-    match LocalHeap::new(rt.alloc(), 1024) {
-        Ok(heap) => check_heap(&findings, &heap, rt.alloc()),
-        Err(_) => findings.miss("a heap"),
+    let alloc = rt.alloc();
+    for (making, name, strings) in MAKINGS {
+        for (capacity, blocks) in CAPACITIES {
+            let sizes = [(*capacity, blocks.saturating_mul(*strings))];
+            check_makings(&findings, alloc, &sizes, name, |heap: &LocalHeap, n| {
+                read_made(&findings, *making, heap, alloc, n, || heap.used())
+            });
+        }
     }
     findings.verdict()
 }
 
-/// No allocator has memory for `capacity` bytes.
-fn check_past_all_memory(findings: &Findings, alloc: Global, capacity: usize) {
-    let refused = PolymorphicString::<Global>::new(alloc, capacity).err();
-    findings.expect_same(refused, Some(AllocError), "`new` refuses");
-    match UninitString::new_uninit(capacity).init(alloc) {
-        Ok(_string) => findings.miss("`init` refuses"),
-        Err(error) => {
-            let again = error.into_uninit().init(alloc);
-            findings.expect(again.is_err(), "the capacity is returned");
+#[test]
+fn drawn_sizes(rt: HostRuntime) -> Result<(), Fail> {
+    let findings = Findings::new();
+    let alloc = rt.alloc();
+    for (making, name, _) in MAKINGS {
+        check_drawn_sizes(&findings, 100, name, |capacity| {
+            read_made(&findings, *making, alloc, alloc, capacity, || 0).is_some()
+        });
+        for past_all in &[usize::MAX, usize::MAX / 2 + 1] {
+            let made = read_made(&findings, *making, alloc, alloc, *past_all, || 0);
+            findings.expect_at(made.is_none(), *past_all, name);
         }
     }
+    findings.verdict()
+}
+
+/// Returns whether a string of these letters is printed, and a slice of its bytes escaped.
+fn is_printed(alloc: Global, letters: &[u8]) -> Result<bool, AllocError> {
+    let mut string = PolymorphicString::<Global>::new(alloc, letters.len())?;
+    let is_full = string.push_bytes(letters).is_ok() && string.is_full();
+    let escaped = as_escaped_string(alloc, string.as_bytes())?;
+    let displayed = format!(in alloc; "{string}")?;
+    let debugged = format!(in alloc; "{string:?}")?;
+    let is_same = escaped.as_bytes() == letters && displayed.as_bytes() == letters;
+    Ok(is_full && is_same && debugged.len() > letters.len())
 }
 
 #[test]
-fn too_little_memory(rt: HostRuntime) -> Result<(), Fail> {
+fn drawn_texts(rt: HostRuntime) -> Result<(), Fail> {
     let findings = Findings::new();
-    for capacity in &[usize::MAX, usize::MAX / 2 + 1] {
-        check_past_all_memory(&findings, rt.alloc(), *capacity);
+    let alloc = rt.alloc();
+    if let Ok(letters) = PolymorphicVec::from_fn(alloc, 300_000, |_| b'a') {
+        check_drawn_sizes(&findings, 40, "a text", |n| {
+            let letters = &letters.as_slice()[..n.min(letters.len())];
+            is_printed(alloc, letters) == Ok(true)
+        });
+    } else {
+        findings.miss("letters");
     }
     findings.verdict()
 }

@@ -1,12 +1,13 @@
 //! Printed texts.
 use ix_cells::RelocatableContainer;
+use ix_string::StringModificationError::{InsertWouldExceedCapacity, InvalidCharacter};
 use ix_string::{
-    PolymorphicString, StaticString, String, StringModificationError, UninitString,
-    as_escaped_string, escape_byte,
+    PolymorphicString, StaticString, String, UninitString, as_escaped_string, escape_byte,
 };
-use std::alloc::{AllocError, Global};
+use std::alloc::Global;
+use std::fmt::InlineText;
 use std::test::Fail;
-use test_support::Findings;
+use test_support::{Findings, check_display, check_printed, made};
 
 /// One byte of each form that text is escaped in: 9, 10, 13, 1, 31, 127, a backslash and a quote.
 const ALL: &[u8] = b"\t\n\r\x01\x1f\x7f\\\"";
@@ -40,120 +41,77 @@ const ESCAPED_BYTES: &[(u8, &str)] = &[
     (255, "\\xff"),
 ];
 
-fn check_text(findings: &Findings, made: Result<std::string::String, AllocError>, wanted: &str) {
-    match made {
-        Ok(text) => findings.expect_same(text.as_str(), wanted, "a text"),
-        Err(AllocError) => findings.miss(wanted),
-    }
-}
-
 #[test]
 fn escaped_bytes(rt: HostRuntime) -> Result<(), Fail> {
     let findings = Findings::new();
     for (bytes, text) in ESCAPED {
-        check_text(&findings, as_escaped_string(rt.alloc(), bytes), text);
+        let escaped = as_escaped_string(rt.alloc(), bytes);
+        findings.expect(escaped.is_ok_and(|escaped| escaped.as_str() == *text), text);
     }
-    findings.verdict()
-}
-
-#[test]
-fn each_byte_escaped(rt: HostRuntime) -> Result<(), Fail> {
-    let findings = Findings::new();
     for (byte, text) in ESCAPED_BYTES {
         let escaped = escape_byte(*byte);
         findings.expect_same(escaped.as_str(), text, "the text of a byte");
-        check_text(&findings, format!(in rt.alloc(); "{}", escaped), text);
+        check_display(&findings, &escaped, text);
     }
     findings.verdict()
 }
 
-/// Bytes, and what `Display` and `Debug` print of a string that holds them.
-type Shown<'a> = (&'a [u8], &'a str, &'a str);
-
-/// Compares what is printed of the string, if there is memory for it.
+/// Compares what is printed of the string, which was made, once it holds the bytes.
 fn check_made<S: String + Drop, E: Drop>(
     findings: &Findings,
-    alloc: Global,
     made: Result<S, E>,
-    (bytes, displayed, debugged): &Shown,
+    bytes: &[u8],
+    displayed: &str,
+    debugged: &str,
 ) {
     match made {
         Ok(mut string) => {
             findings.expect_same(string.push_bytes(bytes), Ok(()), displayed);
-            check_text(findings, format!(in alloc; "{}", string), displayed);
-            check_text(findings, format!(in alloc; "{:?}", string), debugged);
+            check_printed(findings, &string, displayed, debugged);
         }
         Err(_) => findings.miss("there is memory"),
     }
 }
 
-const FIXED: &[Shown] = &[
-    (b"ab", "ab", "StaticString<5> { len: 2, data: \"ab\" }"),
-    (b"\t", "\\t", "StaticString<5> { len: 1, data: \"\\t\" }"),
-    (b"", "", "StaticString<5> { len: 0, data: \"\" }"),
-];
-
-const FIXED_OF_ALL: Shown = (
-    ALL,
-    ALL_ESCAPED,
-    "StaticString<8> { len: 8, data: \"\\t\\n\\r\\x01\\x1f\u{7f}\\\"\" }",
-);
-
-/// Of strings of capacity 10.
-const RELOCATABLE: &[Shown] = &[
-    (
-        b"ab",
-        "ab",
-        "RelocatableString { capacity: 10, len: 2, data: \"ab\" }",
-    ),
+/// Bytes, what `Display` prints of a string of capacity 8 that holds them, and what `Debug` prints after the name of the
+/// kind and the capacity.
+const SHOWN: &[(&[u8], &str, &str)] = &[
+    (b"ab", "ab", "len: 2, data: \"ab\" }"),
+    (b"a\n", "a\\n", "len: 2, data: \"a\\n\" }"),
+    (b"\t", "\\t", "len: 1, data: \"\\t\" }"),
+    (b"", "", "len: 0, data: \"\" }"),
     (
         ALL,
         ALL_ESCAPED,
-        "RelocatableString { capacity: 10, len: 8, data: \"\\t\\n\\r\\x01\\x1f\u{7f}\\\"\" }",
+        "len: 8, data: \"\\t\\n\\r\\x01\\x1f\u{7f}\\\"\" }",
     ),
 ];
-
-/// Of strings of capacity 10.
-const POLYMORPHIC: &[Shown] = &[
-    (
-        b"a\n",
-        "a\\n",
-        "PolymorphicString { capacity: 10, len: 2, data: \"a\\n\" }",
-    ),
-    (
-        ALL,
-        ALL_ESCAPED,
-        "PolymorphicString { capacity: 10, len: 8, data: \"\\t\\n\\r\\x01\\x1f\u{7f}\\\"\" }",
-    ),
-];
-
-/// The capacity and the length are printed as numbers.
-const EMPTY: Shown = (
-    b"",
-    "",
-    "RelocatableString { capacity: 0, len: 0, data: \"\" }",
-);
 
 #[test]
 fn printed_strings(rt: HostRuntime) -> Result<(), Fail> {
     let findings = Findings::new();
     let alloc = rt.alloc();
-    for shown in FIXED {
-        let fixed = Ok::<_, AllocError>(StaticString::<5>::new());
-        check_made(&findings, alloc, fixed, shown);
+    for (bytes, displayed, end) in SHOWN {
+        let debugged = InlineText::<100>::of(format_args!("StaticString<8> {{ {end}"));
+        let fixed = made(StaticString::<8>::new());
+        check_made(&findings, fixed, bytes, displayed, debugged.as_str());
+        let debugged = InlineText::<100>::of(format_args!(
+            "RelocatableString {{ capacity: 8, {end}"
+        ));
+        let relocatable = UninitString::new_uninit(8).init(alloc);
+        check_made(&findings, relocatable, bytes, displayed, debugged.as_str());
+        let debugged = InlineText::<100>::of(format_args!(
+            "PolymorphicString {{ capacity: 8, {end}"
+        ));
+        let polymorphic = PolymorphicString::new(alloc, 8);
+        check_made(&findings, polymorphic, bytes, displayed, debugged.as_str());
     }
-    let fixed = Ok::<_, AllocError>(StaticString::<8>::new());
-    check_made(&findings, alloc, fixed, &FIXED_OF_ALL);
-    for shown in RELOCATABLE {
-        let made = UninitString::new_uninit(10).init(alloc);
-        check_made(&findings, alloc, made, shown);
-    }
+    let debugged = "StaticString<5> { len: 1, data: \"\\t\" }";
+    let fixed = made(StaticString::<5>::new());
+    check_made(&findings, fixed, b"\t", "\\t", debugged);
     let made = UninitString::new_uninit(0).init(alloc);
-    check_made(&findings, alloc, made, &EMPTY);
-    for shown in POLYMORPHIC {
-        let made = PolymorphicString::new(alloc, 10);
-        check_made(&findings, alloc, made, shown);
-    }
+    let debugged = "RelocatableString { capacity: 0, len: 0, data: \"\" }";
+    check_made(&findings, made, b"", "", debugged);
     findings.verdict()
 }
 
@@ -166,19 +124,7 @@ const LONG: &[&[u8]] = &[
     &[b'e'; 255],
 ];
 
-/// Compares the bytes of a text, if it was made.
-fn check_letters(
-    findings: &Findings,
-    made: Result<std::string::String, AllocError>,
-    letters: &[u8],
-) {
-    match made {
-        Ok(text) => findings.expect_same(text.as_bytes(), letters, "letters"),
-        Err(AllocError) => findings.miss("there is memory for letters"),
-    }
-}
-
-/// Prints the letters from the string, which has room for them.
+/// Prints the letters from the string, which has room for them, and escapes them.
 fn check_long<S: String + Drop, E: Drop>(findings: &Findings, alloc: Global, made: Result<S, E>) {
     let Ok(mut string) = made else {
         return findings.miss("there is memory");
@@ -186,8 +132,13 @@ fn check_long<S: String + Drop, E: Drop>(findings: &Findings, alloc: Global, mad
     for letters in LONG {
         string.clear();
         findings.expect_same(string.push_bytes(letters), Ok(()), "letters");
-        check_letters(findings, format!(in alloc; "{}", string), letters);
-        let debugged = format!(in alloc; "{:?}", string);
+        let displayed = format!(in alloc; "{string}");
+        let is_same = displayed.is_ok_and(|text| text.as_bytes() == *letters);
+        findings.expect(is_same, "by Display");
+        let escaped = as_escaped_string(alloc, letters);
+        let is_same = escaped.is_ok_and(|text| text.as_bytes() == *letters);
+        findings.expect(is_same, "escaped");
+        let debugged = format!(in alloc; "{string:?}");
         findings.expect(debugged.is_ok(), "letters by Debug");
     }
 }
@@ -196,37 +147,20 @@ fn check_long<S: String + Drop, E: Drop>(findings: &Findings, alloc: Global, mad
 fn long_texts(rt: HostRuntime) -> Result<(), Fail> {
     let findings = Findings::new();
     let alloc = rt.alloc();
-    for letters in LONG {
-        check_letters(&findings, as_escaped_string(alloc, letters), letters);
-    }
     let zeros = as_escaped_string(alloc, &[0; 255]).map(|text| text.len());
     findings.expect_same(zeros, Ok(1020), "four bytes for each zero");
-    check_long(
-        &findings,
-        alloc,
-        Ok::<_, AllocError>(StaticString::<255>::new()),
-    );
+    check_long(&findings, alloc, made(StaticString::<255>::new()));
     check_long(&findings, alloc, UninitString::new_uninit(255).init(alloc));
     check_long(&findings, alloc, PolymorphicString::new(alloc, 255));
     findings.verdict()
 }
 
-const ERRORS: &[(StringModificationError, &str)] = &[
-    (
-        StringModificationError::InvalidCharacter,
-        "StringModificationError::InvalidCharacter",
-    ),
-    (
-        StringModificationError::InsertWouldExceedCapacity,
-        "StringModificationError::InsertWouldExceedCapacity",
-    ),
-];
-
 #[test]
-fn error_texts(rt: HostRuntime) -> Result<(), Fail> {
+fn error_texts() -> Result<(), Fail> {
     let findings = Findings::new();
-    for (error, text) in ERRORS {
-        check_text(&findings, format!(in rt.alloc(); "{error}"), text);
-    }
+    let text = "StringModificationError::InvalidCharacter";
+    check_display(&findings, &InvalidCharacter, text);
+    let text = "StringModificationError::InsertWouldExceedCapacity";
+    check_display(&findings, &InsertWouldExceedCapacity, text);
     findings.verdict()
 }

@@ -1,288 +1,201 @@
-//! Every function of vectors and tables, with ample memory.
-ghost use Rattle.ix_cells.specs.Places.{IsVacant};
-
-use crate::calls::Call::{
-    Clear, Extend, ExtendFromIter, ExtendUnchecked, Fill, Insert, Pop, Push, PushUnchecked, Remove,
-    Resize, ResizeWith, Truncate,
-};
-use crate::calls::{Row, check_in, check_kinds};
+//! Functions that no row has: copies, equality, closures that are called in turn, texts, and a vector that is made later.
 use bumpalo::Bump;
-use ix_cells::VectorModificationError::{InsertWouldExceedCapacity, OutOfBounds};
+use ix_cells::VectorModificationError::{InsertWouldExceedCapacity, OutOfBounds, OutOfMemory};
 use ix_cells::{
-    HeapTable, InitError, InlineTable, MAX_FIXED_CAPACITY, PolymorphicVec, RelocatableContainer,
-    RelocatableVec, StaticVec, Table, UninitVec, Vector,
+    InitError, MAX_FIXED_CAPACITY, PolymorphicVec, RelocatableContainer, RelocatableVec, StaticVec,
+    UninitVec, Vector, VectorModificationError,
 };
-use std::alloc::{AllocError, Global};
+use linked_list_allocator::LocalHeap;
+use std::alloc::{AllocError, Allocator, Global};
 use std::cell::Cell;
 use std::test::Fail;
-use test_support::Findings;
+use test_support::{Findings, check_display, check_text, made};
 
-/// Calls of a vector of capacity 3.
-const PUSHES: &[Row<u64>] = &[
-    (Pop, Ok(None), &[]),
-    (Insert(1, 5), Err(OutOfBounds), &[]),
-    (PushUnchecked(2), Ok(None), &[2]),
-    (Push(3), Ok(None), &[2, 3]),
-    (Insert(0, 1), Ok(None), &[1, 2, 3]),
-    (Push(4), Err(InsertWouldExceedCapacity), &[1, 2, 3]),
+/// A length, the result of resizing to it, how often the closure is called, and the items after it.
+type ResizeRow = (
+    usize,
+    Result<(), VectorModificationError>,
+    u64,
+    &'static [u64],
+);
+
+/// Of a vector of capacity 4 and a closure that returns 7, 8 and so on.
+const RESIZES: &[ResizeRow] = &[
+    (5, Err(InsertWouldExceedCapacity), 0, &[1, 2]),
+    (4, Ok(()), 2, &[1, 2, 7, 8]),
+    (1, Ok(()), 0, &[1]),
+    (1, Ok(()), 0, &[1]),
+    (4, Ok(()), 3, &[1, 7, 8, 9]),
+    (0, Ok(()), 0, &[]),
 ];
 
-/// Calls of a vector of capacity 3.
-const REMOVALS: &[Row<u64>] = &[
-    (Push(1), Ok(None), &[1]),
-    (Push(2), Ok(None), &[1, 2]),
-    (Remove(2), Ok(None), &[1, 2]),
-    (Insert(2, 4), Ok(None), &[1, 2, 4]),
-    (Remove(1), Ok(Some(2)), &[1, 4]),
-    (Remove(1), Ok(Some(4)), &[1]),
-    (Fill(8), Ok(None), &[8]),
-    (Pop, Ok(Some(8)), &[]),
-];
-
-/// Calls of a vector of capacity 3.
-const LENGTHS: &[Row<u64>] = &[
-    (Push(1), Ok(None), &[1]),
-    (Push(2), Ok(None), &[1, 2]),
-    (Truncate(9), Ok(None), &[1, 2]),
-    (Truncate(2), Ok(None), &[1, 2]),
-    (Truncate(1), Ok(None), &[1]),
-    (Extend(&[4, 5, 6]), Err(InsertWouldExceedCapacity), &[1]),
-    (Extend(&[4, 5]), Ok(None), &[1, 4, 5]),
-    (Clear, Ok(None), &[]),
-    (ExtendUnchecked(&[9]), Ok(None), &[9]),
-];
-
-/// Calls of a vector of capacity 3.
-const EXTENSIONS: &[Row<u64>] = &[
-    (ExtendFromIter(&[]), Ok(None), &[]),
-    (
-        ExtendFromIter(&[1, 2, 3, 4]),
-        Err(InsertWouldExceedCapacity),
-        &[],
-    ),
-    (ExtendFromIter(&[1]), Ok(None), &[1]),
-    (
-        ExtendFromIter(&[4, 5, 6]),
-        Err(InsertWouldExceedCapacity),
-        &[1],
-    ),
-    (ExtendFromIter(&[4, 5]), Ok(None), &[1, 4, 5]),
-    (ExtendFromIter(&[]), Ok(None), &[1, 4, 5]),
-    (
-        ExtendFromIter(&[6]),
-        Err(InsertWouldExceedCapacity),
-        &[1, 4, 5],
-    ),
-];
-
-/// Calls of a vector of capacity 3.
-const RESIZES: &[Row<u64>] = &[
-    (Push(1), Ok(None), &[1]),
-    (Push(2), Ok(None), &[1, 2]),
-    (Resize(4, 6), Err(InsertWouldExceedCapacity), &[1, 2]),
-    (Resize(2, 6), Ok(None), &[1, 2]),
-    (Resize(1, 6), Ok(None), &[1]),
-    (Resize(3, 6), Ok(None), &[1, 6, 6]),
-    (ResizeWith(2, &[], 7), Ok(None), &[1, 6]),
-    (ResizeWith(2, &[], 7), Ok(None), &[1, 6]),
-    (ResizeWith(3, &[7], 7), Ok(None), &[1, 6, 7]),
-];
-
-/// Calls of a vector of capacity 3.
-const INSERTS: &[Row<u64>] = &[
-    (Push(1), Ok(None), &[1]),
-    (Push(2), Ok(None), &[1, 2]),
-    (Insert(1, 9), Ok(None), &[1, 9, 2]),
-    (Insert(8, 5), Err(InsertWouldExceedCapacity), &[1, 9, 2]),
-];
-
-#[test]
-fn calls_of_each_kind(rt: HostRuntime) -> Result<(), Fail> {
-    let findings = Findings::new();
-    let arena = Bump::new(rt.alloc());
-    for rows in &[PUSHES, REMOVALS, LENGTHS, EXTENSIONS, RESIZES, INSERTS] {
-        let fixed = StaticVec::<u64, 3>::new();
-        check_kinds(&findings, rt.alloc(), fixed, 3, rows);
-        check_in(&findings, &arena, 3, rows);
-    }
-    findings.verdict()
-}
-
-/// The vector grows to each length by a closure that is called once for each item, in order.
-fn check_growth<V: Vector<usize> + Drop, E: Drop>(
-    findings: &Findings,
-    made: Result<V, E>,
-    kind: &str,
-) {
+/// Resizes the vector, which is empty and was made.
+fn check_resizes<V: Vector<u64> + Drop, E: Drop>(findings: &Findings, made: Result<V, E>) {
     let Ok(mut vector) = made else {
-        return findings.miss(kind);
+        return findings.miss("there is memory");
     };
-    for n in &[0, 1, 8, 16, 31, 200] {
-        let (old_len, calls) = (vector.len(), Cell::new(0usize));
-        let resized = vector.resize_with(*n, || {
-            let call = calls.replace(calls.get().wrapping_add(1));
-            old_len.wrapping_add(call)
-        });
-        findings.expect_same((resized, vector.len()), (Ok(()), *n), kind);
-        findings.expect_same(
-            old_len.wrapping_add(calls.get()),
-            *n,
-            "calls of the closure",
-        );
-    }
-    for (i, item) in vector.as_slice().iter().enumerate() {
-        findings.expect_same_at(*item, i, i, kind);
+    findings.expect_same(vector.extend_from_slice(&[1, 2]), Ok(()), "there is room");
+    for (row, (n, result, calls, left)) in RESIZES.iter().enumerate() {
+        let next = Cell::new(7u64);
+        let found = vector.resize_with(*n, || next.replace(next.get().wrapping_add(1)));
+        let made = next.get().wrapping_sub(7);
+        findings.expect_same_at((found, made), (*result, *calls), row, "calls");
+        findings.expect_same_at(vector.as_slice(), *left, row, "the items");
     }
 }
 
 #[test]
-fn growth_by_a_closure(rt: HostRuntime) -> Result<(), Fail> {
+fn closures_of_resize_with(rt: HostRuntime) -> Result<(), Fail> {
     let findings = Findings::new();
-    let fixed = Ok::<_, AllocError>(StaticVec::<usize, 200>::new());
-    check_growth(&findings, fixed, "static");
-    let relocatable = UninitVec::<usize>::new_uninit(200).init(rt.alloc());
-    check_growth(&findings, relocatable, "relocatable");
-    let polymorphic = PolymorphicVec::new(rt.alloc(), 200);
-    check_growth(&findings, polymorphic, "polymorphic");
+    check_resizes(&findings, made(StaticVec::<u64, 4>::new()));
+    check_resizes(&findings, PolymorphicVec::<u64, Global>::new(rt.alloc(), 4));
+    let relocatable = UninitVec::<u64>::new_uninit(4).init(rt.alloc());
+    check_resizes(&findings, relocatable);
     findings.verdict()
 }
 
-/// `made` is an empty vector, which was made.
-fn check_capacity<T: Drop, V: Vector<T> + Drop, E: Drop>(
-    findings: &Findings,
-    made: Result<V, E>,
-    capacity: usize,
-) {
-    match made {
-        Ok(vector) => findings.expect_same(vector.capacity(), capacity, "in two steps"),
-        Err(_) => findings.miss("in two steps"),
-    }
-}
-
-#[test]
-fn two_steps(rt: HostRuntime) -> Result<(), Fail> {
-    let findings = Findings::new();
-    findings.expect_same(StaticVec::<u64, 3>::capacity(), 3, "fixed");
-    findings.expect_same(MAX_FIXED_CAPACITY, 4_294_967_295, "the greatest");
-    let uninit = InitError::new(RelocatableVec::<u64, Global>::new_uninit(5)).into_uninit();
-    check_capacity::<u64, _, _>(&findings, uninit.init(rt.alloc()), 5);
-    let uninit = <UninitVec<u8> as RelocatableContainer<Global>>::new_uninit(6);
-    check_capacity::<u8, _, _>(&findings, uninit.init(rt.alloc()), 6);
-    findings.verdict()
-}
-
-/// Fills two empty vectors and compares them, and once more without the last item of the second one.
-fn check_equality<V: Vector<u64> + PartialEq>(
-    findings: &Findings,
-    one: &mut V,
-    other: &mut V,
-    kind: &str,
-) {
-    for items in &[[1, 2], [1, 3], [3, 2]] {
-        one.clear();
-        other.clear();
-        let filled = (
-            one.extend_from_slice(&[1, 2]),
-            other.extend_from_slice(items),
-        );
-        findings.expect_same(filled, (Ok(()), Ok(())), "there is room");
-        findings.expect_same(*one == *other, *items == [1, 2], kind);
-        other.truncate(1);
-        findings.expect(*one != *other, "a shorter one");
-    }
-}
-
-/// Both vectors were made.
-fn check_made<V: Vector<u64> + PartialEq + Drop, E: Drop>(
+/// Compares vectors of 1 and 2 with others, and with others of one item less.
+fn check_equality<V: Vector<u64> + PartialEq + Drop, E: Drop>(
     findings: &Findings,
     one: Result<V, E>,
     other: Result<V, E>,
     kind: &str,
 ) {
-    if let Ok(mut one) = one {
-        if let Ok(mut other) = other {
-            return check_equality(findings, &mut one, &mut other, kind);
-        }
+    let (Ok(mut one), Ok(mut other)) = (one, other) else {
+        return findings.miss(kind);
+    };
+    findings.expect_same(one.extend_from_slice(&[1, 2]), Ok(()), "there is room");
+    for items in &[[1, 2], [1, 3], [3, 2]] {
+        other.clear();
+        findings.expect_same(other.extend_from_slice(items), Ok(()), "there is room");
+        findings.expect_same(one == other, *items == [1, 2], kind);
+        other.truncate(1);
+        findings.expect(one != other, "a shorter one");
     }
-    findings.miss(kind);
 }
 
 #[test]
 fn equality_is_of_items(rt: HostRuntime) -> Result<(), Fail> {
     let findings = Findings::new();
-    let alloc = rt.alloc();
-    let one = Ok::<_, AllocError>(StaticVec::<u64, 2>::new());
-    check_made(&findings, one, Ok(StaticVec::new()), "static");
-    let one = PolymorphicVec::<u64, Global>::new(alloc, 2);
-    check_made(&findings, one, PolymorphicVec::new(alloc, 5), "polymorphic");
-    let one = UninitVec::<u64>::new_uninit(2).init(alloc);
-    let wider = UninitVec::<u64>::new_uninit(5).init(alloc);
-    check_made(&findings, one, wider, "relocatable");
+    let one = made(StaticVec::<u64, 2>::new());
+    check_equality(&findings, one, made(StaticVec::new()), "static");
+    let one = PolymorphicVec::<u64>::new(rt.alloc(), 2);
+    let wider = PolymorphicVec::new(rt.alloc(), 5);
+    check_equality(&findings, one, wider, "polymorphic");
     findings.verdict()
 }
 
-#[test]
-fn tables_of_an_allocator(rt: HostRuntime) -> Result<(), Fail> {
-    let findings = Findings::new();
-    let Ok(mut table) = HeapTable::<u64, Global>::new(rt.alloc(), 2) else {
-        findings.miss("there is memory");
-        return findings.verdict();
+/// `vector` holds 1 and 2, and its clone is not full.
+fn check_static_clone(findings: &Findings, vector: &StaticVec<u64, 4>) {
+    let Ok(mut copy) = vector.clone() else {
+        return findings.miss("a static clone");
     };
-    findings.expect_same(table.len(), 2, "of an allocator");
-    table.put(1, 7);
-    table.put(0, 6);
-    findings.expect_same(*table.get(0), 6, "of an allocator");
-    *table.get_mut(1) = 8;
-    findings.expect_same(*table.get(1), 8, "of an allocator");
-    findings.expect_same((table.take(1), table.take(0)), (8, 6), "of an allocator");
-    table.put(1, 9);
-    findings.expect_same(table.take(1), 9, "of an allocator");
-    table.end();
-    findings.verdict()
-}
-
-fn check_no_place<S: Table<u64>>(findings: &Findings, table: S)
-    requires { IsVacant (S.places table) }
-{
-    findings.expect_same(table.len(), 0, "no place");
-    table.end();
+    findings.expect_same(copy.as_slice(), &[1, 2], "a static clone");
+    if copy.len() < 4 {
+        let extended = copy.extend_from_slice_unchecked(&[3]);
+        findings.expect_same(extended, Ok(()), "a static clone");
+    }
+    findings.expect_same(copy.as_slice(), &[1, 2, 3], "a static clone");
+    findings.expect_same(vector.as_slice(), &[1, 2], "after the clone's change");
 }
 
 #[test]
-fn tables_of_size_zero(rt: HostRuntime) -> Result<(), Fail> {
+fn static_copies() -> Result<(), Fail> {
     let findings = Findings::new();
-    check_no_place(&findings, InlineTable::<u64, 0>::new());
-    match HeapTable::<u64, Global>::new(rt.alloc(), 0) {
-        Ok(table) => check_no_place(&findings, table),
-        Err(AllocError) => findings.miss("nothing is allocated"),
+    findings.expect_same(StaticVec::<u64, 3>::capacity(), 3, "the capacity");
+    findings.expect_same(MAX_FIXED_CAPACITY, 4_294_967_295, "the greatest");
+    match StaticVec::<u64, 4>::try_from([1, 2].as_slice()) {
+        Ok(vector) => check_static_clone(&findings, &vector),
+        Err(_) => findings.miss("a static copy"),
     }
-    match HeapTable::<(), Global>::new(rt.alloc(), 3) {
-        Ok(mut units) => {
-            findings.expect_same(units.len(), 3, "of size zero");
-            units.put(2, ());
-            findings.expect_same(*units.get(2), (), "of size zero");
-            units.take(2);
-            units.end();
-        }
-        Err(AllocError) => findings.miss("nothing is allocated"),
+    let refused = StaticVec::<u64, 1>::try_from([1, 2].as_slice()).err();
+    findings.expect_same(refused, Some(InsertWouldExceedCapacity), "a static copy");
+    findings.verdict()
+}
+
+fn check_polymorphic_copies<A: Allocator + Copy>(
+    findings: &Findings,
+    alloc: A,
+) -> Result<(), AllocError> {
+    let mut vector = PolymorphicVec::new(alloc, 2)?;
+    findings.expect_same(vector.extend_from_slice(&[1, 2]), Ok(()), "there is room");
+    let copy = vector.try_clone()?;
+    findings.expect_same((copy.as_slice(), copy.capacity()), (&[1, 2], 2), "a clone");
+    findings.expect(copy == vector, "a clone");
+    let squares = PolymorphicVec::from_fn(alloc, 3, |n| (n * n) as u32)?;
+    findings.expect_same(squares.as_slice(), &[0, 1, 4], "squares");
+    findings.expect(squares.is_full(), "squares");
+    check_text(findings, &squares, "[0, 1, 4]");
+    let units = PolymorphicVec::from_fn(alloc, 3, |_| ())?;
+    findings.expect_same(units.try_clone()?.len(), 3, "items of size zero");
+    Ok(())
+}
+
+#[test]
+fn polymorphic_copies(rt: HostRuntime) -> Result<(), Fail> {
+    let findings = Findings::new();
+    let made = check_polymorphic_copies(&findings, rt.alloc());
+    findings.expect_same(made, Ok(()), "there is memory");
+    let made = check_polymorphic_copies(&findings, &Bump::new(rt.alloc()));
+    findings.expect_same(made, Ok(()), "there is memory in an arena");
+    findings.verdict()
+}
+
+/// Makes a vector for which `heap` has too few bytes, and makes it in other memory then.
+fn check_found_later(findings: &Findings, alloc: Global, heap: &LocalHeap) {
+    match UninitVec::<u64>::new_uninit(1000).init(heap) {
+        Ok(_vector) => findings.miss("64 bytes are too few"),
+        Err(error) => match error.into_uninit().init(alloc) {
+            Ok(vector) => {
+                let sizes = (vector.capacity(), vector.len());
+                findings.expect_same(sizes, (1000, 0), "memory is found");
+            }
+            Err(_) => findings.miss("there is memory now"),
+        },
     }
+    findings.expect_same(heap.used(), 0, "memory is found");
+}
+
+#[test]
+fn two_steps(rt: HostRuntime) -> Result<(), Fail> {
+    let findings = Findings::new();
+    match LocalHeap::new(rt.alloc(), 64) {
+        Ok(heap) => check_found_later(&findings, rt.alloc(), &heap),
+        Err(_) => findings.miss("a heap"),
+    }
+    let error = InitError::new(RelocatableVec::<u64, Global>::new_uninit(5));
+    check_text(&findings, &error, "InitError { .. }");
+    check_display(&findings, &error, "memory allocation failed");
+    let uninit = error.into_uninit();
+    check_text(&findings, &uninit, "Uninit { capacity: 5 }");
+    let mut ready = uninit.init(rt.alloc()).expect(&rt, "there is memory");
+    findings.expect_same(ready.capacity(), 5, "in two steps");
+    ready.push(7).expect(&rt, "there is room");
+    let made = PolymorphicVec::from_fn(rt.alloc(), 1, |_| 7);
+    assert_eq!(rt; ready, made.expect(&rt, "there is memory"));
     findings.verdict()
 }
 
 #[test]
-fn inline_tables() -> Result<(), Fail> {
+fn texts() -> Result<(), Fail> {
     let findings = Findings::new();
-    let mut table = InlineTable::<u64, 2>::new();
-    findings.expect_same(table.len(), 2, "inline");
-    table.put(0, 6);
-    table.put(1, 7);
-    *table.get_mut(0) = 8;
-    findings.expect_same((*table.get(0), *table.get(1)), (8, 7), "inline");
-    findings.expect_same((table.take(0), table.take(1)), (8, 7), "inline");
-    table.end();
-    let mut single = InlineTable::<u64, 1>::new();
-    single.put(0, 9);
-    findings.expect_same((single.len(), single.take(0)), (1, 9), "a single place");
-    single.end();
+    check_text(&findings, &StaticVec::<u8, 2>::new(), "[]");
+    check_text(&findings, &StaticVec::<u8, 0>::new(), "[]");
+    match StaticVec::<u8, 4>::try_from([1, 2].as_slice()) {
+        Ok(fixed) => check_text(&findings, &fixed, "[1, 2]"),
+        Err(_) => findings.miss("two fit"),
+    }
+    check_display(
+        &findings,
+        &OutOfBounds,
+        "VectorModificationError::OutOfBounds",
+    );
+    let text = "VectorModificationError::InsertWouldExceedCapacity";
+    check_display(&findings, &InsertWouldExceedCapacity, text);
+    check_display(
+        &findings,
+        &OutOfMemory,
+        "VectorModificationError::OutOfMemory",
+    );
     findings.verdict()
 }

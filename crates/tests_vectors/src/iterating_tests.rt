@@ -1,50 +1,32 @@
 //! Iteration: the items in order from both ends, by value and by reference, and what an iterator drops.
-use crate::iterating_tests::End::{Back, Front};
+use crate::iterating_tests::Taken::{Back, Front};
 use ix_cells::VectorModificationError::InsertWouldExceedCapacity;
-use ix_cells::{PolymorphicVec, RelocatableContainer, StaticVec, UninitVec, Vector};
-use std::alloc::{AllocError, Global};
+use ix_cells::{PolymorphicVec, StaticVec, Vector};
+use std::alloc::Global;
 use std::test::Fail;
-use test_support::{Findings, Noted, Notes};
+use test_support::{Findings, Noted, Notes, made};
 
-/// The end that an item is taken from.
-#[derive(Clone, Copy)]
-enum End {
-    Front,
-    Back,
+/// The end that an item is taken from, and its name, or 0 if there is none.
+enum Taken {
+    Front(u64),
+    Back(u64),
 }
 
-/// The names of items that are taken by value from a vector of the items 1, 2, 3 and 4, each with its end, and 0 for none;
-/// and the names of those that are left, which are dropped with the iterator.
-type TakenRow<'n> = (&'n [(End, u64)], u64);
+/// What is taken by value from a vector of the items 1, 2, 3 and 4, and the names of those that are left, which are dropped
+/// with the iterator.
+type TakenRow<'n> = (&'n [Taken], u64);
 
 const TAKEN: &[TakenRow] = &[
     (&[], 1234),
-    (&[(Front, 1)], 234),
-    (&[(Back, 4)], 123),
-    (&[(Front, 1), (Front, 2), (Front, 3)], 4),
-    (&[(Back, 4), (Front, 1), (Back, 3)], 2),
+    (&[Front(1)], 234),
+    (&[Back(4)], 123),
+    (&[Front(1), Front(2), Front(3)], 4),
+    (&[Back(4), Front(1), Back(3)], 2),
     (
-        &[
-            (Front, 1),
-            (Front, 2),
-            (Front, 3),
-            (Front, 4),
-            (Front, 0),
-            (Back, 0),
-        ],
+        &[Front(1), Front(2), Front(3), Front(4), Front(0), Back(0)],
         0,
     ),
-    (
-        &[
-            (Back, 4),
-            (Back, 3),
-            (Back, 2),
-            (Back, 1),
-            (Back, 0),
-            (Front, 0),
-        ],
-        0,
-    ),
+    (&[Back(4), Back(3), Back(2), Back(1), Back(0), Front(0)], 0),
 ];
 
 /// Takes the items, and drops the iterator.
@@ -59,13 +41,13 @@ fn check_taken<'a, I: DoubleEndedIterator<Item = Noted<'a>> + ExactSizeIterator>
 {
     let (taken, left) = row;
     let mut len = 4usize;
-    for (number, (end, name)) in taken.iter().enumerate() {
+    for (number, item) in taken.iter().enumerate() {
         findings.expect_same_at(iter.len(), len, number, "the number of items");
         let hint = iter.size_hint();
         findings.expect_same_at(hint, (len, Some(len)), number, "the hint");
-        let item = match end {
-            Front => iter.next(),
-            Back => iter.next_back(),
+        let (item, name) = match item {
+            Front(name) => (iter.next(), name),
+            Back(name) => (iter.next_back(), name),
         };
         let found = item.as_ref().map_or(0, |item| item.name);
         findings.expect_same_at(found, *name, number, "the item");
@@ -100,12 +82,8 @@ fn items_are_taken_from_both_ends(rt: HostRuntime) -> Result<(), Fail> {
     let findings = Findings::new();
     let notes = Notes::new(0);
     for row in TAKEN {
-        let fixed = Ok::<_, AllocError>(StaticVec::<Noted, 4>::new());
+        let fixed = made(StaticVec::<Noted, 5>::new());
         if let Some(vector) = filled(&findings, fixed, &notes) {
-            check_taken(&findings, &notes, vector.into_iter(), row);
-        }
-        let relocatable = UninitVec::<Noted>::new_uninit(4).init(rt.alloc());
-        if let Some(vector) = filled(&findings, relocatable, &notes) {
             check_taken(&findings, &notes, vector.into_iter(), row);
         }
         let polymorphic = PolymorphicVec::<Noted, Global>::new(rt.alloc(), 4);
@@ -161,9 +139,7 @@ fn check_references<V: Vector<u64> + Drop, E: Drop>(findings: &Findings, made: R
 #[test]
 fn items_are_lent_in_order(rt: HostRuntime) -> Result<(), Fail> {
     let findings = Findings::new();
-    check_references(&findings, Ok::<_, AllocError>(StaticVec::<u64, 3>::new()));
-    let relocatable = UninitVec::<u64>::new_uninit(3).init(rt.alloc());
-    check_references(&findings, relocatable);
+    check_references(&findings, made(StaticVec::<u64, 3>::new()));
     let polymorphic = PolymorphicVec::<u64, Global>::new(rt.alloc(), 3);
     check_references(&findings, polymorphic);
     findings.verdict()
@@ -234,24 +210,11 @@ fn vectors_of_iterators() -> Result<(), Fail> {
     let findings = Findings::new();
     for (number, (items, is_made)) in MADE.iter().enumerate() {
         let made = StaticVec::<u64, 3>::try_from_iter(items.iter().copied());
-        findings.expect_same_at(made.is_ok(), *is_made, number, "made");
-        match made {
-            Ok(vector) => findings.expect_same_at(vector.as_slice(), items, number, "the items"),
-            Err(error) => {
-                findings.expect_same_at(error, InsertWouldExceedCapacity, number, "the error");
-            }
-        }
+        let is_same = match made {
+            Ok(vector) => *is_made && vector.as_slice() == *items,
+            Err(error) => !*is_made && error == InsertWouldExceedCapacity,
+        };
+        findings.expect_at(is_same, number, "made");
     }
-    findings.verdict()
-}
-
-#[test]
-fn a_refused_vector_drops_its_items() -> Result<(), Fail> {
-    let findings = Findings::new();
-    let notes = Notes::new(0);
-    let items = (1..5u64).map(|name| Noted::new(name, &notes));
-    let refused = StaticVec::<Noted, 2>::try_from_iter(items);
-    findings.expect(refused.is_err(), "refused");
-    findings.expect_same(notes.take_drops(), 321, "three items came");
     findings.verdict()
 }

@@ -1,9 +1,7 @@
-//! Tests of tables and vectors beside their contracts: worked examples, every function, refusals in turn, counts of drops,
-//! clones and calls, and printed texts. And two functions over any vector, as a user of the trait would write them.
+//! Tests of tables and vectors beside their contracts: rows of commands, every function, memory that is refused, counts of
+//! drops, clones and calls, and printed texts. And two functions over any vector, as a user of the trait would write them.
 #![tactic(auto)]
 
-#[cfg(test)]
-mod calls;
 #[cfg(test)]
 mod clone_tests;
 #[cfg(test)]
@@ -11,19 +9,9 @@ mod drop_tests;
 #[cfg(test)]
 mod function_tests;
 #[cfg(test)]
-mod items;
-#[cfg(test)]
 mod iterating_tests;
 #[cfg(test)]
-mod making_tests;
-#[cfg(test)]
-mod noted_calls;
-#[cfg(test)]
-mod printing_tests;
-#[cfg(test)]
-mod raw_slots_tests;
-#[cfg(test)]
-mod refusal_tests;
+mod memory_tests;
 #[cfg(test)]
 mod rolling;
 #[cfg(test)]
@@ -31,6 +19,8 @@ mod rolling_tests;
 #[cfg(test)]
 mod row_tests;
 #[cfg(test)]
+mod rows;
+#[cfg(test)]
 mod shift_tests;
 #[cfg(test)]
-mod small_tests;
+mod table_tests;

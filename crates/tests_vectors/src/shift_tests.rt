@@ -10,42 +10,36 @@ const LENGTHS: &[usize] = &[0, 1, 2, 40, 256, 257, 258, 600];
 /// A number that no item is at first.
 const NEW: u64 = 9_999;
 
-/// Returns `true` if the items are the numbers from 0 on, with `NEW` at `index`.
-fn are_with_new(items: &[u64], index: usize) -> bool {
-    items.iter().enumerate().all(|(i, item)| {
-        if i == index {
-            *item == NEW
-        } else if i < index {
-            *item == i as u64
-        } else {
-            *item == (i - 1) as u64
-        }
-    })
-}
-
-/// Returns `true` if the items are the numbers from 0 on, without `index`.
-fn are_without(items: &[u64], index: usize) -> bool {
-    items.iter().enumerate().all(|(i, item)| {
-        if i < index {
-            *item == i as u64
-        } else {
-            *item == (i as u64).wrapping_add(1)
-        }
-    })
+/// Returns `true` if there are such items, and they are the numbers from `first` on.
+fn are_from(items: Option<&[u64]>, first: usize) -> bool {
+    let is_number = |(i, item): (usize, &u64)| *item == first.wrapping_add(i) as u64;
+    items.is_some_and(|items| items.iter().enumerate().all(is_number))
 }
 
 /// `vector` holds the numbers below `len`, and does so again in the end.
 fn check_at<V: Vector<u64>>(findings: &Findings, vector: &mut V, len: usize, index: usize) {
+    let (item, next) = (index as u64, index.wrapping_add(1));
     findings.expect_same_at(vector.insert(index, NEW), Ok(()), len, "an insertion");
-    findings.expect_at(are_with_new(vector.as_slice(), index), len, "an insertion");
+    let items = vector.as_slice();
+    let is_shifted = are_from(items.get(..index), 0) && are_from(items.get(next..), index);
+    findings.expect_at(is_shifted, len, "an insertion");
     findings.expect_same_at(vector.remove(index), Some(NEW), len, "its removal");
-    findings.expect_at(are_without(vector.as_slice(), len), len, "its removal");
+    findings.expect_at(
+        are_from(vector.as_slice().get(..len), 0),
+        len,
+        "its removal",
+    );
     if index < len {
-        let item = index as u64;
         findings.expect_same_at(vector.remove(index), Some(item), len, "a removal");
-        findings.expect_at(are_without(vector.as_slice(), index), len, "a removal");
+        let items = vector.as_slice();
+        let is_shifted = are_from(items.get(..index), 0) && are_from(items.get(index..), next);
+        findings.expect_at(is_shifted, len, "a removal");
         findings.expect_same_at(vector.insert(index, item), Ok(()), len, "its insertion");
-        findings.expect_at(are_without(vector.as_slice(), len), len, "its insertion");
+        findings.expect_at(
+            are_from(vector.as_slice().get(..len), 0),
+            len,
+            "its insertion",
+        );
     }
 }
 
@@ -53,9 +47,8 @@ fn check_at<V: Vector<u64>>(findings: &Findings, vector: &mut V, len: usize, ind
 fn check_lengths<V: Vector<u64>>(findings: &Findings, vector: &mut V) {
     for len in LENGTHS {
         vector.clear();
-        for i in 0..*len {
-            findings.expect_same_at(vector.push(i as u64), Ok(()), *len, "a push");
-        }
+        let filled = vector.extend_from_iter((0..*len).map(|i| i as u64));
+        findings.expect_same_at(filled, Ok(()), *len, "there is room");
         for index in [0, *len / 2, *len] {
             check_at(findings, vector, *len, index);
         }

@@ -10,7 +10,7 @@ use Rattle.ix_atomic.specs.declared.sequenced.rule.Stage.TheVariants.{Idle, Read
 use Rattle.ix_atomic.specs.History.{Begins, IsEven, IsOdd}
 use Rattle.ix_atomic.specs.Writers.{IsRising}
 use Rattle.ix_atomic.specs.Shares.{AreWithin, units}
-use Rattle.ix_atomic.specs.Words.{words_of}
+use Rattle.ix_atomic.specs.inner.DataWords.{words_of}
 
 -- the bytes are the encoding of the value
 abbrev pub Encodes : {T : Type 0} → (T → Type 0) → (T → List ℕ) → T → List ℕ → Type 0

@@ -5,7 +5,7 @@ use Rattle.atomic_table.specs.Table.{Me, Step}
 use Rattle.ix_atomic.specs.declared.sequenced.rule.SeatView.{SeatView}
 use Rattle.ix_atomic.specs.declared.sequenced.rule.Stage.{Stage}
 use Rattle.ix_atomic.specs.declared.sequenced.rule.Stage.TheVariants.{Idle, Reading, Writing}
-use Rattle.ix_atomic.specs.History.{Begins, IsEven, value_at, Reader}
+use Rattle.ix_atomic.specs.History.{Begins, IsEven, history_value, Reader}
 use Rattle.ix_atomic.specs.Shares.{halved, IsWhole}
 use Rattle.ix_atomic.specs.Writers.{Writer, IsRising, HoldsEach, places_merge}
 use Rattle.ix_atomic.specs.Words.{bytes_of_word}
@@ -80,7 +80,7 @@ module _ {T : Type 0} where
   -- a read that loads its first version again, and that version is even, has loaded a front of the value of that version
   abbrev pub IsFrontOf : (T → List ℕ → Type 0) → List T → ℕ → Stage → Type 0
   IsFrontOf IsEncoding known version Idle = Unit {0}
-  IsFrontOf IsEncoding known version (Reading first loaded) = version ≡ first → IsEven first → (value : T) × (bytes : List ℕ) × IsEncoding value bytes × (value_at known version ≡ Some value) × (loaded ≡ take (length loaded) bytes)
+  IsFrontOf IsEncoding known version (Reading first loaded) = version ≡ first → IsEven first → (value : T) × (bytes : List ℕ) × IsEncoding value bytes × (history_value known version ≡ Some value) × (loaded ≡ take (length loaded) bytes)
   IsFrontOf IsEncoding known version (Writing stored) = Unit {0}
 
 -- a load of the version, as the seat's view shows it

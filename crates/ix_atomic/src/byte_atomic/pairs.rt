@@ -1,6 +1,6 @@
 //! The encodings of two and of three values, one after another, for structs of such fields.
 ghost use Rattle.std.specs.Prelude.{◌≡◌, ◌↔◌, ◌+◌, ◌++◌, length, Some};
-ghost use Rattle.ix_atomic.specs.Encoding.{triple_of};
+ghost use Rattle.ix_atomic.specs.inner.Decoding.{triple_of};
 
 use crate::byte_atomic::AtomicCopy;
 

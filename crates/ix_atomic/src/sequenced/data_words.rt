@@ -1,6 +1,7 @@
 //! The words of a cell's bytes, eight bytes a word, the least byte first.
 ghost use Rattle.std.specs.Prelude.{◌≡◌, ℕ, ◌+◌, ◌-◌, ◌*◌, ◌<◌, min, ◌∷◌, ◌++◌, length, take, drop, slice_index, IfOk};
-ghost use Rattle.ix_atomic.specs.Words.{word_of, bytes_of_word, words_of};
+ghost use Rattle.ix_atomic.specs.Words.{word_of, bytes_of_word};
+ghost use Rattle.ix_atomic.specs.inner.DataWords.{words_of};
 
 use crate::byte_atomic::{pack_word, unpack_word};
 use std::alloc::{AllocError, Allocator};

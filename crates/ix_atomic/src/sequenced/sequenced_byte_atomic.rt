@@ -1,7 +1,7 @@
-//! The cell, its calls, and the walks over its words.
+//! The cell, its calls, and the loops over its words.
 ghost use Rattle.std.specs.Prelude.{◌≡◌, ℕ, ◌+◌, ◌/◌, ◌<◌, ◌≤◌, ◌⊎◌, [], ◌∷◌, ◌++◌, List, All, length, Some, Ok, Err, IsOk, IfOk, IfErr};
 ghost use Rattle.ix_atomic.specs.Words.{word_count};
-ghost use Rattle.ix_atomic.specs.History.{Begins, Loads, LoadsTwice, value_at, last_value, IsEven, IsOdd, data_words, all_words};
+ghost use Rattle.ix_atomic.specs.History.{Begins, Loads, LoadsTwice, history_value, last_value, IsEven, IsOdd, data_words, all_words};
 ghost use Rattle.ix_atomic.specs.Shares.{halved, IsWhole};
 ghost use Rattle.ix_atomic.specs.Writers.{Writes, Refuses, AreOwn, AreApart, HoldsEach, as_reader, places_merge};
 ghost use Rattle.ix_atomic.specs.inner.SequencedRule.{Encodes, parity};
@@ -91,12 +91,9 @@ impl<T: AtomicCopy, const SIZE: usize> SequencedByteAtomic<T, SIZE> {
     /// Loads the version, exchanges it for the next odd one, stores the bytes of `value`, and then the next even version. Does not
     /// try again.
     ///
-    /// # Errors
-    ///
-    /// - [`TryWriteError::Busy`] if the version is odd, or is no longer the loaded one when it would be exchanged.
-    /// - [`TryWriteError::VersionsUsedUp`] at version 18,446,744,073,709,551,614, the greatest even number of a `u64`.
-    ///
-    /// Then the cell is left unchanged.
+    /// Returns [`TryWriteError::Busy`] if the version is odd, or is no longer the loaded one when it would be exchanged, and
+    /// [`TryWriteError::VersionsUsedUp`] at version 18,446,744,073,709,551,614, the greatest even number of a `u64`. Then the cell
+    /// is left unchanged.
     pub fn try_write(&self, seat: &mut WriterSeat<T>, value: T) -> Result<(), TryWriteError>
         requires { seat.old.cell ≡ self.now }
         ensures cell { seat.new.cell ≡ seat.old.cell }
@@ -132,14 +129,12 @@ impl<T: AtomicCopy, const SIZE: usize> SequencedByteAtomic<T, SIZE> {
     ///
     /// Loads the version, each word of bytes, and the version again, each of them once, whatever it finds.
     ///
-    /// # Errors
-    ///
-    /// [`Interfered`] with both versions, unless they are equal and even. The cell does not change.
+    /// Returns [`Interfered`] with both versions, unless they are equal and even. The cell does not change.
     pub fn try_read(&self, seat: &mut ReaderSeat<T>) -> Result<T, Interfered>
         requires { seat.old.cell ≡ self.now }
         ensures value { IfOk result
             (λ value. (version : ℕ) × LoadsTwice seat.old seat.new version version
-            × IsEven version × (value_at seat.new.known version ≡ Some value)) }
+            × IsEven version × (history_value seat.new.known version ≡ Some value)) }
         ensures interfered { IfErr result
             (λ error. LoadsTwice seat.old seat.new error.first error.last
             × (IsOdd error.first ⊎ (error.first < error.last))) }
@@ -171,14 +166,12 @@ impl<T: AtomicCopy, const SIZE: usize> SequencedByteAtomic<T, SIZE> {
     /// Returns the value of the version that it loads before and after the bytes, as [`try_read`](Self::try_read) does: none from
     /// before the last one that was written with this seat. O(`SIZE`).
     ///
-    /// # Errors
-    ///
-    /// [`Interfered`] with both versions, unless they are equal and even. The cell does not change.
+    /// Returns [`Interfered`] with both versions, unless they are equal and even. The cell does not change.
     pub fn read_own(&self, seat: &mut WriterSeat<T>) -> Result<T, Interfered>
         requires { seat.old.cell ≡ self.now }
         ensures value { IfOk result (λ value. (version : ℕ)
             × LoadsTwice (as_reader seat.old) (as_reader seat.new) version version
-            × IsEven version × (value_at seat.new.known version ≡ Some value)) }
+            × IsEven version × (history_value seat.new.known version ≡ Some value)) }
         ensures interfered { IfErr result (λ error.
             LoadsTwice (as_reader seat.old) (as_reader seat.new) error.first error.last
             × (IsOdd error.first ⊎ (error.first < error.last))) }
@@ -280,9 +273,7 @@ impl<T: AtomicCopy, const SIZE: usize> SequencedByteAtomic<T, SIZE> {
 
     /// Deallocates the cell and returns the last finished value. O(`SIZE`).
     ///
-    /// # Errors
-    ///
-    /// [`Unfinished`] if a write is in progress: the version is odd. The cell is deallocated then too.
+    /// Returns [`Unfinished`] if a write is in progress: the version is odd. The cell is deallocated then too.
     pub fn close(self, seat: WriterSeat<T>) -> Result<T, Unfinished>
         requires { seat.cell ≡ self }
         ensures value { IfOk result (λ value. (history : List T) × Begins seat.known history
@@ -303,10 +294,7 @@ impl<T: AtomicCopy, const SIZE: usize> SequencedByteAtomic<T, SIZE> {
         if is_unfinished {
             return Err(Unfinished);
         }
-        match T::decode(&bytes) {
-            Some(value) => Ok(value),
-            None => unreachable!(),
-        }
+        Ok(decoded(&bytes))
     }
 
     /// Loads the version, each word of bytes, and the version again. Returns the value, unless the versions differ or are odd.
@@ -317,7 +305,7 @@ impl<T: AtomicCopy, const SIZE: usize> SequencedByteAtomic<T, SIZE> {
         ensures value { IfOk result (λ value. (version : ℕ)
             × LoadsTwice (reader_of seat.old.table_id seat.old.me.0)
             (reader_of seat.new.table_id seat.new.me.0) version version
-            × IsEven version × (value_at seat.new.me.0.known version ≡ Some value)) }
+            × IsEven version × (history_value seat.new.me.0.known version ≡ Some value)) }
         ensures interfered { IfErr result (λ error.
             LoadsTwice (reader_of seat.old.table_id seat.old.me.0)
             (reader_of seat.new.table_id seat.new.me.0) error.first error.last
@@ -336,7 +324,7 @@ impl<T: AtomicCopy, const SIZE: usize> SequencedByteAtomic<T, SIZE> {
         self.load_bytes(seat, first, &mut bytes);
         let last = shared.load::<LoadVersion>(seat, 0);
         if first == last && first % 2 == 0 {
-            value_read(&bytes)
+            Ok(decoded(&bytes))
         } else {
             interfered(first, last)
         }
@@ -393,8 +381,7 @@ impl<T: AtomicCopy, const SIZE: usize> SequencedByteAtomic<T, SIZE> {
 fn interfered<T>(first: u64, last: u64) -> Result<T, Interfered>
     ensures { result ≡ Err (record { first = first; last = last }) }
 {
-    let error = interfered_by_a_call(first, last);
-    error
+    interfered_out_of_line(first, last)
 }
 
 /// Does what [`interfered`] does.
@@ -402,21 +389,21 @@ fn interfered<T>(first: u64, last: u64) -> Result<T, Interfered>
 // begin, and a load of the whole then waits for the stores of the parts.
 #[cold]
 #[inline(never)]
-fn interfered_by_a_call<T>(first: u64, last: u64) -> Result<T, Interfered>
+fn interfered_out_of_line<T>(first: u64, last: u64) -> Result<T, Interfered>
     ensures { result ≡ Err (record { first = first; last = last }) }
 {
     Err(Interfered { first, last })
 }
 
-/// Returns the value whose encoding is `bytes`, as a read does.
+/// Returns the value whose encoding is `bytes`.
 #[inline]
-fn value_read<T: AtomicCopy>(bytes: &[u8]) -> Result<T, Interfered>
+fn decoded<T: AtomicCopy>(bytes: &[u8]) -> T
     requires len { length bytes.now ≡ T.SIZE }
     requires bytes { (value : T) × Encodes T.is_value T.encoding value bytes.now }
-    ensures { (value : T) → Encodes T.is_value T.encoding value bytes.now → result ≡ Ok value }
+    ensures { (value : T) → Encodes T.is_value T.encoding value bytes.now → result ≡ value }
 {
     match T::decode(bytes) {
-        Some(value) => Ok(value),
+        Some(value) => value,
         None => unreachable!(),
     }
 }

@@ -1,7 +1,7 @@
 //! The item in one place of a table.
 ghost use Rattle.std.specs.Prelude.{◌≡◌, Some, IsSome};
 ghost use Rattle.std.specs.Borrow.{sem};
-ghost use Rattle.ix_cells.specs.Lending.{option_lends};
+ghost use Rattle.ix_cells.specs.inner.HeldItem.{option_lends};
 
 /// Returns a reference to the item in a held place.
 #[inline]

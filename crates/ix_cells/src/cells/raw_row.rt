@@ -2,16 +2,14 @@
 //!
 //! A row is three values: where it begins ([`RowPtr`]), the ownership of its places ([`RowOwner`]) and the right to
 //! deallocate its block ([`RowGrant`]). The last two have no bytes.
-ghost use Rattle.std.specs.Prelude.{◌≡◌, ℕ, ◌-◌, ◌*◌, ◌<◌, ◌++◌, List, length, take, drop, Option, Some, None, slice_set, IfOk, ⊤};
+ghost use Rattle.std.specs.Prelude.{◌≡◌, ℕ, ◌*◌, List, Option, Some, None, slice_set, IfOk, ⊤};
 ghost use Rattle.std.specs.Borrow.{ftrue, sem};
 ghost use Rattle.std.specs.Mem.{type_size};
 ghost use Rattle.std.specs.Vec.Ownership.{FitsInBlock};
-ghost use Rattle.core.specs.Mem.Slots.{slots_items, slots_len, IsFull, Refills};
 ghost use denote.RawPtr.{Ptr};
 ghost use Rattle.ix_cells.specs.Places.{place_at, IsEmptyAt, IsHeldAt, IsVacant};
 ghost use Rattle.ix_cells.specs.inner.RawMemory.{row_owns, row_shares, grant_owns};
 
-use core::slots::{Slots, with_slots};
 use std::alloc::{AllocError, Allocator};
 use std::marker::{Model, PhantomData, Send, Sync};
 use std::mem::{align_of, size_of};
@@ -196,52 +194,4 @@ impl<T> RowOwner<T> {
     {
         let RowOwner { mark: _ } = self;
     }
-}
-
-/// Moves the last item of a slice to its front, and each other item one place to the right. Moves each item once.
-#[inline]
-pub(crate) fn last_to_front<T>(items: &mut [T])
-    requires { 0 < length items.old }
-    ensures { items.new ≡ drop (length items.old - 1) items.old
-        ++ take (length items.old - 1) items.old }
-{
-    // SAFETY: every place holds an item again once the last one is put.
-    unsafe { with_slots(items, &mut (), (), put_last_first) }
-}
-
-#[inline]
-fn put_last_first<T>(mut row: Slots<T>, state: (), _argument: ()) -> (Slots<T>, (), ())
-    requires { IsFull row × (0 < slots_len row) }
-    ensures row { Refills row result.0 }
-    ensures items { slots_items result.0 ≡ drop (slots_len row - 1) (slots_items row)
-        ++ take (slots_len row - 1) (slots_items row) }
-{
-    let end = row.len() - 1;
-    let last = row.take(end);
-    row.move_within(0, 1, end);
-    row.put(0, last);
-    (row, state, ())
-}
-
-/// Moves the first item of a slice to its end, and each other item one place to the left. Moves each item once.
-#[inline]
-pub(crate) fn first_to_end<T>(items: &mut [T])
-    requires { 0 < length items.old }
-    ensures { items.new ≡ drop 1 items.old ++ take 1 items.old }
-{
-    // SAFETY: every place holds an item again once the first one is put.
-    unsafe { with_slots(items, &mut (), (), put_first_last) }
-}
-
-#[inline]
-fn put_first_last<T>(mut row: Slots<T>, state: (), _argument: ()) -> (Slots<T>, (), ())
-    requires { IsFull row × (0 < slots_len row) }
-    ensures row { Refills row result.0 }
-    ensures items { slots_items result.0 ≡ drop 1 (slots_items row) ++ take 1 (slots_items row) }
-{
-    let end = row.len() - 1;
-    let first = row.take(0);
-    row.move_within(1, 0, end);
-    row.put(end, first);
-    (row, state, ())
 }

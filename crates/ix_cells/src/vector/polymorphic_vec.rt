@@ -51,8 +51,9 @@ impl<T, A: Allocator> Model for PolymorphicVec<T, A> {
 impl<T: Drop, A: Allocator> PolymorphicVec<T, A> {
     /// Creates an empty vector with capacity for `capacity` items.
     ///
-    /// O(1), with at most one allocation. Returns `AllocError` if that fails, as it does if the items would take more
-    /// than `isize::MAX` bytes or, at size zero, be more than `isize::MAX`.
+    /// O(1), with at most one allocation. Returns `AllocError` if it fails, and if the items would take more than
+    /// `isize::MAX` bytes or, at size zero, be more than `isize::MAX`; nothing stays allocated then. A capacity of 0 needs
+    /// no memory.
     pub fn new(alloc: A, capacity: usize) -> Result<Self, AllocError>
         ensures value { IfOk result (λ vector. vector ≡ bounded_new capacity) }
         ensures memory { capacity ≡ 0 → IsOk result }

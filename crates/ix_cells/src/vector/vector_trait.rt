@@ -10,8 +10,8 @@ ghost use Rattle.ix_cells.specs.Iterating.{YieldsRefsTo, YieldsMutRefsTo, vec_le
 ghost use Rattle.ix_cells.specs.VectorSteps.{HasRoomFor, LacksRoomFor, vec_push_result, vec_insert, vec_insert_result, vec_remove, vec_pop, vec_last, vec_truncate, vec_extend, vec_resize, vec_resize_result};
 ghost use Rattle.ix_cells.specs.declared.vector.modification_error.VectorModificationError.TheVariants.{InsertWouldExceedCapacity, OutOfMemory};
 
-use crate::cells::raw_row::{first_to_end, last_to_front};
 use crate::vector::VectorModificationError;
+use crate::vector::shifts::{first_to_end, last_to_front};
 use std::alloc::AllocError;
 use std::slice;
 

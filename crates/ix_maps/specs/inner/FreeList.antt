@@ -1,5 +1,5 @@
 -- How a slot table keeps its free keys: a doubly linked list in a table of links. No clause of a public call cites this.
-use Rattle.std.specs.Prelude.{◌≡◌, ℕ, zero, suc, ◌+◌, ◌-◌, ◌<◌, ◌≤◌, List, [], ◌∷◌, length, nat_eq, count_by, if◌then◌else◌, Option, Some, None, IsSome, true, false, option_map, unwrap_or, ◌⊎◌, slice_set}
+use Rattle.std.specs.Prelude.{◌≡◌, ℕ, zero, suc, ◌+◌, ◌-◌, ◌<◌, ◌≤◌, List, [], ◌∷◌, ◌++◌, length, nat_eq, count_by, if◌then◌else◌, Option, Some, None, IsSome, true, false, option_map, unwrap_or, ◌⊎◌, slice_set}
 use Rattle.ix_cells.specs.Places.{place_at, IsHeldAt}
 use Rattle.ix_maps.specs.declared.slottable.link.Link.{Link}
 use Rattle.ix_maps.specs.SlotState.{SlotState, held_count, IsWellFormed}
@@ -86,6 +86,11 @@ module _ {T : Type 0} where
   -- what contracts see of the two tables and the first free key
   abbrev pub slots_of : List (Option T) → List (Option Link) → ℕ → SlotState T
   slots_of values links first = record { values = values; free = links_keys_from (length links) links first }
+
+  -- if the key is in the free list, this is its link: free, between the key before it and the one after it
+  abbrev pub IsLinkOf : Link → SlotState T → ℕ → Type 0
+  IsLinkOf link s key =
+      (before after : List ℕ) → s.free ≡ before ++ key ∷ after → link ≡ free_link (last_or no_key before) (first_or after no_key)
 
   -- a free key has no value, and a held key has one
   abbrev pub MatchesLink : Option T → Option Link → Type 0

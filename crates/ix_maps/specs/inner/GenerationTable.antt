@@ -5,8 +5,8 @@ use Rattle.ix_maps.specs.SlotState.{value_at}
 use Rattle.ix_maps.specs.Generations.{GenerationState, SlotMapState, greatest_generation, held_entries}
 
 -- the numbers in the places of a table
-abbrev pub numbers_in : List (Option ℕ) → List ℕ
-numbers_in places = map (λ place. unwrap_or place 0) places
+abbrev pub generations_in : List (Option ℕ) → List ℕ
+generations_in places = map (λ place. unwrap_or place 0) places
 
 -- every place holds a number
 abbrev pub HasEachPlace : List (Option ℕ) → Type 0

@@ -33,6 +33,6 @@ module _ {T : Type 0} where
     pub counted : len ≡ length (row_items (ring_row row start))
 
   -- the indexes of a range of the items: the first one, and the one after the last
-  pub record IsRangeOf (items : List T) (index end : ℕ) : Type 0 where
+  pub record IsIndexRange (items : List T) (index end : ℕ) : Type 0 where
     pub rises : index ≤ end
     pub within : end ≤ length items

@@ -55,8 +55,8 @@ pub type FlatMap<K, V, A = Global> = MetaFlatMap<
 impl<K: Eq + Drop, V: Drop, A: Allocator + Copy> FlatMap<K, V, A> {
     /// Creates an empty map with room for `capacity` keys.
     ///
-    /// O(`capacity`). Allocates from `alloc` at most four times. Returns `AllocError` if there is not enough memory; what
-    /// was allocated is deallocated then. A capacity of 0 needs no memory.
+    /// O(`capacity`), with at most four allocations. Returns `AllocError` if one fails, and if the pairs would take more
+    /// than `isize::MAX` bytes; nothing stays allocated then. A capacity of 0 needs no memory.
     pub fn new(alloc: A, capacity: usize) -> Result<Self, AllocError>
         ensures value { IfOk result (λ map. map ≡ slot_new capacity) }
         ensures memory { capacity ≡ 0 → IsOk result }
@@ -110,7 +110,7 @@ impl<K: Eq + Drop, V: Drop, A: Allocator + Copy> ContainerFamily<A> for FlatMapF
 
     ghost is_empty_with = { λ capacity map. map ≡ slot_new capacity };
 
-    /// Creates an empty map with room for `capacity` keys. O(`capacity`). Allocates from `alloc` at most four times.
+    /// Creates an empty map with room for `capacity` keys. O(`capacity`), with at most four allocations.
     #[inline]
     fn with_capacity(alloc: A, capacity: usize) -> Result<RelocatableFlatMap<K, V, A>, AllocError> {
         FlatMap::new(alloc, capacity)

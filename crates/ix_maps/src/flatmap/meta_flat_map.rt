@@ -278,6 +278,7 @@ impl<K: Eq + Drop, V: Drop, S: Table<Pair<K, V>>, L: Table<Link>> MetaFlatMap<Pa
             ≡ flat_entry K.eq self.now key.now }
         ensures distinct { HasDistinctKeys K.eq self.now }
     {
+        // Not by `is_full`: a look-up loads the first free key in any case, and the number of keys nowhere else.
         if size_of_val(key) <= MAX_KEY_SIZE && self.pairs.next_free_key().is_none() {
             self.find_in_full(key)
         } else {

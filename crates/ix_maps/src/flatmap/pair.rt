@@ -11,7 +11,9 @@ pub trait Keyed {
 /// A key and its value, as the tables of a flat map hold them.
 #[derive(Drop)]
 pub struct Pair<K, V> {
+    /// The key.
     pub key: K,
+    /// The value of the key.
     pub value: V,
 }
 

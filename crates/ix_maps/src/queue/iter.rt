@@ -33,13 +33,13 @@ pub struct Iter<'a, T, S: Table<T>> {
 
 impl<'a, T, S: Table<T>> Model for Iter<'a, T, S> {
     ghost use Rattle.std.specs.Prelude.{List, slice_range};
-    ghost use Rattle.ix_maps.specs.inner.Ring.{IsRangeOf};
+    ghost use Rattle.ix_maps.specs.inner.Ring.{IsIndexRange};
 
     ghost Value = { List T };
 
     ghost view = { λ iter. slice_range iter.queue.now.items iter.index iter.end };
 
-    ghost invariant = { λ iter. IsRangeOf iter.queue.now.items iter.index iter.end };
+    ghost invariant = { λ iter. IsIndexRange iter.queue.now.items iter.index iter.end };
 }
 
 impl<'a, T, S: Table<T>> Iter<'a, T, S> {

@@ -61,8 +61,8 @@ pub type RelocatableQueue<T, A = Global> = MetaQueue<T, HeapTable<T, A>>;
 impl<T: Drop, A: Allocator> Queue<T, A> {
     /// Creates an empty queue with memory for `capacity` items.
     ///
-    /// O(`capacity`). Allocates from `alloc` at most twice. Returns `AllocError` if there is not enough memory, and for
-    /// any capacity whose items would fill more than `isize::MAX` bytes. A capacity of 0 needs no memory.
+    /// O(`capacity`), with at most two allocations. Returns `AllocError` if one fails, and if the items would take more
+    /// than `isize::MAX` bytes; nothing stays allocated then. A capacity of 0 needs no memory.
     pub fn new(alloc: A, capacity: usize) -> Result<Self, AllocError>
         ensures value { IfOk result (λ queue. queue ≡ bounded_new capacity) }
         ensures memory { capacity ≡ 0 → IsOk result }
@@ -92,7 +92,7 @@ impl<T: Drop, A: Allocator> ContainerFamily<A> for QueueFamily<T> {
 
     ghost is_empty_with = { λ capacity queue. queue ≡ bounded_new capacity };
 
-    /// Creates an empty queue with memory for `capacity` items. O(`capacity`). Allocates from `alloc` at most twice.
+    /// Creates an empty queue with memory for `capacity` items. O(`capacity`), with at most two allocations.
     #[inline]
     fn with_capacity(alloc: A, capacity: usize) -> Result<RelocatableQueue<T, A>, AllocError> {
         Queue::new(alloc, capacity)

@@ -146,9 +146,10 @@ impl<T, S: Table<T>> MetaQueue<T, S> {
         ensures full { OnFalse result (IsFull self.old) }
         ensures refused { OnFalse result (self.new ≡ self.old) }
     {
-        let has_room = self.len < self.table.len();
+        let capacity = self.table.len();
+        let has_room = self.len < capacity;
         if has_room {
-            self.append(value);
+            self.append(value, capacity);
         }
         has_room
     }
@@ -169,7 +170,7 @@ impl<T, S: Table<T>> MetaQueue<T, S> {
     {
         let capacity = self.table.len();
         if self.len < capacity {
-            self.append(value);
+            self.append(value, capacity);
             return None;
         }
         if capacity == 0 {
@@ -302,15 +303,16 @@ impl<T, S: Table<T>> MetaQueue<T, S> {
         self.table.get_mut(self.start)
     }
 
-    /// Appends `value` at the back of a queue that is not full.
+    /// Appends `value` at the back of a queue of this capacity that is not full.
     #[inline]
-    fn append(&mut self, value: T)
-        requires { length self.old.items < self.old.capacity }
+    fn append(&mut self, value: T, capacity: usize)
+        requires capacity { capacity ≡ self.old.capacity }
+        requires room { length self.old.items < self.old.capacity }
         ensures { self.new ≡ with_items self.old (push self.old.items value) }
     {
         let start = self.start;
         let len = self.len;
-        let place = place_after(start, len, self.table.len());
+        let place = place_after(start, len, capacity);
         self.table.put(place, value);
         // Written again, since LLVM takes a place of an inline table for any field, and would load it again.
         self.start = start;

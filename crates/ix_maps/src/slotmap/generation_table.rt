@@ -14,13 +14,13 @@ pub(crate) struct GenerationTable<G: Table<u32>> {
 impl<G: Table<u32>> Model for GenerationTable<G> {
     ghost use Rattle.std.specs.Prelude.{ℕ, List};
     ghost use Rattle.std.specs.Coded.{coded_ℕ, coded_list};
-    ghost use Rattle.ix_maps.specs.inner.GenerationTable.{numbers_in, HasEachPlace};
+    ghost use Rattle.ix_maps.specs.inner.GenerationTable.{generations_in, HasEachPlace};
 
     ghost Value = { List ℕ };
 
     ghost coded = { coded_list coded_ℕ };
 
-    ghost view = { λ table. numbers_in (G.places table.numbers) };
+    ghost view = { λ table. generations_in (G.places table.numbers) };
 
     ghost invariant = { λ table. HasEachPlace (G.places table.numbers) };
 }

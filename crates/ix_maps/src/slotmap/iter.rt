@@ -53,7 +53,7 @@ impl<'a, T, S: Table<Option<T>>, L: Table<Link>, G: Table<u32>> Iter<'a, T, S, L
     {
         Iter {
             map,
-            slots: map.slots(),
+            slots: map.slots_iter(),
             left: map.len(),
         }
     }

@@ -72,8 +72,8 @@ pub type SlotMap<T, A = Global> = MetaSlotMap<
 impl<T: Drop, A: Allocator + Copy> SlotMap<T, A> {
     /// Creates an empty map with `capacity` places, which have generation 0.
     ///
-    /// O(`capacity`). Allocates from `alloc` at most six times. Returns `AllocError` if there is not enough memory; what
-    /// was allocated is deallocated then. A capacity of 0 needs no memory.
+    /// O(`capacity`), with at most six allocations. Returns `AllocError` if one fails, and if the values would take more
+    /// than `isize::MAX` bytes; nothing stays allocated then. A capacity of 0 needs no memory.
     pub fn new(alloc: A, capacity: usize) -> Result<Self, AllocError>
         ensures value { IfOk result (λ map. map ≡ map_new capacity 0) }
         ensures memory { capacity ≡ 0 → IsOk result }
@@ -83,8 +83,8 @@ impl<T: Drop, A: Allocator + Copy> SlotMap<T, A> {
 
     /// Creates an empty map with `capacity` places, which have this generation.
     ///
-    /// O(`capacity`). Allocates from `alloc` at most six times. Returns `AllocError` if there is not enough memory; what
-    /// was allocated is deallocated then. A capacity of 0 needs no memory.
+    /// O(`capacity`), with at most six allocations. Returns `AllocError` if one fails, and if the values would take more
+    /// than `isize::MAX` bytes; nothing stays allocated then. A capacity of 0 needs no memory.
     pub fn starting_at(alloc: A, capacity: usize, generation: u32) -> Result<Self, AllocError>
         ensures value { IfOk result (λ map. map ≡ map_new capacity generation) }
         ensures memory { capacity ≡ 0 → IsOk result }
@@ -187,7 +187,10 @@ impl<T: Drop, A: Allocator + Copy> RelocatableContainer<A> for UninitSlotMap<T> 
         UninitSlotMap::starting_at(capacity, 0)
     }
 
-    /// Allocates from `alloc` at most six times, and returns the empty map.
+    /// Allocates from `alloc` and returns the empty map.
+    ///
+    /// O(capacity), with at most six allocations. If one fails, and if the values would take more than `isize::MAX` bytes,
+    /// nothing stays allocated and the error holds `self`. A capacity of 0 needs no memory.
     fn init(self, alloc: A) -> Result<RelocatableSlotMap<T, A>, InitError<Self>>
         ensures value { IfOk result (λ map. map ≡ map_new self.capacity self.generation) }
         ensures refused { IfErr result (λ error. error ≡ self) }

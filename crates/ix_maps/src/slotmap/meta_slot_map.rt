@@ -25,7 +25,7 @@ use std::marker::Model;
 ///
 /// The free places are a list, in rising order at first: [`MetaSlotMap::insert`] takes the first place of the list, and
 /// [`MetaSlotMap::remove`] makes a place the first. A key or an index out of range, up to the greatest numbers, is an
-/// ordinary case, for which calls return false or `None`.
+/// ordinary case, for which calls return `false` or `None`.
 ///
 /// Each call takes O(1) time if nothing else is said, and no call allocates. A map that is dropped drops its values,
 /// that of the least index first, in O(capacity) time.
@@ -309,7 +309,7 @@ impl<T, S: Table<Option<T>>, L: Table<Link>, G: Table<u32>> MetaSlotMap<Option<T
 
     /// Returns an iterator over the places that are not free.
     #[inline]
-    pub(crate) fn slots(&self) -> slottable::Iter<'_, Option<T>, S, L>
+    pub(crate) fn slots_iter(&self) -> slottable::Iter<'_, Option<T>, S, L>
         ensures { result ≡ entries self.now.slots }
     {
         self.slots.iter()

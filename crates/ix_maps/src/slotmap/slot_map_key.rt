@@ -34,7 +34,7 @@ impl Model for SlotMapKey {
 }
 
 impl SlotMapKey {
-    /// Returns the key of the place `index` with this generation. O(1).
+    /// Creates a key of the place `index` with this generation. O(1).
     #[inline]
     pub fn new(index: usize, generation: u32) -> Self
         ensures { result ≡ record { index = index; generation = generation } }

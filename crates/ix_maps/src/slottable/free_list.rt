@@ -1,8 +1,8 @@
 //! The list of free keys, which is doubly linked: steps on its table of links.
 ghost use Rattle.std.specs.Prelude.{◌≡◌, ◌+◌, ◌<◌, ◌≤◌, length, Some, None, replicate, slice_set};
 ghost use Rattle.std.specs.List.{range_with_len};
-ghost use Rattle.ix_cells.specs.Places.{IsHeldAt, IsVacant};
-ghost use Rattle.ix_maps.specs.inner.FreeList.{no_key, first_or, IsLinkTable, IsKeyOrNone, IsLinkWithin, IsRisingList, MatchesLinks, links_set_next, links_set_previous, links_remove, links_remove_first, links_insert_first, first_after_remove};
+ghost use Rattle.ix_cells.specs.Places.{IsHeldAt};
+ghost use Rattle.ix_maps.specs.inner.FreeList.{no_key, first_or, IsLinkTable, IsKeyOrNone, IsLinkWithin, IsRisingList, links_set_next, links_set_previous, links_remove, links_remove_first, links_insert_first, first_after_remove};
 
 use crate::slottable::Link;
 use crate::slottable::link::NO_KEY;
@@ -146,22 +146,4 @@ pub(crate) fn link_all<L: Table<Link>>(links: &mut Counted<L>, len: usize) -> us
         links.put(key, link, &mut touches);
     }
     if len == 0 { NO_KEY } else { 0 }
-}
-
-/// Empties both tables, and drops the values in rising order of their keys. O(capacity).
-pub(crate) fn drop_all<T: Drop, S: Table<T>, L: Table<Link>>(
-    values: &mut Counted<S>,
-    links: &mut Counted<L>,
-)
-    requires { MatchesLinks (S.places values.old) (L.places links.old) }
-    ensures values { IsVacant (S.places values.new) }
-    ensures links { IsVacant (L.places links.new) }
-{
-    let mut touches = Touches::new();
-    for key in 0..links.len() {
-        let link = links.take(key, &mut touches);
-        if !link.is_free {
-            drop(values.take(key, &mut touches));
-        }
-    }
 }

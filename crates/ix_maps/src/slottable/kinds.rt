@@ -50,8 +50,8 @@ pub type SlotTable<T, A = Global> = MetaSlotTable<T, HeapTable<T, A>, HeapTable<
 impl<T: Drop, A: Allocator + Copy> SlotTable<T, A> {
     /// Creates an empty map with `capacity` keys.
     ///
-    /// O(`capacity`). Allocates from `alloc` at most four times. Returns `AllocError` if there is not enough memory; what
-    /// was allocated is deallocated then. A capacity of 0 needs no memory.
+    /// O(`capacity`), with at most four allocations. Returns `AllocError` if one fails, and if the values would take more
+    /// than `isize::MAX` bytes; nothing stays allocated then. A capacity of 0 needs no memory.
     pub fn new(alloc: A, capacity: usize) -> Result<Self, AllocError>
         ensures value { IfOk result (λ map. map ≡ slot_new capacity) }
         ensures memory { capacity ≡ 0 → IsOk result }
@@ -111,7 +111,7 @@ impl<T: Drop, A: Allocator + Copy> ContainerFamily<A> for SlotTableFamily<T> {
 
     ghost is_empty_with = { λ capacity map. map ≡ slot_new capacity };
 
-    /// Creates an empty map with `capacity` keys. O(`capacity`). Allocates from `alloc` at most four times.
+    /// Creates an empty map with `capacity` keys. O(`capacity`), with at most four allocations.
     #[inline]
     fn with_capacity(alloc: A, capacity: usize) -> Result<RelocatableSlotTable<T, A>, AllocError> {
         SlotTable::new(alloc, capacity)

@@ -7,10 +7,10 @@ ghost use Rattle.std.specs.Option.{option_copied_mut};
 ghost use Rattle.ix_cells.specs.Places.{IsVacant};
 ghost use Rattle.ix_maps.specs.SlotState.{value_at, IsHeld, IsKey, IsFree, IsWellFormed, slot_new, held_count, entries, entries_from};
 ghost use Rattle.ix_maps.specs.SlotSteps.{slot_set, slot_fill, slot_vacate, slot_insert, SlotInsert, SlotInsertAt, SlotRemove};
-ghost use Rattle.ix_maps.specs.inner.FreeList.{no_key};
+ghost use Rattle.ix_maps.specs.inner.FreeList.{no_key, IsLinkOf, MatchesLinks};
 
 use crate::slottable::free_list::{
-    drop_all, first_after_remove, insert_first, link_all, remove, remove_first,
+    first_after_remove, insert_first, link_all, remove, remove_first,
 };
 use crate::slottable::link::NO_KEY;
 use crate::slottable::{Iter, Link, SlotTableKey};
@@ -24,7 +24,7 @@ use std::marker::{Model, PhantomData};
 /// The keys are the numbers from 0 to one below the capacity. A key that has a value is held, any other is free. The
 /// free keys are a list, in rising order at first: [`MetaSlotTable::insert`] removes the first key of the list, and
 /// [`MetaSlotTable::remove`] makes a key the first. A key out of range, up to `usize::MAX`, is an ordinary case, for
-/// which calls return false or `None`.
+/// which calls return `false` or `None`.
 ///
 /// Each call takes O(1) time if nothing else is said, and no call allocates. A map that is dropped drops its values,
 /// that of the least key first, in O(capacity) time.
@@ -142,7 +142,7 @@ impl<T, S: Table<T>, L: Table<Link>> MetaSlotTable<T, S, L> {
         }
     }
 
-    /// Returns `true` if `key` has a value, and false if it is free or out of range.
+    /// Returns `true` if `key` has a value, and `false` if it is free or out of range.
     #[inline]
     pub fn contains(&self, key: SlotTableKey) -> bool
         ensures { IsTrue result ↔ IsHeld self.now key }
@@ -218,7 +218,7 @@ impl<T, S: Table<T>, L: Table<Link>> MetaSlotTable<T, S, L> {
     }
 
     /// Inserts `value` at `key` and returns `true`; a value that is there already is dropped. Drops `value` and returns
-    /// false if `key` is out of range.
+    /// `false` if `key` is out of range.
     #[inline]
     pub fn insert_at(&mut self, key: SlotTableKey, value: T) -> bool
     where
@@ -316,8 +316,9 @@ impl<T, S: Table<T>, L: Table<Link>> MetaSlotTable<T, S, L> {
         if key >= self.capacity() {
             return false;
         }
-        if self.is_free(key, touches) {
-            self.fill(key, value, touches);
+        let link = self.link_of(key, touches);
+        if link.is_free {
+            self.fill(key, link, value, touches);
         } else {
             self.replace(key, value, touches);
         }
@@ -331,14 +332,23 @@ impl<T, S: Table<T>, L: Table<Link>> MetaSlotTable<T, S, L> {
         ensures touches { touches.new ≤ touches.old + 16 }
         ensures rises { touches.old ≤ touches.new }
     {
-        let key = key.value();
-        if key >= self.capacity() {
-            return None;
+        if self.contains_counted(key, touches) {
+            Some(self.vacate(key.value(), touches))
+        } else {
+            None
         }
-        if self.is_free(key, touches) {
-            return None;
-        }
-        Some(self.vacate(key, touches))
+    }
+
+    /// Returns the link of a key in range.
+    #[inline]
+    fn link_of(&self, key: usize, touches: &mut Touches) -> Link
+        requires { IsKey self.now key }
+        ensures link { IsLinkOf result self.now key }
+        ensures free { result.is_free ≡ true → IsFree self.now key }
+        ensures held { result.is_free ≡ false → IsHeld self.now key }
+        ensures touches { touches.new ≡ touches.old + 1 }
+    {
+        *self.links.get(key, touches)
     }
 
     /// Returns `true` if a key in range is free.
@@ -383,15 +393,15 @@ impl<T, S: Table<T>, L: Table<Link>> MetaSlotTable<T, S, L> {
         key
     }
 
-    /// Inserts a value at a free key, which leaves the list of free keys.
+    /// Inserts a value at a free key, which has this link and leaves the list of free keys.
     #[inline]
-    fn fill(&mut self, key: usize, value: T, touches: &mut Touches)
-        requires { IsFree self.old key }
+    fn fill(&mut self, key: usize, link: Link, value: T, touches: &mut Touches)
+        requires free { IsFree self.old key }
+        requires link { IsLinkOf link self.old key }
         ensures map { self.new ≡ slot_fill self.old key value }
         ensures touches { touches.new ≤ touches.old + 8 }
         ensures rises { touches.old ≤ touches.new }
     {
-        let link = *self.links.get(key, touches);
         remove(&mut self.links, key, link, touches);
         self.first = first_after_remove(self.first, link);
         self.values.put(key, value, touches);
@@ -442,6 +452,21 @@ impl<T, S: Table<T>, L: Table<Link>> MetaSlotTable<T, S, L> {
         self.first = key;
         self.len -= 1;
         value
+    }
+}
+
+/// Empties both tables, and drops the values in rising order of their keys. O(capacity).
+fn drop_all<T: Drop, S: Table<T>, L: Table<Link>>(values: &mut Counted<S>, links: &mut Counted<L>)
+    requires { MatchesLinks (S.places values.old) (L.places links.old) }
+    ensures values { IsVacant (S.places values.new) }
+    ensures links { IsVacant (L.places links.new) }
+{
+    let mut touches = Touches::new();
+    for key in 0..links.len() {
+        let link = links.take(key, &mut touches);
+        if !link.is_free {
+            drop(values.take(key, &mut touches));
+        }
     }
 }
 

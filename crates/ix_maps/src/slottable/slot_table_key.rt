@@ -12,7 +12,7 @@ use std::marker::Model;
 /// key.value();                              // 3
 /// ```
 ///
-/// This is `SlotMapKey` of iceoryx2-bb-container.
+/// This is `SlotMapKey` of iceoryx2-bb-container, whose keys are plain numbers.
 #[derive(Clone, Copy, Debug, PartialEq, Eq, PartialOrd, Ord, Hash)]
 pub struct SlotTableKey {
     number: usize,
@@ -29,7 +29,7 @@ impl Model for SlotTableKey {
 }
 
 impl SlotTableKey {
-    /// Returns the key with the number `value`. O(1).
+    /// Creates a key with the number `value`. O(1).
     #[inline]
     pub fn new(value: usize) -> Self
         ensures { result ≡ value }

@@ -2,7 +2,7 @@
 
 use crate::json::{JsonFault, JsonForm};
 use crate::semantic_string::{Rules, Semantic};
-use ix_string::{StaticString, String};
+use ix_string::StaticString;
 use serde_json::Value;
 use std::alloc::Global;
 
@@ -26,8 +26,7 @@ impl<R: Rules<CAPACITY>, const CAPACITY: usize> JsonForm for Semantic<R, CAPACIT
     }
 
     fn from_value(value: &Value) -> Result<Self, JsonFault> {
-        let text = StaticString::<CAPACITY>::from_value(value)?;
-        match Semantic::new(text.as_bytes()) {
+        match Semantic::from_string(StaticString::from_value(value)?) {
             Ok(string) => Ok(string),
             Err(_) => Err(JsonFault::InvalidContent),
         }

@@ -70,19 +70,26 @@ impl<R: Rules<CAPACITY>, const CAPACITY: usize> Semantic<R, CAPACITY> {
         &self.text
     }
 
-    /// Returns a string of the bytes. O(`CAPACITY`) beside the rules.
+    /// Creates a string that holds the bytes. O(`CAPACITY`) beside the rules.
     ///
     /// Returns [`SemanticStringError::ExceedsMaximumLength`] if there are more than `CAPACITY` bytes, and otherwise
     /// [`SemanticStringError::InvalidContent`] if one of them is 0 or above 127, or if the rules do not accept them.
     pub fn new(bytes: &[u8]) -> Result<Self, SemanticStringError>
         ensures { SemanticResult CAPACITY R.rules bytes.now bytes.now result }
     {
-        let text = StaticString::from_bytes(bytes)?;
-        judge::<R, CAPACITY>(bytes)?;
+        Semantic::from_string(StaticString::from_bytes(bytes)?)
+    }
+
+    /// Creates a string that holds the bytes of `text`, or returns [`SemanticStringError::InvalidContent`] if the rules do
+    /// not accept them.
+    pub(crate) fn from_string(text: StaticString<CAPACITY>) -> Result<Self, SemanticStringError>
+        ensures { SemanticResult CAPACITY R.rules text.entry text.entry result }
+    {
+        judge::<R, CAPACITY>(text.as_bytes())?;
         Ok(Semantic::of(text))
     }
 
-    /// Returns a string of the bytes, without checking that they are accepted. O(`CAPACITY`).
+    /// Creates a string that holds the bytes, without checking that they are accepted. O(`CAPACITY`).
     pub fn new_unchecked(bytes: &[u8]) -> Self
         requires { IsAccepted CAPACITY R.rules bytes.now }
         ensures { result ≡ bytes.now }
@@ -90,7 +97,7 @@ impl<R: Rules<CAPACITY>, const CAPACITY: usize> Semantic<R, CAPACITY> {
         Semantic::of(StaticString::from_bytes_unchecked(bytes))
     }
 
-    /// Returns a string of the bytes, without checking that they are accepted. O(`CAPACITY`).
+    /// Creates a string that holds the bytes, without checking that they are accepted. O(`CAPACITY`).
     ///
     /// This is [`Semantic::new_unchecked`].
     #[inline]
@@ -101,7 +108,7 @@ impl<R: Rules<CAPACITY>, const CAPACITY: usize> Semantic<R, CAPACITY> {
         Semantic::new_unchecked(bytes)
     }
 
-    /// Returns a string of the bytes before the first zero, or of all bytes if there is no zero.
+    /// Creates a string that holds the bytes before the first zero, or all bytes if there is no zero.
     /// O(`bytes.len() + CAPACITY`) beside the rules.
     ///
     /// Returns the errors of [`Semantic::new`].
@@ -148,8 +155,7 @@ impl<R: Rules<CAPACITY>, const CAPACITY: usize> Semantic<R, CAPACITY> {
         CAPACITY
     }
 
-    /// Returns the least index at which `bytes` occur, or `None` if they do not occur. An empty `bytes`
-    /// occurs at 0.
+    /// Returns the least index at which `bytes` occur, or `None` if they do not occur. An empty `bytes` occurs at 0.
     /// O(`len + bytes.len()`).
     pub fn find(&self, bytes: &[u8]) -> Option<usize>
         ensures { IsFirstMatch self.now bytes.now result }
@@ -157,8 +163,7 @@ impl<R: Rules<CAPACITY>, const CAPACITY: usize> Semantic<R, CAPACITY> {
         self.text.find(bytes)
     }
 
-    /// Returns the greatest index at which `bytes` occur, or `None` if they do not occur. An empty
-    /// `bytes` occurs at `len`.
+    /// Returns the greatest index at which `bytes` occur, or `None` if they do not occur. An empty `bytes` occurs at `len`.
     /// O(`len + bytes.len()`).
     pub fn rfind(&self, bytes: &[u8]) -> Option<usize>
         ensures { IsLastMatch self.now bytes.now result }

@@ -3,7 +3,7 @@ use Rattle.std.specs.Prelude.{ℕ, ◌≡◌, ◌≤◌, List, [], ◌∷◌, Op
 use Rattle.std.specs.List.{slice_split, list_all, list_any}
 use Rattle.std.specs.Map.{lookup}
 use Rattle.std.specs.Borrow.{Bor}
-use Rattle.ix_run.specs.Words.{Form, is_space, alone, one, two, many, one_byte, number_byte, many_bytes, number_many_bytes, slice_of}
+use Rattle.ix_run.specs.Words.{Form, is_space, takes_none, takes_one, takes_two, takes_any, one_byte, number_byte, many_bytes, number_many_bytes, slice_of}
 use Rattle.ix_run.specs.inner.LineRest.{words_after, len_after}
 use Rattle.ix_run.specs.declared.run.grammar.name_table.Takes.{Takes}
 use Rattle.ix_run.specs.declared.run.grammar.name_table.Takes.TheVariants.{Nothing, Number, TwoNumbers, Numbers, Byte, NumberAndByte, Bytes, NumberAndBytes}
@@ -63,14 +63,14 @@ module _ {V : Type 0} where
 module _ {C : Type 0} where
   -- what at most two numbers make, with zeros for those that are missing
   abbrev pub numbers_taken : Takes → (ℕ → ℕ → C) → List ℕ → Option C
-  numbers_taken Nothing make = alone (make 0 0)
-  numbers_taken Number make = one (λ n. make n 0)
-  numbers_taken TwoNumbers make = two make
+  numbers_taken Nothing make = takes_none (make 0 0)
+  numbers_taken Number make = takes_one (λ n. make n 0)
+  numbers_taken TwoNumbers make = takes_two make
   numbers_taken other make = λ numbers. None
 
   -- the same, or what zero or more numbers make
   abbrev pub items_taken : Takes → (ℕ → ℕ → List ℕ → C) → List ℕ → Option C
-  items_taken Numbers make = many (make 0 0)
+  items_taken Numbers make = takes_any (make 0 0)
   items_taken other make = numbers_taken other (λ n m. make n m [])
 
   -- the same, or what a byte or zero or more bytes make, after a number or none

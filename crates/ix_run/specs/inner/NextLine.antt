@@ -4,7 +4,7 @@ use Rattle.std.specs.Borrow.{MutBor}
 use Rattle.std.specs.Io.KnownBytes.{Consumes, IsAtEnd}
 use Rattle.ix_run.specs.inner.Faults.{IsDeviceFault}
 use Rattle.ix_run.specs.inner.Input.{current_line, lines_to_come}
-use Rattle.ix_run.specs.inner.Writing.{Writes, WritesPart}
+use Rattle.ix_run.specs.inner.Writing.{WriterAppends, WriterAppendsPart}
 use Rattle.ix_run.specs.declared.run.devices.fault.ScriptFault.{ScriptFault}
 use Rattle.ix_run.specs.declared.run.devices.line_reader.LineReader.{LineReader}
 use Rattle.ix_run.specs.declared.run.devices.reply_writer.ReplyWriter.{ReplyWriter}
@@ -32,14 +32,14 @@ module _ {R W : Type 0} (remaining : R → Option (List ℕ)) (contents : W → 
   NextLine old replies new replies' (Ok true) =
       (read : List ℕ)
       × Reads remaining old new read
-      × Writes contents replies [] replies'
+      × WriterAppends contents replies [] replies'
       × ((more : Coming new) → lines_to_come old.buffer (read ++ more.0) ≡ current_line new.buffer ∷ lines_to_come new.buffer more.0)
       × (new.buffer.fuel < old.buffer.fuel)
   NextLine old replies new replies' (Ok false) =
       (read : List ℕ)
       × Reads remaining old new read
-      × Writes contents replies [] replies'
+      × WriterAppends contents replies [] replies'
       × (new.is_at_end ≡ true)
       × (lines_to_come old.buffer read ≡ [])
   NextLine old replies new replies' (Err e) =
-      IsDeviceFault e × (read : List ℕ) × Reads remaining old new read × WritesPart contents replies [] replies'
+      IsDeviceFault e × (read : List ℕ) × Reads remaining old new read × WriterAppendsPart contents replies [] replies'

@@ -3,7 +3,7 @@ use Rattle.std.specs.Prelude.{ℕ, ◌≡◌, List, ◌++◌, true, Option, None
 use Rattle.ix_run.specs.inner.Faults.{LeftUnwritten}
 use Rattle.ix_run.specs.inner.Input.{lines_to_come}
 use Rattle.ix_run.specs.inner.NextLine.{Reads, Coming}
-use Rattle.ix_run.specs.inner.Writing.{Writes, WritesPart}
+use Rattle.ix_run.specs.inner.Writing.{WriterAppends, WriterAppendsPart}
 use Rattle.ix_run.specs.Lines.{LimitedLine}
 use Rattle.ix_run.specs.Script.{script_replies, replies_from_header}
 use Rattle.ix_run.specs.declared.run.devices.fault.ScriptFault.{ScriptFault}
@@ -30,7 +30,7 @@ module _ {R W : Type 0} (remaining : R → Option (List ℕ)) (contents : W → 
   Drives old replies new replies' =
       (read done : List ℕ)
       × Reads remaining old.0 new.0 read
-      × Writes contents old.1 done new.1
+      × WriterAppends contents old.1 done new.1
       × ((more : Coming new.0) → replies (read ++ more.0) ≡ done ++ replies' more.0)
 
   -- some input was read, and a first part of the replies to it was written
@@ -38,7 +38,7 @@ module _ {R W : Type 0} (remaining : R → Option (List ℕ)) (contents : W → 
   Fails old replies new e =
       (read : List ℕ)
       × Reads remaining old.0 new.0 read
-      × (part : WritesPart contents old.1 (replies read) new.1)
+      × (part : WriterAppendsPart contents old.1 (replies read) new.1)
       × LeftUnwritten e part.1
 
   -- on Ok all input was read, and the replies to it are written or pending
@@ -47,7 +47,7 @@ module _ {R W : Type 0} (remaining : R → Option (List ℕ)) (contents : W → 
       (read : List ℕ)
       × Reads remaining old.0 new.0 read
       × (new.0.is_at_end ≡ true)
-      × Writes contents old.1 (replies read) new.1
+      × WriterAppends contents old.1 (replies read) new.1
   ReplyResult old replies new (Err e) = Fails old replies new e
 
   -- on Ok the next header was read, or there was none in all input that was left

@@ -12,16 +12,16 @@ AppendsPart contents contents' bytes = (written rest : List ℕ) × Appends cont
 -- contents: what a writer holds
 module _ {W : Type 0} (contents : W → Option (List ℕ)) where
   -- bytes were appended to the pending ones; a first part of all these was written, and the rest is pending
-  abbrev pub Writes : ReplyWriter W → List ℕ → ReplyWriter W → Type 0
-  Writes old bytes new =
+  abbrev pub WriterAppends : ReplyWriter W → List ℕ → ReplyWriter W → Type 0
+  WriterAppends old bytes new =
       (written : List ℕ)
       × Appends (contents old.writer.now) (contents new.writer.now) written
       × (old.pending ++ bytes ≡ written ++ new.pending)
       × (new.writer.ghost_name ≡ old.writer.ghost_name)
 
   -- a first part of the pending bytes and these was written
-  abbrev pub WritesPart : ReplyWriter W → List ℕ → ReplyWriter W → Type 0
-  WritesPart old bytes new =
+  abbrev pub WriterAppendsPart : ReplyWriter W → List ℕ → ReplyWriter W → Type 0
+  WriterAppendsPart old bytes new =
       (written rest : List ℕ)
       × Appends (contents old.writer.now) (contents new.writer.now) written
       × (old.pending ++ bytes ≡ written ++ rest)
@@ -29,5 +29,5 @@ module _ {W : Type 0} (contents : W → Option (List ℕ)) where
 
   -- on Ok all bytes are written or pending; on Err the writer failed after a first part
   abbrev pub WriteResult : ReplyWriter W → List ℕ → ReplyWriter W → Result (Unit {0}) ScriptFault → Type 0
-  WriteResult old bytes new (Ok u) = Writes old bytes new
-  WriteResult old bytes new (Err e) = (e ≡ fault.Write) × WritesPart old bytes new
+  WriteResult old bytes new (Ok u) = WriterAppends old bytes new
+  WriteResult old bytes new (Err e) = (e ≡ fault.Write) × WriterAppendsPart old bytes new

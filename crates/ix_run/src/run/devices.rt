@@ -12,5 +12,5 @@ mod reply_writer;
 pub use fault::{ScriptFault, exit_status, fault_line};
 pub use limits::{MAX_CAPACITY, MAX_LINE_LEN, MAX_NUMBERS};
 pub(crate) use line_reader::LineReader;
-pub(crate) use reply_buffer::{Piece, ReplyBuffer};
+pub(crate) use reply_buffer::{ReplyBuffer, ReplyPart};
 pub(crate) use reply_writer::ReplyWriter;

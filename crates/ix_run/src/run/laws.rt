@@ -12,7 +12,7 @@ ghost use Rattle.ix_commands.specs.TextRun.{text_reply, text_after};
 ghost use Rattle.ix_commands.specs.declared.reply.Reply.{Reply};
 ghost use Rattle.ix_run.specs.Forms.{queue_forms, vec_forms, table_forms, slot_forms, slot_key_forms, slot_command_of, flat_forms, text_forms};
 ghost use Rattle.ix_run.specs.Headers.{capacity_of, first_generation};
-ghost use Rattle.ix_run.specs.Laws.{HasU64s, HasU64sAnd, IsKey, IsRun, IsRunBy, IsU64};
+ghost use Rattle.ix_run.specs.Laws.{HasU64s, HasU64sAnd, IsSlotKey, IsRun, IsRunBy, IsU64};
 ghost use Rattle.ix_run.specs.Lines.{IsOneLine, with_line_feed, text_of_lines, lines_of};
 ghost use Rattle.ix_run.specs.ReplyTexts.{reply_text, slot_reply_text, items_text, entry_text, key_entry_text};
 ghost use Rattle.ix_run.specs.Script.{text_shown};
@@ -41,10 +41,10 @@ pub fn reply_law()
         → All (λ entry. IsU64 entry.0 × IsU64 entry.1) entries
         → IsOneLine (items_text entry_text entries) }
     ensures text { (text : Bounded ℕ) → IsOneLine (text_shown text) }
-    ensures slot_reply { (reply : Reply SlotKey ℕ) → HasU64sAnd IsKey reply
+    ensures slot_reply { (reply : Reply SlotKey ℕ) → HasU64sAnd IsSlotKey reply
         → IsOneLine (slot_reply_text reply) }
     ensures key_entries { (entries : List (SlotKey × ℕ))
-        → All (λ entry. IsKey entry.0 × IsU64 entry.1) entries
+        → All (λ entry. IsSlotKey entry.0 × IsU64 entry.1) entries
         → IsOneLine (items_text key_entry_text entries) }
 {}
 
@@ -90,12 +90,12 @@ pub fn spelling_law<C>()
     ensures key_text { (forms : List (KeyForm C)) (line : List ℕ) (command : C)
         → key_command_of forms line ≡ Some command
         → (form : KeyForm C) × (key : SlotKey) × (numbers : List ℕ) × Contains forms form
-        × IsKey key
+        × IsSlotKey key
         × All (λ n. n < 2 ^ 64) numbers × (form.1 key numbers ≡ Some command)
         × (line ≡ key_words_text form.0 key numbers) }
     ensures key_each { (forms : List (KeyForm C)) (form : KeyForm C) (key : SlotKey)
         (numbers : List ℕ) → HasNames forms
-        → Contains forms form → IsKey key → All (λ n. n < 2 ^ 64) numbers
+        → Contains forms form → IsSlotKey key → All (λ n. n < 2 ^ 64) numbers
         → key_command_of forms (key_words_text form.0 key numbers) ≡ form.1 key numbers }
     ensures either { (forms : List (Form C)) (key_forms : List (KeyForm C)) (line : List ℕ)
         (command : C)

@@ -54,7 +54,7 @@ impl<K, A: Allocator> Model for HeapString<K, A> {
 }
 
 impl<K, A: Allocator> HeapString<K, A> {
-    /// Returns the empty string in an empty vector.
+    /// Creates an empty string in an empty vector.
     #[inline]
     pub(crate) fn in_vector(bytes: PolymorphicVec<u8, A>) -> Self
         requires { bytes.items ≡ [] }

@@ -57,11 +57,10 @@ impl HeapStringKind for Relocatable {
 pub type PolymorphicString<A = Global> = HeapString<Polymorphic, A>;
 
 impl<A: Allocator> PolymorphicString<A> {
-    /// Creates an empty string that can hold `capacity` bytes. Allocates from `alloc` once, or not at all if `capacity`
-    /// is 0. O(1).
+    /// Creates an empty string that can hold `capacity` bytes.
     ///
-    /// Returns `AllocError` if there is no memory for `capacity` bytes, and always if `capacity` is greater than
-    /// `isize::MAX`.
+    /// O(1), with at most one allocation. Returns `AllocError` if it fails, and if the bytes would be more than
+    /// `isize::MAX`; nothing stays allocated then. A capacity of 0 needs no memory.
     pub fn new(alloc: A, capacity: usize) -> Result<Self, AllocError>
         ensures value { IfOk result (λ string. string ≡ bounded_new capacity) }
         ensures memory { capacity ≡ 0 → IsOk result }
@@ -71,7 +70,7 @@ impl<A: Allocator> PolymorphicString<A> {
 }
 
 impl<A: Allocator + Copy> PolymorphicString<A> {
-    /// Returns a string with the same bytes and the same capacity. Allocates once from the string's allocator, or not
+    /// Creates a string with the same bytes and the same capacity. Allocates once from the string's allocator, or not
     /// at all if the capacity is 0. O(`len`).
     ///
     /// Returns `AllocError` if there is no memory.

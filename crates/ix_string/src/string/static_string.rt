@@ -4,8 +4,9 @@ ghost use Rattle.ix_string.specs.Text.{IsText, before_nul};
 ghost use Rattle.ix_string.specs.TextSteps.{StringFromBytes};
 ghost use Rattle.ix_string.specs.declared.string.modification_error.StringModificationError.TheVariants.{InvalidCharacter};
 
-use crate::string::gaps::{close_gap_with_zeros, is_text, open_gap};
+use crate::string::gaps::{close_gap_with_zeros, open_gap};
 use crate::string::retaining::move_kept_back;
+use crate::string::text::is_text;
 use crate::string::{String, StringModificationError, strnlen};
 use std::marker::Model;
 
@@ -31,7 +32,8 @@ pub struct StaticString<const CAPACITY: usize> {
 impl<const CAPACITY: usize> Model for StaticString<CAPACITY> {
     ghost use Rattle.std.specs.Prelude.{ℕ, List, length, take};
     ghost use Rattle.std.proofs.Common.{sym, arith, length-take-le};
-    ghost use Rattle.ix_string.specs.Text.{IsPadded, padded_text};
+    ghost use Rattle.ix_string.specs.Text.{padded_text};
+    ghost use Rattle.ix_string.specs.inner.Padding.{IsPadded};
 
     ghost Value = { List ℕ };
 
@@ -66,7 +68,7 @@ impl<const CAPACITY: usize> StaticString<CAPACITY> {
         CAPACITY
     }
 
-    /// Returns a string of the first `n` bytes, without checking that `bytes` fits, that it has `n` bytes, and that
+    /// Creates a string that holds the first `n` bytes, without checking that `bytes` fits, that it has `n` bytes, and that
     /// those are from 1 to 127. O(`CAPACITY`).
     pub fn from_bytes_unchecked_restricted(bytes: &[u8], n: usize) -> Self
         requires room { length bytes.now ≤ CAPACITY }
@@ -74,15 +76,15 @@ impl<const CAPACITY: usize> StaticString<CAPACITY> {
         requires text { IsText (take n bytes.now) }
         ensures { result ≡ take n bytes.now }
     {
-        let mut row = [0; CAPACITY];
-        row[..n].copy_from_slice(&bytes[..n]);
+        let mut buffer = [0; CAPACITY];
+        buffer[..n].copy_from_slice(&bytes[..n]);
         StaticString {
-            bytes: row,
+            bytes: buffer,
             count: n,
         }
     }
 
-    /// Returns a string of the bytes, without checking that they fit and are from 1 to 127. O(`CAPACITY`).
+    /// Creates a string that holds the bytes, without checking that they fit and are from 1 to 127. O(`CAPACITY`).
     pub fn from_bytes_unchecked(bytes: &[u8]) -> Self
         requires room { length bytes.now ≤ CAPACITY }
         requires text { IsText bytes.now }
@@ -91,7 +93,7 @@ impl<const CAPACITY: usize> StaticString<CAPACITY> {
         StaticString::from_bytes_unchecked_restricted(bytes, bytes.len())
     }
 
-    /// Returns a string of the bytes. O(`CAPACITY`).
+    /// Creates a string that holds the bytes. O(`CAPACITY`).
     ///
     /// Returns [`StringModificationError::InsertWouldExceedCapacity`] if there are more than `CAPACITY` bytes, and
     /// otherwise [`StringModificationError::InvalidCharacter`] if one of them is 0 or above 127.
@@ -107,7 +109,7 @@ impl<const CAPACITY: usize> StaticString<CAPACITY> {
         Ok(StaticString::from_bytes_unchecked(bytes))
     }
 
-    /// Returns a string of the first `CAPACITY` bytes, or of all bytes if there are fewer. O(`CAPACITY`).
+    /// Creates a string that holds the first `CAPACITY` bytes, or all bytes if there are fewer. O(`CAPACITY`).
     ///
     /// Returns [`StringModificationError::InvalidCharacter`] if one of these is 0 or above 127. The other bytes are
     /// ignored.
@@ -120,7 +122,7 @@ impl<const CAPACITY: usize> StaticString<CAPACITY> {
         StaticString::from_bytes(&bytes[..n])
     }
 
-    /// Returns a string of the first `CAPACITY` bytes of `text`, or of all bytes if there are fewer. O(`CAPACITY`).
+    /// Creates a string that holds the first `CAPACITY` bytes of `text`, or all bytes if there are fewer. O(`CAPACITY`).
     ///
     /// Returns the error of [`StaticString::from_bytes_truncated`].
     pub fn from_str_truncated(text: &str) -> Result<Self, StringModificationError>
@@ -131,7 +133,7 @@ impl<const CAPACITY: usize> StaticString<CAPACITY> {
         StaticString::from_bytes_truncated(text.as_bytes())
     }
 
-    /// Returns a string of the bytes before the first zero, or of all bytes if there is no zero.
+    /// Creates a string that holds the bytes before the first zero, or all bytes if there is no zero.
     /// O(`bytes.len() + CAPACITY`).
     ///
     /// Returns the errors of [`StaticString::from_bytes`].

@@ -11,7 +11,7 @@ ghost use Rattle.ix_string.specs.Retain.{IsCallableAtText, Retains};
 ghost use Rattle.ix_string.specs.TextSteps.{text_insert_slice, text_insert, text_insert_result, IsRangeOf, text_remove_range};
 
 use crate::string::StringModificationError;
-use crate::string::gaps::is_text;
+use crate::string::text::is_text;
 use memchr::memmem;
 use std::cmp::Ordering;
 use std::fmt::{Debug, Display};

@@ -2,7 +2,7 @@
 ghost use Rattle.std.specs.Prelude.{◌≡◌, ℕ, ◌<◌, ◌↔◌, List, length, Option, Some, IsTrue, true, slice_index, filter_map};
 ghost use Rattle.ix_atomic.specs.declared.byte_atomic.steps.plain.Act.{Act};
 ghost use Rattle.ix_atomic.specs.ByteActs.{AreLegal};
-ghost use Rattle.ix_atomic.specs.inner.StepWalks.{all_within, loads_agree};
+ghost use Rattle.ix_atomic.specs.inner.StepTests.{all_within, loads_agree};
 
 use crate::byte_atomic::steps::plain::Act;
 

@@ -1,7 +1,7 @@
 //! Versioned steps: one writer raises a version before and after each write, and readers load it.
 ghost use Rattle.std.specs.Prelude.{◌≡◌, ℕ, ◌*◌, ◌+◌, ◌↔◌, List, ◌∷◌, length, IsTrue, true, Some, None, slice_get};
 ghost use Rattle.ix_atomic.specs.VersionedSteps.{AreWrites, IsLegalVersioned, IsVersionedRead, byte_act};
-ghost use Rattle.ix_atomic.specs.inner.StepWalks.{are_in_turn, versions_agree};
+ghost use Rattle.ix_atomic.specs.inner.StepTests.{are_in_turn, versions_agree};
 
 use crate::byte_atomic::steps::byte_step::{ByteStep, acts_are_legal};
 use crate::byte_atomic::steps::plain::Act;

@@ -26,9 +26,7 @@ impl Error for VersionsUsedUp {}
 
 /// Returns the odd version during a write that begins at the even `version`, and the even version after it. O(1).
 ///
-/// # Errors
-///
-/// [`VersionsUsedUp`] if `version` is the greatest even number of a `u64`.
+/// Returns [`VersionsUsedUp`] if `version` is the greatest even number of a `u64`.
 ///
 /// ```text
 /// next_versions(4);                                 // Ok((5, 6))

@@ -43,7 +43,7 @@ pub(crate) trait Served {
 }
 
 /// Appends the line that shows the container.
-#[tactic(auto, using(crate::proofs::Writing::WriteResult_append, crate::proofs::Writing::WritesPart_append))]
+#[tactic(auto, using(crate::proofs::Writing::WriteResult_append, crate::proofs::Writing::WriterAppendsPart_append))]
 fn show_line<C: Served, W: Write>(
     container: &C,
     replies: &mut ReplyWriter<'_, W>,
@@ -77,7 +77,7 @@ pub(crate) fn answer<C: Served, W: Write>(
         return show_line(container, replies);
     }
     match container.run_line(line) {
-        Some(reply) => replies.append_piece(reply),
+        Some(reply) => replies.append_part(reply),
         None => replies.append(b"?\n"),
     }
 }

@@ -1,11 +1,11 @@
 //! Lines of a script for a string.
 ghost use Rattle.std.specs.Prelude.{◌≡◌, ◌≤◌, ◌+◌, ◌++◌, codes, length};
 ghost use Rattle.ix_string.specs.Escape.{escaped_byte, escaped_text};
-ghost use Rattle.ix_run.specs.inner.Writing.{WriteResult, WritesPart};
+ghost use Rattle.ix_run.specs.inner.Writing.{WriteResult, WriterAppendsPart};
 
 use crate::run::containers::making::{MakesIn, MakesInline, Named};
 use crate::run::containers::served::Served;
-use crate::run::devices::{MAX_NUMBERS, Piece, ReplyBuffer, ReplyWriter};
+use crate::run::devices::{MAX_NUMBERS, ReplyBuffer, ReplyPart, ReplyWriter};
 use crate::run::{Reply, Runs, ScriptFault, read_text_command};
 use bumpalo::Bump;
 use ix_cells::RelocatableContainer;
@@ -54,7 +54,7 @@ fn with_u64_value(reply: Reply<usize, u8>) -> Reply<usize, u64>
 #[derive(Drop)]
 struct ShownByte(u8);
 
-impl Piece for ShownByte {
+impl ReplyPart for ShownByte {
     ghost text = { λ shown. escaped_byte shown.0 };
 
     fn put_into(self, replies: &mut ReplyBuffer) {
@@ -77,13 +77,13 @@ fn append_escaped_bytes<W: Write>(
         replies.new result }
 {
     for byte in bytes {
-        replies.append_piece(ShownByte(*byte))?;
+        replies.append_part(ShownByte(*byte))?;
     }
     Ok(())
 }
 
 /// Appends bytes that are printed escaped, and a double quote.
-#[tactic(auto, using(crate::proofs::Writing::WriteResult_append, crate::proofs::Writing::WritesPart_append))]
+#[tactic(auto, using(crate::proofs::Writing::WriteResult_append, crate::proofs::Writing::WriterAppendsPart_append))]
 fn append_escaped_then_quote<W: Write>(
     replies: &mut ReplyWriter<'_, W>,
     bytes: &[u8],
@@ -96,7 +96,7 @@ fn append_escaped_then_quote<W: Write>(
 }
 
 /// Appends bytes that are printed escaped, between double quotes.
-#[tactic(auto, using(crate::proofs::Writing::WriteResult_append, crate::proofs::Writing::WritesPart_append))]
+#[tactic(auto, using(crate::proofs::Writing::WriteResult_append, crate::proofs::Writing::WriterAppendsPart_append))]
 fn append_quoted<W: Write>(
     replies: &mut ReplyWriter<'_, W>,
     bytes: &[u8],

@@ -6,7 +6,7 @@ use crate::run::devices::limits::{BUFFER_LEN, MAX_DIGITS, MAX_REPLY_LEN};
 use std::marker::Model;
 
 /// What is appended at once: at most [`MAX_REPLY_LEN`] bytes.
-pub(crate) trait Piece {
+pub(crate) trait ReplyPart {
     /// Its bytes.
     ghost text: { Self → List ℕ };
 

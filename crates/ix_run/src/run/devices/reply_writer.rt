@@ -7,7 +7,7 @@ ghost use Rattle.ix_run.specs.declared.run.devices.limits.TheConstants.{BUFFER_L
 
 use crate::run::ScriptFault;
 use crate::run::devices::limits::{MAX_REPLY_LEN, MAX_TRIES};
-use crate::run::devices::reply_buffer::{Piece, ReplyBuffer};
+use crate::run::devices::reply_buffer::{ReplyBuffer, ReplyPart};
 use std::io::{ErrorKind, Write};
 
 /// Writes the first `n` of the bytes, at least one, and returns `n`. An interrupted write is tried again.
@@ -102,7 +102,7 @@ impl<'w, W: Write> ReplyWriter<'w, W> {
 
     /// Appends at most [`MAX_REPLY_LEN`] bytes. Writes the pending ones first if there is no room.
     #[inline]
-    #[tactic(auto, using(crate::proofs::Writing::WritesPart_after_nil))]
+    #[tactic(auto, using(crate::proofs::Writing::WriterAppendsPart_after_nil))]
     pub(crate) fn append(&mut self, bytes: &[u8]) -> Result<(), ScriptFault>
         requires { length bytes.now ≤ MAX_REPLY_LEN }
         ensures { WriteResult W.contents self.old bytes.now self.new result }
@@ -112,14 +112,14 @@ impl<'w, W: Write> ReplyWriter<'w, W> {
         Ok(())
     }
 
-    /// Appends a piece. Writes the pending bytes first if there is no room.
+    /// Appends a part of a reply. Writes the pending bytes first if there is no room.
     #[inline(always)]
-    #[tactic(auto, using(crate::proofs::Writing::WritesPart_after_nil))]
-    pub(crate) fn append_piece<P: Piece + Drop>(&mut self, piece: P) -> Result<(), ScriptFault>
-        ensures { WriteResult W.contents self.old (P.text piece) self.new result }
+    #[tactic(auto, using(crate::proofs::Writing::WriterAppendsPart_after_nil))]
+    pub(crate) fn append_part<P: ReplyPart + Drop>(&mut self, part: P) -> Result<(), ScriptFault>
+        ensures { WriteResult W.contents self.old (P.text part) self.new result }
     {
         self.reserve()?;
-        piece.put_into(&mut self.pending);
+        part.put_into(&mut self.pending);
         Ok(())
     }
 }

@@ -3,7 +3,7 @@ ghost use Rattle.std.specs.Prelude.{ℕ, ◌≡◌, ◌==◌, ◌∷◌, [], Opt
 ghost use Rattle.std.specs.List.{find};
 ghost use Rattle.ix_run.specs.Words.{numbers_in, make_named};
 ghost use Rattle.ix_run.specs.Headers.{IsStorage, IsStart, header_of, header_text};
-ghost use Rattle.ix_run.specs.Headers.{named_container, storage_forms, fixed_capacity, fixed_capacities, up_to_max, started};
+ghost use Rattle.ix_run.specs.Headers.{named_container, storage_forms, fixed_capacity, fixed_capacities, up_to_max, container_with_start};
 ghost use Rattle.ix_run.specs.inner.LineRest.{words_after};
 ghost use Rattle.ix_run.specs.declared.run.grammar.header.Container.TheVariants as container;
 ghost use Rattle.ix_run.specs.declared.run.grammar.header.Header.{Header};
@@ -131,7 +131,7 @@ fn storage_named(name: &[u8], number: &[u8]) -> Option<Storage>
 /// Returns the container, with the generation of a slot map's places at first if the words that are left say it. Any other
 /// word that is left is refused.
 fn started(container: Container, rest: Option<&[u8]>) -> Option<Container>
-    ensures { result ≡ started container (words_after (option_copied rest.entry)) }
+    ensures { result ≡ container_with_start container (words_after (option_copied rest.entry)) }
 {
     let Some(rest) = rest else {
         return Some(container);
@@ -147,7 +147,7 @@ fn started(container: Container, rest: Option<&[u8]>) -> Option<Container>
 /// Returns a slot map with the generation of its places at first, if the words say it.
 fn starting_at(word: &[u8], rest: Option<&[u8]>) -> Option<Container>
     ensures { (start : Option ℕ) → result
-        ≡ started (container.Slot start) (word.now ∷ words_after (option_copied rest.entry)) }
+        ≡ container_with_start (container.Slot start) (word.now ∷ words_after (option_copied rest.entry)) }
 {
     if !is_word(word, b"at") {
         return None;

@@ -5,7 +5,7 @@ ghost use Rattle.std.specs.Option.{option_map, option_and_then, option_copied};
 ghost use Rattle.std.specs.List.{position_or_len, slice_split, list_any};
 ghost use Rattle.ix_run.specs.Words.{is_space, numbers_in, key_of};
 ghost use Rattle.ix_run.specs.inner.NameTables.{first_word, IsAfterName};
-ghost use Rattle.ix_run.specs.Words.{alone, one, two, one_byte, number_byte, many_bytes, number_many_bytes};
+ghost use Rattle.ix_run.specs.Words.{takes_none, takes_one, takes_two, one_byte, number_byte, many_bytes, number_many_bytes};
 ghost use Rattle.ix_run.specs.inner.LineRest.{words_after, len_after, byte_of};
 
 use crate::run::grammar::reading::number_in;
@@ -92,7 +92,7 @@ pub(crate) fn after_name<'a>(line: &'a [u8], name: &[u8]) -> Option<Option<&'a [
 #[inline]
 pub(crate) fn alone<C: Copy>(rest: Option<&[u8]>, command: C) -> Option<C>
     ensures { result
-        ≡ option_and_then (alone command) (numbers_in (words_after (option_copied rest.entry))) }
+        ≡ option_and_then (takes_none command) (numbers_in (words_after (option_copied rest.entry))) }
 {
     match rest {
         Some(_) => None,
@@ -105,7 +105,7 @@ pub(crate) fn alone<C: Copy>(rest: Option<&[u8]>, command: C) -> Option<C>
 #[inline]
 pub(crate) fn one_number(rest: Option<&[u8]>) -> Option<u64>
     ensures { result
-        ≡ option_and_then (one (λ n. n)) (numbers_in (words_after (option_copied rest.entry))) }
+        ≡ option_and_then (takes_one (λ n. n)) (numbers_in (words_after (option_copied rest.entry))) }
 {
     number_in(rest?)
 }
@@ -114,7 +114,7 @@ pub(crate) fn one_number(rest: Option<&[u8]>) -> Option<u64>
 #[tactic(auto, using(crate::proofs::Words::two_after_number))]
 #[inline]
 pub(crate) fn two_numbers(rest: Option<&[u8]>) -> Option<(u64, u64)>
-    ensures { result ≡ option_and_then (two (λ n m. (n, m)))
+    ensures { result ≡ option_and_then (takes_two (λ n m. (n, m)))
         (numbers_in (words_after (option_copied rest.entry))) }
 {
     let (word, rest) = split_word(rest?);

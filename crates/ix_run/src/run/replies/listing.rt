@@ -7,7 +7,7 @@ ghost use Rattle.ix_run.specs.inner.Writing.{WriteResult};
 ghost use Rattle.ix_run.specs.declared.run.devices.limits.TheConstants.{BUFFER_LEN, MAX_ITEM_LEN};
 
 use crate::run::ScriptFault;
-use crate::run::devices::{Piece, ReplyBuffer, ReplyWriter};
+use crate::run::devices::{ReplyBuffer, ReplyPart, ReplyWriter};
 use std::io::Write;
 
 /// An item that `show` prints.
@@ -37,7 +37,7 @@ struct Listed<T> {
     item: T,
 }
 
-impl<T: ListedItem> Piece for Listed<T> {
+impl<T: ListedItem> ReplyPart for Listed<T> {
     ghost text = { λ listed. next_text listed.is_first (T.text listed.item) };
 
     fn put_into(self, replies: &mut ReplyBuffer) {
@@ -64,12 +64,12 @@ where
     let Some(first) = items.next() else {
         return replies.append(b"-");
     };
-    replies.append_piece(Listed {
+    replies.append_part(Listed {
         is_first: true,
         item: first,
     })?;
     while let Some(item) = items.next() {
-        replies.append_piece(Listed {
+        replies.append_part(Listed {
             is_first: false,
             item,
         })?;

@@ -4,7 +4,7 @@ ghost use Rattle.ix_run.specs.Lines.{with_line_feed};
 ghost use Rattle.ix_run.specs.ReplyTexts.{error_name, reply_text_by};
 ghost use Rattle.ix_run.specs.declared.run.devices.limits.TheConstants.{BUFFER_LEN, MAX_KEY_LEN, MAX_REPLY_LEN};
 
-use crate::run::devices::{Piece, ReplyBuffer};
+use crate::run::devices::{ReplyBuffer, ReplyPart};
 use crate::run::{Reply, ReplyError};
 use ix_maps::SlotMapKey;
 
@@ -122,7 +122,7 @@ fn put_error(replies: &mut ReplyBuffer, error: ReplyError)
 }
 
 /// The line of a reply.
-impl<K: ReplyKey> Piece for Reply<K, u64> {
+impl<K: ReplyKey> ReplyPart for Reply<K, u64> {
     ghost text = { λ reply. with_line_feed (reply_text_by K.text reply) };
 
     #[inline(always)]

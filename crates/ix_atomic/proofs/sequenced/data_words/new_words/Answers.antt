@@ -1,6 +1,6 @@
 use Rattle.std.proofs.Common.{rules, arith, ◌≡◌, ◌*◌, ◌<◌, ◌≤◌, [], ◌∷◌, ◌++◌, length, take, ap, sym, ◌∙◌}
 use Rattle.std.proofs.lemmas.List.{take_all}
-use Rattle.ix_atomic.specs.Words.{words_of}
+use Rattle.ix_atomic.specs.inner.DataWords.{words_of}
 use Rattle.ix_atomic.proofs.DataWords.{length-words_of, words_of-more}
 use Rattle.ix_atomic.proofs.sequenced.data_words.new_words.Goals as goal
 

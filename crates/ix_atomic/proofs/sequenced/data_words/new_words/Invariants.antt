@@ -1,5 +1,5 @@
 use Rattle.std.proofs.Common.{◌≡◌, ◌∷◌, take}
-use Rattle.ix_atomic.specs.Words.{words_of}
+use Rattle.ix_atomic.specs.inner.DataWords.{words_of}
 use Rattle.ix_atomic.proofs.sequenced.data_words.new_words.Given as goal
 
 abbrev pub invariant-loop-i : goal.invariant-loop-i

@@ -1,4 +1,4 @@
-use Rattle.ix_run.specs.Laws.{IsKey, IsU64}
+use Rattle.ix_run.specs.Laws.{IsSlotKey, IsU64}
 use Rattle.ix_run.specs.ReplyTexts.{entry_text, key_entry_text}
 use Rattle.ix_run.proofs.Laws.{Lacks-decimal}
 use Rattle.ix_run.proofs.ReplyLines.{IsOneLine-reply_text, IsOneLine-slot_reply_text, IsOneLine-items_text, Lacks-entry_text, Lacks-key_entry_text, IsOneLine-text_shown}
@@ -21,4 +21,4 @@ pub returns-clause-slot_reply : goal.returns-clause-slot_reply
 returns-clause-slot_reply c = IsOneLine-slot_reply_text
 
 pub returns-clause-key_entries : goal.returns-clause-key_entries
-returns-clause-key_entries c = IsOneLine-items_text key_entry_text (λ entry. IsKey entry.0 × IsU64 entry.1) Lacks-key_entry_text
+returns-clause-key_entries c = IsOneLine-items_text key_entry_text (λ entry. IsSlotKey entry.0 × IsU64 entry.1) Lacks-key_entry_text

@@ -7,9 +7,9 @@ pub returns : goal.returns
 returns c =
     let range = c.requires.range in
     let room = c.requires.room in
-    let row = c.args.row.now in
+    let buffer = c.args.buffer.now in
     let i = c.args.idx in
     let n = c.args.n in
     let k = c.args.len - i in
-    let long : length (take k (drop i row)) ≡ k = grind (arith, common_steps) in
-    rw (c.copy_within.ensures.after, long) (put_mid-closed row i n (k - n) k c.args.len (c.args.len - n) (omega arith) (omega arith) (omega arith))
+    let long : length (take k (drop i buffer)) ≡ k = grind (arith, common_steps) in
+    rw (c.copy_within.ensures.after, long) (put_mid-closed buffer i n (k - n) k c.args.len (c.args.len - n) (omega arith) (omega arith) (omega arith))

@@ -10,4 +10,4 @@ returns c =
     let i = c.args.idx in
     let m = c.args.len - i in
     rw (c.copy_within.ensures.after, c.copy_from_slice.ensures.after)
-    (put_mid-opened c.args.row.now c.args.bytes.now i n m (i + n - i) c.args.len (c.args.len + n) (omega arith) (omega arith) (omega arith) (omega arith))
+    (put_mid-opened c.args.buffer.now c.args.bytes.now i n m (i + n - i) c.args.len (c.args.len + n) (omega arith) (omega arith) (omega arith) (omega arith))

@@ -7,45 +7,45 @@ use Rattle.ix_string.proofs.string.retaining.move_kept_back.Goals as goal
 pub loop-idx-preserved-then-not-f : goal.loop-idx-preserved-then-not-f
 loop-idx-preserved-then-not-f g c =
     let at = c.loop-idx.invariant in
-    let old = c.args.row.now in
-    let row = c.loop-idx.row in
+    let old = c.args.buffer.now in
+    let buffer = c.loop-idx.buffer in
     let n = c.loop-idx.idx in
     let i = n - 1 in
     let s = c.loop-idx.start - 1 in
     let positive = c.loop-idx-test.true in
     let order = at.order in
     let within = at.within in
-    let y = get_or row i 0 in
-    let text_byte = IsTextByte-front row old i n 0 (omega arith) (omega arith) at.front c.requires.text in
+    let y = get_or buffer i 0 in
+    let text_byte = IsTextByte-front buffer old i n 0 (omega arith) (omega arith) at.front c.requires.text in
     let called : goal.F-step g c.loop-idx.f y false c.f.new.self = rw (← c.if-not-f.true) (search of_calls) in
-    let more = Retains-back (λ p x b q. goal.F-step g p x b q) c.args.f row old n 0 at.calls.0 c.loop-idx.f false c.f.new.self (omega arith) (omega arith) at.front at.calls.1 called in
-    let put = drop-put row s c.loop-idx.start y (omega arith) (omega arith) in
-    let left : drop s (set row s y) ≡ y ∷ retained_items at.calls.0 (drop n old) = put ∙ ap (λ (r : List ℕ). y ∷ r) at.calls.2 in
+    let more = Retains-back (λ p x b q. goal.F-step g p x b q) c.args.f buffer old n 0 at.calls.0 c.loop-idx.f false c.f.new.self (omega arith) (omega arith) at.front at.calls.1 called in
+    let put = drop-put buffer s c.loop-idx.start y (omega arith) (omega arith) in
+    let left : drop s (set buffer s y) ≡ y ∷ retained_items at.calls.0 (drop n old) = put ∙ ap (λ (r : List ℕ). y ∷ r) at.calls.2 in
     record {
       callable = IsCallableAtText-on at.callable y text_byte false c.f.new.self called;
       order = omega arith;
       within = omega arith;
-      front = take-set-le i row s y (omega arith) ∙ take-front row old i n (omega arith) at.front;
+      front = take-set-le i buffer s y (omega arith) ∙ take-front buffer old i n (omega arith) at.front;
       calls = (more.0, more.1, left ∙ more.2);
     }
 
 pub loop-idx-preserved : goal.loop-idx-preserved
 loop-idx-preserved g c =
     let at = c.loop-idx.invariant in
-    let old = c.args.row.now in
-    let row = c.loop-idx.row in
+    let old = c.args.buffer.now in
+    let buffer = c.loop-idx.buffer in
     let n = c.loop-idx.idx in
     let positive = c.loop-idx-test.true in
     let order = at.order in
     let within = at.within in
-    let text_byte = IsTextByte-front row old (n - 1) n 0 (omega arith) (omega arith) at.front c.requires.text in
-    let called : goal.F-step g c.loop-idx.f (get_or row (n - 1) 0) true c.f.new.self = rw (← c.if-not-f.false) (search of_calls) in
-    let more = Retains-back (λ p x b q. goal.F-step g p x b q) c.args.f row old n 0 at.calls.0 c.loop-idx.f true c.f.new.self (omega arith) (omega arith) at.front at.calls.1 called in
+    let text_byte = IsTextByte-front buffer old (n - 1) n 0 (omega arith) (omega arith) at.front c.requires.text in
+    let called : goal.F-step g c.loop-idx.f (get_or buffer (n - 1) 0) true c.f.new.self = rw (← c.if-not-f.false) (search of_calls) in
+    let more = Retains-back (λ p x b q. goal.F-step g p x b q) c.args.f buffer old n 0 at.calls.0 c.loop-idx.f true c.f.new.self (omega arith) (omega arith) at.front at.calls.1 called in
     record {
-      callable = IsCallableAtText-on at.callable (get_or row (n - 1) 0) text_byte true c.f.new.self called;
+      callable = IsCallableAtText-on at.callable (get_or buffer (n - 1) 0) text_byte true c.f.new.self called;
       order = omega arith;
       within = at.within;
-      front = take-front row old (n - 1) n (omega arith) at.front;
+      front = take-front buffer old (n - 1) n (omega arith) at.front;
       calls = (more.0, more.1, at.calls.2 ∙ more.2);
     }
 
@@ -56,4 +56,4 @@ f-requires g c =
     let positive = c.loop-idx-test.true in
     let order = at.order in
     let within = at.within in
-    IsCallableAtText-now at.callable _ (IsTextByte-front c.loop-idx.row c.args.row.now (n - 1) n 0 (omega arith) (omega arith) at.front c.requires.text)
+    IsCallableAtText-now at.callable _ (IsTextByte-front c.loop-idx.buffer c.args.buffer.now (n - 1) n 0 (omega arith) (omega arith) at.front c.requires.text)

@@ -1,6 +1,6 @@
 use Rattle.std.proofs.Common.{◌≡◌, ◌<◌, ℕ, true, slice_index}
 use Rattle.std.specs.List.{filter_map}
-use Rattle.ix_atomic.specs.inner.StepWalks.{loads_agree}
+use Rattle.ix_atomic.specs.inner.StepTests.{loads_agree}
 use Rattle.ix_atomic.proofs.byte_atomic.steps.byte_step.all_loads_agree.Given as goal
 
 -- the loads at the places so far agree

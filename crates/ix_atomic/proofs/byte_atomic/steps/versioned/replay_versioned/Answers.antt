@@ -1,7 +1,7 @@
 use Rattle.std.proofs.Common.{sym, ◌∙◌}
 use Rattle.std.proofs.lemmas.Bool.{both_ways}
-use Rattle.ix_atomic.proofs.LegalWrites.{AreWrites-walk, are_in_turn-writes}
-use Rattle.ix_atomic.proofs.Versions.{HasVersion-walk, versions_agree-each}
+use Rattle.ix_atomic.proofs.LegalWrites.{AreWrites-steps_pass, are_in_turn-writes}
+use Rattle.ix_atomic.proofs.Versions.{HasVersion-steps_pass, versions_agree-each}
 use Rattle.ix_atomic.proofs.byte_atomic.steps.versioned.replay_versioned.Goals as goal
 use Rattle.ix_atomic.proofs.byte_atomic.steps.versioned.replay_versioned.Goals.{then-writes_are_in_turn, else-writes_are_in_turn}
 
@@ -9,8 +9,8 @@ pub returns-then-versions_are_right : goal.returns-then-versions_are_right
 returns-then-versions_are_right c = elim c.if-writes_are_in_turn.branch [
   | then-writes_are_in_turn w ↦ (
     λ yes. record {
-      writes = AreWrites-walk _ _ (sym c.writes_are_in_turn.ensures ∙ w.if-writes_are_in_turn.true);
-      versions = HasVersion-walk _ (sym w.versions_are_right.ensures ∙ (sym w.value-is ∙ c.if-versions_are_right.true));
+      writes = AreWrites-steps_pass _ _ (sym c.writes_are_in_turn.ensures ∙ w.if-writes_are_in_turn.true);
+      versions = HasVersion-steps_pass _ (sym w.versions_are_right.ensures ∙ (sym w.value-is ∙ c.if-versions_are_right.true));
       bytes = c.acts_are_legal.ensures.0 yes;
     },
     λ legal. c.acts_are_legal.ensures.1 legal.bytes,

@@ -10,7 +10,7 @@ use Rattle.ix_atomic.proofs.DataWords.{length-with_word, unpack-more}
 use Rattle.ix_atomic.proofs.Encodes.{Encodes-length}
 use Rattle.ix_atomic.proofs.SequencedKeeps.{finished, closed-whole}
 use Rattle.ix_atomic.proofs.sequenced.sequenced_byte_atomic.SequencedByteAtomic.close.Given.{Over}
-use Rattle.ix_atomic.proofs.sequenced.sequenced_byte_atomic.SequencedByteAtomic.close.Goals.{After-decode}
+use Rattle.ix_atomic.proofs.sequenced.sequenced_byte_atomic.SequencedByteAtomic.close.Goals.{After-free}
 use Rattle.ix_atomic.proofs.sequenced.sequenced_byte_atomic.SequencedByteAtomic.close.Goals as goal
 
 pub loop-i-preserved : goal.loop-i-preserved
@@ -26,7 +26,7 @@ loop-i-preserved g c =
     )
 
 -- the last value of a history that the seat's list begins, and the bytes, if no write is in progress
-at_rest : (g : Over) (c : After-decode g) → IsEven c.word.result
+at_rest : (g : Over) (c : After-free g) → IsEven c.word.result
     → (history : List g.row.T.Denot) × (value : g.row.T.Denot) × Begins c.seat.inside.seat.me.0.known history × (last_value history ≡ Some value)
     × Encodes g.T.AtomicCopy.is_value g.T.AtomicCopy.encoding value c.loop-i.bytes
     × (IsWhole c.seat.inside.seat.me.0.share → HoldsEach (length history) c.seat.inside.seat.me.0.places)
@@ -41,20 +41,21 @@ at_rest g c even =
     sym (take_all (8 * k) out (omega arith)) ∙ kept.1 last.bytes last.byte_range (long ∙ sym same) last.has ∙ take_all (8 * k) last.bytes (omega arith) in
     (last.history, last.value, last.begins, last.is_last, (last.encoding.0, bytes ∙ last.encoding.1), last.whole)
 
-pub unreachable-requires : goal.unreachable-requires
-unreachable-requires g c =
+pub decoded-requires : goal.decoded-requires
+decoded-requires g c =
     let not_odd = c.if-is_unfinished.false in
-    let last = at_rest g c.before (omega arith) in let found = (c.in-None.ensures last.1).1 last.4 in absurd (cc)
+    let last = at_rest g c.before.before.before (omega arith) in
+    record { len = c.loop-i.invariant.0 ∙ c.self.invariant.2; bytes = (last.1, last.4) }
 
 pub returns : goal.returns
 returns g c =
     let not_odd = c.if-is_unfinished.false in
-    let last = at_rest g c.before (omega arith) in
-    let found = (c.in-Some.ensures last.1).1 last.4 in let value : c.in-Some.value ≡ last.1 = cc in
+    let last = at_rest g c.before.before.before.before (omega arith) in
+    let value : c.decoded.result ≡ last.1 = c.decoded.ensures last.1 last.4 in
     let begins = subst (λ (w : Writer g.row.T.Denot). Begins w.known last.0) c.seat.view_is last.2 in
     let is_last = last.3 ∙ ap Some (sym value) in
     let each = subst (λ (w : Writer g.row.T.Denot). IsWhole w.share → HoldsEach (length last.0) w.places) c.seat.view_is last.5 in
-    record { value = (last.0, begins, is_last); whole = λ whole. (c.in-Some.value, refl, last.0, begins, is_last, each whole) }
+    record { value = (last.0, begins, is_last); whole = λ whole. (c.decoded.result, refl, last.0, begins, is_last, each whole) }
 
 pub returns-then-is_unfinished-clause-whole : goal.returns-then-is_unfinished-clause-whole
 returns-then-is_unfinished-clause-whole g c whole =

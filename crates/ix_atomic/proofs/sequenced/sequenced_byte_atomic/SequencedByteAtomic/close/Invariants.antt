@@ -1,6 +1,6 @@
 use Rattle.std.proofs.Common.{◌≡◌, ℕ, ◌*◌, List, take, drop, length}
 use Rattle.std.specs.Slots.{slots_items}
-use Rattle.ix_atomic.specs.Words.{words_of}
+use Rattle.ix_atomic.specs.inner.DataWords.{words_of}
 use Rattle.ix_atomic.proofs.Beginnings.{AreBelow}
 use Rattle.ix_atomic.proofs.sequenced.sequenced_byte_atomic.SequencedByteAtomic.close.Given as goal
 

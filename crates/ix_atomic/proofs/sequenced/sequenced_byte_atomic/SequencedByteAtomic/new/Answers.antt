@@ -2,7 +2,8 @@ use Rattle.std.proofs.Common.{rules, arith, ◌≡◌, ◌+◌, ◌∷◌, ℕ, 
 use Rattle.atomic_table.specs.Table.{opening}
 use Rattle.ix_atomic.specs.inner.SequencedRule.{SequencedRule, Encodes, parity}
 use Rattle.ix_atomic.specs.inner.SequencedSteps.{view_new}
-use Rattle.ix_atomic.specs.Words.{word_count, words_of}
+use Rattle.ix_atomic.specs.Words.{word_count}
+use Rattle.ix_atomic.specs.inner.DataWords.{words_of}
 use Rattle.ix_atomic.proofs.Beginnings.{AreBelow}
 use Rattle.ix_atomic.proofs.DataWords.{length-words_of}
 use Rattle.ix_atomic.proofs.SequencedKeeps as step

@@ -26,8 +26,8 @@ seat : (g : Over) (c : After-load-last g)
     → LoadsTwice (reader_of c.args.seat.now.table_id c.args.seat.now.me.0) (reader_of c.load-last.new.seat.table_id c.load-last.new.seat.me.0) c.load-first.result c.load-last.result
 seat g c = (read g c).seat _ _ (c.load-last.ensures.0 ∙ (c.load_bytes.ensures.place.0 ∙ c.load-first.ensures.0))
 
-pub value_read-requires : goal.value_read-requires
-value_read-requires g c =
+pub decoded-requires : goal.decoded-requires
+decoded-requires g c =
     let whole = (read g c.before.before.before.before).whole c.if-first-last.true c.if-first-eq0.true in
     record { len = c.load_bytes.ensures.length ∙ c.self.invariant.2; bytes = (whole.0, whole.1) }
 
@@ -37,7 +37,7 @@ returns-then-first-eq0-clause-value g c =
     let before = reader_of c.args.seat.now.table_id c.args.seat.now.me.0 in let after = reader_of c.load-last.new.seat.table_id c.load-last.new.seat.me.0 in
     let loads = c.before.before.before.before.before in
     let whole = (read g loads).whole same even in
-    rw (c.value_read.ensures whole.0 whole.1) (first, subst (λ last. LoadsTwice before after first last) (sym same) (seat g loads), even, whole.2)
+    rw (c.decoded.ensures whole.0 whole.1) (first, subst (λ last. LoadsTwice before after first last) (sym same) (seat g loads), even, whole.2)
 
 pub returns-else-first-last-clause-interfered : goal.returns-else-first-last-clause-interfered
 returns-else-first-last-clause-interfered g c =

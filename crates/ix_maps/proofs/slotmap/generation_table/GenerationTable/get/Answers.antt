@@ -1,10 +1,10 @@
 use Rattle.std.proofs.Common.{ℕ, List, get_or, sym, ap, ◌∙◌}
-use Rattle.ix_maps.proofs.GenerationTables.{numbers_in-at, numbers_in-within}
+use Rattle.ix_maps.proofs.GenerationTables.{generations_in-at, generations_in-within}
 use Rattle.ix_maps.proofs.slotmap.generation_table.GenerationTable.get.Goals as goal
 
 pub get-requires : goal.get-requires
-get-requires g c = c.self.invariant c.args.place (numbers_in-within _ _ c.args.place c.self.view_is c.requires)
+get-requires g c = c.self.invariant c.args.place (generations_in-within _ _ c.args.place c.self.view_is c.requires)
 
 pub returns-clause-value : goal.returns-clause-value
 returns-clause-value g c =
-    sym (numbers_in-at _ c.args.place _ c.get.ensures.value) ∙ ap (λ (numbers : List ℕ). get_or numbers c.args.place 0) c.self.view_is
+    sym (generations_in-at _ c.args.place _ c.get.ensures.value) ∙ ap (λ (numbers : List ℕ). get_or numbers c.args.place 0) c.self.view_is

@@ -1,6 +1,6 @@
 use Rattle.std.proofs.Common.{◌<◌, length, ap, ◌∙◌, subst}
 use Rattle.std.specs.Prelude.{replicate}
-use Rattle.ix_maps.proofs.GenerationTables.{numbers_in-filled, HasEachPlace-filled}
+use Rattle.ix_maps.proofs.GenerationTables.{generations_in-filled, HasEachPlace-filled}
 use Rattle.ix_maps.proofs.slotmap.generation_table.GenerationTable.new.Goals as goal
 
 pub invariant_of-result : goal.invariant_of-result
@@ -9,5 +9,5 @@ invariant_of-result g c =
 
 pub returns : goal.returns
 returns g c =
-    numbers_in-filled _ c.args.generation (λ i below. c.fill.ensures.each i (subst (λ n. i < n) c.fill.ensures.len below))
+    generations_in-filled _ c.args.generation (λ i below. c.fill.ensures.each i (subst (λ n. i < n) c.fill.ensures.len below))
     ∙ ap (λ n. replicate n c.args.generation) c.fill.ensures.len ∙ ap (λ table. replicate (length (g.G.Table.places table)) c.args.generation) c.new-numbers.ensures

@@ -8,7 +8,7 @@ use Rattle.ix_run.specs.Lines.{with_line_feed}
 use Rattle.ix_run.specs.Script.{script_replies, replies_to_opening}
 use Rattle.ix_run.specs.inner.Progress.{Session}
 use Rattle.ix_run.proofs.Progress.{Drives-nil, Drives-line, Fails-line, Fails-unread, ReplyResult-Drives}
-use Rattle.ix_run.proofs.Writing.{Writes-nil}
+use Rattle.ix_run.proofs.Writing.{WriterAppends-nil}
 use Rattle.ix_run.proofs.run.containers.serving.next_header.Goals as goal
 
 pub loop-lines-init : goal.loop-lines-init
@@ -31,7 +31,7 @@ returns-in-Some g c =
     let was : Session g.row.R.Denot g.row.W.Denot = (c.loop-lines.lines, c.loop-lines.replies) in
     let found = ap (λ l. option_and_then header_of l) (sym c.line.ensures.value) ∙ sym c.header_of_line.ensures ∙ c.in-Some.is in
     Drives-line g.R.Read.remaining g.W.Write.contents (c.args.lines.now, c.args.replies.now) was now now.1 (opening None c.args.lines.now) (opening None was.0) (opening (Some c.in-Some.header) now.0) next.0 []
-    c.loop-lines.invariant next.1 next.2 (Writes-nil g.W.Write.contents now.1)
+    c.loop-lines.invariant next.1 next.2 (WriterAppends-nil g.W.Write.contents now.1)
     (λ more. ap script_replies (next.3 more)
     ∙ ap (λ h. replies_to_opening h (lines_to_come now.0.buffer more.0) (script_replies (lines_to_come now.0.buffer more.0))) found)
 

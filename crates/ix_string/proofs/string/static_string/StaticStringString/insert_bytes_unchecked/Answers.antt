@@ -16,5 +16,5 @@ invariant_of-self g c =
     let room = c.requires.room in
     let zeros = drop-IsPadded g.row.CAPACITY count padded n was in
     let longer : length (insert_slice text c.args.idx bytes) ≡ count + n = grind (arith, common_steps) in
-    IsPadded-from_text g.row.CAPACITY (count + n) (insert_slice text c.args.idx bytes) c.open_gap.new.row (rw (c.open_gap.ensures, zeros)) longer (grind (arith, common_steps))
+    IsPadded-from_text g.row.CAPACITY (count + n) (insert_slice text c.args.idx bytes) c.open_gap.new.buffer (rw (c.open_gap.ensures, zeros)) longer (grind (arith, common_steps))
     (IsText-insert_slice text c.args.idx bytes was.text c.requires.text)

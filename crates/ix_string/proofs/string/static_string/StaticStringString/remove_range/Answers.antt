@@ -16,5 +16,5 @@ invariant_of-self g c =
     let second = c.if-n-len.false in
     let within = was.within in
     let shorter : length (remove_range text i (i + n)) ≡ count - n = grind (arith, common_steps) in
-    IsPadded-shortened g.row.CAPACITY count n padded (remove_range text i (i + n)) c.close_gap_with_zeros.new.row was (omega arith) shorter
+    IsPadded-shortened g.row.CAPACITY count n padded (remove_range text i (i + n)) c.close_gap_with_zeros.new.buffer was (omega arith) shorter
     (IsText-remove_range text i (i + n) was.text) c.close_gap_with_zeros.ensures

@@ -7,7 +7,7 @@ use Rattle.ix_run.proofs.Faults.{IsDeviceFault-Read, IsDeviceFault-Write}
 use Rattle.ix_run.proofs.Input.{lines_from-append, lines_from-line_feed, lines_from-last_line, line_at-nil, fuel-last, Reads-nil, Reads-append, Reads-Keeps}
 use Rattle.ix_run.proofs.NextLine.{NextLine-last}
 use Rattle.ix_run.proofs.Pieces.{Lacks-IsOneLine}
-use Rattle.ix_run.proofs.Writing.{Writes-nil, Writes-Writes_nil, Writes-WritesPart_nil, WritesPart-whole}
+use Rattle.ix_run.proofs.Writing.{WriterAppends-nil, WriterAppends-WriterAppends_nil, WriterAppends-WriterAppendsPart_nil, WriterAppendsPart-whole}
 use Rattle.ix_run.proofs.run.devices.line_reader.LineReader.next_line.Goals as goal
 
 pub loop-self-init : goal.loop-self-init
@@ -16,7 +16,7 @@ loop-self-init g c =
       cleared.in_place,
       [],
       Reads-nil g.R.Read.remaining c.args.self.now,
-      Writes-nil g.W.Write.contents c.args.replies.now,
+      WriterAppends-nil g.W.Write.contents c.args.replies.now,
       λ more. rw (cleared.joined, cleared.rest) refl,
       omega (arith, cleared.fuel),
       λ some. absurd (some cleared.joined),
@@ -45,7 +45,7 @@ returns-in_err-write_pending g c =
       IsDeviceFault-Write _ wrote.0,
       at.1,
       at.2,
-      Writes-WritesPart_nil g.W.Write.contents c.args.replies.now c.loop-self.replies c.write_pending.new.self [] at.3 wrote.1,
+      WriterAppends-WriterAppendsPart_nil g.W.Write.contents c.args.replies.now c.loop-self.replies c.write_pending.new.self [] at.3 wrote.1,
     )
 
 pub returns-in_err-self : goal.returns-in_err-self
@@ -55,12 +55,12 @@ returns-in_err-self g c =
     let was = c.loop-self.self in
     let failed = c.in_err-self.ensures in
     let now : LineReader g.row.R.Denot = record { reader = record was.reader { now = c.fill.new.reader }; buffer = c.fill.new.self; is_at_end = was.is_at_end } in
-    let wrote = Writes-Writes_nil g.W.Write.contents c.args.replies.now c.loop-self.replies c.write_pending.new.self [] at.3 c.in_ok-write_pending.ensures.written in
+    let wrote = WriterAppends-WriterAppends_nil g.W.Write.contents c.args.replies.now c.loop-self.replies c.write_pending.new.self [] at.3 c.in_ok-write_pending.ensures.written in
     rw (p.1, p.2) (
       IsDeviceFault-Read _ failed.0,
       at.1,
       Reads-Keeps g.R.Read.remaining c.args.self.now was now at.1 at.2 c.if-self.false failed.1 refl refl,
-      WritesPart-whole g.W.Write.contents c.args.replies.now c.write_pending.new.self [] wrote,
+      WriterAppendsPart-whole g.W.Write.contents c.args.replies.now c.write_pending.new.self [] wrote,
     )
 
 pub loop-self-preserved : goal.loop-self-preserved
@@ -75,7 +75,7 @@ loop-self-preserved g c =
       filled.2,
       at.1 ++ piece,
       Reads-append g.R.Read.remaining c.args.self.now was now at.1 piece at.2 reads,
-      Writes-Writes_nil g.W.Write.contents c.args.replies.now c.loop-self.replies c.write_pending.new.self [] at.3 c.in_ok-write_pending.ensures.written,
+      WriterAppends-WriterAppends_nil g.W.Write.contents c.args.replies.now c.loop-self.replies c.write_pending.new.self [] at.3 c.in_ok-write_pending.ensures.written,
       λ more. ap (λ l. lines_to_come c.args.self.now.buffer l) (append_assoc at.1 piece more.0) ∙ at.4 (piece ++ more.0, λ ended. absurd (let wrong = sym c.if-self.false ∙ ended in cc))
           ∙ lines_from-append was.buffer.joined was.buffer.rest (piece ++ more.0) (Lacks-IsOneLine _ taken.0)
           ∙ ap (λ l. lines_from l (piece ++ more.0)) (sym taken.3 ∙ sym filled.3),

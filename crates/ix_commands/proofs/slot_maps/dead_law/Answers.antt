@@ -1,5 +1,0 @@
-use Rattle.ix_commands.proofs.DeadKeys.{DeadStaysDead-formed}
-use Rattle.ix_commands.proofs.slot_maps.dead_law.Goals as goal
-
-pub returns : goal.returns
-returns g c = DeadStaysDead-formed

@@ -1,0 +1,17 @@
+use Rattle.ix_maps.proofs.SlotTables.{free_by_link, held_by_link, link_held, IsLinkOf-shown}
+use Rattle.ix_maps.proofs.slottable.meta_slot_table.MetaSlotTable.link_of.Goals as goal
+
+pub get-requires : goal.get-requires
+get-requires g c = link_held _ _ _ _ _ c.args.key (record { sound = c.self.invariant; is = c.self.view_is }) c.requires
+
+pub returns-clause-link : goal.returns-clause-link
+returns-clause-link g c =
+    IsLinkOf-shown _ _ _ _ _ c.args.key _ (record { sound = c.self.invariant; is = c.self.view_is }) c.get.ensures.value
+
+pub returns-clause-free : goal.returns-clause-free
+returns-clause-free g c is_free =
+    free_by_link _ _ _ _ _ c.args.key _ (record { sound = c.self.invariant; is = c.self.view_is }) c.get.ensures.value is_free
+
+pub returns-clause-held : goal.returns-clause-held
+returns-clause-held g c held =
+    held_by_link _ _ _ _ _ c.args.key _ (record { sound = c.self.invariant; is = c.self.view_is }) c.requires c.get.ensures.value held
