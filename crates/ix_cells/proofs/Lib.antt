@@ -2,8 +2,10 @@ pub mod Calls
 pub mod Counts
 pub mod Fronts
 pub mod FullArrays
+pub mod HeldItems
 pub mod Lists
 pub mod Loans
+pub mod MovedItems
 pub mod Places
 pub mod RawNames
 pub mod RawParts

@@ -1,7 +1,9 @@
--- Lemmas on a place that holds an item, in a row and in one that shows these places.
-use Rattle.std.proofs.Common.{◌≡◌, ◌∙◌, ℕ, zero, suc, ◌<◌, List, [], ◌∷◌, length, Option, Some, None, IsSome, refl, sym, subst, arith}
+-- Lemmas on a place that holds an item, in a row and in one of items that may have been moved out.
+use Rattle.std.proofs.Common.{◌≡◌, ◌∙◌, ℕ, zero, suc, ◌<◌, List, [], ◌∷◌, length, map, set, replicate, Option, Some, None, IsSome, refl, sym, ap, subst, arith}
 use Rattle.std.specs.Prelude.{slice_index_or}
-use Rattle.std.proofs.lemmas.List.{get_or_default}
+use Rattle.std.specs.Option.{option_flatten}
+use Rattle.std.proofs.Math.ListN.{get_or-map}
+use Rattle.std.proofs.lemmas.List.{get_or_default, length-map, map-set}
 use Rattle.ix_cells.specs.Places.{place_at, IsHeldAt}
 
 module _ {T : Type 0} where
@@ -19,15 +21,41 @@ module _ {T : Type 0} where
   pub place_at_within : (places : List (Option T)) (i : ℕ) (x : T) → place_at places i ≡ Some x → i < length places
   place_at_within places i x at = held_within places i (subst (λ (place : Option T). IsSome place) (sym at) refl)
 
-module _ {T : Type 0} {row places : List (Option T)} (shown : row ≡ places) (i : ℕ) (held : IsHeldAt places i) where
-  pub shown_within : i < length row
-  shown_within = subst (λ (xs : List (Option T)). i < length xs) (sym shown) (held_within places i held)
+  -- a row of no items shows empty places
+  pub shown_vacant : (n : ℕ) → map (option_flatten {T = T}) (replicate n None) ≡ replicate n None
+  shown_vacant zero = refl
+  shown_vacant (suc n) = ap (λ (places : List (Option T)). None ∷ places) (shown_vacant n)
 
-  -- what is read of the place is its content
-  pub place_at-read : {x : Option T} → x ≡ slice_index_or row i x → place_at places i ≡ x
-  place_at-read {x} read =
-      subst (λ (xs : List (Option T)). place_at xs i ≡ x) shown (get_or_default row i _ x shown_within ∙ sym read)
+-- a row of items that may have been moved out, which shows these places
+module _ {T : Type 0} (row : List (Option (Option T))) {places : List (Option T)} (shown : map option_flatten row ≡ places) where
+  pub shown_length : length row ≡ length places
+  shown_length = sym (length-map row option_flatten) ∙ ap length shown
 
-  -- and that is an item
-  pub IsSome-read : {x : Option T} → x ≡ slice_index_or row i x → IsSome x
-  IsSome-read {x} read = subst (λ (content : Option T). IsSome content) (place_at-read read) held
+  pub shown_set : (i : ℕ) (content : Option (Option T)) → map option_flatten (set row i content) ≡ set places i (option_flatten content)
+  shown_set i content = map-set option_flatten row i content ∙ ap (λ (xs : List (Option T)). set xs i (option_flatten content)) shown
+
+  module _ (i : ℕ) (held : IsHeldAt places i) where
+    pub shown_within : i < length row
+    shown_within = subst (λ (n : ℕ). i < n) (sym shown_length) (held_within places i held)
+
+    module _ {content : Option (Option T)} (read : content ≡ slice_index_or row i content) where
+      place_at-read : place_at places i ≡ option_flatten content
+      place_at-read =
+          subst (λ (xs : List (Option T)). place_at xs i ≡ option_flatten content) shown
+          (get_or-map option_flatten row i None ∙ ap option_flatten (get_or_default row i None content shown_within ∙ sym read))
+
+      -- what is read is an item that may have been moved out
+      pub content_held : IsSome content
+      content_held = each content (subst (λ (place : Option T). IsSome place) place_at-read held)
+        where
+          each : (content : Option (Option T)) → IsSome (option_flatten content) → IsSome content
+          each (Some item) is_held = refl
+          each None is_held = cc
+
+      module _ {item : Option T} (is : content ≡ Some item) where
+        -- and was not
+        pub place_at-item : place_at places i ≡ item
+        place_at-item = place_at-read ∙ ap option_flatten is
+
+        pub item_held : IsSome item
+        item_held = subst (λ (place : Option T). IsSome place) place_at-item held

@@ -1,6 +1,7 @@
 -- What no public contract cites: what the code behind it means.
 pub mod FullArrays
 pub mod HeldItem
+pub mod MaybeMoved
 pub mod RawLending
 pub mod RawMemory
 pub mod RawRows

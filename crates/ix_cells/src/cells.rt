@@ -13,6 +13,7 @@ pub(crate) mod full_array;
 mod heap_table;
 mod held_item;
 mod inline_table;
+mod maybe_moved;
 pub(crate) mod raw_row;
 mod raw_slots;
 mod relocatable_container;

@@ -1,8 +1,9 @@
 //! A table that is stored inline.
 ghost use Rattle.std.specs.Prelude.{◌≡◌, ◌≤◌, Some, None, slice_set, replicate, refl};
 
-use crate::cells::full_array::{place, place_mut, put, replace};
+use crate::cells::full_array::{place, place_mut, put};
 use crate::cells::held_item::{item, item_mut};
+use crate::cells::maybe_moved::MaybeMoved;
 use crate::cells::{MAX_FIXED_CAPACITY, Table};
 use arrayvec::ArrayVec;
 use std::marker::Model;
@@ -15,15 +16,16 @@ use std::marker::Model;
 /// ```
 // The places are an `ArrayVec` that is always full: it is made of an array in one fill, and lends slices of its places.
 pub struct InlineTable<T, const CAP: usize> {
-    places: ArrayVec<Option<T>, CAP>,
+    places: ArrayVec<Option<MaybeMoved<T>>, CAP>,
 }
 
 impl<T, const CAP: usize> Model for InlineTable<T, CAP> {
-    ghost use Rattle.std.specs.Prelude.{◌≡◌, List, Option, length};
+    ghost use Rattle.std.specs.Prelude.{◌≡◌, List, Option, length, map};
+    ghost use Rattle.std.specs.Option.{option_flatten};
 
     ghost Value = { List (Option T) };
 
-    ghost view = { λ table. table.places.items };
+    ghost view = { λ table. map option_flatten table.places.items };
 
     ghost invariant = { λ table. length table.places.items ≡ CAP };
 }
@@ -55,25 +57,22 @@ impl<T: Drop, const CAP: usize> Table<T> for InlineTable<T, CAP> {
 
     #[inline]
     fn put(&mut self, i: usize, item: T) {
-        put(&mut self.places, i, Some(item));
+        put(&mut self.places, i, Some(MaybeMoved::new(item)));
     }
 
     #[inline]
     fn take(&mut self, i: usize) -> T {
-        match replace(&mut self.places, i, None) {
-            Some(item) => item,
-            None => unreachable!(),
-        }
+        item_mut(place_mut(&mut self.places, i)).take()
     }
 
     #[inline]
     fn get(&self, i: usize) -> &T {
-        item(place(&self.places, i))
+        item(place(&self.places, i)).get()
     }
 
     #[inline]
     fn get_mut(&mut self, i: usize) -> &mut T {
-        item_mut(place_mut(&mut self.places, i))
+        item_mut(place_mut(&mut self.places, i)).get_mut()
     }
 
     fn end(self) {
@@ -81,7 +80,7 @@ impl<T: Drop, const CAP: usize> Table<T> for InlineTable<T, CAP> {
     }
 }
 
-fn vacant<T, const CAP: usize>() -> [Option<T>; CAP]
+fn vacant<T, const CAP: usize>() -> [Option<MaybeMoved<T>>; CAP]
     ensures { result ≡ replicate CAP None }
 {
     [const { None }; CAP]

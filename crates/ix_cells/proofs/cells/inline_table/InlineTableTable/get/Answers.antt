@@ -1,12 +1,15 @@
 use Rattle.std.proofs.Common.{rules, ◌∙◌}
-use Rattle.ix_cells.proofs.Places.{shown_within, place_at-read, IsSome-read}
+use Rattle.ix_cells.proofs.Places.{shown_within, content_held, place_at-item, item_held}
 use Rattle.ix_cells.proofs.cells.inline_table.InlineTableTable.get.Goals as goal
 
 pub place-requires : goal.place-requires
-place-requires g c = (search rules, shown_within c.self.view_is c.args.i c.requires)
+place-requires g c = (search rules, shown_within c.self.inside.places.items c.self.view_is c.args.i c.requires)
 
 pub item-requires : goal.item-requires
-item-requires g c = IsSome-read c.self.view_is c.args.i c.requires c.place.ensures
+item-requires g c = content_held c.self.inside.places.items c.self.view_is c.args.i c.requires c.place.ensures
+
+pub get-requires : goal.get-requires
+get-requires g c = item_held c.self.inside.places.items c.self.view_is c.args.i c.requires c.place.ensures c.item.ensures
 
 pub returns : goal.returns
-returns g c = place_at-read c.self.view_is c.args.i c.requires c.place.ensures ∙ c.item.ensures
+returns g c = place_at-item c.self.inside.places.items c.self.view_is c.args.i c.requires c.place.ensures c.item.ensures ∙ c.get.ensures

@@ -1,23 +1,21 @@
-use Rattle.std.proofs.Common.{rules, ◌∙◌, List, Option, None, IsSome, length, ap, subst}
+use Rattle.std.proofs.Common.{rules, ◌∙◌, Option, Some, ap}
 use Rattle.std.specs.Prelude.{slice_set}
-use Rattle.std.proofs.Math.ListN.{length-set}
-use Rattle.ix_cells.proofs.Places.{shown_within, place_at-read, IsSome-read}
+use Rattle.ix_cells.proofs.Places.{shown_within, shown_set, content_held, place_at-item, item_held}
 use Rattle.ix_cells.proofs.cells.inline_table.InlineTableTable.take.Goals as goal
 
-pub replace-requires : goal.replace-requires
-replace-requires g c = (search rules, shown_within c.self.view_is c.args.i c.requires)
+pub place_mut-requires : goal.place_mut-requires
+place_mut-requires g c = (search rules, shown_within c.self.inside.places.items c.self.view_is c.args.i c.requires)
 
-pub unreachable-requires : goal.unreachable-requires
-unreachable-requires g c =
-    let item = IsSome-read c.self.view_is c.args.i c.requires c.replace.ensures.value in
-    let none = subst (λ (content : Option g.row.T.Denot). IsSome content) c.in-None.is item in
-    cc
+pub item_mut-requires : goal.item_mut-requires
+item_mut-requires g c = content_held c.self.inside.places.items c.self.view_is c.args.i c.requires c.place_mut.ensures.value
 
-pub invariant_of-self : goal.invariant_of-self
-invariant_of-self g c = ap length c.replace.ensures.places ∙ length-set c.self.inside.places.items _ _ ∙ c.self.invariant
+pub take-requires : goal.take-requires
+take-requires g c = item_held c.self.inside.places.items c.self.view_is c.args.i c.requires c.place_mut.ensures.value c.item_mut.ensures.value
 
 pub returns-clause-value : goal.returns-clause-value
-returns-clause-value g c = place_at-read c.self.view_is c.args.i c.requires c.replace.ensures.value ∙ c.in-Some.is
+returns-clause-value g c = place_at-item c.self.inside.places.items c.self.view_is c.args.i c.requires c.place_mut.ensures.value c.item_mut.ensures.value ∙ c.take.ensures.value
 
 pub returns-clause-places : goal.returns-clause-places
-returns-clause-places g c = c.replace.ensures.places ∙ ap (λ (row : List (Option g.row.T.Denot)). slice_set row c.args.i None) c.self.view_is
+returns-clause-places g c =
+    shown_set c.self.inside.places.items c.self.view_is c.args.i (Some c.take.new.self)
+    ∙ ap (λ (item : Option g.row.T.Denot). slice_set c.args.self.now c.args.i item) c.take.ensures.place

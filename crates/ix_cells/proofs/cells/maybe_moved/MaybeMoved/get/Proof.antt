@@ -1,0 +1,42 @@
+-- `get` shows the item. Assumes `Logic`.
+use Rattle.ix_cells.proofs.RawNames.{◌≡◌, List, [], ◌∷◌, Some, refl, proved, leaves, SProp, emp, ftrue, flft, Fn, named, inst_fn, Val}
+use Rattle.ix_cells.proofs.RawNames.{vptr, ◌⊑◌, fact, fact_i, tables, ‵, raw, ◌⊛◌, ◌$◌, ◌∵◌, !, qed, by, move, keep, drop, use0}
+use Rattle.ix_cells.proofs.RawNames.{split, rewrite, fsplit, fjoin, feq_i, stop, fld, addr, returns, enter, alloc_all, pass_all}
+use Rattle.ix_cells.proofs.RawNames.{free_all, look_at, through, sets, RefOf, yes, hide, unhide, owns, shr_vals, shr_Tells, plain}
+use Rattle.ix_cells.proofs.RawNames.{types_at, nothing, heard, Stays, stay_dropped, walk_of, Goes-dropped}
+use Rattle.std.specs.Prelude.{IsSome}
+use denote.Ref.{Bor}
+use Rattle.ix_cells.specs.contracts.cells.maybe_moved.MaybeMoved.get as f
+use Rattle.ix_cells.proofs.MovedItems.{Moved, item_place}
+use Rattle.ix_cells.proofs.Places.{held_item}
+use Rattle.ix_cells.proofs.RawSteps.{inst}
+use Rattle.ix_cells.proofs.cells.maybe_moved.MaybeMoved.get.Statement.{statement}
+use Rattle.ix_cells.proofs.cells.maybe_moved.MaybeMoved.get.Code as code
+
+pub get_spec : {M : Type 1} → statement M
+get_spec 𝓤 𝓛 𝓜 𝓡 wired T L =
+    let H = 𝓛.H in let 𝓣 = tables 𝓤 H 𝓜 𝓡 𝓡.env in let fn : Fn = inst_fn (inst T) code.function in
+    let ended = f.ended T in let c = f.clauses T 𝓛 𝓜.mem 𝓡.returns in let S = Moved T in
+    let lent = RefOf (0 ∷ []) tt (plain (λ _. S)) (λ _. tt) in
+    let stayed : Stays ended.signature.params ended.kept = (stay_dropped lent yes, tt) in
+    let W = walk_of 𝓛 ended stayed c in
+    proved 𝓛 ended stayed c 𝓜 𝓡 (Goes-dropped 𝓛 2 lent yes (λ κs x w. refl), tt)
+    (f.Key.name (inst T)) fn (code.unfolded 𝓤 H 𝓜 𝓡 wired (T, tt))
+    (λ κs. (shr_vals, tt)) (λ κs. (shr_Tells (named 0) κs.0 S, tt)) (λ κs qs bounds a g are.
+    let κ = κs.0 in let self : Bor S.Denot = a.0 in let b = self.ref_ptr.0 in let o = self.ref_ptr.1 in
+    let y : W.Ghost = ((κs, qs, bounds, a, (shr_vals self, tt)), g) in let Post : Val → SProp 𝓤 = W.post y in
+    let at = item_place T o in
+    qed 𝓛 (((‵ (flft κ qs.0) ⊛ ‵ (flft κs.1.0 qs.1.0) ⊛ ‵ ftrue) ⊛ ‵ (owns (types_at ended.signature.params κs) a y.0.4))
+    ∷ (raw (fact 𝓤 (κs.1.0 ⊑ T.lives)) ⊛ raw (fact 𝓤 (IsSome self.now))) ∷ []) ∵
+    move ! (1 ∷ []) $ split ! $ drop ! $ heard ! _ (λ held. split ! $ move ! (1 ∷ []) $ fsplit ! $ fsplit ! $ keep ! (1 ∷ 3 ∷ []) $
+    let found = held_item self.now held in let x = found.0 in
+    unhide ! $ rewrite ! 0 (λ (item : S.Denot). ‵ (S.shr_at item b o κ)) found.1 refl $
+    fsplit ! $ fsplit ! $ keep ! (0 ∷ 3 ∷ []) $ hide ! $
+    -- [what the item lends; the tokens]
+    enter ! 𝓣.C 𝓣.Λ fn (W.args y) Post $
+    alloc_all ! (λ l. pass_all ! refl ((tt, tt), tt) $
+    sets ! (addr ! (through ! refl (fld ! refl (stop !)))) refl (tt, tt) $
+    feq_i ! (List Val) (vptr b at ∷ []) (vptr b at ∷ []) refl $ fjoin ! $ nothing ! $ nothing ! $ fjoin ! $
+    use0 𝓛 (raw (fact 𝓤 (self.now ≡ Some x))) (fact_i 𝓤 (self.now ≡ Some x) (emp 𝓤) found.1) $
+    returns ! (look_at ! 0 refl) $ free_all ! refl $ keep ! (3 ∷ 1 ∷ 2 ∷ 0 ∷ []) $
+    by ! (leaves 𝓛 ended stayed c y (vptr b at) (record { ref_ptr = (b, at); now = x }) (tt, tt) (tt, tt)))))
