@@ -2,7 +2,7 @@
 
 import re
 
-from checks.items import is_own, is_shown, items_of, text_of, trait_of
+from checks.items import GENERICS, is_own, is_shown, items_of, text_of, trait_of
 from crates import files
 
 # What a model of a type is made of: who sees the type sees its value alone.
@@ -16,10 +16,17 @@ def without_comments(path):
     return [it for it in text_of(path).splitlines() if mark is None or it.strip() and not it.lstrip().startswith(mark)]
 
 
+def type_of(item):
+    """Returns the name of the type that an impl is of, or that an item declares."""
+    name = item.name.rpartition(" for ")[2] if item.kind == "impl" else item.name
+    return re.match(r"\W*(\w*)", GENERICS.sub("", name)).group(1)
+
+
 def heads(items):
-    """Yields the lines of items that a caller sees: signatures, clauses, variants, and what an impl sets."""
+    """Yields the lines of items that a caller sees: signatures, clauses, variants, and what an impl of a public type sets."""
+    private = {it.name for it in items if it.kind in ("struct", "enum") and not it.is_public}
     for item in items:
-        if item.kind not in ("impl", "trait") and not item.is_public:
+        if item.kind not in ("impl", "trait") and not item.is_public or type_of(item) in private:
             continue
         yield from item.head
         sets = item.ghosts if trait_of(item.name) != "Model" else {name: it for name, it in item.ghosts.items() if name not in REPRESENTATION}
@@ -41,6 +48,6 @@ def contract_of_file(path):
 
 def contract_of(crate):
     """Returns the lines of what a crate promises to those above, wherever in its folders it stands."""
-    sources = sorted("\n".join(contract_of_file(path)) for path in files(crate, ("src",)) if path.endswith(".rt"))
+    sources = sorted(filter(None, ("\n".join(contract_of_file(path)) for path in files(crate, ("src",)) if path.endswith(".rt"))))
     specs = [it for it in files(crate, ("specs",)) if "/specs/inner" not in it]
     return [*sources, *(line for path in specs for line in [path, *without_comments(path)])]
