@@ -1,10 +1,10 @@
 -- The entries of a slot table: each held key once, in rising order.
-use Rattle.std.proofs.Common.{◌≡◌, ℕ, zero, suc, ◌+◌, ◌<◌, ◌≤◌, List, [], ◌∷◌, length, get_or, true, false, Option, Some, None, refl, sym, ap, ◌∙◌, subst, arith}
+use Rattle.std.proofs.Common.{◌≡◌, ℕ, zero, suc, ◌+◌, ◌<◌, ◌≤◌, List, [], ◌∷◌, length, drop, get_or, true, false, Option, Some, None, refl, sym, ap, ◌∙◌, subst, arith}
 use Rattle.std.specs.Prelude.{nat_eq, if◌then◌else◌, is_some, count_by}
 use Rattle.std.specs.List.Sorted.{IsStrictlyIncreasing}
 use Rattle.std.specs.Map.{keys_of, lookup}
 use Rattle.std.proofs.lemmas.Bool.Decides.{nat_tests}
-use Rattle.std.proofs.lemmas.List.Sums.{sum_by-cons, count_by-le-length}
+use Rattle.std.proofs.lemmas.List.Sums.{sum_by-cons}
 use Rattle.ix_cells.specs.Places.{place_at, IsHeldAt}
 use Rattle.ix_maps.specs.SlotState.{SlotState, value_at, entries_from, entries}
 
@@ -75,12 +75,44 @@ module _ {T : Type 0} where
       let later = count_by-is_some (start + 1) places in omega arith
 
 module _ {T : Type 0} where
-  -- where as many places have a value as there are, each has one
-  pub IsHeld-full : (places : List (Option T)) (i : ℕ) → count_by is_some places ≡ length places → i < length places → IsHeldAt places i
-  IsHeld-full [] i full below = absurd (omega (arith, below))
-  IsHeld-full (None ∷ places) i full below =
-      let most = count_by-le-length is_some places in absurd (omega (arith, full, most))
-  IsHeld-full (Some value ∷ places) zero full below = refl
-  IsHeld-full (Some value ∷ places) (suc i) full below =
+  abbrev one_if_held : Option T → ℕ
+  one_if_held place = if is_some place then 1 else 0
+
+  one_if_held-le_one : (place : Option T) → one_if_held place ≤ 1
+  one_if_held-le_one None = omega arith
+  one_if_held-le_one (Some value) = omega arith
+
+  -- at most as many places have a value as lie before those that have none
+  count_by-front : (places : List (Option T)) (bound : ℕ) → ((i : ℕ) → bound ≤ i → place_at places i ≡ None) → count_by is_some places ≤ bound
+  count_by-front [] bound none = omega arith
+  count_by-front (place ∷ places) zero none =
+      let one = sum_by-cons one_if_held place places in
+      let here : one_if_held place ≡ 0 = ap one_if_held (none 0 (omega arith)) in
+      let rest = count_by-front places zero (λ i past. none (suc i) (omega arith)) in omega (arith, one, here, rest)
+  count_by-front (place ∷ places) (suc bound) none =
+      let one = sum_by-cons one_if_held place places in
+      let here = one_if_held-le_one place in
+      let rest = count_by-front places bound (λ i past. none (suc i) (omega arith)) in omega (arith, one, here, rest)
+
+  -- where as many places have a value as lie before those that have none, each of the former has one
+  pub IsHeld-front : (places : List (Option T)) (bound i : ℕ) → count_by is_some places ≡ bound → ((j : ℕ) → bound ≤ j → place_at places j ≡ None) → i < bound → IsHeldAt places i
+  IsHeld-front [] bound i all none below = let zero_count : count_by is_some (let places : List (Option T) = [] in places) ≡ 0 = refl in absurd (omega arith)
+  IsHeld-front (place ∷ places) zero i all none below = absurd (omega arith)
+  IsHeld-front (None ∷ places) (suc bound) i all none below =
+      let most = count_by-front places bound (λ j past. none (suc j) (omega arith)) in
+      let same : count_by is_some (None ∷ places) ≡ count_by is_some places = refl in absurd (omega arith)
+  IsHeld-front (Some value ∷ places) (suc bound) zero all none below = refl
+  IsHeld-front (Some value ∷ places) (suc bound) (suc i) all none below =
       let one : count_by is_some (Some value ∷ places) ≡ 1 + count_by is_some places = sum_by-cons (λ (place : Option T). if is_some place then 1 else 0) (Some value) places in
-      IsHeld-full places i (omega (arith, full, one)) (omega (arith, below))
+      IsHeld-front places bound i (omega arith) (λ j past. none (suc j) (omega arith)) (omega arith)
+
+  -- no value is met where there is none
+  pub entries_from-none : (start key : ℕ) (places : List (Option T)) → ((i : ℕ) → start ≤ i → place_at places i ≡ None) → entries_from key (drop start places) ≡ []
+  entries_from-none start key [] none = ap (entries_from key) (drop-nil start)
+    where
+      drop-nil : (n : ℕ) → drop n (let places : List (Option T) = [] in places) ≡ []
+      drop-nil zero = refl
+      drop-nil (suc n) = refl
+  entries_from-none zero key (place ∷ places) none =
+      ap (λ p. entries_from key (p ∷ places)) (none 0 (omega arith)) ∙ entries_from-none zero (key + 1) places (λ i past. none (suc i) (omega arith))
+  entries_from-none (suc start) key (place ∷ places) none = entries_from-none start key places (λ i past. none (suc i) (omega arith))

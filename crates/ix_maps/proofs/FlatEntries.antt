@@ -10,6 +10,7 @@ use Rattle.ix_cells.specs.Places.{place_at}
 use Rattle.ix_maps.specs.SlotState.{SlotState, value_at, entries, entries_from, slot_new}
 use Rattle.ix_maps.specs.inner.FlatSearch.{is_key_at, HasNoKeyIn}
 use Rattle.std.specs.Option.{option_map_or}
+use Rattle.ix_maps.proofs.VacantTables.{place_at-replicate}
 use Rattle.ix_maps.specs.FlatState.{HasDistinctKeys, flat_entry, flat_value, flat_keys, flat_item, flat_items}
 use Rattle.ix_maps.specs.declared.flatmap.pair.Pair.{Pair}
 
@@ -199,14 +200,8 @@ module _ {K V : Type 0} where
   pub HasDistinctKeys-slot_new : (eq : K → K → Bool) (capacity : ℕ) (s : SlotState (Pair K V)) → s ≡ slot_new capacity → HasDistinctKeys eq s
   HasDistinctKeys-slot_new eq capacity s is i j a b at_i at_j equal =
       let some : value_at (slot_new capacity) i ≡ Some a = subst (λ (t : SlotState (Pair K V)). value_at t i ≡ Some a) is at_i in
-      let none : value_at {T = Pair K V} (slot_new capacity) i ≡ None = place_at-replicate capacity i in
-      let clash : Some a ≡ None = sym some ∙ none in
+      let clash : Some a ≡ None = sym some ∙ place_at-replicate capacity i in
       absurd (cc)
-    where
-      place_at-replicate : (n i : ℕ) → place_at (replicate n (let none : Option (Pair K V) = None in none)) i ≡ None
-      place_at-replicate zero i = refl
-      place_at-replicate (suc n) zero = refl
-      place_at-replicate (suc n) (suc i) = place_at-replicate n i
 
 module _ {K V : Type 0} where
   pub keys_of-flat_items : (s : SlotState (Pair K V)) → keys_of (flat_items s) ≡ flat_keys s

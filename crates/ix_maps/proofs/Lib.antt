@@ -10,10 +10,11 @@ pub mod Chains
 pub mod SlotTables
 pub mod SlotSteps
 pub mod Entries
+pub mod VacantTables
+pub mod FlatBounds
 pub mod FlatEntries
 pub mod FlatSteps
 pub mod FlatCalls
-pub mod VacantTables
 pub mod GenerationTables
 pub mod Generations
 pub mod MapEntries

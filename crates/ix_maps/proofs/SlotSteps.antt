@@ -1,6 +1,6 @@
 -- After each step of a slot table its tables represent the new slot state.
 use Rattle.std.proofs.Common.{◌≡◌, ℕ, zero, suc, ◌+◌, ◌-◌, ◌<◌, ◌≤◌, ◌≢◌, inl, inr, List, [], ◌∷◌, ◌++◌, length, set, true, false, Option, Some, None, refl, sym, ap, ◌∙◌, subst, arith}
-use Rattle.std.specs.Prelude.{replicate, nat_eq, if◌then◌else◌, is_some, count_by, slice_get}
+use Rattle.std.specs.Prelude.{replicate, nat_eq, nat_lt, if◌then◌else◌, is_some, count_by, slice_get}
 use Rattle.std.specs.Option.{option_map_or}
 use Rattle.std.specs.List.{range_with_len}
 use Rattle.std.proofs.lemmas.Bool.{cases_eq, cases_lt}
@@ -12,10 +12,10 @@ use Rattle.std.proofs.lemmas.List.FromFn.{length-range_with_len}
 use Rattle.ix_cells.specs.Places.{place_at}
 use Rattle.ix_maps.specs.declared.slottable.link.Link.{Link}
 use Rattle.ix_maps.specs.SlotState.{SlotState, value_at, IsHeld, IsFree, slot_new}
-use Rattle.ix_maps.specs.SlotSteps.{slot_fill, slot_vacate, slot_insert, SlotInsert}
+use Rattle.ix_maps.specs.SlotSteps.{slot_fill, slot_vacate, slot_insert, SlotInsert, SlotInsertAt, SlotRemove}
 use Rattle.ix_maps.specs.inner.FreeList.{no_key, held_link, free_link, first_or, last_or, IsChain, IsKeyOrNone, IsLinkWithin, links_set_next, links_set_previous, links_remove, links_remove_first, links_insert_first, first_after_remove, IsRisingList, Represents}
 use Rattle.ix_maps.proofs.FreeKeys.{key_count, key_count-cons, hit, hit_same, hit_other, key_count-append, keys_without-absent, apart_from_last_or, apart_from_first_or, key_count-range_past, key_count-range_within}
-use Rattle.ix_cells.proofs.Places.{held_item, held_within}
+use Rattle.ix_cells.proofs.Places.{held_item, held_within, place_at_within}
 use Rattle.ix_maps.proofs.Chains.{IsChain-append, IsChain-set_other, IsChain-links_set_next, IsChain-links_set_previous}
 use Rattle.ix_maps.proofs.SlotTables.{Shows, Shows-from, represents_of, place_of, key_count_le_one, key_count-no_key, key_count-held, nil_from_first, IsLinkTable-shown, IsLinkWithin-shown, occurs-free}
 
@@ -339,3 +339,28 @@ module _ {T : Type 0} where
   pub Shows-slot_new : (values : List (Option T)) (links : List (Option Link)) (first capacity : ℕ) → values ≡ replicate capacity None → IsRisingList capacity links → first ≡ first_or (range_with_len 0 capacity) no_key → capacity ≤ no_key → Shows (slot_new capacity) values links first 0
   Shows-slot_new values links first capacity values_are rising first_is fits =
       Shows-from (slot_new capacity) links first 0 (Represents-slot_new links first capacity rising first_is fits) values values_are
+
+module _ {T : Type 0} where
+  -- a held key that loses its value is removed
+  pub SlotRemove-vacated : (s : SlotState T) (key : ℕ) (value : T) (new : SlotState T) → value_at s key ≡ Some value → new ≡ slot_vacate s key → SlotRemove s key new (Some value)
+  SlotRemove-vacated s key value new at is =
+      let below = place_at_within s.values key value at in
+      record {
+        value = sym at;
+        map = is ∙ sym (ap (λ place. if is_some place then slot_vacate s key else s) at);
+        gone = ap (λ (t : SlotState T). value_at t key) is ∙ get_or-set_same s.values key None None below;
+        refused = λ none. absurd (let no : true ≡ false = none in cc);
+        kept = λ other apart. ap (λ (t : SlotState T). value_at t other) is ∙ get_or-set_other s.values key other None None apart;
+      }
+
+  -- a free key that gets a value is inserted at
+  pub SlotInsertAt-filled : (s : SlotState T) (key : ℕ) (value : T) (new : SlotState T) → IsFree s key → new ≡ slot_fill s key value → SlotInsertAt s key value new true
+  SlotInsertAt-filled s key value new is_free is =
+      let yes : nat_lt key (length s.values) ≡ true = let below = is_free.0 in grind (arith, nat_tests) in
+      record {
+        value = ((λ _. is_free.0), (λ _. refl));
+        map = is ∙ sym (ap (λ b. if b then slot_fill s key value else s) yes);
+        holds = λ _. ap (λ (t : SlotState T). value_at t key) is ∙ get_or-set_same s.values key (Some value) None is_free.0;
+        refused = tt;
+        kept = λ other apart. ap (λ (t : SlotState T). value_at t other) is ∙ get_or-set_other s.values key other (Some value) None apart;
+      }

@@ -11,14 +11,13 @@
 //! ```
 
 mod free_list;
-mod held;
 mod iter;
 mod kinds;
 mod link;
 mod meta_slot_table;
 mod slot_table_key;
+mod steps;
 
-pub(crate) use held::held_mut;
 pub use iter::Iter;
 pub use kinds::{
     FixedSizeSlotTable, RelocatableSlotTable, SlotTable, SlotTableFamily, UninitSlotTable,

@@ -1,5 +1,5 @@
 -- Which places of a flat map have a key.
-use Rattle.std.specs.Prelude.{◌≡◌, ℕ, ◌+◌, ◌<◌, Bool, false}
+use Rattle.std.specs.Prelude.{◌≡◌, ℕ, ◌+◌, ◌<◌, ◌≤◌, length, nat_eq, nat_lt, if◌then◌else◌, None, Bool, false}
 use Rattle.std.specs.Option.{option_map_or}
 use Rattle.ix_maps.specs.SlotState.{SlotState, value_at}
 use Rattle.ix_maps.specs.declared.flatmap.pair.Pair.{Pair}
@@ -12,3 +12,16 @@ module _ {K V : Type 0} where
   -- none of so many places from start on has it
   abbrev pub HasNoKeyIn : (K → K → Bool) → SlotState (Pair K V) → K → ℕ → ℕ → Type 0
   HasNoKeyIn eq s key start n = (i : ℕ) → i < n → is_key_at eq s key (start + i) ≡ false
+
+-- each place that has a value is below this one
+pub record IsBound {T : Type 0} (s : SlotState T) (bound : ℕ) : Type 0 where
+  pub within : bound ≤ length s.values
+  pub beyond : (place : ℕ) → bound ≤ place → value_at s place ≡ None
+
+-- the bound once this place has a value too
+abbrev pub bound_with : ℕ → ℕ → ℕ
+bound_with bound place = if nat_lt place bound then bound else place + 1
+
+-- the bound once this place, which was below it, has none
+abbrev pub bound_without : ℕ → ℕ → ℕ
+bound_without bound place = if nat_eq (place + 1) bound then place else bound

@@ -34,7 +34,7 @@ impl<K: Eq + Drop, V: Drop, const CAPACITY: usize> FixedSizeFlatMap<K, V, CAPACI
         ensures { result ≡ slot_new CAPACITY }
     {
         let pairs = FixedSizeSlotTable::new();
-        MetaFlatMap { pairs }
+        MetaFlatMap { pairs, bound: 0 }
     }
 }
 
@@ -62,7 +62,7 @@ impl<K: Eq + Drop, V: Drop, A: Allocator + Copy> FlatMap<K, V, A> {
         ensures memory { capacity ≡ 0 → IsOk result }
     {
         let pairs = SlotTable::new(alloc, capacity)?;
-        Ok(MetaFlatMap { pairs })
+        Ok(MetaFlatMap { pairs, bound: 0 })
     }
 }
 

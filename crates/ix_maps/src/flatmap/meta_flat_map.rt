@@ -7,19 +7,18 @@ ghost use Rattle.ix_cells.specs.Cloning.{AreEqualClones};
 ghost use Rattle.ix_maps.specs.SlotState.{IsWellFormed, IsHeld, value_at, held_count};
 ghost use Rattle.ix_maps.specs.FlatState.{HasDistinctKeys, flat_entry, flat_value, flat_keys, flat_items};
 ghost use Rattle.ix_maps.specs.FlatSteps.{flat_insert_result, flat_insert, pair_set, flat_set, flat_remove, ListsUntilStop};
-ghost use Rattle.ix_maps.specs.SlotSteps.{slot_set, SlotRemove};
-ghost use Rattle.ix_maps.specs.inner.FlatSearch.{is_key_at, HasNoKeyIn};
+ghost use Rattle.ix_maps.specs.inner.FlatSearch.{is_key_at, HasNoKeyIn, bound_with, bound_without};
 ghost use Rattle.ix_maps.specs.declared.flatmap.meta_flat_map.TheConstants.{BLOCK_LEN};
 
 use crate::flatmap::{CallbackProgression, FlatMapError, Iter, Keyed, Keys, Pair};
-use crate::slottable::{Link, MetaSlotTable, SlotTableKey, held_mut};
+use crate::slottable::{Link, MetaSlotTable, SlotTableKey};
 use ix_cells::Table;
 use std::alloc::AllocError;
 use std::fmt::{self, Debug, Formatter, Write};
 use std::marker::Model;
 use std::mem::size_of_val;
 
-/// A full map compares so many keys at a time, with no branch between them.
+/// A map without a free place before its last key compares so many keys at a time, with no branch between them.
 const BLOCK_LEN: usize = 8;
 
 /// Keys of at most this many bytes are compared so: a few comparisons take less time than a branch that is mispredicted.
@@ -30,8 +29,8 @@ const MAX_KEY_SIZE: usize = 8;
 ///
 /// A pair stays at its place until it is removed, and a new one takes the first free place: the one vacated last, or else
 /// the least that was never used. Slot order is that of the places. A call that looks for a key compares it with the keys
-/// of the map in slot order, up to the equal one. If the map is full and keys take at most eight bytes, it compares eight
-/// at a time, and so up to seven after that one; in any case it compares no key twice.
+/// of the map in slot order, up to the equal one. If the keys are in the first places and take at most eight bytes, it
+/// compares eight at a time, and so up to seven after that one; in any case it compares no key twice.
 ///
 /// Each call that looks for a key takes O(capacity) time, any other O(1), if nothing else is said. No call allocates.
 /// A map that is dropped drops its pairs in slot order, in O(capacity) time.
@@ -50,11 +49,14 @@ const MAX_KEY_SIZE: usize = 8;
 #[derive(Drop)]
 pub struct MetaFlatMap<P: Keyed, S: Table<P>, L: Table<Link>> {
     pub(crate) pairs: MetaSlotTable<P, S, L>,
+    /// Each place with a pair is below this one.
+    pub(crate) bound: usize,
 }
 
 impl<P: Keyed, S: Table<P>, L: Table<Link>> Model for MetaFlatMap<P, S, L> {
     ghost use Rattle.ix_maps.specs.SlotState.{SlotState, slot_state_code};
     ghost use Rattle.ix_maps.specs.FlatState.{AreDistinctBy};
+    ghost use Rattle.ix_maps.specs.inner.FlatSearch.{IsBound};
 
     ghost Value = { SlotState P };
 
@@ -62,7 +64,7 @@ impl<P: Keyed, S: Table<P>, L: Table<Link>> Model for MetaFlatMap<P, S, L> {
 
     ghost view = { λ map. map.pairs };
 
-    ghost invariant = { λ map. AreDistinctBy P.has_key_of map.pairs };
+    ghost invariant = { λ map. AreDistinctBy P.has_key_of map.pairs × IsBound map.pairs map.bound };
 }
 
 impl<K: Eq + Drop, V: Drop, S: Table<Pair<K, V>>, L: Table<Link>> MetaFlatMap<Pair<K, V>, S, L> {
@@ -92,8 +94,13 @@ impl<K: Eq + Drop, V: Drop, S: Table<Pair<K, V>>, L: Table<Link>> MetaFlatMap<Pa
         if self.contains(&key) {
             return Err(FlatMapError::KeyAlreadyExists);
         }
+        // Names the capacity, by which the check knows that the bound does not overflow.
+        let _capacity = self.pairs.capacity();
         match self.pairs.insert(Pair { key, value }) {
-            Some(_) => Ok(()),
+            Some(place) => {
+                self.bound = bound_with(self.bound, place.value());
+                Ok(())
+            }
             None => Err(FlatMapError::IsFull),
         }
     }
@@ -162,7 +169,9 @@ impl<K: Eq + Drop, V: Drop, S: Table<Pair<K, V>>, L: Table<Link>> MetaFlatMap<Pa
         ensures distinct { HasDistinctKeys K.eq self.new }
     {
         let place = self.place(key)?;
-        Some(remove_pair(&mut self.pairs, place).value)
+        let pair = self.pairs.remove_unchecked(place);
+        self.bound = bound_without(self.bound, place.value());
+        Some(pair.value)
     }
 
     /// Returns `true` if the map has no key. O(1).
@@ -278,23 +287,24 @@ impl<K: Eq + Drop, V: Drop, S: Table<Pair<K, V>>, L: Table<Link>> MetaFlatMap<Pa
             ≡ flat_entry K.eq self.now key.now }
         ensures distinct { HasDistinctKeys K.eq self.now }
     {
-        // Not by `is_full`: a look-up loads the first free key in any case, and the number of keys nowhere else.
-        if size_of_val(key) <= MAX_KEY_SIZE && self.pairs.next_free_key().is_none() {
-            self.find_in_full(key)
+        // If there are as many keys as places below the bound, each of those has one.
+        if size_of_val(key) <= MAX_KEY_SIZE && self.pairs.len() == self.bound {
+            self.find_in_front(self.bound, key)
         } else {
             self.find_from(0, key)
         }
     }
 
-    /// Returns what [`MetaFlatMap::find`] returns, of a full map.
+    /// Returns what [`MetaFlatMap::find`] returns. Each place before `end` has a pair.
     #[inline]
-    fn find_in_full(&self, key: &K) -> Option<(SlotTableKey, &Pair<K, V>)>
-        requires { held_count self.now ≡ length self.now.values }
+    fn find_in_front(&self, end: usize, key: &K) -> Option<(SlotTableKey, &Pair<K, V>)>
+        requires within { end ≤ length self.now.values }
+        requires held { (place : ℕ) → place < end → IsHeld self.now place }
         ensures value { option_map (λ entry. (entry.0, entry.1.now)) result
             ≡ flat_entry K.eq self.now key.now }
         ensures distinct { HasDistinctKeys K.eq self.now }
     {
-        let blocks = self.pairs.capacity() / BLOCK_LEN;
+        let blocks = end / BLOCK_LEN;
         for block in 0..blocks {
             let start = block * BLOCK_LEN;
             let index = self.index_in_block(start, key);
@@ -306,12 +316,13 @@ impl<K: Eq + Drop, V: Drop, S: Table<Pair<K, V>>, L: Table<Link>> MetaFlatMap<Pa
         self.find_from(blocks * BLOCK_LEN, key)
     }
 
-    /// Returns which of the [`BLOCK_LEN`] places from `start` on has a key that equals `key`, or [`BLOCK_LEN`], of a full map.
+    /// Returns which of the [`BLOCK_LEN`] places from `start` on has a key that equals `key`, or [`BLOCK_LEN`]. Each of these
+    /// places has a pair.
     // Compares all of these keys, with no branch: which of them is equal can't be predicted.
     #[inline]
     fn index_in_block(&self, start: usize, key: &K) -> usize
-        requires full { held_count self.now ≡ length self.now.values }
         requires within { start + BLOCK_LEN ≤ length self.now.values }
+        requires held { (place : ℕ) → place < start + BLOCK_LEN → IsHeld self.now place }
         ensures found { result < BLOCK_LEN
             → is_key_at K.eq self.now key.now (start + result) ≡ true }
         ensures absent { result ≡ BLOCK_LEN → HasNoKeyIn K.eq self.now key.now start BLOCK_LEN }
@@ -337,7 +348,7 @@ impl<K: Eq + Drop, V: Drop, S: Table<Pair<K, V>>, L: Table<Link>> MetaFlatMap<Pa
             ≡ flat_entry K.eq self.now key.now }
         ensures distinct { HasDistinctKeys K.eq self.now }
     {
-        for place in start..self.pairs.capacity() {
+        for place in start..self.bound {
             let place = SlotTableKey::new(place);
             if let Some(pair) = self.pairs.get(place)
                 && pair.key == *key
@@ -370,23 +381,26 @@ impl<K: Eq + Drop, V: Drop, S: Table<Pair<K, V>>, L: Table<Link>> MetaFlatMap<Pa
         ensures value { option_map (λ pair. pair.value) (value_at self.old place)
             ≡ Some result.now }
     {
-        &mut held_mut(&mut self.pairs, place).value
+        &mut self.pairs.get_unchecked_mut(place).value
     }
 }
 
-/// Removes the value at a held key and returns it.
+/// Returns what is above each place with a pair, and above this place too.
 #[inline]
-fn remove_pair<T, S: Table<T>, L: Table<Link>>(
-    map: &mut MetaSlotTable<T, S, L>,
-    key: SlotTableKey,
-) -> T
-    requires { IsHeld map.old key }
-    ensures { SlotRemove map.old key map.new (Some result) }
+fn bound_with(bound: usize, place: usize) -> usize
+    requires { place + 1 ≤ 18446744073709551615 }
+    ensures { result ≡ bound_with bound place }
 {
-    match map.remove(key) {
-        Some(value) => value,
-        None => unreachable!(),
-    }
+    if place < bound { bound } else { place + 1 }
+}
+
+/// Returns what is above each place with a pair but for this one, which was below `bound`.
+#[inline]
+fn bound_without(bound: usize, place: usize) -> usize
+    requires { place < bound }
+    ensures { result ≡ bound_without bound place }
+{
+    if place + 1 == bound { place } else { bound }
 }
 
 /// Prints a map from the keys to their values, in slot order. O(capacity).

@@ -9,7 +9,7 @@ ghost use Rattle.ix_maps.specs.Generations.{SlotKey, SlotMapState, greatest_gene
 ghost use Rattle.ix_maps.specs.SlotMapSteps.{map_set, map_set_at, map_replace, map_retire, MapInsert, MapInsertAt, MapRemove};
 
 use crate::slotmap::{Content, GenerationTable, Iter, SlotMapKey};
-use crate::slottable::{self, Link, MetaSlotTable, SlotTableKey, held_mut};
+use crate::slottable::{self, Link, MetaSlotTable, SlotTableKey};
 use ix_cells::{Table, Touches};
 use std::fmt::{self, Debug, Formatter, Write};
 use std::marker::Model;
@@ -382,7 +382,7 @@ impl<T, S: Table<Option<T>>, L: Table<Link>, G: Table<u32>> MetaSlotMap<Option<T
             T.row self.entry result (map_set_at self.old index)) }
         ensures value { place_value self.old index ≡ Some result.now }
     {
-        content_mut(held_mut(&mut self.slots, SlotTableKey::new(index)))
+        content_mut(self.slots.get_unchecked_mut(SlotTableKey::new(index)))
     }
 }
 

@@ -6,7 +6,7 @@ ghost use Rattle.std.specs.Borrow.{sem, Lends, LendsIf};
 ghost use Rattle.std.specs.Option.{option_copied_mut};
 ghost use Rattle.ix_cells.specs.Places.{IsVacant};
 ghost use Rattle.ix_maps.specs.SlotState.{value_at, IsHeld, IsKey, IsFree, IsWellFormed, slot_new, held_count, entries, entries_from};
-ghost use Rattle.ix_maps.specs.SlotSteps.{slot_set, slot_fill, slot_vacate, slot_insert, SlotInsert, SlotInsertAt, SlotRemove};
+ghost use Rattle.ix_maps.specs.SlotSteps.{slot_set, slot_fill, slot_insert, SlotInsert, SlotInsertAt, SlotRemove};
 ghost use Rattle.ix_maps.specs.inner.FreeList.{no_key, IsLinkOf, MatchesLinks};
 
 use crate::slottable::free_list::{
@@ -40,11 +40,11 @@ use std::marker::{Model, PhantomData};
 ///
 /// This is `MetaSlotMap` of iceoryx2-bb-container, whose keys have no generation.
 pub struct MetaSlotTable<T, S: Table<T>, L: Table<Link>> {
-    values: Counted<S>,
-    links: Counted<L>,
-    first: usize,
-    len: usize,
-    of: PhantomData<T>,
+    pub(crate) values: Counted<S>,
+    pub(crate) links: Counted<L>,
+    pub(crate) first: usize,
+    pub(crate) len: usize,
+    pub(crate) of: PhantomData<T>,
 }
 
 impl<T, S: Table<T>, L: Table<Link>> Model for MetaSlotTable<T, S, L> {
@@ -189,6 +189,17 @@ impl<T, S: Table<T>, L: Table<Link>> MetaSlotTable<T, S, L> {
         self.get_mut_counted(key, &mut Touches::new())
     }
 
+    /// Returns a mutable reference to the value at `key`, which has one.
+    #[inline]
+    pub fn get_unchecked_mut(&mut self, key: SlotTableKey) -> &mut T
+        requires { IsHeld self.old key }
+        ensures* writes_back { sem 𝓛 (Lends (the_row T.row S.row L.row S.Table L.Table)
+            T.row self.entry result (slot_set self.old key)) }
+        ensures value { value_at self.old key ≡ Some result.now }
+    {
+        self.get_unchecked_mut_counted(key, &mut Touches::new())
+    }
+
     /// Returns an iterator over the held keys in rising order, each with its value. O(1), and O(capacity) for all of
     /// its items together.
     #[inline]
@@ -228,6 +239,15 @@ impl<T, S: Table<T>, L: Table<Link>> MetaSlotTable<T, S, L> {
         self.insert_at_counted(key, value, &mut Touches::new())
     }
 
+    /// Inserts `value` at `key`, which is free.
+    #[inline]
+    pub fn insert_at_unchecked(&mut self, key: SlotTableKey, value: T)
+        requires { IsFree self.old key }
+        ensures { SlotInsertAt self.old key value self.new true }
+    {
+        self.insert_at_unchecked_counted(key, value, &mut Touches::new())
+    }
+
     /// Removes the value at `key` and returns it, or `None` if `key` is free or out of range. The key becomes the
     /// first free key.
     #[inline]
@@ -235,6 +255,15 @@ impl<T, S: Table<T>, L: Table<Link>> MetaSlotTable<T, S, L> {
         ensures { SlotRemove self.old key self.new result }
     {
         self.remove_counted(key, &mut Touches::new())
+    }
+
+    /// Removes the value at `key`, which has one, and returns it. The key becomes the first free key.
+    #[inline]
+    pub fn remove_unchecked(&mut self, key: SlotTableKey) -> T
+        requires { IsHeld self.old key }
+        ensures { SlotRemove self.old key self.new (Some result) }
+    {
+        self.remove_unchecked_counted(key, &mut Touches::new())
     }
 
     /// Does what [`MetaSlotTable::contains`] does, and raises `touches` by at most 2.
@@ -280,10 +309,22 @@ impl<T, S: Table<T>, L: Table<Link>> MetaSlotTable<T, S, L> {
         ensures rises { touches.old ≤ touches.new }
     {
         if self.contains_counted(key, touches) {
-            Some(self.value_mut(key.value(), touches))
+            Some(self.get_unchecked_mut_counted(key, touches))
         } else {
             None
         }
+    }
+
+    /// Does what [`MetaSlotTable::get_unchecked_mut`] does, and raises `touches` by 2.
+    #[inline]
+    pub fn get_unchecked_mut_counted(&mut self, key: SlotTableKey, touches: &mut Touches) -> &mut T
+        requires { IsHeld self.old key }
+        ensures* writes_back { sem 𝓛 (Lends (the_row T.row S.row L.row S.Table L.Table)
+            T.row self.entry result (slot_set self.old key)) }
+        ensures value { value_at self.old key ≡ Some result.now }
+        ensures touches { touches.new ≡ touches.old + 2 }
+    {
+        self.values.get_mut(key.value(), touches)
     }
 
     /// Does what [`MetaSlotTable::insert`] does, and raises `touches` by at most 16, whatever the capacity.
@@ -325,6 +366,24 @@ impl<T, S: Table<T>, L: Table<Link>> MetaSlotTable<T, S, L> {
         true
     }
 
+    /// Does what [`MetaSlotTable::insert_at_unchecked`] does, and raises `touches` by at most 9, whatever the capacity.
+    #[inline]
+    pub fn insert_at_unchecked_counted(
+        &mut self,
+        key: SlotTableKey,
+        value: T,
+        touches: &mut Touches,
+    )
+        requires { IsFree self.old key }
+        ensures step { SlotInsertAt self.old key value self.new true }
+        ensures touches { touches.new ≤ touches.old + 9 }
+        ensures rises { touches.old ≤ touches.new }
+    {
+        let key = key.value();
+        let link = self.link_of(key, touches);
+        self.fill(key, link, value, touches);
+    }
+
     /// Does what [`MetaSlotTable::remove`] does, and raises `touches` by at most 16, whatever the capacity.
     #[inline]
     pub fn remove_counted(&mut self, key: SlotTableKey, touches: &mut Touches) -> Option<T>
@@ -333,119 +392,21 @@ impl<T, S: Table<T>, L: Table<Link>> MetaSlotTable<T, S, L> {
         ensures rises { touches.old ≤ touches.new }
     {
         if self.contains_counted(key, touches) {
-            Some(self.vacate(key.value(), touches))
+            Some(self.remove_unchecked_counted(key, touches))
         } else {
             None
         }
     }
 
-    /// Returns the link of a key in range.
+    /// Does what [`MetaSlotTable::remove_unchecked`] does, and raises `touches` by at most 5, whatever the capacity.
     #[inline]
-    fn link_of(&self, key: usize, touches: &mut Touches) -> Link
-        requires { IsKey self.now key }
-        ensures link { IsLinkOf result self.now key }
-        ensures free { result.is_free ≡ true → IsFree self.now key }
-        ensures held { result.is_free ≡ false → IsHeld self.now key }
-        ensures touches { touches.new ≡ touches.old + 1 }
-    {
-        *self.links.get(key, touches)
-    }
-
-    /// Returns `true` if a key in range is free.
-    #[inline]
-    fn is_free(&self, key: usize, touches: &mut Touches) -> bool
-        requires { IsKey self.now key }
-        ensures free { result ≡ true → IsFree self.now key }
-        ensures held { result ≡ false → IsHeld self.now key }
-        ensures touches { touches.new ≡ touches.old + 1 }
-    {
-        self.links.get(key, touches).is_free
-    }
-
-    /// Returns a mutable reference to the value at a held key.
-    #[inline]
-    fn value_mut(&mut self, key: usize, touches: &mut Touches) -> &mut T
+    pub fn remove_unchecked_counted(&mut self, key: SlotTableKey, touches: &mut Touches) -> T
         requires { IsHeld self.old key }
-        ensures* writes_back { sem 𝓛 (Lends (the_row T.row S.row L.row S.Table L.Table)
-            T.row self.entry result (slot_set self.old key)) }
-        ensures value { value_at self.old key ≡ Some result.now }
-        ensures touches { touches.new ≡ touches.old + 2 }
-    {
-        self.values.get_mut(key, touches)
-    }
-
-    /// Returns the least held key that is `start` or greater; there is one.
-    #[inline]
-    pub(crate) fn held_from(&self, start: usize) -> usize
-        requires { 0 < length (entries_from start (drop start self.now.values)) }
-        ensures held { IsHeld self.now result }
-        ensures below { result < no_key }
-        ensures entries { entries_from result (drop result self.now.values)
-            ≡ entries_from start (drop start self.now.values) }
-    {
-        // Names the capacity, by which the check knows that `key + 1` does not overflow.
-        let _capacity = self.capacity();
-        let mut touches = Touches::new();
-        let mut key = start;
-        while self.is_free(key, &mut touches) {
-            key += 1;
-        }
-        key
-    }
-
-    /// Inserts a value at a free key, which has this link and leaves the list of free keys.
-    #[inline]
-    fn fill(&mut self, key: usize, link: Link, value: T, touches: &mut Touches)
-        requires free { IsFree self.old key }
-        requires link { IsLinkOf link self.old key }
-        ensures map { self.new ≡ slot_fill self.old key value }
-        ensures touches { touches.new ≤ touches.old + 8 }
-        ensures rises { touches.old ≤ touches.new }
-    {
-        remove(&mut self.links, key, link, touches);
-        self.first = first_after_remove(self.first, link);
-        self.values.put(key, value, touches);
-        self.len += 1;
-    }
-
-    /// Inserts a value at the first free key. No key is before it in the list, so there is less to do than in
-    /// [`MetaSlotTable::fill`].
-    #[inline]
-    fn fill_first(&mut self, value: T, touches: &mut Touches)
-        requires { self.old.free ≢ [] }
-        ensures map { self.new ≡ slot_insert self.old value }
-        ensures touches { touches.new ≤ touches.old + 8 }
-        ensures rises { touches.old ≤ touches.new }
-    {
-        let key = self.first;
-        let next = self.links.get(key, touches).next;
-        remove_first(&mut self.links, key, next, touches);
-        self.first = next;
-        self.values.put(key, value, touches);
-        self.len += 1;
-    }
-
-    /// Replaces the value at a held key.
-    #[inline]
-    fn replace(&mut self, key: usize, value: T, touches: &mut Touches)
-    where
-        T: Drop,
-        requires { IsHeld self.old key }
-        ensures map { self.new ≡ slot_fill self.old key value }
-        ensures touches { touches.new ≡ touches.old + 2 }
-    {
-        *self.values.get_mut(key, touches) = value;
-    }
-
-    /// Removes the value at a held key, which becomes the first free key.
-    #[inline]
-    fn vacate(&mut self, key: usize, touches: &mut Touches) -> T
-        requires { IsHeld self.old key }
-        ensures value { value_at self.old key ≡ Some result }
-        ensures map { self.new ≡ slot_vacate self.old key }
+        ensures step { SlotRemove self.old key self.new (Some result) }
         ensures touches { touches.new ≤ touches.old + 5 }
         ensures rises { touches.old ≤ touches.new }
     {
+        let key = key.value();
         // The link first: the caller has just read it.
         insert_first(&mut self.links, key, self.first, touches);
         let value = self.values.take(key, touches);

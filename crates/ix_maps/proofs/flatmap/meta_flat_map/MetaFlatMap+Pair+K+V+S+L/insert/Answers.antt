@@ -1,35 +1,40 @@
-use Rattle.std.proofs.Common.{◌≡◌, None, IsSome, refl, sym, ap, ◌∙◌, subst}
-use Rattle.std.specs.Prelude.{IsOk}
+use Rattle.std.proofs.Common.{◌≡◌, Bool, None, IsSome, refl, sym, ap, ◌∙◌, subst, arith}
 use Rattle.std.proofs.lemmas.Bool.{iff_false}
 use Rattle.ix_maps.specs.SlotState.{SlotState}
 use Rattle.ix_maps.specs.FlatState.{flat_entry, flat_value}
+use Rattle.ix_maps.specs.inner.FlatSearch.{IsBound, bound_with}
 use Rattle.ix_maps.specs.declared.flatmap.pair.Pair.{Pair}
+use Rattle.ix_maps.proofs.FlatBounds.{IsBound-inserted}
 use Rattle.ix_maps.proofs.FlatEntries.{flat_entry-absent}
 use Rattle.ix_maps.proofs.FlatSteps.{HasDistinctKeys-inserted, flat_value-inserted, flat_value-inserted_other}
 use Rattle.ix_maps.proofs.flatmap.meta_flat_map.MetaFlatMap+Pair+K+V+S+L.insert.Goals as goal
-use Rattle.ix_maps.proofs.flatmap.meta_flat_map.MetaFlatMap+Pair+K+V+S+L.insert.Goals.{in-Some, in-None}
 
-fresh : (g : _) (c : goal.Joined-insert g) → flat_entry g.K.PartialEq.eq c.self.inside.pairs c.args.key ≡ None
-fresh g c =
-    subst (λ (s : SlotState (Pair g.row.K.Denot g.row.V.Denot)). flat_entry g.K.PartialEq.eq s c.args.key ≡ None) (sym c.self.view_is)
-    (flat_entry-absent g.K.PartialEq.eq c.args.self.now c.args.key (iff_false c.contains.ensures c.if-contains.false))
+fresh : {K V : Type 0} (eq : K → K → Bool) (inside s : SlotState (Pair K V)) (key : K) → inside ≡ s → (IsSome (flat_value eq s key) → ⊥) → flat_entry eq inside key ≡ None
+fresh {K} {V} eq inside s key is absent = subst (λ (s : SlotState (Pair K V)). flat_entry eq s key ≡ None) (sym is) (flat_entry-absent eq s key absent)
+
+pub bound_with-self-inside-requires : goal.bound_with-self-inside-requires
+bound_with-self-inside-requires g c =
+    let place = c.value.ensures in
+    let below = c.in-Some.ensures.was_free.0 in
+    let capacity = c.capacity-capacity.ensures in
+    let fits = c.capacity-capacity.type_inv in omega (arith, place, below, capacity, fits)
 
 pub invariant_of-self : goal.invariant_of-self
-invariant_of-self g c =
-    HasDistinctKeys-inserted g.K.PartialEq.eq g.met.K.Eq.laws c.self.inside.pairs _ _ _ c.insert.ensures c.self.invariant (fresh g c)
+invariant_of-self g c = (
+  HasDistinctKeys-inserted g.K.PartialEq.eq g.met.K.Eq.laws c.self.inside.pairs _ _ _ c.in-Some.ensures c.self.invariant.0 (fresh g.K.PartialEq.eq c.self.inside.pairs c.args.self.now c.args.key c.self.view_is (iff_false c.contains.ensures c.if-contains.false)),
+  subst (IsBound c.insert.new.self) (sym (c.bound_with-self-inside.ensures ∙ ap (bound_with c.self.inside.bound) c.value.ensures))
+  (IsBound-inserted c.self.inside.pairs c.insert.new.self c.self.inside.bound c.in-Some.place _ c.self.invariant.1 c.in-Some.ensures),
+)
 
-pub returns-clause-holds : goal.returns-clause-holds
-returns-clause-holds g c ok = elim c.match-insert.branch [
-  | in-Some w ↦
-      flat_value-inserted g.K.PartialEq.eq g.met.K.Eq.laws c.self.inside.pairs _ _ _ c.insert.ensures c.self.invariant (fresh g c)
-      (subst IsSome (sym w.in-Some.is) refl)
-  | in-None w ↦ absurd (let no = subst IsOk w.result-is ok in cc)
-]
+pub returns-in-Some-clause-holds : goal.returns-in-Some-clause-holds
+returns-in-Some-clause-holds g c ok =
+    flat_value-inserted g.K.PartialEq.eq g.met.K.Eq.laws c.self.inside.pairs _ _ _ c.in-Some.ensures c.self.invariant.0 (fresh g.K.PartialEq.eq c.self.inside.pairs c.args.self.now c.args.key c.self.view_is (iff_false c.contains.ensures c.if-contains.false)) refl
 
-pub returns-clause-kept : goal.returns-clause-kept
-returns-clause-kept g c other differs =
-    flat_value-inserted_other g.K.PartialEq.eq g.met.K.Eq.laws c.self.inside.pairs _ _ _ c.insert.ensures c.self.invariant (fresh g c) other differs
+pub returns-in-Some-clause-kept : goal.returns-in-Some-clause-kept
+returns-in-Some-clause-kept g c other differs =
+    flat_value-inserted_other g.K.PartialEq.eq g.met.K.Eq.laws c.self.inside.pairs _ _ _ c.in-Some.ensures c.self.invariant.0 (fresh g.K.PartialEq.eq c.self.inside.pairs c.args.self.now c.args.key c.self.view_is (iff_false c.contains.ensures c.if-contains.false)) other differs
     ∙ ap (λ s. flat_value g.K.PartialEq.eq s other) c.self.view_is
 
-pub returns-clause-distinct : goal.returns-clause-distinct
-returns-clause-distinct g c = invariant_of-self g c
+pub returns-in-Some-clause-distinct : goal.returns-in-Some-clause-distinct
+returns-in-Some-clause-distinct g c =
+    HasDistinctKeys-inserted g.K.PartialEq.eq g.met.K.Eq.laws c.self.inside.pairs _ _ _ c.in-Some.ensures c.self.invariant.0 (fresh g.K.PartialEq.eq c.self.inside.pairs c.args.self.now c.args.key c.self.view_is (iff_false c.contains.ensures c.if-contains.false))

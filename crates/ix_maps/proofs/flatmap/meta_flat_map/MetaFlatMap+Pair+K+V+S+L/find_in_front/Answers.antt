@@ -3,7 +3,7 @@ use Rattle.ix_maps.specs.SlotState.{value_at}
 use Rattle.ix_maps.specs.FlatState.{HasDistinctKeys}
 use Rattle.ix_maps.specs.inner.FlatSearch.{is_key_at, HasNoKeyIn}
 use Rattle.ix_maps.proofs.FlatEntries.{flat_entry-is_key_at, HasNoKeyIn-more}
-use Rattle.ix_maps.proofs.flatmap.meta_flat_map.MetaFlatMap+Pair+K+V+S+L.find_in_full.Goals as goal
+use Rattle.ix_maps.proofs.flatmap.meta_flat_map.MetaFlatMap+Pair+K+V+S+L.find_in_front.Goals as goal
 
 pub returns-then-index-lt-BLOCK_LEN-clause-value : goal.returns-then-index-lt-BLOCK_LEN-clause-value
 returns-then-index-lt-BLOCK_LEN-clause-value g c =
@@ -11,7 +11,7 @@ returns-then-index-lt-BLOCK_LEN-clause-value g c =
     let map = c.args.self.now in
     let key = c.args.key.now in
     let place = c.new-place.result in
-    let distinct = subst (HasDistinctKeys eq) c.self.view_is c.self.invariant in
+    let distinct = subst (HasDistinctKeys eq) c.self.view_is c.self.invariant.0 in
     let at = ap (λ s. value_at s place) (sym c.self.view_is) ∙ c.get_unchecked.ensures in
     let equal = ap (is_key_at eq map key) c.new-place.ensures ∙ c.index_in_block-index.ensures.found c.if-index-lt-BLOCK_LEN.true in
     sym (flat_entry-is_key_at eq g.met.K.Eq.laws map key place c.get_unchecked.result.now distinct at equal)

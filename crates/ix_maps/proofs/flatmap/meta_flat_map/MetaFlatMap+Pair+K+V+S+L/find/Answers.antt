@@ -1,0 +1,9 @@
+use Rattle.std.proofs.Common.{sym, ◌∙◌, subst}
+use Rattle.ix_maps.specs.SlotState.{IsHeld}
+use Rattle.ix_maps.proofs.Entries.{IsHeld-front}
+use Rattle.ix_maps.proofs.flatmap.meta_flat_map.MetaFlatMap+Pair+K+V+S+L.find.Goals as goal
+
+pub find_in_front-requires-clause-held : goal.find_in_front-requires-clause-held
+find_in_front-requires-clause-held g c place below =
+    let counted = sym c.len.ensures.value ∙ c.if-len-self.true in
+    subst (λ s. IsHeld s place) c.self.view_is (IsHeld-front c.self.inside.pairs.values c.self.inside.bound place counted c.self.invariant.1.beyond below)

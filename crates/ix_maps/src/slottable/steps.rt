@@ -1,0 +1,97 @@
+//! The steps of which the calls of a slot table are made.
+ghost use Rattle.std.specs.Prelude.{◌≡◌, ◌≢◌, ◌+◌, ◌<◌, ◌≤◌, [], length, drop, true, false};
+ghost use Rattle.ix_maps.specs.SlotState.{IsHeld, IsKey, IsFree, entries_from};
+ghost use Rattle.ix_maps.specs.SlotSteps.{slot_fill, slot_insert};
+ghost use Rattle.ix_maps.specs.inner.FreeList.{no_key, IsLinkOf};
+
+use crate::slottable::free_list::{first_after_remove, remove, remove_first};
+use crate::slottable::{Link, MetaSlotTable};
+use ix_cells::{Table, Touches};
+
+impl<T, S: Table<T>, L: Table<Link>> MetaSlotTable<T, S, L> {
+    /// Returns the link of a key in range.
+    #[inline]
+    pub(crate) fn link_of(&self, key: usize, touches: &mut Touches) -> Link
+        requires { IsKey self.now key }
+        ensures link { IsLinkOf result self.now key }
+        ensures free { result.is_free ≡ true → IsFree self.now key }
+        ensures held { result.is_free ≡ false → IsHeld self.now key }
+        ensures touches { touches.new ≡ touches.old + 1 }
+    {
+        *self.links.get(key, touches)
+    }
+
+    /// Returns `true` if a key in range is free.
+    #[inline]
+    pub(crate) fn is_free(&self, key: usize, touches: &mut Touches) -> bool
+        requires { IsKey self.now key }
+        ensures free { result ≡ true → IsFree self.now key }
+        ensures held { result ≡ false → IsHeld self.now key }
+        ensures touches { touches.new ≡ touches.old + 1 }
+    {
+        self.links.get(key, touches).is_free
+    }
+
+    /// Returns the least held key that is `start` or greater; there is one.
+    #[inline]
+    pub(crate) fn held_from(&self, start: usize) -> usize
+        requires { 0 < length (entries_from start (drop start self.now.values)) }
+        ensures held { IsHeld self.now result }
+        ensures below { result < no_key }
+        ensures entries { entries_from result (drop result self.now.values)
+            ≡ entries_from start (drop start self.now.values) }
+    {
+        // Names the capacity, by which the check knows that `key + 1` does not overflow.
+        let _capacity = self.capacity();
+        let mut touches = Touches::new();
+        let mut key = start;
+        while self.is_free(key, &mut touches) {
+            key += 1;
+        }
+        key
+    }
+
+    /// Inserts a value at a free key, which has this link and leaves the list of free keys.
+    #[inline]
+    pub(crate) fn fill(&mut self, key: usize, link: Link, value: T, touches: &mut Touches)
+        requires free { IsFree self.old key }
+        requires link { IsLinkOf link self.old key }
+        ensures map { self.new ≡ slot_fill self.old key value }
+        ensures touches { touches.new ≤ touches.old + 8 }
+        ensures rises { touches.old ≤ touches.new }
+    {
+        remove(&mut self.links, key, link, touches);
+        self.first = first_after_remove(self.first, link);
+        self.values.put(key, value, touches);
+        self.len += 1;
+    }
+
+    /// Inserts a value at the first free key. No key is before it in the list, so there is less to do than in
+    /// [`MetaSlotTable::fill`].
+    #[inline]
+    pub(crate) fn fill_first(&mut self, value: T, touches: &mut Touches)
+        requires { self.old.free ≢ [] }
+        ensures map { self.new ≡ slot_insert self.old value }
+        ensures touches { touches.new ≤ touches.old + 8 }
+        ensures rises { touches.old ≤ touches.new }
+    {
+        let key = self.first;
+        let next = self.links.get(key, touches).next;
+        remove_first(&mut self.links, key, next, touches);
+        self.first = next;
+        self.values.put(key, value, touches);
+        self.len += 1;
+    }
+
+    /// Replaces the value at a held key.
+    #[inline]
+    pub(crate) fn replace(&mut self, key: usize, value: T, touches: &mut Touches)
+    where
+        T: Drop,
+        requires { IsHeld self.old key }
+        ensures map { self.new ≡ slot_fill self.old key value }
+        ensures touches { touches.new ≡ touches.old + 2 }
+    {
+        *self.values.get_mut(key, touches) = value;
+    }
+}
