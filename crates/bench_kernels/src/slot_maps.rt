@@ -23,7 +23,7 @@ pub fn allocated_churn(alloc: Global, rounds: u64, capacity: usize) -> u64 {
 }
 
 /// Writes the key of each inserted number to `keys`.
-fn insert_under<S: Table<Option<u64>>, L: Table<Link>, G: Table<u32>>(
+fn insert_under<S: Table<Option<u64>>, L: Table<Link>, G: Table<u64>>(
     map: &mut MetaSlotMap<Option<u64>, S, L, G>,
     keys: &mut [SlotMapKey],
 ) {
@@ -35,7 +35,7 @@ fn insert_under<S: Table<Option<u64>>, L: Table<Link>, G: Table<u32>>(
 }
 
 /// A round removes the value of a key, inserts one, and gets a third.
-fn churn<S: Table<Option<u64>>, L: Table<Link>, G: Table<u32>>(
+fn churn<S: Table<Option<u64>>, L: Table<Link>, G: Table<u64>>(
     map: &mut MetaSlotMap<Option<u64>, S, L, G>,
     keys: &mut [SlotMapKey],
     rounds: u64,
@@ -60,7 +60,7 @@ fn churn<S: Table<Option<u64>>, L: Table<Link>, G: Table<u32>>(
 }
 
 #[inline]
-fn value_of<S: Table<Option<u64>>, L: Table<Link>, G: Table<u32>>(
+fn value_of<S: Table<Option<u64>>, L: Table<Link>, G: Table<u64>>(
     map: &MetaSlotMap<Option<u64>, S, L, G>,
     key: SlotMapKey,
 ) -> u64 {

@@ -13,7 +13,7 @@ use ix_maps::{Link, MetaSlotMap, SlotMapKey};
 use std::alloc::{AllocError, Global};
 
 /// The commands of a slot map, of any kind.
-impl<T: Copy, S: Table<Option<T>>, L: Table<Link>, G: Table<u32>> Runs<SlotCommand<T>>
+impl<T: Copy, S: Table<Option<T>>, L: Table<Link>, G: Table<u64>> Runs<SlotCommand<T>>
     for MetaSlotMap<Option<T>, S, L, G> {
     ghost use Rattle.ix_maps.specs.Generations.{SlotMapState};
     ghost use Rattle.ix_commands.specs.SlotRun.{slot_reply, slot_after};
@@ -54,7 +54,7 @@ impl<T: Copy, S: Table<Option<T>>, L: Table<Link>, G: Table<u32>> Runs<SlotComma
 /// A key that is dead before is dead after any commands.
 ///
 /// Returns `AllocError` if there is no memory for the list. Then no command was run.
-pub fn run_slot<T: Copy, S: Table<Option<T>>, L: Table<Link>, G: Table<u32>>(
+pub fn run_slot<T: Copy, S: Table<Option<T>>, L: Table<Link>, G: Table<u64>>(
     alloc: Global,
     map: &mut MetaSlotMap<Option<T>, S, L, G>,
     commands: &[SlotCommand<T>],
@@ -78,7 +78,7 @@ pub fn dead_law<T>()
 {}
 
 /// Overwrites the value of `key` and returns `true`, or returns `false` if `key` is not held.
-fn overwrite<T: Copy, S: Table<Option<T>>, L: Table<Link>, G: Table<u32>>(
+fn overwrite<T: Copy, S: Table<Option<T>>, L: Table<Link>, G: Table<u64>>(
     map: &mut MetaSlotMap<Option<T>, S, L, G>,
     key: SlotMapKey,
     value: T,
@@ -97,7 +97,7 @@ fn overwrite<T: Copy, S: Table<Option<T>>, L: Table<Link>, G: Table<u32>>(
 }
 
 /// Returns the first held key whose index is not below `start`, with its value.
-fn first_entry_from<T: Copy, S: Table<Option<T>>, L: Table<Link>, G: Table<u32>>(
+fn first_entry_from<T: Copy, S: Table<Option<T>>, L: Table<Link>, G: Table<u64>>(
     map: &MetaSlotMap<Option<T>, S, L, G>,
     start: usize,
 ) -> Option<(SlotMapKey, T)>

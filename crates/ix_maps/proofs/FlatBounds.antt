@@ -1,13 +1,16 @@
 -- What each step of a flat map leaves of the bound of its places.
-use Rattle.std.proofs.Common.{◌≡◌, ◌≢◌, ℕ, ◌<◌, ◌≤◌, ◌+◌, List, length, set, true, false, Option, Some, None, IsSome, refl, sym, ap, ◌∙◌, subst, inl, inr, arith}
-use Rattle.std.specs.Prelude.{nat_eq, nat_lt, if◌then◌else◌, is_some, slice_get}
-use Rattle.std.specs.Option.{option_map_or}
+use Rattle.std.proofs.Common.{◌≡◌, ℕ, ◌<◌, ◌≤◌, ◌+◌, List, length, set, drop, Bool, true, false, Option, Some, None, IsSome, refl, sym, ap, ◌∙◌, subst, inl, inr, arith}
+use Rattle.std.specs.Prelude.{nat_eq, nat_lt, if◌then◌else◌}
+use Rattle.std.specs.List.{find}
 use Rattle.std.proofs.lemmas.Bool.{cases_eq, cases_lt}
 use Rattle.std.proofs.lemmas.Bool.Decides.{nat_tests}
 use Rattle.std.proofs.lemmas.List.{get_or-set_other, length-set}
-use Rattle.ix_cells.proofs.Places.{place_at_within, held_within}
-use Rattle.ix_maps.specs.SlotState.{SlotState, value_at, IsHeld, slot_new}
-use Rattle.ix_maps.specs.SlotSteps.{slot_set, slot_fill, slot_vacate, SlotInsert, SlotRemove}
+use Rattle.ix_maps.specs.SlotState.{SlotState, value_at, IsHeld, slot_new, entries_from}
+use Rattle.ix_maps.specs.FlatState.{flat_entry}
+use Rattle.ix_maps.specs.declared.flatmap.pair.Pair.{Pair}
+use Rattle.ix_maps.proofs.Entries.{entries_from-none}
+use Rattle.ix_maps.specs.SlotSteps.{slot_set, slot_fill, SlotInsert, SlotRemove}
+use Rattle.ix_maps.proofs.SlotSteps.{SlotInsert-fills, SlotRemove-vacates}
 use Rattle.ix_maps.proofs.VacantTables.{place_at-replicate}
 use Rattle.ix_maps.specs.inner.FlatSearch.{IsBound, bound_with, bound_without}
 
@@ -33,7 +36,7 @@ module _ {T : Type 0} where
 
   pub IsBound-inserted : (s new : SlotState T) (bound place : ℕ) (value : T) → IsBound s bound → SlotInsert s value new (Some place) → IsBound new (bound_with bound place)
   IsBound-inserted s new bound place value is step =
-      let filled : new ≡ slot_fill s place value = step.map ∙ ap (λ first. option_map_or (λ key. slot_fill s key value) first s) (sym step.key) in
+      let filled = SlotInsert-fills s value new place step in
       let within = is.within in
       let fits = step.was_free.0 in
       subst (λ t. IsBound t (bound_with bound place)) (sym filled) (elim (cases_lt place bound) [
@@ -50,9 +53,8 @@ module _ {T : Type 0} where
 
   pub IsBound-removed : (s new : SlotState T) (bound place : ℕ) (value : T) → IsBound s bound → SlotRemove s place new (Some value) → IsBound new (bound_without bound place)
   IsBound-removed s new bound place value is step =
-      let at = sym step.value in
       let below = below_bound s bound place is (subst IsSome step.value refl) in
-      let vacated : new ≡ slot_vacate s place = step.map ∙ ap (λ content. if is_some content then slot_vacate s place else s) at in
+      let vacated = SlotRemove-vacates s place new value step in
       let kept = subst (λ t. IsBound t bound) (sym vacated) (IsBound-set s _ bound bound place None is (omega arith) below is.within) in
       elim (cases_eq (place + 1) bound) [
         | inl last ↦
@@ -68,3 +70,12 @@ module _ {T : Type 0} where
             let no : nat_eq (place + 1) bound ≡ false = grind (arith, nat_tests) in
             subst (IsBound new) (sym (ap (λ b. if b then place else bound) no)) kept
       ]
+
+module _ {K V : Type 0} where
+  -- nothing is found from the bound on
+  pub flat_entry-ended : (eq : K → K → Bool) (inside s : SlotState (Pair K V)) (bound place : ℕ) (key : K) → inside ≡ s → IsBound inside bound → bound ≤ place
+      → find (λ entry. eq entry.1.key key) (entries_from place (drop place s.values)) ≡ flat_entry eq s key → None ≡ flat_entry eq s key
+  flat_entry-ended eq inside s bound place key is bounds past found =
+      ap (find (λ entry. eq entry.1.key key))
+      (sym (entries_from-none place place s.values (λ i from. ap (λ (t : SlotState (Pair K V)). value_at t i) (sym is) ∙ bounds.beyond i (omega arith))))
+      ∙ found

@@ -15,6 +15,7 @@ pub mod FlatBounds
 pub mod FlatEntries
 pub mod FlatSteps
 pub mod FlatCalls
-pub mod GenerationTables
+pub mod WordTables
 pub mod Generations
+pub mod Words
 pub mod MapEntries

@@ -1,16 +1,18 @@
 -- The entries of a slot map with generations: each held key once, in rising order of the indexes.
-use Rattle.std.proofs.Common.{◌≡◌, ℕ, zero, suc, ◌+◌, ◌<◌, List, [], ◌∷◌, length, map, true, false, Bool, Option, Some, None, refl, ap, ◌∙◌, arith}
+use Rattle.std.proofs.Common.{◌≡◌, ℕ, zero, suc, ◌+◌, ◌<◌, List, [], ◌∷◌, length, drop, map, inl, inr, IsSome, true, false, Bool, Option, Some, None, refl, sym, ap, ◌∙◌, arith}
 use Rattle.std.specs.Prelude.{nat_eq, if◌then◌else◌, is_some, count_by}
 use Rattle.std.specs.Option.{option_flatten}
 use Rattle.std.specs.Map.{lookup}
 use Rattle.std.proofs.lemmas.Bool.Decides.{nat_tests}
 use Rattle.std.proofs.lemmas.List.Sums.{sum_by-cons}
 use Rattle.ix_cells.specs.Places.{place_at}
-use Rattle.ix_maps.specs.SlotState.{entries_from, entries}
-use Rattle.ix_maps.specs.Generations.{SlotKey, slot_key_eq, SlotMapState, generation_at, held_entries, map_len, map_entries, KeysRise, ListsExactly}
-use Rattle.ix_maps.specs.inner.GenerationTable.{AreEntriesOf}
-use Rattle.ix_maps.proofs.Generations.{AreEntriesBelow-entries}
-use Rattle.ix_maps.proofs.Entries.{Rises, Rises-none, Rises-weaken, Rises-cons}
+use Rattle.ix_maps.specs.SlotState.{value_at, entries_from}
+use Rattle.ix_maps.specs.Generations.{SlotKey, slot_key_eq, SlotMapState, generation_at, key_at, place_value, held_entries, map_entries, KeysRise, ListsExactly}
+use Rattle.std.proofs.lemmas.Bool.{cases_lt}
+use Rattle.std.proofs.lemmas.List.{at_drop_more}
+use Rattle.ix_cells.proofs.Places.{place_at_within}
+use Rattle.ix_maps.proofs.SlotTables.{place_at_past}
+use Rattle.ix_maps.proofs.Entries.{Rises, Rises-none, Rises-weaken, Rises-cons, entries_from-none}
 
 module _ {T : Type 0} (s : SlotMapState T) where
   Rises-held_entries : (start : ℕ) (places : List (Option (Option T))) → Rises start (map (λ item. item.0.index) (held_entries s (entries_from start places)))
@@ -66,7 +68,8 @@ module _ {T : Type 0} (s : SlotMapState T) where
   pub ListsExactly-map_entries : ListsExactly (map_entries s) s
   ListsExactly-map_entries key = found_at key 0 key.index s.slots.values (omega arith)
 
-  count_by-held : (start : ℕ) (places : List (Option (Option T))) → count_by (λ content. is_some (option_flatten content)) places ≡ length (held_entries s (entries_from start places))
+  -- as many values are held as there are entries of them
+  pub count_by-held : (start : ℕ) (places : List (Option (Option T))) → count_by (λ content. is_some (option_flatten content)) places ≡ length (held_entries s (entries_from start places))
   count_by-held start [] = refl
   count_by-held start (None ∷ places) = count_by-held (start + 1) places
   count_by-held start (Some None ∷ places) = count_by-held (start + 1) places
@@ -74,5 +77,40 @@ module _ {T : Type 0} (s : SlotMapState T) where
       let one = sum_by-cons (λ (content : Option (Option T)). if is_some (option_flatten content) then 1 else 0) (Some (Some value)) places in
       let later = count_by-held (start + 1) places in omega arith
 
-  pub AreEntriesOf-map_entries : (len : ℕ) → len ≡ map_len s → AreEntriesOf s (entries s.slots) len
-  AreEntriesOf-map_entries len is = record { below = AreEntriesBelow-entries s.slots; counted = is ∙ count_by-held 0 s.slots.values }
+  -- a place without a value has no entry
+  pub held_entries-skips : (index : ℕ) → index < length s.slots.values → (IsSome (place_value s index) → ⊥)
+      → held_entries s (entries_from (index + 1) (drop (index + 1) s.slots.values)) ≡ held_entries s (entries_from index (drop index s.slots.values))
+  held_entries-skips index below none =
+      sym (at_drop_more (λ rest. held_entries s (entries_from index rest)) s.slots.values index None below ∙ go (value_at s.slots index) none)
+    where
+      go : (content : Option (Option T)) → (IsSome (option_flatten content) → ⊥)
+          → held_entries s (entries_from index (content ∷ drop (index + 1) s.slots.values)) ≡ held_entries s (entries_from (index + 1) (drop (index + 1) s.slots.values))
+      go None none = refl
+      go (Some None) none = refl
+      go (Some (Some value)) none = absurd (none refl)
+
+  -- a place with a value has the first entry of those from it on
+  pub held_entries-first : (index : ℕ) (value : T) → Some value ≡ place_value s index
+      → held_entries s (entries_from index (drop index s.slots.values)) ≡ (key_at s index, value) ∷ held_entries s (entries_from (index + 1) (drop (index + 1) s.slots.values))
+  held_entries-first index value is = go (value_at s.slots index) refl is
+    where
+      go : (content : Option (Option T)) → value_at s.slots index ≡ content → Some value ≡ option_flatten content
+          → held_entries s (entries_from index (drop index s.slots.values)) ≡ (key_at s index, value) ∷ held_entries s (entries_from (index + 1) (drop (index + 1) s.slots.values))
+      go None at is = absurd (cc)
+      go (Some None) at is = absurd (cc)
+      go (Some (Some held)) at is =
+          let below = place_at_within s.slots.values index (Some held) at in
+          let same : value ≡ held = cc in
+          at_drop_more (λ rest. held_entries s (entries_from index rest)) s.slots.values index None below
+          ∙ ap (λ content. held_entries s (entries_from index (content ∷ drop (index + 1) s.slots.values))) at
+          ∙ ap (λ v. (key_at s index, v) ∷ held_entries s (entries_from (index + 1) (drop (index + 1) s.slots.values))) (sym same)
+
+  -- places with entries are in range
+  pub held_entries-within : (index : ℕ) → 0 < length (held_entries s (entries_from index (drop index s.slots.values))) → index < length s.slots.values
+  held_entries-within index some = elim (cases_lt index (length s.slots.values)) [
+    | inl below ↦ below
+    | inr past ↦
+        let none = ap (λ entries. length (held_entries s entries)) (entries_from-none index index s.slots.values (λ i from. place_at_past s.slots.values i (omega arith))) in
+        let nothing : length (held_entries s []) ≡ 0 = refl in
+        absurd (omega arith)
+  ]

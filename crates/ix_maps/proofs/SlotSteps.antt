@@ -353,14 +353,15 @@ module _ {T : Type 0} where
         kept = λ other apart. ap (λ (t : SlotState T). value_at t other) is ∙ get_or-set_other s.values key other None None apart;
       }
 
-  -- a free key that gets a value is inserted at
-  pub SlotInsertAt-filled : (s : SlotState T) (key : ℕ) (value : T) (new : SlotState T) → IsFree s key → new ≡ slot_fill s key value → SlotInsertAt s key value new true
-  SlotInsertAt-filled s key value new is_free is =
-      let yes : nat_lt key (length s.values) ≡ true = let below = is_free.0 in grind (arith, nat_tests) in
-      record {
-        value = ((λ _. is_free.0), (λ _. refl));
-        map = is ∙ sym (ap (λ b. if b then slot_fill s key value else s) yes);
-        holds = λ _. ap (λ (t : SlotState T). value_at t key) is ∙ get_or-set_same s.values key (Some value) None is_free.0;
-        refused = tt;
-        kept = λ other apart. ap (λ (t : SlotState T). value_at t other) is ∙ get_or-set_other s.values key other (Some value) None apart;
-      }
+  -- what is inserted is at the key that is returned
+  pub SlotInsert-fills : (s : SlotState T) (value : T) (new : SlotState T) (key : ℕ) → SlotInsert s value new (Some key) → new ≡ slot_fill s key value
+  SlotInsert-fills s value new key step = step.map ∙ ap (λ first. option_map_or (λ key. slot_fill s key value) first s) (sym step.key)
+
+  pub SlotInsertAt-fills : (s : SlotState T) (key : ℕ) (value : T) (new : SlotState T) → SlotInsertAt s key value new true → new ≡ slot_fill s key value
+  SlotInsertAt-fills s key value new step =
+      let below = step.value.0 refl in
+      let yes : nat_lt key (length s.values) ≡ true = grind (arith, nat_tests) in
+      step.map ∙ ap (λ b. if b then slot_fill s key value else s) yes
+
+  pub SlotRemove-vacates : (s : SlotState T) (key : ℕ) (new : SlotState T) (value : T) → SlotRemove s key new (Some value) → new ≡ slot_vacate s key
+  SlotRemove-vacates s key new value step = step.map ∙ ap (λ place. if is_some place then slot_vacate s key else s) (sym step.value)

@@ -1,5 +1,5 @@
 -- What no public contract cites: what the code behind it means.
 pub mod Ring
 pub mod FreeList
-pub mod GenerationTable
+pub mod Words
 pub mod FlatSearch

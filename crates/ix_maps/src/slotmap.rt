@@ -14,15 +14,15 @@
 //! ```
 
 mod content;
-mod generation_table;
 mod iter;
 mod kinds;
 mod meta_slot_map;
 mod slot_map_key;
+mod word_table;
 
 pub use content::Content;
-pub(crate) use generation_table::GenerationTable;
 pub use iter::Iter;
 pub use kinds::{FixedSizeSlotMap, RelocatableSlotMap, SlotMap, UninitSlotMap};
 pub use meta_slot_map::{MetaSlotMap, dead_keys_law};
 pub use slot_map_key::{SlotMapKey, key_order_law};
+pub(crate) use word_table::{RETIRED, WordTable};

@@ -13,7 +13,7 @@ use std::time::{CpuClock, Duration};
 use test_support::{Findings, check_tables, reply_of_key, reply_of_option};
 
 /// Runs the counted form of a command, if it has one, and returns the reply.
-fn run_counted<S: Table<Option<u64>>, L: Table<Link>, G: Table<u32>>(
+fn run_counted<S: Table<Option<u64>>, L: Table<Link>, G: Table<u64>>(
     map: &mut MetaSlotMap<Option<u64>, S, L, G>,
     command: SlotCommand<u64>,
 ) -> Reply<SlotMapKey, u64> {

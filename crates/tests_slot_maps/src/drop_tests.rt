@@ -22,7 +22,7 @@ type Row = (Call, u64, Option<u64>);
 type Example = (u32, &'static [Row], u64);
 
 /// Makes a call and returns the value that it returns.
-fn returned_by<'a, S: Table<Option<Noted<'a>>>, L: Table<Link>, G: Table<u32>>(
+fn returned_by<'a, S: Table<Option<Noted<'a>>>, L: Table<Link>, G: Table<u64>>(
     map: &mut MetaSlotMap<Option<Noted<'a>>, S, L, G>,
     call: &Call,
     notes: &'a Notes,
@@ -46,7 +46,7 @@ fn name_of(value: Option<Noted>) -> Option<u64> {
 }
 
 /// Makes the calls in turn on `map`, which is empty at first.
-fn check_rows<'a, S: Table<Option<Noted<'a>>>, L: Table<Link>, G: Table<u32>>(
+fn check_rows<'a, S: Table<Option<Noted<'a>>>, L: Table<Link>, G: Table<u64>>(
     findings: &Findings,
     map: &mut MetaSlotMap<Option<Noted<'a>>, S, L, G>,
     notes: &'a Notes,
@@ -62,7 +62,7 @@ fn check_rows<'a, S: Table<Option<Noted<'a>>>, L: Table<Link>, G: Table<u32>>(
 }
 
 /// Makes the calls on a map whose making did not fail. `end` has the names that are dropped with the map.
-fn check_made<'a, S: Table<Option<Noted<'a>>>, L: Table<Link>, G: Table<u32>, E: Drop>(
+fn check_made<'a, S: Table<Option<Noted<'a>>>, L: Table<Link>, G: Table<u64>, E: Drop>(
     findings: &Findings,
     made: Result<MetaSlotMap<Option<Noted<'a>>, S, L, G>, E>,
     notes: &'a Notes,

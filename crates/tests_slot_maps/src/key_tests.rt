@@ -53,7 +53,7 @@ fn keys() -> Result<(), Fail> {
 
 /// Checks the texts of an empty map with three places, of one with a value, of a full one, and of its iterator as far as it has
 /// come.
-fn check_texts<S: Table<Option<u64>>, L: Table<Link>, G: Table<u32>>(
+fn check_texts<S: Table<Option<u64>>, L: Table<Link>, G: Table<u64>>(
     findings: &Findings,
     map: &mut MetaSlotMap<Option<u64>, S, L, G>,
 ) {
@@ -88,7 +88,7 @@ fn texts(rt: HostRuntime) -> Result<(), Fail> {
 }
 
 /// Returns the values in the order of their places, up to the first that is `last`, as digits.
-fn values_up_to<S: Table<Option<u64>>, L: Table<Link>, G: Table<u32>>(
+fn values_up_to<S: Table<Option<u64>>, L: Table<Link>, G: Table<u64>>(
     map: &MetaSlotMap<Option<u64>, S, L, G>,
     last: u64,
 ) -> u64 {

@@ -12,7 +12,7 @@ const START: u32 = 4_294_967_290;
 
 /// Checks a map whose making is refused or did not fail, and returns how many bytes of the heap are in use with it: it is
 /// empty, and its places start at `start`.
-fn used_with<S: Table<Option<u64>>, L: Table<Link>, G: Table<u32>, E: Drop>(
+fn used_with<S: Table<Option<u64>>, L: Table<Link>, G: Table<u64>, E: Drop>(
     findings: &Findings,
     heap: &LocalHeap,
     made: Result<MetaSlotMap<Option<u64>, S, L, G>, E>,

@@ -49,7 +49,7 @@ fn drawn_command(slow: &SlowMap, numbers: &mut Numbers, capacity: usize) -> Slot
 }
 
 /// Compares the entries of both maps, and the numbers of held and of retired places.
-fn check_content<S: Table<Option<u64>>, L: Table<Link>, G: Table<u32>>(
+fn check_content<S: Table<Option<u64>>, L: Table<Link>, G: Table<u64>>(
     findings: &Findings,
     map: &MetaSlotMap<Option<u64>, S, L, G>,
     slow: &SlowMap,
@@ -74,7 +74,7 @@ fn check_content<S: Table<Option<u64>>, L: Table<Link>, G: Table<u32>>(
 }
 
 /// Checks that no dead key is held: no one of a retired place, and else no one whose generation its place had before.
-fn check_dead<S: Table<Option<u64>>, L: Table<Link>, G: Table<u32>>(
+fn check_dead<S: Table<Option<u64>>, L: Table<Link>, G: Table<u64>>(
     findings: &Findings,
     map: &MetaSlotMap<Option<u64>, S, L, G>,
     slow: &SlowMap,
@@ -92,7 +92,7 @@ fn check_dead<S: Table<Option<u64>>, L: Table<Link>, G: Table<u32>>(
 }
 
 /// Runs random commands on an empty map, whose making did not fail, and on a slow one. At the end places are retired.
-fn walk<S: Table<Option<u64>>, L: Table<Link>, G: Table<u32>, E: Drop>(
+fn walk<S: Table<Option<u64>>, L: Table<Link>, G: Table<u64>, E: Drop>(
     findings: &Findings,
     alloc: Global,
     made: Result<MetaSlotMap<Option<u64>, S, L, G>, E>,

@@ -4,18 +4,12 @@ ghost use Rattle.std.specs.Prelude.{Option, Bool};
 /// What a [`MetaSlotMap`](crate::slotmap::MetaSlotMap) can hold at a place that is not free: a value, or nothing if the place
 /// is retired. Every `Option` is, and nothing else has the calls of a map.
 pub trait Content {
-    /// No value.
-    ghost nothing: { Self };
-
     /// The place is not free, and has no value.
     ghost is_retired: { Option Self → Bool };
 }
 
 impl<T> Content for Option<T> {
-    ghost use Rattle.std.specs.Prelude.{None};
     ghost use Rattle.ix_maps.specs.Generations.{is_retired};
-
-    ghost nothing = { None };
 
     ghost is_retired = { is_retired };
 }

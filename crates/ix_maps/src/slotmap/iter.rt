@@ -5,8 +5,8 @@ ghost use Rattle.std.specs.Iterator.SizeHint.{IsWithinCount};
 ghost use Rattle.ix_maps.specs.Generations.{map_entries};
 
 use crate::slotmap::{MetaSlotMap, SlotMapKey};
-use crate::slottable::{self, Link};
-use ix_cells::Table;
+use crate::slottable::Link;
+use ix_cells::{Table, Touches};
 use std::fmt::{self, Debug, Formatter, Write};
 use std::iter::FusedIterator;
 use std::marker::Model;
@@ -25,27 +25,29 @@ use std::marker::Model;
 ///
 /// This is `Iter` of iceoryx2-bb-container.
 #[derive(Drop)]
-pub struct Iter<'a, T, S: Table<Option<T>>, L: Table<Link>, G: Table<u32>> {
+pub struct Iter<'a, T, S: Table<Option<T>>, L: Table<Link>, G: Table<u64>> {
     map: &'a MetaSlotMap<Option<T>, S, L, G>,
-    /// The places that are still to be visited, but for the free ones.
-    slots: slottable::Iter<'a, Option<T>, S, L>,
+    /// The least index that is still to be visited.
+    index: usize,
     /// The number of items that are still to come.
     left: usize,
 }
 
-impl<'a, T, S: Table<Option<T>>, L: Table<Link>, G: Table<u32>> Model for Iter<'a, T, S, L, G> {
-    ghost use Rattle.std.specs.Prelude.{List};
+impl<'a, T, S: Table<Option<T>>, L: Table<Link>, G: Table<u64>> Model for Iter<'a, T, S, L, G> {
+    ghost use Rattle.std.specs.Prelude.{◌≡◌, List, length, drop};
+    ghost use Rattle.ix_maps.specs.SlotState.{entries_from};
     ghost use Rattle.ix_maps.specs.Generations.{SlotKey, held_entries};
-    ghost use Rattle.ix_maps.specs.inner.GenerationTable.{AreEntriesOf};
 
     ghost Value = { List (SlotKey × T) };
 
-    ghost view = { λ iter. held_entries iter.map.now iter.slots };
+    ghost view = { λ iter. held_entries iter.map.now
+        (entries_from iter.index (drop iter.index iter.map.now.slots.values)) };
 
-    ghost invariant = { λ iter. AreEntriesOf iter.map.now iter.slots iter.left };
+    ghost invariant = { λ iter. iter.left ≡ length (held_entries iter.map.now
+        (entries_from iter.index (drop iter.index iter.map.now.slots.values))) };
 }
 
-impl<'a, T, S: Table<Option<T>>, L: Table<Link>, G: Table<u32>> Iter<'a, T, S, L, G> {
+impl<'a, T, S: Table<Option<T>>, L: Table<Link>, G: Table<u64>> Iter<'a, T, S, L, G> {
     /// Returns an iterator over all held keys. O(1).
     #[inline]
     pub(crate) fn new(map: &'a MetaSlotMap<Option<T>, S, L, G>) -> Self
@@ -53,7 +55,7 @@ impl<'a, T, S: Table<Option<T>>, L: Table<Link>, G: Table<u32>> Iter<'a, T, S, L
     {
         Iter {
             map,
-            slots: map.slots_iter(),
+            index: 0,
             left: map.len(),
         }
     }
@@ -65,13 +67,13 @@ impl<'a, T, S: Table<Option<T>>, L: Table<Link>, G: Table<u32>> Iter<'a, T, S, L
     {
         Iter {
             map: self.map,
-            slots: self.slots.rest(),
+            index: self.index,
             left: self.left,
         }
     }
 }
 
-impl<'a, T, S: Table<Option<T>>, L: Table<Link>, G: Table<u32>> Iterator for Iter<'a, T, S, L, G> {
+impl<'a, T, S: Table<Option<T>>, L: Table<Link>, G: Table<u64>> Iterator for Iter<'a, T, S, L, G> {
     type Item = (SlotMapKey, &'a T);
 
     ghost next_gives = { YieldsFirstBy (λ item. (item.0, item.1.now)) (λ rest. rest) };
@@ -82,13 +84,16 @@ impl<'a, T, S: Table<Option<T>>, L: Table<Link>, G: Table<u32>> Iterator for Ite
     /// held).
     #[inline]
     fn next(&mut self) -> Option<(SlotMapKey, &'a T)> {
-        while let Some((place, content)) = self.slots.next() {
-            if let Some(value) = content {
-                self.left -= 1;
-                return Some((self.map.key_at(place), value));
-            }
+        if self.left == 0 {
+            return None;
         }
-        None
+        let index = self.map.held_from(self.index);
+        self.index = index + 1;
+        self.left -= 1;
+        match self.map.value_at(index) {
+            Some(value) => Some((self.map.key_of(index, &mut Touches::new()), value)),
+            None => None,
+        }
     }
 
     /// Returns the number of items that are still to come, as both bounds. O(1).
@@ -102,7 +107,7 @@ impl<'a, T, S: Table<Option<T>>, L: Table<Link>, G: Table<u32>> Iterator for Ite
     }
 }
 
-impl<'a, T, S: Table<Option<T>>, L: Table<Link>, G: Table<u32>> ExactSizeIterator
+impl<'a, T, S: Table<Option<T>>, L: Table<Link>, G: Table<u64>> ExactSizeIterator
     for Iter<'a, T, S, L, G> {
     /// Returns the number of items that are still to come. O(1).
     #[inline]
@@ -111,12 +116,12 @@ impl<'a, T, S: Table<Option<T>>, L: Table<Link>, G: Table<u32>> ExactSizeIterato
     }
 }
 
-impl<'a, T, S: Table<Option<T>>, L: Table<Link>, G: Table<u32>> FusedIterator
+impl<'a, T, S: Table<Option<T>>, L: Table<Link>, G: Table<u64>> FusedIterator
     for Iter<'a, T, S, L, G> {}
 
 /// Prints a list of the items that are still to come, each the index and the generation of its key, and its value.
 /// O(capacity).
-impl<'a, T: Debug, S: Table<Option<T>>, L: Table<Link>, G: Table<u32>> Debug
+impl<'a, T: Debug, S: Table<Option<T>>, L: Table<Link>, G: Table<u64>> Debug
     for Iter<'a, T, S, L, G> {
     fn fmt<W: Write>(&self, f: &mut Formatter<W>) -> fmt::Result {
         let mut list = f.debug_list();
@@ -127,7 +132,7 @@ impl<'a, T: Debug, S: Table<Option<T>>, L: Table<Link>, G: Table<u32>> Debug
     }
 }
 
-impl<'a, T, S: Table<Option<T>>, L: Table<Link>, G: Table<u32>> IntoIterator
+impl<'a, T, S: Table<Option<T>>, L: Table<Link>, G: Table<u64>> IntoIterator
     for &'a MetaSlotMap<Option<T>, S, L, G> {
     type Item = (SlotMapKey, &'a T);
 

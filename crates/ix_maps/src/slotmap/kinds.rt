@@ -3,7 +3,7 @@ ghost use Rattle.std.specs.Prelude.{◌≡◌, ◌≤◌, IfOk, IsOk, IfErr};
 ghost use Rattle.ix_maps.specs.Generations.{map_new};
 ghost use Rattle.ix_maps.specs.SlotState.{slot_new};
 
-use crate::slotmap::{GenerationTable, MetaSlotMap};
+use crate::slotmap::{MetaSlotMap, WordTable};
 use crate::slottable::{FixedSizeSlotTable, Link, SlotTable};
 use ix_cells::{HeapTable, InitError, InlineTable, MAX_FIXED_CAPACITY, RelocatableContainer};
 use std::alloc::{AllocError, Allocator, Global};
@@ -25,7 +25,7 @@ pub type FixedSizeSlotMap<T, const CAPACITY: usize> = MetaSlotMap<
     Option<T>,
     InlineTable<Option<T>, CAPACITY>,
     InlineTable<Link, CAPACITY>,
-    InlineTable<u32, CAPACITY>,
+    InlineTable<u64, CAPACITY>,
 >;
 
 impl<T: Drop, const CAPACITY: usize> FixedSizeSlotMap<T, CAPACITY> {
@@ -48,7 +48,7 @@ impl<T: Drop, const CAPACITY: usize> FixedSizeSlotMap<T, CAPACITY> {
     {
         MetaSlotMap {
             slots: FixedSizeSlotTable::new(),
-            generations: GenerationTable::new(InlineTable::new(), generation),
+            words: WordTable::new(InlineTable::new(), 2 * generation as u64),
             retired: 0,
         }
     }
@@ -66,7 +66,7 @@ pub type SlotMap<T, A = Global> = MetaSlotMap<
     Option<T>,
     HeapTable<Option<T>, A>,
     HeapTable<Link, A>,
-    HeapTable<u32, A>,
+    HeapTable<u64, A>,
 >;
 
 impl<T: Drop, A: Allocator + Copy> SlotMap<T, A> {
@@ -90,10 +90,10 @@ impl<T: Drop, A: Allocator + Copy> SlotMap<T, A> {
         ensures memory { capacity ≡ 0 → IsOk result }
     {
         let slots = SlotTable::new(alloc, capacity)?;
-        let generations = HeapTable::new(alloc, capacity)?;
+        let words = HeapTable::new(alloc, capacity)?;
         Ok(MetaSlotMap {
             slots,
-            generations: GenerationTable::new(generations, generation),
+            words: WordTable::new(words, 2 * generation as u64),
             retired: 0,
         })
     }

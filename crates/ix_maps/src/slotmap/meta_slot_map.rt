@@ -1,21 +1,22 @@
 //! The slot map over any three tables.
-ghost use Rattle.std.specs.Prelude.{◌≡◌, ◌≢◌, false, ◌+◌, ◌<◌, ◌≤◌, ◌↔◌, [], length, Some, None, IsTrue, IsSome, IsNone, IfSome, is_some, option_copied, option_map, slice_get, if◌then◌else◌};
+ghost use Rattle.std.specs.Prelude.{◌≡◌, ◌≢◌, false, ◌+◌, ◌<◌, ◌≤◌, ◌↔◌, [], length, drop, Some, None, IsTrue, IsSome, IsNone, IfSome, option_copied, option_map, slice_get};
 ghost use Rattle.std.specs.Borrow.{sem, Lends, LendsIf};
 ghost use Rattle.std.specs.Map.{lookup};
 ghost use Rattle.std.specs.Option.{option_copied_mut};
 ghost use Rattle.std.specs.contracts.option.Option as option;
-ghost use Rattle.ix_maps.specs.SlotState.{IsFree, entries};
-ghost use Rattle.ix_maps.specs.Generations.{SlotKey, SlotMapState, greatest_generation, generation_at, key_at, slot_key_eq, place_value, map_value, IsDead, retired_count, map_len, map_entries, IsMapFormed, DeadAreNotHeld, KeysRise, ListsExactly};
-ghost use Rattle.ix_maps.specs.SlotMapSteps.{map_set, map_set_at, map_replace, map_retire, MapInsert, MapInsertAt, MapRemove};
+ghost use Rattle.ix_maps.specs.SlotState.{IsFree, entries_from};
+ghost use Rattle.ix_maps.specs.SlotSteps.{SlotInsert};
+ghost use Rattle.ix_maps.specs.Generations.{SlotKey, SlotMapState, greatest_generation, generation_at, key_at, slot_key_eq, place_value, map_value, IsRetired, IsDead, retired_count, map_len, held_entries, map_entries, IsMapFormed, DeadAreNotHeld, KeysRise, ListsExactly};
+ghost use Rattle.ix_maps.specs.SlotMapSteps.{map_set, map_set_at, map_fill, map_replace, map_vacate, map_retire, MapInsert, MapInsertAt, MapRemove};
 
-use crate::slotmap::{Content, GenerationTable, Iter, SlotMapKey};
-use crate::slottable::{self, Link, MetaSlotTable, SlotTableKey};
+use crate::slotmap::{Content, Iter, RETIRED, SlotMapKey, WordTable};
+use crate::slottable::{Link, MetaSlotTable, SlotTableKey};
 use ix_cells::{Table, Touches};
 use std::fmt::{self, Debug, Formatter, Write};
 use std::marker::Model;
 
 /// A map from keys that it chooses itself to values, over a table of values `S`, a table of links `L` and a table of
-/// generations `G`. Contracts see what each place holds, the free places in their order, and the generations.
+/// numbers `G` for the generations. Contracts see what each place holds, the free places in their order, and the generations.
 ///
 /// A map has as many places as its capacity, with indexes from 0. A place is free, holds a value, or is retired, and it has
 /// a generation. A key is the index of a place and a generation; it is held while a value is in its place and the place has
@@ -42,27 +43,26 @@ use std::marker::Model;
 ///
 /// This is `MetaSlotMap` of iceoryx2-bb-container, whose keys have no generation: that map is [`MetaSlotTable`] here.
 #[derive(Drop)]
-pub struct MetaSlotMap<C: Content, S: Table<C>, L: Table<Link>, G: Table<u32>> {
+pub struct MetaSlotMap<C: Content, S: Table<C>, L: Table<Link>, G: Table<u64>> {
     pub(crate) slots: MetaSlotTable<C, S, L>,
-    pub(crate) generations: GenerationTable<G>,
+    pub(crate) words: WordTable<G>,
     pub(crate) retired: usize,
 }
 
-impl<C: Content, S: Table<C>, L: Table<Link>, G: Table<u32>> Model for MetaSlotMap<C, S, L, G> {
+impl<C: Content, S: Table<C>, L: Table<Link>, G: Table<u64>> Model for MetaSlotMap<C, S, L, G> {
     ghost use Rattle.ix_maps.specs.Generations.{GenerationState, generation_state_code};
-    ghost use Rattle.ix_maps.specs.inner.GenerationTable.{HasGenerations};
+    ghost use Rattle.ix_maps.specs.inner.Words.{word_generations, HasWords};
 
     ghost Value = { GenerationState C };
 
     ghost coded = { generation_state_code C.code };
 
-    ghost view = { λ map. record { slots = map.slots; generations = map.generations } };
+    ghost view = { λ map. record { slots = map.slots; generations = word_generations map.words } };
 
-    ghost invariant = { λ map. HasGenerations C.nothing C.is_retired
-        (record { slots = map.slots; generations = map.generations }) map.retired };
+    ghost invariant = { λ map. HasWords C.is_retired map.slots map.words map.retired };
 }
 
-impl<T, S: Table<Option<T>>, L: Table<Link>, G: Table<u32>> MetaSlotMap<Option<T>, S, L, G> {
+impl<T, S: Table<Option<T>>, L: Table<Link>, G: Table<u64>> MetaSlotMap<Option<T>, S, L, G> {
     ghost use Rattle.ix_maps.specs.contracts.slotmap.meta_slot_map.MetaSlotMap.{the_row};
 
     /// Returns the number of places, free, held and retired.
@@ -118,7 +118,7 @@ impl<T, S: Table<Option<T>>, L: Table<Link>, G: Table<u32>> MetaSlotMap<Option<T
         ensures alive { IfSome result (λ key. IsDead self.now key → ⊥) }
     {
         let place = self.slots.next_free_key()?;
-        Some(self.key_of(place, &mut Touches::new()))
+        Some(self.key_of(place.value(), &mut Touches::new()))
     }
 
     /// Returns `true` if `key` is held.
@@ -127,7 +127,7 @@ impl<T, S: Table<Option<T>>, L: Table<Link>, G: Table<u32>> MetaSlotMap<Option<T
         ensures value { IsTrue result ↔ IsSome (map_value self.now key) }
         ensures dead { IsDead self.now key → result ≡ false }
     {
-        self.get(key).is_some()
+        self.is_held(key, &mut Touches::new())
     }
 
     /// Returns the value of `key`, or `None` if `key` is not held.
@@ -136,13 +136,12 @@ impl<T, S: Table<Option<T>>, L: Table<Link>, G: Table<u32>> MetaSlotMap<Option<T
         ensures value { option_copied result ≡ map_value self.now key }
         ensures dead { IsDead self.now key → IsNone result }
     {
-        if !self.has_generation(key, &mut Touches::new()) {
+        if !self.is_held(key, &mut Touches::new()) {
             return None;
         }
-        match self.slots.get(SlotTableKey::new(key.index())) {
-            Some(content) => content.as_ref(),
-            None => None,
-        }
+        self.slots
+            .get_unchecked(SlotTableKey::new(key.index()))
+            .as_ref()
     }
 
     /// Returns a mutable reference to the value of `key`, or `None` if `key` is not held.
@@ -232,8 +231,8 @@ impl<T, S: Table<Option<T>>, L: Table<Link>, G: Table<u32>> MetaSlotMap<Option<T
         ensures touches { touches.new ≤ touches.old + 20 }
         ensures rises { touches.old ≤ touches.new }
     {
-        let place = self.slots.insert_counted(Some(value), touches)?;
-        Some(self.key_of(place, touches))
+        let place = self.fill_first(value, touches)?;
+        Some(self.key_of(place.value(), touches))
     }
 
     /// Does what [`MetaSlotMap::insert_at`] does, and raises `touches` by at most 20, whatever the capacity.
@@ -250,21 +249,18 @@ impl<T, S: Table<Option<T>>, L: Table<Link>, G: Table<u32>> MetaSlotMap<Option<T
         ensures touches { touches.new ≤ touches.old + 20 }
         ensures rises { touches.old ≤ touches.new }
     {
-        if index >= self.capacity() {
+        if index >= self.capacity() || self.is_retired(index, touches) {
             return None;
         }
-        let place = SlotTableKey::new(index);
-        let generation = self.generations.get(index, touches);
-        if !self.slots.contains_counted(place, touches) {
-            self.slots.insert_at_counted(place, Some(value), touches);
-            return Some(SlotMapKey::new(index, generation));
+        if !self.has_value(index, touches) {
+            self.fill(index, value, touches);
+            return Some(self.key_of(index, touches));
         }
-        // A retired place has this generation too.
-        if generation == u32::MAX {
+        if self.generation(index, touches) == u32::MAX {
             return None;
         }
-        self.replace(index, generation + 1, value, touches);
-        Some(SlotMapKey::new(index, generation + 1))
+        self.replace(index, value, touches);
+        Some(self.key_of(index, touches))
     }
 
     /// Does what [`MetaSlotMap::remove`] does, and raises `touches` by at most 20, whatever the capacity.
@@ -274,103 +270,174 @@ impl<T, S: Table<Option<T>>, L: Table<Link>, G: Table<u32>> MetaSlotMap<Option<T
         ensures touches { touches.new ≤ touches.old + 20 }
         ensures rises { touches.old ≤ touches.new }
     {
-        if !self.has_generation(key, touches) {
+        if !self.is_held(key, touches) {
             return None;
         }
         if key.generation() == u32::MAX {
             return self.retire(key.index(), touches);
         }
-        let place = SlotTableKey::new(key.index());
-        let content = self.slots.remove_counted(place, touches)?;
-        let next = key.generation() + 1;
-        self.generations.set(key.index(), next, touches);
-        content
+        self.vacate(key.index(), touches)
     }
 
-    /// Returns the key of a place in range.
+    /// Returns the key of a place that is not retired.
     #[inline]
-    fn key_of(&self, place: SlotTableKey, touches: &mut Touches) -> SlotMapKey
-        requires { place < length self.now.slots.values }
-        ensures value { result ≡ key_at self.now place }
+    pub(crate) fn key_of(&self, index: usize, touches: &mut Touches) -> SlotMapKey
+        requires within { index < length self.now.slots.values }
+        requires in_use { IsRetired self.now index → ⊥ }
+        ensures value { result ≡ key_at self.now index }
         ensures touches { touches.new ≡ touches.old + 1 }
     {
-        let index = place.value();
-        SlotMapKey::new(index, self.generations.get(index, touches))
+        SlotMapKey::new(index, self.generation(index, touches))
     }
 
-    /// Returns the key of a place in range.
+    /// Returns the generation of a place that is not retired.
     #[inline]
-    pub(crate) fn key_at(&self, place: SlotTableKey) -> SlotMapKey
-        requires { place < length self.now.slots.values }
-        ensures { result ≡ key_at self.now place }
+    fn generation(&self, index: usize, touches: &mut Touches) -> u32
+        requires within { index < length self.now.slots.values }
+        requires in_use { IsRetired self.now index → ⊥ }
+        ensures value { result ≡ generation_at self.now index }
+        ensures touches { touches.new ≡ touches.old + 1 }
     {
-        self.key_of(place, &mut Touches::new())
+        (self.words.get(index, touches) / 2) as u32
     }
 
-    /// Returns an iterator over the places that are not free.
+    /// Returns `true` if `key` is held.
     #[inline]
-    pub(crate) fn slots_iter(&self) -> slottable::Iter<'_, Option<T>, S, L>
-        ensures { result ≡ entries self.now.slots }
-    {
-        self.slots.iter()
-    }
-
-    /// Returns `true` if the index of `key` is in range and its place has the generation of `key`.
-    #[inline]
-    fn has_generation(&self, key: SlotMapKey, touches: &mut Touches) -> bool
-        ensures within { IsTrue result → key.index < length self.now.slots.values }
-        ensures value { IsTrue result ↔ ((key.index < length self.now.slots.values)
-            × (generation_at self.now key.index ≡ key.generation)) }
+    fn is_held(&self, key: SlotMapKey, touches: &mut Touches) -> bool
+        ensures value { IsTrue result ↔ IsSome (map_value self.now key) }
         ensures touches { touches.new ≤ touches.old + 1 }
         ensures rises { touches.old ≤ touches.new }
     {
         let index = key.index();
-        index < self.capacity() && self.generations.get(index, touches) == key.generation()
+        index < self.capacity() && self.words.get(index, touches) == 2 * key.generation() as u64 + 1
     }
 
-    /// Replaces the value in a place, whose generation is raised to `generation`.
+    /// Returns `true` if a value is in a place.
     #[inline]
-    fn replace(&mut self, index: usize, generation: u32, value: T, touches: &mut Touches)
+    fn has_value(&self, index: usize, touches: &mut Touches) -> bool
+        requires within { index < length self.now.slots.values }
+        ensures value { IsTrue result ↔ IsSome (place_value self.now index) }
+        ensures touches { touches.new ≡ touches.old + 1 }
+    {
+        self.words.get(index, touches) % 2 == 1
+    }
+
+    /// Returns `true` if a place is retired.
+    #[inline]
+    fn is_retired(&self, index: usize, touches: &mut Touches) -> bool
+        requires within { index < length self.now.slots.values }
+        ensures value { IsTrue result ↔ IsRetired self.now index }
+        ensures touches { touches.new ≡ touches.old + 1 }
+    {
+        self.words.get(index, touches) == RETIRED
+    }
+
+    /// Returns the least place from `start` on that has a value; there is one.
+    #[inline]
+    pub(crate) fn held_from(&self, start: usize) -> usize
+        requires { 0 < length (held_entries self.now (entries_from start (drop start self.now.slots.values))) }
+        ensures held { IsSome (place_value self.now result) }
+        ensures fits { result + 1 ≤ 18446744073709551615 }
+        ensures entries { held_entries self.now (entries_from result (drop result self.now.slots.values))
+            ≡ held_entries self.now (entries_from start (drop start self.now.slots.values)) }
+    {
+        // Names the capacity, by which the check knows that `index + 1` does not overflow.
+        let _capacity = self.capacity();
+        let mut touches = Touches::new();
+        let mut index = start;
+        while !self.has_value(index, &mut touches) {
+            index += 1;
+        }
+        index
+    }
+
+    /// Returns the value in a place.
+    #[inline]
+    pub(crate) fn value_at(&self, index: usize) -> Option<&T>
+        requires { IsSome (place_value self.now index) }
+        ensures { option_copied result ≡ place_value self.now index }
+    {
+        self.slots.get_unchecked(SlotTableKey::new(index)).as_ref()
+    }
+
+    /// Inserts a value in the first free place and returns that place, or returns `None` if no place is free.
+    #[inline]
+    fn fill_first(&mut self, value: T, touches: &mut Touches) -> Option<SlotTableKey>
+    where
+        T: Drop,
+        ensures slots { SlotInsert self.old.slots (Some value) self.new.slots result }
+        ensures generations { self.new.generations ≡ self.old.generations }
+        ensures touches { touches.new ≤ touches.old + 18 }
+        ensures rises { touches.old ≤ touches.new }
+    {
+        let place = self.slots.insert_counted(Some(value), touches)?;
+        self.words.raise(place.value(), 1, touches);
+        Some(place)
+    }
+
+    /// Inserts a value in a free place.
+    #[inline]
+    fn fill(&mut self, index: usize, value: T, touches: &mut Touches)
+        requires { IsFree self.old.slots index }
+        ensures map { self.new ≡ map_fill self.old index value }
+        ensures touches { touches.new ≤ touches.old + 11 }
+        ensures rises { touches.old ≤ touches.new }
+    {
+        let place = SlotTableKey::new(index);
+        self.slots
+            .insert_at_unchecked_counted(place, Some(value), touches);
+        self.words.raise(index, 1, touches);
+    }
+
+    /// Replaces the value in a place, whose generation is less than the greatest.
+    #[inline]
+    fn replace(&mut self, index: usize, value: T, touches: &mut Touches)
     where
         T: Drop,
         requires held { IsSome (place_value self.old index) }
-        requires generation { generation ≡ generation_at self.old index + 1 }
+        requires generation { generation_at self.old index < greatest_generation }
         ensures map { self.new ≡ map_replace self.old index value }
-        ensures touches { touches.new ≤ touches.old + 6 }
-        ensures rises { touches.old ≤ touches.new }
+        ensures raised { generation_at self.new index ≡ generation_at self.old index + 1 }
+        ensures touches { touches.new ≡ touches.old + 4 }
     {
-        self.generations.set(index, generation, touches);
-        if let Some(content) = self
-            .slots
-            .get_mut_counted(SlotTableKey::new(index), touches)
-        {
-            *content = Some(value);
-        }
+        let place = SlotTableKey::new(index);
+        *self.slots.get_unchecked_mut_counted(place, touches) = Some(value);
+        self.words.raise(index, 2, touches);
     }
 
-    /// Removes the value from a place with the greatest generation, which is retired then, and returns it; or returns `None`
-    /// if there is no value.
+    /// Removes the value from a place, whose generation is less than the greatest, and returns it.
+    #[inline]
+    fn vacate(&mut self, index: usize, touches: &mut Touches) -> Option<T>
+        requires held { IsSome (place_value self.old index) }
+        requires generation { generation_at self.old index < greatest_generation }
+        ensures value { result ≡ place_value self.old index }
+        ensures map { self.new ≡ map_vacate self.old index }
+        ensures raised { generation_at self.new index ≡ generation_at self.old index + 1 }
+        ensures touches { touches.new ≤ touches.old + 7 }
+        ensures rises { touches.old ≤ touches.new }
+    {
+        let place = SlotTableKey::new(index);
+        let content = self.slots.remove_unchecked_counted(place, touches);
+        self.words.raise(index, 1, touches);
+        content
+    }
+
+    /// Removes the value from a place with the greatest generation, which is retired then, and returns it.
     #[inline]
     fn retire(&mut self, index: usize, touches: &mut Touches) -> Option<T>
-        requires within { index < length self.old.slots.values }
+        requires held { IsSome (place_value self.old index) }
         requires generation { generation_at self.old index ≡ greatest_generation }
         ensures value { result ≡ place_value self.old index }
-        ensures map { self.new
-            ≡ if is_some (place_value self.old index) then map_retire self.old index else self.old }
-        ensures touches { touches.new ≤ touches.old + 4 }
-        ensures rises { touches.old ≤ touches.new }
+        ensures map { self.new ≡ map_retire self.old index }
+        ensures touches { touches.new ≡ touches.old + 4 }
     {
         // Each place is retired once, so that their number fits.
         let _capacity = self.capacity();
         let place = SlotTableKey::new(index);
-        let content = self.slots.get_mut_counted(place, touches)?;
-        match content.take() {
-            Some(value) => {
-                self.retired += 1;
-                Some(value)
-            }
-            None => None,
-        }
+        let content = self.slots.get_unchecked_mut_counted(place, touches).take();
+        self.words.raise(index, 1, touches);
+        self.retired += 1;
+        content
     }
 
     /// Returns a mutable reference to the value in a place.
@@ -405,7 +472,7 @@ fn content_mut<T>(content: &mut Option<T>) -> &mut T
 }
 
 /// Prints a map from the held keys, each its index and its generation, to their values, in rising order. O(capacity).
-impl<T: Debug, S: Table<Option<T>>, L: Table<Link>, G: Table<u32>> Debug
+impl<T: Debug, S: Table<Option<T>>, L: Table<Link>, G: Table<u64>> Debug
     for MetaSlotMap<Option<T>, S, L, G> {
     fn fmt<W: Write>(&self, f: &mut Formatter<W>) -> fmt::Result {
         let mut map = f.debug_map();

@@ -28,7 +28,7 @@ impl<'a> ListedItem for (SlotMapKey, &'a u64) {
     }
 }
 
-impl<S: Table<Option<u64>>, L: Table<Link>, G: Table<u32>> Served
+impl<S: Table<Option<u64>>, L: Table<Link>, G: Table<u64>> Served
     for MetaSlotMap<Option<u64>, S, L, G> {
     ghost use Rattle.std.specs.Prelude.{ℕ};
     ghost use Rattle.ix_maps.specs.Generations.{SlotMapState};

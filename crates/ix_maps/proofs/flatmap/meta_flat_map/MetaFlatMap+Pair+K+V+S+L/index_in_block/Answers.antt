@@ -1,4 +1,4 @@
-use Rattle.std.proofs.Common.{◌≡◌, ◌+◌, ◌<◌, ℕ, subst, sym, arith}
+use Rattle.std.proofs.Common.{subst, sym, arith}
 use Rattle.ix_maps.specs.SlotState.{IsHeld}
 use Rattle.ix_maps.proofs.flatmap.meta_flat_map.MetaFlatMap+Pair+K+V+S+L.index_in_block.Goals as goal
 

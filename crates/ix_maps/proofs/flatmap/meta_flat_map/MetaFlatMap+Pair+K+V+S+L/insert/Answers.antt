@@ -23,7 +23,7 @@ pub invariant_of-self : goal.invariant_of-self
 invariant_of-self g c = (
   HasDistinctKeys-inserted g.K.PartialEq.eq g.met.K.Eq.laws c.self.inside.pairs _ _ _ c.in-Some.ensures c.self.invariant.0 (fresh g.K.PartialEq.eq c.self.inside.pairs c.args.self.now c.args.key c.self.view_is (iff_false c.contains.ensures c.if-contains.false)),
   subst (IsBound c.insert.new.self) (sym (c.bound_with-self-inside.ensures ∙ ap (bound_with c.self.inside.bound) c.value.ensures))
-  (IsBound-inserted c.self.inside.pairs c.insert.new.self c.self.inside.bound c.in-Some.place _ c.self.invariant.1 c.in-Some.ensures),
+      (IsBound-inserted c.self.inside.pairs c.insert.new.self c.self.inside.bound c.in-Some.place _ c.self.invariant.1 c.in-Some.ensures),
 )
 
 pub returns-in-Some-clause-holds : goal.returns-in-Some-clause-holds

@@ -39,5 +39,5 @@ pub invariant_of-self : goal.invariant_of-self
 invariant_of-self g c = (
   HasDistinctKeys-removed g.K.PartialEq.eq g.met.K.Eq.laws c.self.inside.pairs _ c.args.key.now c.in_ok-place.place _ (has g.K.PartialEq.eq c.self.inside.pairs c.args.self.now c.args.key.now c.in_ok-place.place c.self.view_is c.in_ok-place.ensures.value) c.remove_unchecked-pair.ensures c.self.invariant.0,
   subst (IsBound c.remove_unchecked-pair.new.self) (sym (c.bound_without-self-inside.ensures ∙ ap (bound_without c.self.inside.bound) c.value.ensures))
-  (IsBound-removed c.self.inside.pairs _ c.self.inside.bound c.in_ok-place.place _ c.self.invariant.1 c.remove_unchecked-pair.ensures),
+      (IsBound-removed c.self.inside.pairs _ c.self.inside.bound c.in_ok-place.place _ c.self.invariant.1 c.remove_unchecked-pair.ensures),
 )

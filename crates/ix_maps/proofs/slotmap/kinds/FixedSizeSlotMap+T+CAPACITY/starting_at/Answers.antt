@@ -1,8 +1,14 @@
-use Rattle.std.proofs.Common.{length, ap, ◌∙◌}
+use Rattle.std.proofs.Common.{length, ap, ◌∙◌, arith}
 use Rattle.std.proofs.lemmas.List.{length-replicate}
-use Rattle.ix_maps.proofs.Generations.{HasGenerations-new}
+use Rattle.ix_maps.proofs.Words.{HasWords-new, new_state}
 use Rattle.ix_maps.proofs.slotmap.kinds.FixedSizeSlotMap+T+CAPACITY.starting_at.Goals as goal
 
 pub invariant_of-result : goal.invariant_of-result
 invariant_of-result g c =
-    HasGenerations-new _ _ _ _ _ c.new.ensures (ap length c.new-2.ensures ∙ length-replicate _ _) c.new-3.ensures
+    let most = c.ranges.generation.fits in
+    HasWords-new _ _ _ _ c.args.generation c.new.ensures (ap length c.new-2.ensures ∙ length-replicate _ _) c.new-3.ensures (omega (arith, most))
+
+pub returns : goal.returns
+returns g c =
+    let most = c.ranges.generation.fits in
+    new_state _ _ _ _ c.args.generation c.new.ensures (ap length c.new-2.ensures ∙ length-replicate _ _) c.new-3.ensures (omega (arith, most))

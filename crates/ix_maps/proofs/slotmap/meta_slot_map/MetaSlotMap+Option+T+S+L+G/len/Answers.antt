@@ -1,6 +1,7 @@
 use Rattle.std.proofs.Common.{◌≡◌, ◌+◌, length, ap, subst, arith}
 use Rattle.ix_maps.specs.Generations.{SlotMapState, retired_count, map_len, IsMapFormed}
-use Rattle.ix_maps.proofs.Generations.{held_count-parts, IsMapFormed-made}
+use Rattle.ix_maps.proofs.Generations.{held_count-parts}
+use Rattle.ix_maps.proofs.Words.{IsMapFormed-words}
 use Rattle.ix_maps.proofs.slotmap.meta_slot_map.MetaSlotMap+Option+T+S+L+G.len.Goals as goal
 
 pub overflow_sub-result : goal.overflow_sub-result
@@ -23,4 +24,4 @@ returns-clause-rest g c =
     subst (λ (s : SlotMapState g.row.T.Denot). map_len s + retired_count s + length s.slots.free ≡ length s.slots.values) c.self.view_is (omega arith)
 
 pub returns-clause-formed : goal.returns-clause-formed
-returns-clause-formed g c = subst IsMapFormed c.self.view_is (IsMapFormed-made _ _ c.self.invariant c.len.ensures.formed)
+returns-clause-formed g c = subst IsMapFormed c.self.view_is (IsMapFormed-words c.self.inside.slots c.self.inside.words c.self.inside.retired c.self.invariant c.len.ensures.formed)

@@ -1,15 +1,18 @@
-use Rattle.std.proofs.Common.{length, Some, sym, ap, ◌∙◌, arith}
-use Rattle.ix_maps.specs.Generations.{SlotMapState}
-use Rattle.ix_maps.proofs.Generations.{retired_count-room}
+use Rattle.std.proofs.Common.{ap, length, sym, subst, IsSome, arith}
+use Rattle.ix_maps.specs.SlotSteps.{slot_set}
+use Rattle.ix_maps.specs.Generations.{SlotMapState, place_value}
+use Rattle.ix_maps.proofs.Words.{retires, room_to_retire}
 use Rattle.ix_maps.proofs.slotmap.meta_slot_map.MetaSlotMap+Option+T+S+L+G.retire.Goals as goal
 
 pub overflow_add-self : goal.overflow_add-self
 overflow_add-self g c =
-    let within = c.requires.within in
-    let same = ap (λ (s : SlotMapState g.row.T.Denot). length s.slots.values) c.self.view_is in
-    let index = c.new-place.ensures in
-    let room = retired_count-room c.self.inside.slots.values c.new-place.result c.in-Some.value (omega arith)
-    (sym c.in_ok-content.ensures.value ∙ ap Some (sym c.take.ensures.value ∙ c.in-Some.is)) in
-    let counted = c.self.invariant.counted in
+    let room = room_to_retire c.self.inside.slots c.self.inside.words c.self.inside.retired c.self.invariant c.args.index (subst (λ (s : SlotMapState g.row.T.Denot). IsSome (place_value s c.args.index)) (sym c.self.view_is) c.requires.held) in
     let capacity = c.capacity-capacity.ensures.value in
-    let fits = c.capacity-capacity.type_inv in omega arith
+    let same = ap (λ (s : SlotMapState g.row.T.Denot). length s.slots.values) c.self.view_is in
+    let fits = c.capacity-capacity.type_inv in omega (arith, room, capacity, same, fits)
+
+pub invariant_of-self : goal.invariant_of-self
+invariant_of-self g c = (retires c.self.inside.slots c.self.inside.words c.self.inside.retired c.self.invariant c.args.self.now c.self.view_is c.args.index c.new-place.result c.new-place.ensures _ _ c.requires.held c.requires.generation (ap (slot_set c.self.inside.slots c.new-place.result) c.take-content.ensures.after) c.raise.ensures.table).0
+
+pub returns-clause-map : goal.returns-clause-map
+returns-clause-map g c = (retires c.self.inside.slots c.self.inside.words c.self.inside.retired c.self.invariant c.args.self.now c.self.view_is c.args.index c.new-place.result c.new-place.ensures _ _ c.requires.held c.requires.generation (ap (slot_set c.self.inside.slots c.new-place.result) c.take-content.ensures.after) c.raise.ensures.table).1

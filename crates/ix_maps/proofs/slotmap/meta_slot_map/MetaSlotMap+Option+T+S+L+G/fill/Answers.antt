@@ -1,0 +1,18 @@
+use Rattle.std.proofs.Common.{sym, subst, arith}
+use Rattle.ix_maps.specs.SlotState.{IsFree}
+use Rattle.ix_maps.specs.Generations.{SlotMapState}
+use Rattle.ix_maps.proofs.Words.{word_within, fills}
+use Rattle.ix_maps.proofs.slotmap.meta_slot_map.MetaSlotMap+Option+T+S+L+G.fill.Goals as goal
+
+pub raise-requires-clause-fits : goal.raise-requires-clause-fits
+raise-requires-clause-fits g c =
+    let free = subst (λ (s : SlotMapState g.row.T.Denot). IsFree s.slots c.args.index) (sym c.self.view_is) c.requires in
+    let most = word_within c.self.inside.slots c.self.inside.words c.self.inside.retired c.self.invariant c.args.index free.0 in omega (arith, most)
+
+pub invariant_of-self : goal.invariant_of-self
+invariant_of-self g c =
+    (fills c.self.inside.slots c.self.inside.words c.self.inside.retired c.self.invariant c.args.self.now c.self.view_is c.args.index c.new-place.result c.new-place.ensures _ _ c.args.value c.requires c.insert_at_unchecked_counted.ensures.step c.raise.ensures.table).0
+
+pub returns-clause-map : goal.returns-clause-map
+returns-clause-map g c =
+    (fills c.self.inside.slots c.self.inside.words c.self.inside.retired c.self.invariant c.args.self.now c.self.view_is c.args.index c.new-place.result c.new-place.ensures _ _ c.args.value c.requires c.insert_at_unchecked_counted.ensures.step c.raise.ensures.table).1

@@ -1,0 +1,44 @@
+-- How a slot map keeps its generations: in the word of each place, which also says whether a value is there. No clause of a
+-- public call cites this.
+use Rattle.std.specs.Prelude.{◌≡◌, ℕ, ◌+◌, ◌*◌, ◌/◌, ◌<◌, ◌≤◌, List, length, map, unwrap_or, nat_eq, if◌then◌else◌, Option, Bool, is_some, count_by, slice_index_or}
+use Rattle.ix_cells.specs.Places.{IsHeldAt}
+use Rattle.ix_maps.specs.SlotState.{SlotState, value_at}
+use Rattle.ix_maps.specs.Generations.{greatest_generation}
+
+-- the numbers in the places of a table
+abbrev pub words_in : List (Option ℕ) → List ℕ
+words_in places = map (λ place. unwrap_or place 0) places
+
+-- every place holds a number
+abbrev pub HasEachPlace : List (Option ℕ) → Type 0
+HasEachPlace places = (place : ℕ) → place < length places → IsHeldAt places place
+
+abbrev pub word_at : List ℕ → ℕ → ℕ
+word_at words place = slice_index_or words place 0
+
+-- the word of a retired place: one more than that of a value with the greatest generation
+abbrev pub retired_word : ℕ
+retired_word = 8589934592
+
+-- the generation in a word
+abbrev pub word_generation : ℕ → ℕ
+word_generation word = if nat_eq word retired_word then greatest_generation else word / 2
+
+-- the generation in each word
+abbrev pub word_generations : List ℕ → List ℕ
+word_generations words = map word_generation words
+
+module _ {C : Type 0} (is_retired : Option C → Bool) where
+  -- twice the generation, and one more if a value is there
+  abbrev pub place_word : Option C → ℕ → ℕ
+  place_word content generation = if is_retired content then retired_word else 2 * generation + (if is_some content then 1 else 0)
+
+  -- a place with this content can have this word
+  abbrev pub IsWordOf : Option C → ℕ → Type 0
+  IsWordOf content word = (generation : ℕ) × ((generation ≤ greatest_generation) × (word ≡ place_word content generation))
+
+  -- each place has a word, and so many are retired
+  pub record HasWords (slots : SlotState C) (words : List ℕ) (retired : ℕ) : Type 0 where
+    pub lengths : length words ≡ length slots.values
+    pub each : (place : ℕ) → place < length slots.values → IsWordOf (value_at slots place) (word_at words place)
+    pub counted : retired ≡ count_by is_retired slots.values

@@ -1,0 +1,97 @@
+//! A table with a word in each of its places.
+ghost use Rattle.std.specs.Prelude.{◌≡◌, ℕ, ◌+◌, ◌<◌, ◌≤◌, length, replicate, Some, slice_set};
+ghost use Rattle.ix_cells.specs.Places.{place_at, IsVacant};
+ghost use Rattle.ix_maps.specs.inner.Words.{HasEachPlace, word_at};
+
+use ix_cells::{Counted, Table, Touches};
+use std::marker::Model;
+
+/// The word of each place of a slot map: twice its generation, and one more if a value is there. Contracts see the list of
+/// them.
+pub(crate) struct WordTable<G: Table<u64>> {
+    words: Counted<G>,
+}
+
+/// The word of a retired place.
+pub(crate) const RETIRED: u64 = 8_589_934_592;
+
+impl<G: Table<u64>> Model for WordTable<G> {
+    ghost use Rattle.std.specs.Prelude.{ℕ, List};
+    ghost use Rattle.std.specs.Coded.{coded_ℕ, coded_list};
+    ghost use Rattle.ix_maps.specs.inner.Words.{words_in, HasEachPlace};
+
+    ghost Value = { List ℕ };
+
+    ghost coded = { coded_list coded_ℕ };
+
+    ghost view = { λ table. words_in (G.places table.words) };
+
+    ghost invariant = { λ table. HasEachPlace (G.places table.words) };
+}
+
+impl<G: Table<u64>> WordTable<G> {
+    /// Puts `word` into each place of an empty table. O(the number of places).
+    pub(crate) fn new(table: G, word: u64) -> Self
+        requires { IsVacant (G.places table) }
+        ensures { result ≡ replicate (length (G.places table)) word }
+    {
+        let mut words = Counted::new(table);
+        fill(&mut words, word);
+        WordTable { words }
+    }
+
+    /// Returns the word of a place.
+    #[inline]
+    pub(crate) fn get(&self, place: usize, touches: &mut Touches) -> u64
+        requires { place < length self.now }
+        ensures value { result ≡ word_at self.now place }
+        ensures touches { touches.new ≡ touches.old + 1 }
+    {
+        *self.words.get(place, touches)
+    }
+
+    /// Adds `more` to the word of a place.
+    #[inline]
+    pub(crate) fn raise(&mut self, place: usize, more: u64, touches: &mut Touches)
+        requires within { place < length self.old }
+        requires fits { word_at self.old place + more ≤ 18446744073709551615 }
+        ensures table { self.new ≡ slice_set self.old place (word_at self.old place + more) }
+        ensures touches { touches.new ≡ touches.old + 2 }
+    {
+        let word = self.words.get_mut(place, touches);
+        *word += more;
+    }
+}
+
+/// O(the number of places).
+impl<G: Table<u64>> Drop for WordTable<G> {
+    fn drop(self) {
+        let WordTable { mut words } = self;
+        empty(&mut words);
+        words.end();
+    }
+}
+
+/// Puts `word` into each place.
+fn fill<G: Table<u64>>(words: &mut Counted<G>, word: u64)
+    requires { IsVacant (G.places words.old) }
+    ensures len { length (G.places words.new) ≡ length (G.places words.old) }
+    ensures each { (place : ℕ) → place < length (G.places words.old)
+        → place_at (G.places words.new) place ≡ Some word }
+{
+    let mut touches = Touches::new();
+    for place in 0..words.len() {
+        words.put(place, word, &mut touches);
+    }
+}
+
+/// Takes the word out of each place.
+fn empty<G: Table<u64>>(words: &mut Counted<G>)
+    requires { HasEachPlace (G.places words.old) }
+    ensures { IsVacant (G.places words.new) }
+{
+    let mut touches = Touches::new();
+    for place in 0..words.len() {
+        words.take(place, &mut touches);
+    }
+}
