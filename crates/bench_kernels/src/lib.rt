@@ -12,6 +12,7 @@ mod slot_tables;
 mod strings;
 mod vectors;
 
+use flat_maps::Layout;
 use std::alloc::Global;
 
 /// Push and pop on a fixed queue of 64 that holds 20.
@@ -107,13 +108,49 @@ pub extern "C" fn ix_bench_slot_map_iter(alloc: Global, rounds: u64, param: u64)
 /// Looks up a key of a full allocated flat map of `param`.
 #[unsafe(no_mangle)]
 pub extern "C" fn ix_bench_flat_get(alloc: Global, rounds: u64, param: u64) -> u64 {
-    flat_maps::hits(alloc, rounds, param)
+    flat_maps::hits(alloc, rounds, param, Layout::Full)
 }
 
 /// Looks up a key that a full allocated flat map of `param` does not have.
 #[unsafe(no_mangle)]
 pub extern "C" fn ix_bench_flat_miss(alloc: Global, rounds: u64, param: u64) -> u64 {
-    flat_maps::misses(alloc, rounds, param)
+    flat_maps::misses(alloc, rounds, param, Layout::Full)
+}
+
+/// Looks up a key of the first half of an allocated flat map of twice `param`.
+#[unsafe(no_mangle)]
+pub extern "C" fn ix_bench_flat_get__front(alloc: Global, rounds: u64, param: u64) -> u64 {
+    flat_maps::hits(alloc, rounds, param, Layout::Front)
+}
+
+/// Looks up a key that is not there, in the first half of an allocated flat map of twice `param`.
+#[unsafe(no_mangle)]
+pub extern "C" fn ix_bench_flat_miss__front(alloc: Global, rounds: u64, param: u64) -> u64 {
+    flat_maps::misses(alloc, rounds, param, Layout::Front)
+}
+
+/// Looks up a key of an allocated flat map of `param` and one, whose first place is free.
+#[unsafe(no_mangle)]
+pub extern "C" fn ix_bench_flat_get__hole(alloc: Global, rounds: u64, param: u64) -> u64 {
+    flat_maps::hits(alloc, rounds, param, Layout::Hole)
+}
+
+/// Looks up a key that is not there, in an allocated flat map of `param` and one, whose first place is free.
+#[unsafe(no_mangle)]
+pub extern "C" fn ix_bench_flat_miss__hole(alloc: Global, rounds: u64, param: u64) -> u64 {
+    flat_maps::misses(alloc, rounds, param, Layout::Hole)
+}
+
+/// Looks up a key of an allocated flat map of twice `param`, of which every second place is free.
+#[unsafe(no_mangle)]
+pub extern "C" fn ix_bench_flat_get__half(alloc: Global, rounds: u64, param: u64) -> u64 {
+    flat_maps::hits(alloc, rounds, param, Layout::Half)
+}
+
+/// Looks up a key that is not there, in an allocated flat map of twice `param`, of which every second place is free.
+#[unsafe(no_mangle)]
+pub extern "C" fn ix_bench_flat_miss__half(alloc: Global, rounds: u64, param: u64) -> u64 {
+    flat_maps::misses(alloc, rounds, param, Layout::Half)
 }
 
 /// Two pushes and a pop on a fixed vector of 64.

@@ -1,4 +1,4 @@
-//! How often small keys are compared: in a full map eight at a time, and otherwise up to the equal one.
+//! How often small keys are compared: eight at a time if they are in the first places, and otherwise up to the equal one.
 ghost use Rattle.std.proofs.Common.{rules};
 ghost use Rattle.std.specs.Cmp.Rules.{comparing};
 ghost use Rattle.std.specs.Ordering.{on};
@@ -39,38 +39,67 @@ impl Eq for SmallKey<'_> {
     ghost laws = { Prim.search (comparing, rules) };
 }
 
-/// A number that is looked up in a map of the numbers 0 to 8, and how many comparisons that takes if 9 is the capacity, and
-/// if it is 10.
-const ROWS: &[(u64, u64, u64)] = &[(0, 8, 1), (3, 8, 4), (7, 8, 8), (8, 9, 9), (9, 9, 9)];
+/// Numbers that are removed from a map of the numbers 0 to 8, a number that is looked up then, and how many comparisons that
+/// takes.
+const ROWS: &[(&[usize], usize, u64)] = &[
+    // The keys are in the first nine places.
+    (&[], 0, 8),
+    (&[], 3, 8),
+    (&[], 7, 8),
+    (&[], 8, 9),
+    (&[], 9, 9),
+    // A place before the last key is free.
+    (&[2], 0, 1),
+    (&[2], 3, 3),
+    (&[2], 8, 8),
+    (&[2], 2, 8),
+    (&[0, 1, 2, 3, 4, 5, 6, 7], 8, 1),
+    // The last keys are removed, the last one first.
+    (&[8], 7, 8),
+    (&[8], 8, 8),
+    (&[8, 7], 6, 7),
+    (&[8, 7, 6, 5, 4, 3, 2, 1, 0], 0, 0),
+];
 
-/// Looks up each number of the rows in a map of the first nine numbers.
-fn check_map<const CAPACITY: usize>(
+/// Returns a map of the first nine numbers but for those that are `removed`.
+fn map_without<'a, const CAPACITY: usize>(
+    numbers: &'a [Number<'a>; 10],
+    removed: &[usize],
+) -> FixedSizeFlatMap<SmallKey<'a>, u64, CAPACITY>
+    requires { CAPACITY ≤ 32 }
+{
+    let mut map = FixedSizeFlatMap::new();
+    for number in numbers[..9].iter() {
+        let _ = map.insert(SmallKey { number }, number.value);
+    }
+    for index in removed {
+        if let Some(number) = numbers.get(*index) {
+            let _ = map.remove(&SmallKey { number });
+        }
+    }
+    map
+}
+
+/// Looks up a number in each row's map.
+fn check_rows<const CAPACITY: usize>(
     findings: &Findings,
     numbers: &[Number<'_>; 10],
     comparisons: &Cell<u64>,
 )
-    requires { CAPACITY ≤ 16 }
+    requires { CAPACITY ≤ 32 }
 {
-    let mut map = FixedSizeFlatMap::<SmallKey<'_>, u64, CAPACITY>::new();
-    for number in numbers[..9].iter() {
-        let _ = map.insert(SmallKey { number }, number.value);
-    }
-    for (number, of_a_full_map, of_another) in ROWS {
-        let Some(number) = numbers.get(*number as usize) else {
+    for row in 0..ROWS.len() {
+        let (removed, index, expected) = ROWS[row];
+        let map = map_without::<CAPACITY>(numbers, removed);
+        let Some(number) = numbers.get(index) else {
             return findings.miss("the number");
         };
         comparisons.set(0);
         let found = map.get_ref(&SmallKey { number }).copied();
-        let is_held = number.value < 9;
-        let wanted = if is_held { Some(number.value) } else { None };
-        findings.expect_same(found, wanted, "the value");
-        let expected = if map.is_full() {
-            *of_a_full_map
-        } else {
-            *of_another
-        };
-        let row = number.value as usize;
         findings.expect_same_at(comparisons.get(), expected, row, "comparisons");
+        let is_held = index < 9 && !removed.contains(&index);
+        let wanted = if is_held { Some(number.value) } else { None };
+        findings.expect_same_at(found, wanted, row, "the value");
     }
 }
 
@@ -83,7 +112,8 @@ fn eight_at_a_time() -> Result<(), Fail> {
         value,
         comparisons: &comparisons,
     });
-    check_map::<9>(&findings, &numbers, &comparisons);
-    check_map::<10>(&findings, &numbers, &comparisons);
+    check_rows::<9>(&findings, &numbers, &comparisons);
+    check_rows::<10>(&findings, &numbers, &comparisons);
+    check_rows::<32>(&findings, &numbers, &comparisons);
     findings.verdict()
 }

@@ -131,6 +131,43 @@ fn counted_calls() -> Result<(), Fail> {
     findings.verdict()
 }
 
+/// Makes each call that has a condition, at the first free key.
+fn make_unchecked_calls<S: Table<u64>, L: Table<Link>>(
+    findings: &Findings,
+    map: &mut MetaSlotTable<u64, S, L>,
+) {
+    let Some(key) = map.next_free_key() else {
+        return findings.miss("a free key");
+    };
+    map.insert_at_unchecked(key, 5);
+    *map.get_unchecked_mut(key) = 6;
+    findings.expect_same(*map.get_unchecked(key), 6, "the value");
+    findings.expect_same(map.remove_unchecked(key), 6, "the value that is removed");
+    findings.expect_same(map.next_free_key(), Some(key), "the first free key");
+    let mut touches = Touches::new();
+    map.insert_at_unchecked_counted(key, 7, &mut touches);
+    *map.get_unchecked_mut_counted(key, &mut touches) = 8;
+    findings.expect_same(map.get(key), Some(&8), "the value");
+    let removed = map.remove_unchecked_counted(key, &mut touches);
+    findings.expect_same(removed, 8, "the value that is removed");
+    findings.expect_same(map.next_free_key(), Some(key), "the first free key");
+}
+
+#[test]
+fn unchecked_calls(rt: HostRuntime) -> Result<(), Fail> {
+    let findings = Findings::new();
+    let mut fixed = FixedSizeSlotTable::<u64, 3>::new();
+    make_unchecked_calls(&findings, &mut fixed);
+    insert_two(&mut fixed);
+    make_unchecked_calls(&findings, &mut fixed);
+    check_text(&findings, &fixed, "{0: 5, 2: 7}");
+    match SlotTable::<u64>::new(rt.alloc(), 1) {
+        Ok(mut map) => make_unchecked_calls(&findings, &mut map),
+        Err(AllocError) => findings.miss("there is memory"),
+    }
+    findings.verdict()
+}
+
 /// Returns each key and its value, both less than 10, as two digits.
 fn digits_of<S: Table<u64>, L: Table<Link>>(map: &MetaSlotTable<u64, S, L>) -> u64 {
     let mut digits = 0u64;

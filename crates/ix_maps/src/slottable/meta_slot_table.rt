@@ -379,9 +379,8 @@ impl<T, S: Table<T>, L: Table<Link>> MetaSlotTable<T, S, L> {
         ensures touches { touches.new ≤ touches.old + 9 }
         ensures rises { touches.old ≤ touches.new }
     {
-        let key = key.value();
-        let link = self.link_of(key, touches);
-        self.fill(key, link, value, touches);
+        let link = self.link_of(key.value(), touches);
+        self.fill(key.value(), link, value, touches);
     }
 
     /// Does what [`MetaSlotTable::remove`] does, and raises `touches` by at most 16, whatever the capacity.
