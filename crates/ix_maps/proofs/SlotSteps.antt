@@ -31,7 +31,7 @@ first_after_remove-append (other ∷ front) back key first none is =
 -- no key is before the first one, so that of the other links only that of the next key changes
 links_remove-first : (links : List (Option Link)) (key next : ℕ) → length links ≤ no_key → links_remove links key (free_link no_key next) ≡ links_remove_first links key next
 links_remove-first links key next fits =
-    ap (λ ls. links_set_previous ls next no_key) (set_past (set links key (Some held_link)) no_key _ (let same = length-set links key (Some held_link) in omega arith))
+    ap (λ ls. links_set_previous ls next no_key) (set_past (set links key (Some (held_link key))) no_key _ (let same = length-set links key (Some (held_link key)) in omega arith))
 
 module _ {T : Type 0} where
   abbrev one_if_held : Option T → ℕ
@@ -66,13 +66,13 @@ module _ {T : Type 0} where
         let one = key_count_le_one s links first len r in
         let none = key_count-no_key s links first len r in
         let none_counts = at.counts no_key in
-        let held = set links key (Some held_link) in
+        let held = set links key (Some (held_link key)) in
         let led = links_set_next held before after in
         let all = links_set_previous led after before in
         let front_once : (other : ℕ) → key_count other at.front ≤ 1 = λ other. (let most = one other in let counts = at.counts other in omega arith) in
         let back_once : (other : ℕ) → key_count other at.back ≤ 1 = λ other. (let most = one other in let counts = at.counts other in omega arith) in
-        let front_held = IsChain-set_other links key (Some held_link) no_key at.front key (λ other occurs e. (let none_here = at.not_in_front in let moved = ap (λ k. key_count k at.front) e in omega arith)) at.to_key in
-        let back_held = IsChain-set_other links key (Some held_link) key at.back no_key (λ other occurs e. (let none_here = at.not_in_back in let moved = ap (λ k. key_count k at.back) e in omega arith)) at.from_key in
+        let front_held = IsChain-set_other links key (Some (held_link key)) no_key at.front key (λ other occurs e. (let none_here = at.not_in_front in let moved = ap (λ k. key_count k at.front) e in omega arith)) at.to_key in
+        let back_held = IsChain-set_other links key (Some (held_link key)) key at.back no_key (λ other occurs e. (let none_here = at.not_in_back in let moved = ap (λ k. key_count k at.back) e in omega arith)) at.from_key in
         let not_before : (other : ℕ) → key_count other at.front ≡ 0 → other ≢ no_key → other ≢ before = λ other clear apart. apart_from_last_or other no_key at.front clear apart in
         let not_after : (other : ℕ) → key_count other at.back ≡ 0 → other ≢ no_key → other ≢ after = λ other clear apart. apart_from_first_or other no_key at.back clear apart in
         let front_led = IsChain-links_set_next held no_key at.front key after front_once front_held in
@@ -93,9 +93,9 @@ module _ {T : Type 0} where
               get_or-set_other led after other _ None (not_after other (omega arith) in_range)
               ∙ get_or-set_other held before other _ None (not_before other (omega arith) in_range)
               ∙ elim (cases_eq other key) [
-                | inl here ↦ ap (place_at held) here ∙ get_or-set_same links key (Some held_link) None (omega arith)
+                | inl here ↦ ap (place_at held) here ∙ get_or-set_same links key (Some (held_link key)) None (omega arith) ∙ ap (λ k. Some (held_link k)) (sym here)
                 | inr there ↦ let miss = hit_other other key there in let counts = at.counts other in
-                    get_or-set_other links key other (Some held_link) None there ∙ r.others other (omega arith) (omega arith)
+                    get_or-set_other links key other (Some (held_link key)) None there ∙ r.others other (omega arith) (omega arith)
               ];
           formed = record {
             listed_is_free = λ other occurs.

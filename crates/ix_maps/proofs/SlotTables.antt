@@ -1,5 +1,5 @@
 -- What is known of two tables that represent a slot state.
-use Rattle.std.proofs.Common.{◌≡◌, ℕ, zero, suc, ◌+◌, ◌<◌, ◌≤◌, inl, inr, ◌⊎◌, List, [], ◌∷◌, ◌++◌, length, true, false, Option, Some, None, IsSome, refl, sym, ap, ap₂, ◌∙◌, subst, arith}
+use Rattle.std.proofs.Common.{◌≡◌, ◌≢◌, ℕ, zero, suc, ◌+◌, ◌<◌, ◌≤◌, inl, inr, ◌⊎◌, List, [], ◌∷◌, ◌++◌, length, Option, Some, None, IsSome, refl, sym, ap, ap₂, ◌∙◌, subst, arith}
 use Rattle.std.proofs.lemmas.Bool.{cases_eq}
 use Rattle.std.proofs.lemmas.List.{length-append}
 use Rattle.ix_cells.specs.Places.{place_at, IsEmptyAt, IsHeldAt, IsVacant}
@@ -153,19 +153,28 @@ module _ {T : Type 0} where
           IsKeyOrNone-first_or at.back (λ other occurs. let counts = at.counts other in omega arith),
         )
 
+    -- a free key is not before itself
+    pub not_before_itself : (key : ℕ) (some : 0 < key_count key s.free) → last_or no_key (place_of key some).front ≢ key
+    not_before_itself key some same =
+        let at = place_of key some in
+        let within = free_within key some in
+        let lengths = r.lengths in
+        let fits = r.below in
+        apart_from_last_or key no_key at.front at.not_in_front (λ e. omega arith) (sym same)
+
     pub MatchesLinks-links : MatchesLinks s.values links
     MatchesLinks-links = record {
       lengths = r.lengths;
       each = λ key below. elim (cases_eq (key_count key s.free) 0) [
-        | inl none ↦ subst (MatchesLink (value_at s key)) (sym (r.others key below none)) (
-          λ is_free. absurd (let no : false ≡ true = is_free in cc),
+        | inl none ↦ subst (MatchesLink (value_at s key) key) (sym (r.others key below none)) (
+          λ apart. absurd (apart refl),
           λ held. rest_is_held key (let lengths = r.lengths in omega arith) none,
         )
         | inr some ↦
-            let at = place_at-chain links no_key s.free no_key key (omega arith) r.chain in
-            subst (MatchesLink (value_at s key)) (sym at.2) (
-              λ is_free. (r.formed.listed_is_free key (omega arith)).1,
-              λ held. absurd (let no : true ≡ false = held in cc),
+            let occurs : 0 < key_count key s.free = omega arith in
+            subst (MatchesLink (value_at s key) key) (sym (place_of key occurs).at_key) (
+              λ apart. (r.formed.listed_is_free key occurs).1,
+              λ same. absurd (not_before_itself key occurs same),
             )
       ];
     }
@@ -197,27 +206,28 @@ module _ {T : Type 0} where
       let parts = chain_parts links no_key before key after no_key (subst (λ keys. IsChain links no_key keys no_key) is chain) in
       let same : Some link ≡ Some (free_link (last_or no_key before) (first_or after no_key)) = sym at ∙ parts.at_key in cc
 
-  pub free_by_link : (s : SlotState T) (values : List (Option T)) (links : List (Option Link)) (first len key : ℕ) (link : Link) → Shows s values links first len → place_at links key ≡ Some link → link.is_free ≡ true → IsFree s key
-  free_by_link s values links first len key link shown at is_free =
+  pub free_by_link : (s : SlotState T) (values : List (Option T)) (links : List (Option Link)) (first len key : ℕ) (link : Link) → Shows s values links first len → place_at links key ≡ Some link → link.previous ≢ key → IsFree s key
+  free_by_link s values links first len key link shown at apart =
       let r = (represents_of s values links first len shown).0 in
       elim (cases_eq (key_count key s.free) 0) [
         | inl none ↦
-            let same : Some link ≡ Some held_link = sym at ∙ r.others key (place_at_within links key link at) none in
-            let is : link ≡ held_link = cc in
-            let no : true ≡ false = sym is_free ∙ ap (λ (l : Link). l.is_free) is in absurd (cc)
+            let same : Some link ≡ Some (held_link key) = sym at ∙ r.others key (place_at_within links key link at) none in
+            let is : link ≡ held_link key = cc in
+            absurd (apart (ap (λ (l : Link). l.previous) is))
         | inr some ↦ r.formed.listed_is_free key (omega arith)
       ]
 
-  pub held_by_link : (s : SlotState T) (values : List (Option T)) (links : List (Option Link)) (first len key : ℕ) (link : Link) → Shows s values links first len → key < length s.values → place_at links key ≡ Some link → link.is_free ≡ false → IsHeld s key
+  pub held_by_link : (s : SlotState T) (values : List (Option T)) (links : List (Option Link)) (first len key : ℕ) (link : Link) → Shows s values links first len → key < length s.values → place_at links key ≡ Some link → link.previous ≡ key → IsHeld s key
   held_by_link s values links first len key link shown below at held =
       let r = (represents_of s values links first len shown).0 in
       elim (cases_eq (key_count key s.free) 0) [
         | inl none ↦ rest_is_held s links first len r key below none
         | inr some ↦
-            let free = place_at-chain links no_key s.free no_key key (omega arith) r.chain in
-            let same : Some link ≡ Some (free_link free.0 free.1) = sym at ∙ free.2 in
-            let is : link ≡ free_link free.0 free.1 = cc in
-            let no : true ≡ false = sym (ap (λ (l : Link). l.is_free) is) ∙ held in absurd (cc)
+            let occurs : 0 < key_count key s.free = omega arith in
+            let placed = place_of s links first len r key occurs in
+            let same : Some link ≡ Some (free_link (last_or no_key placed.front) (first_or placed.back no_key)) = sym at ∙ placed.at_key in
+            let is : link ≡ free_link (last_or no_key placed.front) (first_or placed.back no_key) = cc in
+            absurd (not_before_itself s links first len r key occurs (sym (ap (λ (l : Link). l.previous) is) ∙ held))
       ]
 
   -- the same facts, of the state that contracts see

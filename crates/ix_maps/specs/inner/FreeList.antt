@@ -1,5 +1,5 @@
 -- How a slot table keeps its free keys: a doubly linked list in a table of links. No clause of a public call cites this.
-use Rattle.std.specs.Prelude.{◌≡◌, ℕ, zero, suc, ◌+◌, ◌-◌, ◌<◌, ◌≤◌, List, [], ◌∷◌, ◌++◌, length, nat_eq, count_by, if◌then◌else◌, Option, Some, None, IsSome, true, false, option_map, unwrap_or, ◌⊎◌, slice_set}
+use Rattle.std.specs.Prelude.{◌≡◌, ◌≢◌, ℕ, zero, suc, ◌+◌, ◌-◌, ◌<◌, ◌≤◌, List, [], ◌∷◌, ◌++◌, length, nat_eq, count_by, if◌then◌else◌, Option, Some, None, IsSome, option_map, unwrap_or, ◌⊎◌, slice_set}
 use Rattle.ix_cells.specs.Places.{place_at, IsHeldAt}
 use Rattle.ix_maps.specs.declared.slottable.link.Link.{Link}
 use Rattle.ix_maps.specs.SlotState.{SlotState, held_count, IsWellFormed}
@@ -8,13 +8,13 @@ use Rattle.ix_maps.specs.SlotState.{SlotState, held_count, IsWellFormed}
 abbrev pub no_key : ℕ
 no_key = 18446744073709551615
 
--- the link of a held key
-abbrev pub held_link : Link
-held_link = record { is_free = false; previous = no_key; next = no_key }
+-- the link of a held key names the key itself, which is before no free key
+abbrev pub held_link : ℕ → Link
+held_link key = record { previous = key; next = no_key }
 
 -- the link of a free key between these two
 abbrev pub free_link : ℕ → ℕ → Link
-free_link previous next = record { is_free = true; previous = previous; next = next }
+free_link previous next = record { previous = previous; next = next }
 
 -- the first of some keys, or another key if there are none
 abbrev pub first_or : List ℕ → ℕ → ℕ
@@ -49,11 +49,11 @@ links_set_previous links key to = slice_set links key (option_map (λ (link : Li
 -- a key that had this link is removed from the list
 abbrev pub links_remove : List (Option Link) → ℕ → Link → List (Option Link)
 links_remove links key link =
-    links_set_previous (links_set_next (slice_set links key (Some held_link)) link.previous link.next) link.next link.previous
+    links_set_previous (links_set_next (slice_set links key (Some (held_link key))) link.previous link.next) link.next link.previous
 
 -- the first key, followed by `next`, is removed from the list
 abbrev pub links_remove_first : List (Option Link) → ℕ → ℕ → List (Option Link)
-links_remove_first links key next = links_set_previous (slice_set links key (Some held_link)) next no_key
+links_remove_first links key next = links_set_previous (slice_set links key (Some (held_link key))) next no_key
 
 -- a key is inserted before `first`, the first of the list
 abbrev pub links_insert_first : List (Option Link) → ℕ → ℕ → List (Option Link)
@@ -93,14 +93,14 @@ module _ {T : Type 0} where
       (before after : List ℕ) → s.free ≡ before ++ key ∷ after → link ≡ free_link (last_or no_key before) (first_or after no_key)
 
   -- a free key has no value, and a held key has one
-  abbrev pub MatchesLink : Option T → Option Link → Type 0
-  MatchesLink value None = ⊥
-  MatchesLink value (Some link) = (link.is_free ≡ true → value ≡ None) × (link.is_free ≡ false → IsSome value)
+  abbrev pub MatchesLink : Option T → ℕ → Option Link → Type 0
+  MatchesLink value key None = ⊥
+  MatchesLink value key (Some link) = (link.previous ≢ key → value ≡ None) × (link.previous ≡ key → IsSome value)
 
   -- the links say which places hold a value
   pub record MatchesLinks (values : List (Option T)) (links : List (Option Link)) : Type 0 where
     pub lengths : length links ≡ length values
-    pub each : (key : ℕ) → key < length links → MatchesLink (place_at values key) (place_at links key)
+    pub each : (key : ℕ) → key < length links → MatchesLink (place_at values key) key (place_at links key)
 
   -- the links are the free list in its order, and every other key has the link of a held one
   pub record Represents (s : SlotState T) (links : List (Option Link)) (first len : ℕ) : Type 0 where
@@ -108,7 +108,7 @@ module _ {T : Type 0} where
     pub below : length s.values ≤ no_key
     pub chain : IsChain links no_key s.free no_key
     pub head : first ≡ first_or s.free no_key
-    pub others : (key : ℕ) → key < length links → count_by (nat_eq key) s.free ≡ 0 → place_at links key ≡ Some held_link
+    pub others : (key : ℕ) → key < length links → count_by (nat_eq key) s.free ≡ 0 → place_at links key ≡ Some (held_link key)
     pub formed : IsWellFormed s
     pub held : len ≡ held_count s
     pub counted : len + length s.free ≡ length s.values

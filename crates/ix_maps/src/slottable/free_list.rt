@@ -15,11 +15,7 @@ fn set_link<L: Table<Link>>(links: &mut Counted<L>, key: usize, link: Link, touc
     ensures links { L.places links.new ≡ slice_set (L.places links.old) key (Some link) }
     ensures touches { touches.new ≡ touches.old + 2 }
 {
-    // Field by field, so that the bytes between the fields are not written.
-    let place = links.get_mut(key, touches);
-    place.is_free = link.is_free;
-    place.previous = link.previous;
-    place.next = link.next;
+    *links.get_mut(key, touches) = link;
 }
 
 /// Makes `to` the key after `key`. Does nothing if `key` is [`NO_KEY`].
@@ -70,7 +66,7 @@ pub(crate) fn remove<L: Table<Link>>(
     ensures touches { touches.new ≤ touches.old + 6 }
     ensures rises { touches.old ≤ touches.new }
 {
-    set_link(links, key, Link::HELD, touches);
+    set_link(links, key, Link::held(key), touches);
     set_next(links, link.previous, link.next, touches);
     set_previous(links, link.next, link.previous, touches);
 }
@@ -90,7 +86,7 @@ pub(crate) fn remove_first<L: Table<Link>>(
     ensures touches { touches.new ≤ touches.old + 4 }
     ensures rises { touches.old ≤ touches.new }
 {
-    set_link(links, key, Link::HELD, touches);
+    set_link(links, key, Link::held(key), touches);
     set_previous(links, next, NO_KEY, touches);
 }
 
@@ -110,7 +106,6 @@ pub(crate) fn insert_first<L: Table<Link>>(
     ensures rises { touches.old ≤ touches.new }
 {
     let link = Link {
-        is_free: true,
         previous: NO_KEY,
         next: first,
     };
@@ -139,7 +134,6 @@ pub(crate) fn link_all<L: Table<Link>>(links: &mut Counted<L>, len: usize) -> us
     let mut touches = Touches::new();
     for key in 0..len {
         let link = Link {
-            is_free: true,
             previous: if key == 0 { NO_KEY } else { key - 1 },
             next: if key + 1 == len { NO_KEY } else { key + 1 },
         };

@@ -1,4 +1,6 @@
 //! Links of the list of free keys.
+ghost use Rattle.std.specs.Prelude.{◌≡◌, ◌≢◌, true, false};
+ghost use Rattle.ix_maps.specs.inner.FreeList.{held_link};
 
 /// A key's neighbours in the list of free keys of its map.
 ///
@@ -6,8 +8,7 @@
 /// [`MetaSlotTable::from_tables`](crate::MetaSlotTable::from_tables).
 #[derive(Clone, Copy, Debug)]
 pub struct Link {
-    pub(crate) is_free: bool,
-    /// The free key before this one, or [`NO_KEY`].
+    /// The free key before this one, or [`NO_KEY`]. A held key names itself here.
     pub(crate) previous: usize,
     /// The free key after this one, or [`NO_KEY`].
     pub(crate) next: usize,
@@ -17,10 +18,23 @@ pub struct Link {
 pub(crate) const NO_KEY: usize = usize::MAX;
 
 impl Link {
-    /// The link of a held key.
-    pub(crate) const HELD: Link = Link {
-        is_free: false,
-        previous: NO_KEY,
-        next: NO_KEY,
-    };
+    /// Returns the link of `key` while it is held.
+    #[inline]
+    pub(crate) fn held(key: usize) -> Link
+        ensures { result ≡ held_link key }
+    {
+        Link {
+            previous: key,
+            next: NO_KEY,
+        }
+    }
+
+    /// Returns `true` if this, the link of `key`, is that of a free key.
+    #[inline]
+    pub(crate) fn is_free(&self, key: usize) -> bool
+        ensures free { result ≡ true → self.now.previous ≢ key }
+        ensures held { result ≡ false → self.now.previous ≡ key }
+    {
+        self.previous != key
+    }
 }

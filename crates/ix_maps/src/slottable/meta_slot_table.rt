@@ -358,7 +358,7 @@ impl<T, S: Table<T>, L: Table<Link>> MetaSlotTable<T, S, L> {
             return false;
         }
         let link = self.link_of(key, touches);
-        if link.is_free {
+        if link.is_free(key) {
             self.fill(key, link, value, touches);
         } else {
             self.replace(key, value, touches);
@@ -424,7 +424,7 @@ fn drop_all<T: Drop, S: Table<T>, L: Table<Link>>(values: &mut Counted<S>, links
     let mut touches = Touches::new();
     for key in 0..links.len() {
         let link = links.take(key, &mut touches);
-        if !link.is_free {
+        if !link.is_free(key) {
             drop(values.take(key, &mut touches));
         }
     }

@@ -14,8 +14,8 @@ impl<T, S: Table<T>, L: Table<Link>> MetaSlotTable<T, S, L> {
     pub(crate) fn link_of(&self, key: usize, touches: &mut Touches) -> Link
         requires { IsKey self.now key }
         ensures link { IsLinkOf result self.now key }
-        ensures free { result.is_free ≡ true → IsFree self.now key }
-        ensures held { result.is_free ≡ false → IsHeld self.now key }
+        ensures free { result.previous ≢ key → IsFree self.now key }
+        ensures held { result.previous ≡ key → IsHeld self.now key }
         ensures touches { touches.new ≡ touches.old + 1 }
     {
         *self.links.get(key, touches)
@@ -29,7 +29,7 @@ impl<T, S: Table<T>, L: Table<Link>> MetaSlotTable<T, S, L> {
         ensures held { result ≡ false → IsHeld self.now key }
         ensures touches { touches.new ≡ touches.old + 1 }
     {
-        self.links.get(key, touches).is_free
+        self.links.get(key, touches).is_free(key)
     }
 
     /// Returns the least held key that is `start` or greater; there is one.

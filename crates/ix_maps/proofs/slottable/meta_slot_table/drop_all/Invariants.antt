@@ -10,5 +10,5 @@ invariant-loop-key g l = record {
   links : length (g.L.Table.places l.links) ≡ l.key-end;
   no_value : (key : ℕ) → key < l.key → place_at (g.S.Table.places l.values) key ≡ None;
   no_link : (key : ℕ) → key < l.key → place_at (g.L.Table.places l.links) key ≡ None;
-  matches : (key : ℕ) → l.key ≤ key → key < l.key-end → MatchesLink (place_at (g.S.Table.places l.values) key) (place_at (g.L.Table.places l.links) key);
+  matches : (key : ℕ) → l.key ≤ key → key < l.key-end → MatchesLink (place_at (g.S.Table.places l.values) key) key (place_at (g.L.Table.places l.links) key);
 }

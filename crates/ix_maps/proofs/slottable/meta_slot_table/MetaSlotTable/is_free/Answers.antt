@@ -6,8 +6,8 @@ get-requires g c = link_held _ _ _ _ _ c.args.key (record { sound = c.self.invar
 
 pub returns-clause-free : goal.returns-clause-free
 returns-clause-free g c is_free =
-    free_by_link _ _ _ _ _ c.args.key _ (record { sound = c.self.invariant; is = c.self.view_is }) c.get.ensures.value is_free
+    free_by_link _ _ _ _ _ c.args.key _ (record { sound = c.self.invariant; is = c.self.view_is }) c.get.ensures.value (c.is_free.ensures.free is_free)
 
 pub returns-clause-held : goal.returns-clause-held
 returns-clause-held g c held =
-    held_by_link _ _ _ _ _ c.args.key _ (record { sound = c.self.invariant; is = c.self.view_is }) c.requires c.get.ensures.value held
+    held_by_link _ _ _ _ _ c.args.key _ (record { sound = c.self.invariant; is = c.self.view_is }) c.requires c.get.ensures.value (c.is_free.ensures.held held)
