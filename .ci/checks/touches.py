@@ -14,20 +14,21 @@ FILES = [path for path in paths("ix_maps", "src/slot*/*.rt") if not path.endswit
 # By file, the functions that go through places, as their documentation says: those that make, end, walk or print a container.
 WALKS = {
     "free_list": ("link_all",),
-    "generation_table": ("new", "drop", "fill", "empty"),
     "iter": ("next", "fmt"),
-    "meta_slot_table": ("from_tables", "held_from", "drop_all", "drop", "fmt"),
-    "meta_slot_map": ("fmt",),
+    "meta_slot_table": ("from_tables", "drop_all", "drop", "fmt"),
+    "steps": ("held_from",),
+    "meta_slot_map": ("held_from", "fmt"),
+    "word_table": ("new", "drop", "fill", "empty"),
 }
 # Calls of a single step: those of counted tables, of new values, and of std.
 CALLS = {".put", ".take", ".get", ".get_mut", ".len", ".as_ref", ".is_some", "Touches::new", "SlotTableKey::new", "SlotMapKey::new",
-         "Iter::new", "Some"}
+         "Link::held", "Iter::new", "Some"}
 FUNCTION = re.compile(r"( *)(?:pub(?:\(crate\))? )?fn (\w+)")
 LOOP = re.compile(r"\b(?:for|while|loop)\b")
 CALL = re.compile(r"(\.|(?:\w+::)*)\b(\w+!?)(?:::<[^>]*>)?\s*\(")
 KEYWORDS = {"if", "match", "in", "return", "unreachable!"}
 SCANS = (
-    "for place in 0..self.capacity() { let _ = self.key_at(SlotTableKey::new(place)); }",
+    "for place in 0..self.capacity() { let _ = self.key_of(place, &mut Touches::new()); }",
     "let mut place = 0; while self.is_free(place, &mut Touches::new()) { place += 1; }",
     "let _ = self.iter().count();",
     "let _ = (0..self.capacity()).all(|place| self.contains(SlotTableKey::new(place)));",
