@@ -73,16 +73,16 @@ fn read_made<A: Allocator + Copy, F: Fn() -> usize>(
     }
 }
 
-/// The capacity of a map, and the number of blocks of 16 bytes that it takes: 16 bytes for each pair and 24 for each link,
+/// The capacity of a map, and the number of blocks of 16 bytes that it takes: 16 bytes for each pair and 16 for each link,
 /// and one for the mark of either. An allocation takes whole blocks, so a fifth one would take one more.
 const SIZES: &[(usize, u16)] = &[
     (0, 0),
-    (1, 1 + 1 + 2 + 1),
-    (3, 3 + 1 + 5 + 1),
-    (8, 8 + 1 + 12 + 1),
-    (16, 16 + 1 + 24 + 1),
-    (33, 33 + 3 + 50 + 3),
-    (200, 200 + 13 + 300 + 13),
+    (1, 1 + 1 + 1 + 1),
+    (3, 3 + 1 + 3 + 1),
+    (8, 8 + 1 + 8 + 1),
+    (16, 16 + 1 + 16 + 1),
+    (33, 33 + 3 + 33 + 3),
+    (200, 200 + 13 + 200 + 13),
 ];
 
 #[test]

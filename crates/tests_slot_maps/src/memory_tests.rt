@@ -56,15 +56,15 @@ fn used_in_two_steps(
     }
 }
 
-/// The capacity of a map, and the number of blocks of 16 bytes that it takes: 16 bytes for each value, 24 for each link and 4
+/// The capacity of a map, and the number of blocks of 16 bytes that it takes: 16 bytes for each value, 16 for each link and 8
 /// for each generation, and one for the mark of each of the three.
 const SIZES: &[(usize, u16)] = &[
     (0, 0),
-    (1, 1 + 1 + 2 + 1 + 1 + 1),
-    (3, 3 + 1 + 5 + 1 + 1 + 1),
-    (8, 8 + 1 + 12 + 1 + 2 + 1),
-    (16, 16 + 1 + 24 + 1 + 4 + 1),
-    (33, 33 + 3 + 50 + 3 + 9 + 3),
+    (1, 1 + 1 + 1 + 1 + 1 + 1),
+    (3, 3 + 1 + 3 + 1 + 2 + 1),
+    (8, 8 + 1 + 8 + 1 + 4 + 1),
+    (16, 16 + 1 + 16 + 1 + 8 + 1),
+    (33, 33 + 3 + 33 + 3 + 17 + 3),
 ];
 
 #[test]

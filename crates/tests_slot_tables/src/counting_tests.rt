@@ -267,23 +267,30 @@ fn calls_out_of_range(rt: HostRuntime) -> Result<(), Fail> {
     findings.verdict()
 }
 
-/// Calls that have a condition call the tables at most as often as the counted ones promise.
+/// Makes each call that has a condition, which calls the tables at most as often as its counted form promises.
+fn check_unchecked(findings: &Findings, map: &mut CountingMap, calls: &Cell<u64>) {
+    let Some(key) = map.next_free_key() else {
+        return findings.miss("a free key");
+    };
+    map.insert_at_unchecked(key, 7);
+    findings.expect(calls.replace(0) <= 9, "insert_at_unchecked");
+    *map.get_unchecked_mut(key) = 8;
+    findings.expect_same(calls.replace(0), 2, "get_unchecked_mut");
+    findings.expect_same(*map.get_unchecked(key), 8, "the value");
+    findings.expect_same(calls.replace(0), 1, "get_unchecked");
+    findings.expect_same(map.remove_unchecked(key), 8, "the value");
+    findings.expect(calls.replace(0) <= 5, "remove_unchecked");
+}
+
 #[test]
 fn calls_with_conditions(rt: HostRuntime) -> Result<(), Fail> {
     let findings = Findings::new();
-    let calls = Cell::new(0);
-    let Ok(mut map) = map_with_values(rt.alloc(), 500, &calls) else {
-        return Err(Fail::new("there is memory"));
-    };
-    if let Some(key) = map.next_free_key() {
-        map.insert_at_unchecked(key, 7);
-        findings.expect(calls.replace(0) <= 9, "insert_at_unchecked");
-        *map.get_unchecked_mut(key) = 8;
-        findings.expect_same(calls.replace(0), 2, "get_unchecked_mut");
-        findings.expect_same(*map.get_unchecked(key), 8, "the value");
-        findings.expect_same(calls.replace(0), 1, "get_unchecked");
-        findings.expect_same(map.remove_unchecked(key), 8, "the value");
-        findings.expect(calls.replace(0) <= 5, "remove_unchecked");
+    for held in &[0, 500, 999] {
+        let calls = Cell::new(0);
+        match map_with_values(rt.alloc(), *held, &calls) {
+            Ok(mut map) => check_unchecked(&findings, &mut map, &calls),
+            Err(AllocError) => findings.miss("there is memory"),
+        }
     }
     findings.verdict()
 }

@@ -43,16 +43,16 @@ fn used_in_two_steps(
     }
 }
 
-/// The capacity of a map, and the number of blocks of 16 bytes that it takes: 8 bytes for each value and 24 for each link,
+/// The capacity of a map, and the number of blocks of 16 bytes that it takes: 8 bytes for each value and 16 for each link,
 /// and one for the mark of either.
 const SIZES: &[(usize, u16)] = &[
     (0, 0),
-    (1, 1 + 1 + 2 + 1),
-    (3, 2 + 1 + 5 + 1),
-    (8, 4 + 1 + 12 + 1),
-    (16, 8 + 1 + 24 + 1),
-    (33, 17 + 3 + 50 + 3),
-    (200, 100 + 13 + 300 + 13),
+    (1, 1 + 1 + 1 + 1),
+    (3, 2 + 1 + 3 + 1),
+    (8, 4 + 1 + 8 + 1),
+    (16, 8 + 1 + 16 + 1),
+    (33, 17 + 3 + 33 + 3),
+    (200, 100 + 13 + 200 + 13),
 ];
 
 #[test]
