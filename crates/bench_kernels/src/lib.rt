@@ -93,6 +93,12 @@ pub extern "C" fn ix_bench_slot_map_churn_heap(alloc: Global, rounds: u64, param
     slot_maps::allocated_churn(alloc, rounds, param as usize)
 }
 
+/// `get` of a held key, on a half full allocated slot map of `param`.
+#[unsafe(no_mangle)]
+pub extern "C" fn ix_bench_slot_map_get(alloc: Global, rounds: u64, param: u64) -> u64 {
+    slot_maps::allocated_get(alloc, rounds, param as usize)
+}
+
 /// `insert_at` of a free place or `remove` of a held key, on an allocated slot map of `param`.
 #[unsafe(no_mangle)]
 pub extern "C" fn ix_bench_slot_map_at(alloc: Global, rounds: u64, param: u64) -> u64 {
