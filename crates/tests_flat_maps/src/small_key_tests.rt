@@ -90,7 +90,7 @@ fn check_rows<const CAPACITY: usize>(
 {
     for row in 0..ROWS.len() {
         let (removed, index, expected) = ROWS[row];
-        let map = map_without::<CAPACITY>(numbers, removed);
+        let map = map_without::<CAPACITY>(&*numbers, removed);
         let Some(number) = numbers.get(index) else {
             return findings.miss("the number");
         };
