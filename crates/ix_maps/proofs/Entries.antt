@@ -33,6 +33,10 @@ pub Rises-cons : (start : ℕ) (keys : List ℕ) → Rises (start + 1) keys → 
 Rises-cons start keys later =
     record { rise = λ i below. Rises-cons_rise start keys later i below; from = λ i below. Rises-cons_from start keys later i below }
 
+-- one for a held place
+abbrev pub one_if_held : {T : Type 0} → Option T → ℕ
+one_if_held place = if is_some place then 1 else 0
+
 module _ {T : Type 0} where
   Rises-entries_from : (start : ℕ) (places : List (Option T)) → Rises start (keys_of (entries_from start places))
   Rises-entries_from start [] = Rises-none start
@@ -71,13 +75,10 @@ module _ {T : Type 0} where
   count_by-is_some start [] = refl
   count_by-is_some start (None ∷ places) = count_by-is_some (start + 1) places
   count_by-is_some start (Some value ∷ places) =
-      let one : count_by is_some (Some value ∷ places) ≡ 1 + count_by is_some places = sum_by-cons (λ (place : Option T). if is_some place then 1 else 0) (Some value) places in
+      let one : count_by is_some (Some value ∷ places) ≡ 1 + count_by is_some places = sum_by-cons one_if_held (Some value) places in
       let later = count_by-is_some (start + 1) places in omega arith
 
 module _ {T : Type 0} where
-  abbrev one_if_held : Option T → ℕ
-  one_if_held place = if is_some place then 1 else 0
-
   one_if_held-le_one : (place : Option T) → one_if_held place ≤ 1
   one_if_held-le_one None = omega arith
   one_if_held-le_one (Some value) = omega arith
@@ -103,7 +104,7 @@ module _ {T : Type 0} where
       let same : count_by is_some (None ∷ places) ≡ count_by is_some places = refl in absurd (omega arith)
   IsHeld-front (Some value ∷ places) (suc bound) zero all none below = refl
   IsHeld-front (Some value ∷ places) (suc bound) (suc i) all none below =
-      let one : count_by is_some (Some value ∷ places) ≡ 1 + count_by is_some places = sum_by-cons (λ (place : Option T). if is_some place then 1 else 0) (Some value) places in
+      let one : count_by is_some (Some value ∷ places) ≡ 1 + count_by is_some places = sum_by-cons one_if_held (Some value) places in
       IsHeld-front places bound i (omega arith) (λ j past. none (suc j) (omega arith)) (omega arith)
 
   -- no value is met where there is none

@@ -100,14 +100,18 @@ module _ {K V : Type 0} (eq : K → K → Bool) where
       let at : start ≡ 0 + start = omega arith in
       ap (λ first. find (λ e. eq e.1.key key) (entries_from first (drop start s.values))) at ∙ find-skips start 0 s.values key (λ i below. let at : i ≡ 0 + i = omega arith in ap (is_key_at eq s key) at ∙ none i below)
 
-  -- none of the first, and none of so many more
-  pub HasNoKeyIn-more : (s : SlotState (Pair K V)) (key : K) (start n : ℕ) → HasNoKeyIn eq s key 0 start → HasNoKeyIn eq s key start n → HasNoKeyIn eq s key 0 (start + n)
-  HasNoKeyIn-more s key start n first more i below = elim (cases_lt i start) [
+  -- none of so many, and none of so many more
+  pub HasNoKeyIn-both : (s : SlotState (Pair K V)) (key : K) (start n more : ℕ) → HasNoKeyIn eq s key start n → HasNoKeyIn eq s key (start + n) more → HasNoKeyIn eq s key start (n + more)
+  HasNoKeyIn-both s key start n more first second i below = elim (cases_lt i n) [
     | inl before ↦ first i before
     | inr later ↦
-        let at : 0 + i ≡ start + (i - start) = omega (arith, later) in
-        ap (is_key_at eq s key) at ∙ more (i - start) (omega (arith, later, below))
+        let at : start + i ≡ (start + n) + (i - n) = omega (arith, later) in
+        ap (is_key_at eq s key) at ∙ second (i - n) (omega (arith, later, below))
   ]
+
+  -- none of the first, and none of so many more
+  pub HasNoKeyIn-more : (s : SlotState (Pair K V)) (key : K) (start n : ℕ) → HasNoKeyIn eq s key 0 start → HasNoKeyIn eq s key start n → HasNoKeyIn eq s key 0 (start + n)
+  HasNoKeyIn-more s key start n first more = HasNoKeyIn-both s key 0 start n first (λ i below. let at : (0 + start) + i ≡ start + i = omega arith in ap (is_key_at eq s key) at ∙ more i below)
 
   -- what is found is an entry
   pub IsEntry-flat_entry : (s : SlotState (Pair K V)) (key : K) (entry : ℕ × Pair K V) → flat_entry eq s key ≡ Some entry → IsEntry s key entry.0 entry.1

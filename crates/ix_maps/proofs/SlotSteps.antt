@@ -14,6 +14,7 @@ use Rattle.ix_maps.specs.declared.slottable.link.Link.{Link}
 use Rattle.ix_maps.specs.SlotState.{SlotState, value_at, IsHeld, IsFree, slot_new}
 use Rattle.ix_maps.specs.SlotSteps.{slot_fill, slot_vacate, slot_insert, SlotInsert, SlotInsertAt, SlotRemove}
 use Rattle.ix_maps.specs.inner.FreeList.{no_key, held_link, free_link, first_or, last_or, IsChain, IsKeyOrNone, IsLinkWithin, links_set_next, links_set_previous, links_remove, links_remove_first, links_insert_first, first_after_remove, IsRisingList, Represents}
+use Rattle.ix_maps.proofs.Entries.{one_if_held}
 use Rattle.ix_maps.proofs.FreeKeys.{key_count, key_count-cons, hit, hit_same, hit_other, key_count-append, keys_without-absent, apart_from_last_or, apart_from_first_or, key_count-range_past, key_count-range_within}
 use Rattle.ix_cells.proofs.Places.{held_item, held_within, place_at_within}
 use Rattle.ix_maps.proofs.Chains.{IsChain-append, IsChain-set_other, IsChain-links_set_next, IsChain-links_set_previous}
@@ -34,9 +35,6 @@ links_remove-first links key next fits =
     ap (λ ls. links_set_previous ls next no_key) (set_past (set links key (Some (held_link key))) no_key _ (let same = length-set links key (Some (held_link key)) in omega arith))
 
 module _ {T : Type 0} where
-  abbrev one_if_held : Option T → ℕ
-  one_if_held place = if is_some place then 1 else 0
-
   count_by-set_more : (values : List (Option T)) (key : ℕ) (value : T) → key < length values → place_at values key ≡ None → count_by is_some (set values key (Some value)) ≡ count_by is_some values + 1
   count_by-set_more values key value below empty =
       let all = sum_by-set one_if_held values key (Some value) None below in

@@ -17,6 +17,7 @@ mod keys;
 mod kinds;
 mod meta_flat_map;
 mod pair;
+mod search;
 
 pub use callback_progression::CallbackProgression;
 pub use flat_map_error::FlatMapError;

@@ -1,10 +1,11 @@
-//! How often small keys are compared: eight at a time if they are in the first places, and otherwise up to the equal one.
+//! How often small keys are compared: eight or 32 at a time if they are in the first places, and otherwise up to the equal one.
 ghost use Rattle.std.proofs.Common.{rules};
 ghost use Rattle.std.specs.Cmp.Rules.{comparing};
 ghost use Rattle.std.specs.Ordering.{on};
 ghost use Rattle.std.specs.Prelude.{nat_eq, ◌≤◌};
 
 use ix_maps::FixedSizeFlatMap;
+use std::array::from_fn;
 use std::cell::Cell;
 use std::mem::size_of;
 use std::test::Fail;
@@ -61,6 +62,31 @@ const ROWS: &[(&[usize], usize, u64)] = &[
     (&[8, 7, 6, 5, 4, 3, 2, 1, 0], 0, 0),
 ];
 
+/// How many numbers a map has, beginning with 0, a number that is looked up then, and how many comparisons that takes: from 128
+/// numbers on 32 at a time, and the rest as in a small map.
+const LARGE_ROWS: &[(usize, usize, u64)] = &[
+    (127, 0, 8),
+    (127, 119, 120),
+    (127, 126, 127),
+    (127, 127, 127),
+    (128, 0, 32),
+    (128, 7, 32),
+    (128, 8, 32),
+    (128, 16, 32),
+    (128, 24, 32),
+    (128, 31, 32),
+    (128, 32, 64),
+    (128, 127, 128),
+    (128, 128, 128),
+    (150, 95, 96),
+    (150, 127, 128),
+    (150, 128, 136),
+    (150, 143, 144),
+    (150, 144, 145),
+    (150, 149, 150),
+    (150, 150, 150),
+];
+
 /// Returns a map of the first nine numbers but for those that are `removed`.
 fn map_without<'a, const CAPACITY: usize>(
     numbers: &'a [Number<'a>; 10],
@@ -115,5 +141,40 @@ fn eight_at_a_time() -> Result<(), Fail> {
     check_rows::<9>(&findings, &numbers, &comparisons);
     check_rows::<10>(&findings, &numbers, &comparisons);
     check_rows::<32>(&findings, &numbers, &comparisons);
+    findings.verdict()
+}
+
+/// Looks up a number in each row's map.
+fn check_large_rows(
+    findings: &Findings,
+    numbers: &[Number<'_>; 151],
+    comparisons: &Cell<u64>,
+) {
+    for row in 0..LARGE_ROWS.len() {
+        let (count, index, expected) = LARGE_ROWS[row];
+        let mut map = FixedSizeFlatMap::<SmallKey<'_>, u64, 160>::new();
+        for number in numbers.iter().take(count) {
+            let _ = map.insert(SmallKey { number }, number.value);
+        }
+        let Some(number) = numbers.get(index) else {
+            return findings.miss("the number");
+        };
+        comparisons.set(0);
+        let found = map.get_ref(&SmallKey { number }).copied();
+        findings.expect_same_at(comparisons.get(), expected, row, "comparisons");
+        let wanted = if index < count { Some(number.value) } else { None };
+        findings.expect_same_at(found, wanted, row, "the value");
+    }
+}
+
+#[test]
+fn a_row_at_a_time() -> Result<(), Fail> {
+    let findings = Findings::new();
+    let comparisons = Cell::new(0);
+    let numbers = from_fn(|i| Number {
+        value: i as u64,
+        comparisons: &comparisons,
+    });
+    check_large_rows(&findings, &numbers, &comparisons);
     findings.verdict()
 }

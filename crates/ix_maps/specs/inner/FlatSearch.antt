@@ -1,5 +1,5 @@
 -- Which places of a flat map have a key.
-use Rattle.std.specs.Prelude.{◌≡◌, ℕ, ◌+◌, ◌<◌, ◌≤◌, length, nat_eq, nat_lt, if◌then◌else◌, None, Bool, false}
+use Rattle.std.specs.Prelude.{◌≡◌, ℕ, ◌+◌, ◌<◌, ◌≤◌, length, nat_eq, nat_lt, if◌then◌else◌, None, Bool, true, false}
 use Rattle.std.specs.Option.{option_map_or}
 use Rattle.ix_maps.specs.SlotState.{SlotState, value_at}
 use Rattle.ix_maps.specs.declared.flatmap.pair.Pair.{Pair}
@@ -12,6 +12,11 @@ module _ {K V : Type 0} where
   -- none of so many places from start on has it
   abbrev pub HasNoKeyIn : (K → K → Bool) → SlotState (Pair K V) → K → ℕ → ℕ → Type 0
   HasNoKeyIn eq s key start n = (i : ℕ) → i < n → is_key_at eq s key (start + i) ≡ false
+
+  -- which of n places from start on has it, or n itself, and then none of the first i has it
+  abbrev pub IsFoundIn : (K → K → Bool) → SlotState (Pair K V) → K → ℕ → ℕ → ℕ → ℕ → Type 0
+  IsFoundIn eq s key start n i found =
+      (found ≤ n) × (found < n → is_key_at eq s key (start + found) ≡ true) × (found ≡ n → HasNoKeyIn eq s key start i)
 
 -- each place that has a value is below this one
 pub record IsBound {T : Type 0} (s : SlotState T) (bound : ℕ) : Type 0 where

@@ -7,8 +7,7 @@ ghost use Rattle.ix_cells.specs.Cloning.{AreEqualClones};
 ghost use Rattle.ix_maps.specs.SlotState.{IsWellFormed, IsHeld, value_at, held_count};
 ghost use Rattle.ix_maps.specs.FlatState.{HasDistinctKeys, flat_entry, flat_value, flat_keys, flat_items};
 ghost use Rattle.ix_maps.specs.FlatSteps.{flat_insert_result, flat_insert, pair_set, flat_set, flat_remove, ListsUntilStop};
-ghost use Rattle.ix_maps.specs.inner.FlatSearch.{is_key_at, HasNoKeyIn, bound_with, bound_without};
-ghost use Rattle.ix_maps.specs.declared.flatmap.meta_flat_map.TheConstants.{BLOCK_LEN};
+ghost use Rattle.ix_maps.specs.inner.FlatSearch.{bound_with, bound_without};
 
 use crate::flatmap::{CallbackProgression, FlatMapError, Iter, Keyed, Keys, Pair};
 use crate::slottable::{Link, MetaSlotTable, SlotTableKey};
@@ -16,13 +15,6 @@ use ix_cells::Table;
 use std::alloc::AllocError;
 use std::fmt::{self, Debug, Formatter, Write};
 use std::marker::Model;
-use std::mem::size_of_val;
-
-/// A map without a free place before its last key compares so many keys at a time, with no branch between them.
-const BLOCK_LEN: usize = 8;
-
-/// Keys of at most this many bytes are compared so: a few comparisons take less time than a branch that is mispredicted.
-const MAX_KEY_SIZE: usize = 8;
 
 /// A map from keys to values, over a table of pairs `S` and a table of links `L`. Keys are compared by their `Eq`.
 /// Contracts see a slot table of pairs, in which no two keys are equal.
@@ -278,85 +270,6 @@ impl<K: Eq + Drop, V: Drop, S: Table<Pair<K, V>>, L: Table<Link>> MetaFlatMap<Pa
                 CallbackProgression::Stop => return,
             }
         }
-    }
-
-    /// Returns the place of the key that equals `key`, and the pair there.
-    #[inline]
-    fn find(&self, key: &K) -> Option<(SlotTableKey, &Pair<K, V>)>
-        ensures value { option_map (λ entry. (entry.0, entry.1.now)) result
-            ≡ flat_entry K.eq self.now key.now }
-        ensures distinct { HasDistinctKeys K.eq self.now }
-    {
-        // If there are as many keys as places below the bound, each of those has one.
-        if size_of_val(key) <= MAX_KEY_SIZE && self.pairs.len() == self.bound {
-            self.find_in_front(self.bound, key)
-        } else {
-            self.find_from(0, key)
-        }
-    }
-
-    /// Returns what [`MetaFlatMap::find`] returns. Each place before `end` has a pair.
-    #[inline]
-    fn find_in_front(&self, end: usize, key: &K) -> Option<(SlotTableKey, &Pair<K, V>)>
-        requires within { end ≤ length self.now.values }
-        requires held { (place : ℕ) → place < end → IsHeld self.now place }
-        ensures value { option_map (λ entry. (entry.0, entry.1.now)) result
-            ≡ flat_entry K.eq self.now key.now }
-        ensures distinct { HasDistinctKeys K.eq self.now }
-    {
-        let blocks = end / BLOCK_LEN;
-        for block in 0..blocks {
-            let start = block * BLOCK_LEN;
-            let index = self.index_in_block(start, key);
-            if index < BLOCK_LEN {
-                let place = SlotTableKey::new(start + index);
-                return Some((place, self.pairs.get_unchecked(place)));
-            }
-        }
-        self.find_from(blocks * BLOCK_LEN, key)
-    }
-
-    /// Returns which of the [`BLOCK_LEN`] places from `start` on has a key that equals `key`, or [`BLOCK_LEN`]. Each of these
-    /// places has a pair.
-    // Compares all of these keys, with no branch: which of them is equal can't be predicted.
-    #[inline]
-    fn index_in_block(&self, start: usize, key: &K) -> usize
-        requires within { start + BLOCK_LEN ≤ length self.now.values }
-        requires held { (place : ℕ) → place < start + BLOCK_LEN → IsHeld self.now place }
-        ensures found { result < BLOCK_LEN
-            → is_key_at K.eq self.now key.now (start + result) ≡ true }
-        ensures absent { result ≡ BLOCK_LEN → HasNoKeyIn K.eq self.now key.now start BLOCK_LEN }
-        ensures within { result ≤ BLOCK_LEN }
-    {
-        // Names the capacity, by which the check knows that `start + i` does not overflow.
-        let _capacity = self.pairs.capacity();
-        let mut found = BLOCK_LEN;
-        for i in 0..BLOCK_LEN {
-            let pair = self.pairs.get_unchecked(SlotTableKey::new(start + i));
-            if pair.key == *key {
-                found = i;
-            }
-        }
-        found
-    }
-
-    /// Returns the place of the key that equals `key`, which no place before `start` has, and the pair there.
-    #[inline]
-    fn find_from(&self, start: usize, key: &K) -> Option<(SlotTableKey, &Pair<K, V>)>
-        requires { HasNoKeyIn K.eq self.now key.now 0 start }
-        ensures value { option_map (λ entry. (entry.0, entry.1.now)) result
-            ≡ flat_entry K.eq self.now key.now }
-        ensures distinct { HasDistinctKeys K.eq self.now }
-    {
-        for place in start..self.bound {
-            let place = SlotTableKey::new(place);
-            if let Some(pair) = self.pairs.get(place)
-                && pair.key == *key
-            {
-                return Some((place, pair));
-            }
-        }
-        None
     }
 
     /// Returns the place of the key that equals `key`.

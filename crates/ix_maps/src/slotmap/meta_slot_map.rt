@@ -344,7 +344,11 @@ impl<T, S: Table<Option<T>>, L: Table<Link>, G: Table<u64>> MetaSlotMap<Option<T
         // Names the capacity, by which the check knows that `index + 1` does not overflow.
         let _capacity = self.capacity();
         let mut touches = Touches::new();
-        let mut index = start;
+        // Asked once before the loop, as a slot table does.
+        if self.has_value(start, &mut touches) {
+            return start;
+        }
+        let mut index = start + 1;
         while !self.has_value(index, &mut touches) {
             index += 1;
         }

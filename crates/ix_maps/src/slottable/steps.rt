@@ -44,7 +44,11 @@ impl<T, S: Table<T>, L: Table<Link>> MetaSlotTable<T, S, L> {
         // Names the capacity, by which the check knows that `key + 1` does not overflow.
         let _capacity = self.capacity();
         let mut touches = Touches::new();
-        let mut key = start;
+        // Asked once before the loop: LLVM makes slower code of a loop that is the whole of a loop's body.
+        if !self.is_free(start, &mut touches) {
+            return start;
+        }
+        let mut key = start + 1;
         while self.is_free(key, &mut touches) {
             key += 1;
         }

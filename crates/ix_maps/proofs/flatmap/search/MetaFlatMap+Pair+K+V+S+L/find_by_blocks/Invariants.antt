@@ -1,7 +1,7 @@
 use Rattle.std.proofs.Common.{◌*◌}
 use Rattle.ix_maps.specs.inner.FlatSearch.{HasNoKeyIn}
-use Rattle.ix_maps.specs.declared.flatmap.meta_flat_map.TheConstants.{BLOCK_LEN}
-use Rattle.ix_maps.proofs.flatmap.meta_flat_map.MetaFlatMap+Pair+K+V+S+L.find_in_front.Given as goal
+use Rattle.ix_maps.specs.declared.flatmap.search.TheConstants.{BLOCK_LEN}
+use Rattle.ix_maps.proofs.flatmap.search.MetaFlatMap+Pair+K+V+S+L.find_by_blocks.Given as goal
 
 -- no place of the blocks so far has the key
 abbrev pub invariant-loop-block : goal.invariant-loop-block

@@ -3,7 +3,7 @@ use Rattle.ix_maps.specs.SlotState.{value_at}
 use Rattle.ix_maps.specs.FlatState.{HasDistinctKeys}
 use Rattle.ix_maps.specs.inner.FlatSearch.{is_key_at, HasNoKeyIn}
 use Rattle.ix_maps.proofs.FlatEntries.{flat_entry-is_key_at, HasNoKeyIn-more}
-use Rattle.ix_maps.proofs.flatmap.meta_flat_map.MetaFlatMap+Pair+K+V+S+L.find_in_front.Goals as goal
+use Rattle.ix_maps.proofs.flatmap.search.MetaFlatMap+Pair+K+V+S+L.find_by_blocks.Goals as goal
 
 pub returns-then-index-lt-BLOCK_LEN-clause-value : goal.returns-then-index-lt-BLOCK_LEN-clause-value
 returns-then-index-lt-BLOCK_LEN-clause-value g c =
@@ -13,7 +13,7 @@ returns-then-index-lt-BLOCK_LEN-clause-value g c =
     let place = c.new-place.result in
     let distinct = subst (HasDistinctKeys eq) c.self.view_is c.self.invariant.0 in
     let at = ap (λ s. value_at s place) (sym c.self.view_is) ∙ c.get_unchecked.ensures in
-    let equal = ap (is_key_at eq map key) c.new-place.ensures ∙ c.index_in_block-index.ensures.found c.if-index-lt-BLOCK_LEN.true in
+    let equal = ap (is_key_at eq map key) c.new-place.ensures ∙ c.index_in_block-index.ensures.1 c.if-index-lt-BLOCK_LEN.true in
     sym (flat_entry-is_key_at eq g.met.K.Eq.laws map key place c.get_unchecked.result.now distinct at equal)
 
 pub loop-block-preserved : goal.loop-block-preserved
@@ -21,7 +21,7 @@ loop-block-preserved g c =
     let map = c.args.self.now in
     let key = c.args.key.now in
     let least = c.if-index-lt-BLOCK_LEN.false in
-    let most = c.index_in_block-index.ensures.within in
-    let none = c.index_in_block-index.ensures.absent (omega (arith, least, most)) in
+    let most = c.index_in_block-index.ensures.0 in
+    let none = c.index_in_block-index.ensures.2 (omega (arith, least, most)) in
     let next : c.loop-block.block * 8 + 8 ≡ (c.loop-block.block + 1) * 8 = omega arith in
     subst (HasNoKeyIn g.K.PartialEq.eq map key 0) next (HasNoKeyIn-more g.K.PartialEq.eq map key (c.loop-block.block * 8) 8 c.loop-block.invariant none)
