@@ -17,6 +17,7 @@ mod link;
 mod meta_slot_table;
 mod slot_table_key;
 mod steps;
+mod try_insert;
 
 pub use iter::Iter;
 pub use kinds::{
