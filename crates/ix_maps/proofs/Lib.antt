@@ -10,6 +10,7 @@ pub mod Chains
 pub mod SlotTables
 pub mod SlotSteps
 pub mod Entries
+pub mod SlotCalls
 pub mod VacantTables
 pub mod FlatBounds
 pub mod FlatEntries

@@ -2,6 +2,7 @@ pub use Rattle.ix_cells.specs.Bounded
 pub mod QueueSteps
 pub mod SlotState
 pub mod SlotSteps
+pub mod SlotCalls
 pub mod Generations
 pub mod SlotMapSteps
 pub mod FlatState

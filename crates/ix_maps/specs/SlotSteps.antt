@@ -2,6 +2,7 @@
 use Rattle.std.specs.Prelude.{◌≡◌, ◌≢◌, ◌↔◌, ℕ, List, [], ◌∷◌, length, nat_eq, nat_lt, if◌then◌else◌, Bool, Option, Some, None, IsTrue, IsNone, IfSome, is_some, slice_get, slice_set}
 use Rattle.std.specs.Bool.{OnFalse}
 use Rattle.std.specs.Option.{option_map_or}
+use Rattle.std.specs.List.{fold, range_with_len}
 use Rattle.ix_maps.specs.SlotState.{SlotState, value_at, IsHeld, IsKey, IsFree}
 
 -- the keys but for the first one that equals this key
@@ -33,6 +34,10 @@ module _ {T : Type 0} where
   -- no value at the key, if it had one
   abbrev pub slot_remove : SlotState T → ℕ → SlotState T
   slot_remove s key = if is_some (value_at s key) then slot_vacate s key else s
+
+  -- each key is removed, the least one first
+  abbrev pub slot_clear : SlotState T → SlotState T
+  slot_clear s = fold slot_remove s (range_with_len 0 (length s.values))
 
   -- what `insert` and `insert_counted` promise
   pub record SlotInsert (old : SlotState T) (x : T) (new : SlotState T) (result : Option ℕ) : Type 0 where

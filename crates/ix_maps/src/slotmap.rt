@@ -18,6 +18,7 @@ mod iter;
 mod kinds;
 mod meta_slot_map;
 mod slot_map_key;
+mod try_insert;
 mod word_table;
 
 pub use content::Content;

@@ -17,6 +17,8 @@ mod link;
 mod meta_slot_table;
 mod slot_table_key;
 mod steps;
+mod try_insert;
+mod whole;
 
 pub use iter::Iter;
 pub use kinds::{

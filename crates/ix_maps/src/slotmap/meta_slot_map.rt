@@ -292,7 +292,7 @@ impl<T, S: Table<Option<T>>, L: Table<Link>, G: Table<u64>> MetaSlotMap<Option<T
 
     /// Returns the generation of a place that is not retired.
     #[inline]
-    fn generation(&self, index: usize, touches: &mut Touches) -> u32
+    pub(crate) fn generation(&self, index: usize, touches: &mut Touches) -> u32
         requires within { index < length self.now.slots.values }
         requires in_use { IsRetired self.now index → ⊥ }
         ensures value { result ≡ generation_at self.now index }
@@ -314,7 +314,7 @@ impl<T, S: Table<Option<T>>, L: Table<Link>, G: Table<u64>> MetaSlotMap<Option<T
 
     /// Returns `true` if a value is in a place.
     #[inline]
-    fn has_value(&self, index: usize, touches: &mut Touches) -> bool
+    pub(crate) fn has_value(&self, index: usize, touches: &mut Touches) -> bool
         requires within { index < length self.now.slots.values }
         ensures value { IsTrue result ↔ IsSome (place_value self.now index) }
         ensures touches { touches.new ≡ touches.old + 1 }
@@ -324,7 +324,7 @@ impl<T, S: Table<Option<T>>, L: Table<Link>, G: Table<u64>> MetaSlotMap<Option<T
 
     /// Returns `true` if a place is retired.
     #[inline]
-    fn is_retired(&self, index: usize, touches: &mut Touches) -> bool
+    pub(crate) fn is_retired(&self, index: usize, touches: &mut Touches) -> bool
         requires within { index < length self.now.slots.values }
         ensures value { IsTrue result ↔ IsRetired self.now index }
         ensures touches { touches.new ≡ touches.old + 1 }
@@ -381,7 +381,7 @@ impl<T, S: Table<Option<T>>, L: Table<Link>, G: Table<u64>> MetaSlotMap<Option<T
 
     /// Inserts a value in a free place.
     #[inline]
-    fn fill(&mut self, index: usize, value: T, touches: &mut Touches)
+    pub(crate) fn fill(&mut self, index: usize, value: T, touches: &mut Touches)
         requires { IsFree self.old.slots index }
         ensures map { self.new ≡ map_fill self.old index value }
         ensures touches { touches.new ≤ touches.old + 11 }

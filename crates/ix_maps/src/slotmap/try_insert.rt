@@ -1,0 +1,92 @@
+//! The calls of a slot map that insert a value and hand back what they don't keep.
+ghost use Rattle.std.specs.Prelude.{◌≡◌, ◌+◌, ◌<◌, IfOk, IsSome, option_map};
+ghost use Rattle.std.specs.Result.{IfErr, result_ok};
+ghost use Rattle.ix_maps.specs.Generations.{greatest_generation, generation_at, place_value};
+ghost use Rattle.ix_maps.specs.SlotMapSteps.{map_replace, MapInsert, MapInsertAt};
+
+use crate::slotmap::{MetaSlotMap, SlotMapKey};
+use crate::slottable::{Link, SlotTableKey};
+use ix_cells::{Table, Touches};
+use std::mem;
+
+impl<T, S: Table<Option<T>>, L: Table<Link>, G: Table<u64>> MetaSlotMap<Option<T>, S, L, G> {
+    /// Inserts `value` in the first free place and returns the key of that place; or returns `value` as the error if no
+    /// place is free. Drops nothing.
+    ///
+    /// ```text
+    /// let mut map = FixedSizeSlotMap::<char, 1>::new();
+    /// map.try_insert('a');                  // Ok: index 0, generation 0
+    /// map.try_insert('b');                  // Err('b')
+    /// ```
+    #[inline]
+    pub fn try_insert(&mut self, value: T) -> Result<SlotMapKey, T>
+        ensures step { MapInsert self.old value self.new (result_ok result) }
+        ensures handed_back { IfErr result (λ refused. refused ≡ value) }
+    {
+        match self.next_free_key() {
+            Some(key) => {
+                self.fill(key.index(), value, &mut Touches::new());
+                Ok(key)
+            }
+            None => Err(value),
+        }
+    }
+
+    /// Inserts `value` in the place `index` and returns its key, and the value that was there, or `None` if the place was
+    /// free.
+    ///
+    /// The key of a value that was there is dead, and the new key has the next generation. Returns `value` as the error if
+    /// `index` is out of range, if the place is retired, and if a value is there with the generation `u32::MAX`. Drops
+    /// nothing.
+    ///
+    /// ```text
+    /// let mut map = FixedSizeSlotMap::<char, 1>::new();
+    /// map.try_insert_at(0, 'a');            // Ok: index 0, generation 0, and None
+    /// map.try_insert_at(0, 'b');            // Ok: index 0, generation 1, and Some('a')
+    /// map.try_insert_at(1, 'c');            // Err('c')
+    /// ```
+    #[inline]
+    pub fn try_insert_at(
+        &mut self,
+        index: usize,
+        value: T,
+    ) -> Result<(SlotMapKey, Option<T>), T>
+        ensures step { MapInsertAt self.old index value self.new
+            (option_map (λ both. both.0) (result_ok result)) }
+        ensures replaced { IfOk result (λ both. both.1 ≡ place_value self.old index) }
+        ensures handed_back { IfErr result (λ refused. refused ≡ value) }
+    {
+        let mut touches = Touches::new();
+        if index >= self.capacity() || self.is_retired(index, &mut touches) {
+            return Err(value);
+        }
+        if !self.has_value(index, &mut touches) {
+            self.fill(index, value, &mut touches);
+            return Ok((self.key_of(index, &mut touches), None));
+        }
+        if self.generation(index, &mut touches) == u32::MAX {
+            return Err(value);
+        }
+        let replaced = self.exchange(index, value, &mut touches);
+        Ok((self.key_of(index, &mut touches), replaced))
+    }
+
+    /// Replaces the value in a place, whose generation is less than the greatest, and returns the old one.
+    #[inline]
+    fn exchange(&mut self, index: usize, value: T, touches: &mut Touches) -> Option<T>
+        requires held { IsSome (place_value self.old index) }
+        requires generation { generation_at self.old index < greatest_generation }
+        ensures value { result ≡ place_value self.old index }
+        ensures map { self.new ≡ map_replace self.old index value }
+        ensures raised { generation_at self.new index ≡ generation_at self.old index + 1 }
+        ensures touches { touches.new ≡ touches.old + 4 }
+    {
+        let place = SlotTableKey::new(index);
+        let replaced = mem::replace(
+            self.slots.get_unchecked_mut_counted(place, touches),
+            Some(value),
+        );
+        self.words.raise(index, 2, touches);
+        replaced
+    }
+}

@@ -1,0 +1,73 @@
+//! The calls of a slot table that insert a value and hand back what they don't keep.
+ghost use Rattle.std.specs.Prelude.{◌≡◌, ◌+◌, IfOk, Some};
+ghost use Rattle.std.specs.Result.{IfErr, is_ok, result_ok};
+ghost use Rattle.ix_maps.specs.SlotState.{value_at, IsHeld};
+ghost use Rattle.ix_maps.specs.SlotSteps.{slot_fill, SlotInsert, SlotInsertAt};
+
+use crate::slottable::link::NO_KEY;
+use crate::slottable::{Link, MetaSlotTable, SlotTableKey};
+use ix_cells::{Table, Touches};
+use std::mem;
+
+impl<T, S: Table<T>, L: Table<Link>> MetaSlotTable<T, S, L> {
+    /// Inserts `value` at the first free key and returns that key; or returns `value` as the error if the map is full. Drops
+    /// nothing.
+    ///
+    /// ```text
+    /// let mut map = FixedSizeSlotTable::<char, 1>::new();
+    /// map.try_insert('a');                  // Ok: the key 0
+    /// map.try_insert('b');                  // Err('b')
+    /// ```
+    #[inline]
+    pub fn try_insert(&mut self, value: T) -> Result<SlotTableKey, T>
+        ensures step { SlotInsert self.old value self.new (result_ok result) }
+        ensures handed_back { IfErr result (λ refused. refused ≡ value) }
+    {
+        if self.first == NO_KEY {
+            return Err(value);
+        }
+        let key = self.first;
+        self.fill_first(value, &mut Touches::new());
+        Ok(SlotTableKey::new(key))
+    }
+
+    /// Inserts `value` at `key` and returns the value that was there, or `None` if `key` was free. Returns `value` as the
+    /// error if `key` is out of range. Drops nothing.
+    ///
+    /// ```text
+    /// let mut map = FixedSizeSlotTable::<char, 1>::new();
+    /// map.try_insert_at(SlotTableKey::new(0), 'a');   // Ok(None)
+    /// map.try_insert_at(SlotTableKey::new(0), 'b');   // Ok(Some('a'))
+    /// map.try_insert_at(SlotTableKey::new(1), 'c');   // Err('c')
+    /// ```
+    #[inline]
+    pub fn try_insert_at(&mut self, key: SlotTableKey, value: T) -> Result<Option<T>, T>
+        ensures step { SlotInsertAt self.old key value self.new (is_ok result) }
+        ensures replaced { IfOk result (λ replaced. replaced ≡ value_at self.old key) }
+        ensures handed_back { IfErr result (λ refused. refused ≡ value) }
+    {
+        let mut touches = Touches::new();
+        let key = key.value();
+        if key >= self.capacity() {
+            return Err(value);
+        }
+        let link = self.link_of(key, &mut touches);
+        if link.is_free(key) {
+            self.fill(key, link, value, &mut touches);
+            Ok(None)
+        } else {
+            Ok(Some(self.exchange(key, value, &mut touches)))
+        }
+    }
+
+    /// Replaces the value at a held key and returns the old one.
+    #[inline]
+    fn exchange(&mut self, key: usize, value: T, touches: &mut Touches) -> T
+        requires { IsHeld self.old key }
+        ensures value { value_at self.old key ≡ Some result }
+        ensures map { self.new ≡ slot_fill self.old key value }
+        ensures touches { touches.new ≡ touches.old + 2 }
+    {
+        mem::replace(self.values.get_mut(key, touches), value)
+    }
+}

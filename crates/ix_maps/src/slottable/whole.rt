@@ -1,0 +1,74 @@
+//! The calls of a slot table that go through all of its values.
+ghost use Rattle.std.specs.Prelude.{◌≡◌, ◌↔◌, ℕ, length, replicate, None};
+ghost use Rattle.std.specs.List.{FoldsTo};
+ghost use Rattle.ix_maps.specs.SlotState.{IsHeld, entries};
+ghost use Rattle.ix_maps.specs.SlotSteps.{slot_set, slot_remove, slot_clear};
+ghost use Rattle.ix_maps.specs.SlotCalls.{IsCallableOnEach, ChangesItem, RetainsItem};
+
+use crate::slottable::{Link, MetaSlotTable, SlotTableKey};
+use ix_cells::Table;
+
+impl<T, S: Table<T>, L: Table<Link>> MetaSlotTable<T, S, L> {
+    /// Removes all values and drops them, that of the least key first. Every key is free then. O(capacity).
+    ///
+    /// The free keys are in the order that [`MetaSlotTable::remove`] of each key in turn leaves, so the key whose value was
+    /// dropped last is the first free key.
+    pub fn clear(&mut self)
+    where
+        T: Drop,
+        ensures map { self.new ≡ slot_clear self.old }
+        ensures values { self.new.values ≡ replicate (length self.old.values) None }
+    {
+        for key in 0..self.capacity() {
+            drop(self.remove(SlotTableKey::new(key)));
+        }
+    }
+
+    /// Calls `f` with each held key in rising order and a mutable reference to its value. O(capacity), with one call for each
+    /// value.
+    ///
+    /// ```text
+    /// map.for_each_mut(|_, value| *value += 1);
+    /// ```
+    pub fn for_each_mut<F: FnMut(SlotTableKey, &mut T)>(&mut self, mut f: F)
+        requires { IsCallableOnEach F.step F.pre f (entries self.old) }
+        ensures calls { (last : F) × FoldsTo (ChangesItem slot_set F.step)
+            (f, self.old) (entries self.old) (last, self.new) }
+        ensures keys { (key : ℕ) → IsHeld self.new key ↔ IsHeld self.old key }
+        ensures free { self.new.free ≡ self.old.free }
+        ensures capacity { length self.new.values ≡ length self.old.values }
+    {
+        for number in 0..self.capacity() {
+            let key = SlotTableKey::new(number);
+            if !self.contains(key) {
+                continue;
+            }
+            f(key, self.get_unchecked_mut(key));
+        }
+    }
+
+    /// Calls `f` with each held key in rising order and a mutable reference to its value, and removes and drops each value for
+    /// which `f` returns `false`, right after the call. O(capacity), with one call for each value.
+    ///
+    /// ```text
+    /// map.retain(|_, value| *value > 3);
+    /// ```
+    pub fn retain<F: FnMut(SlotTableKey, &mut T) -> bool>(&mut self, mut f: F)
+    where
+        T: Drop,
+        requires { IsCallableOnEach F.step F.pre f (entries self.old) }
+        ensures calls { (last : F) × FoldsTo (RetainsItem slot_set slot_remove F.step)
+            (f, self.old) (entries self.old) (last, self.new) }
+        ensures capacity { length self.new.values ≡ length self.old.values }
+    {
+        for number in 0..self.capacity() {
+            let key = SlotTableKey::new(number);
+            if !self.contains(key) {
+                continue;
+            }
+            if !f(key, self.get_unchecked_mut(key)) {
+                drop(self.remove(key));
+            }
+        }
+    }
+}
