@@ -39,6 +39,11 @@ module _ {K V : Type 0} where
   flat_set eq s key value =
       option_map_or (λ entry. pair_set s entry.0 value) (flat_entry eq s key) s
 
+  -- the value of the key, if the map has it, and else the pair at the first free place, if there is one
+  abbrev pub flat_replace : (K → K → Bool) → SlotState (Pair K V) → K → V → SlotState (Pair K V)
+  flat_replace eq s key value =
+      if is_some (flat_entry eq s key) then flat_set eq s key value else flat_insert eq s key value
+
   -- no pair at the place of the key, if the map has it
   abbrev pub flat_remove : (K → K → Bool) → SlotState (Pair K V) → K → SlotState (Pair K V)
   flat_remove eq s key = option_map_or (λ entry. slot_vacate s entry.0) (flat_entry eq s key) s

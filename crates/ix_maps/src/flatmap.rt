@@ -12,6 +12,7 @@
 
 mod callback_progression;
 mod flat_map_error;
+mod insertions;
 mod iter;
 mod keys;
 mod kinds;

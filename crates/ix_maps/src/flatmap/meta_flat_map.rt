@@ -5,9 +5,9 @@ ghost use Rattle.std.specs.Option.{option_copied_mut};
 ghost use Rattle.std.specs.Map.{keys_of, lookup};
 ghost use Rattle.ix_cells.specs.Cloning.{AreEqualClones};
 ghost use Rattle.ix_maps.specs.SlotState.{IsWellFormed, IsHeld, value_at, held_count};
-ghost use Rattle.ix_maps.specs.FlatState.{HasDistinctKeys, flat_entry, flat_value, flat_keys, flat_items};
+ghost use Rattle.ix_maps.specs.FlatState.{HasDistinctKeys, flat_entry, flat_value, flat_keys, flat_item, flat_items};
 ghost use Rattle.ix_maps.specs.FlatSteps.{flat_insert_result, flat_insert, pair_set, flat_set, flat_remove, ListsUntilStop};
-ghost use Rattle.ix_maps.specs.inner.FlatSearch.{bound_with, bound_without};
+ghost use Rattle.ix_maps.specs.inner.FlatSearch.{bound_without};
 
 use crate::flatmap::{CallbackProgression, FlatMapError, Iter, Keyed, Keys, Pair};
 use crate::slottable::{Link, MetaSlotTable, SlotTableKey};
@@ -83,17 +83,9 @@ impl<K: Eq + Drop, V: Drop, S: Table<Pair<K, V>>, L: Table<Link>> MetaFlatMap<Pa
             → flat_value K.eq self.new other ≡ flat_value K.eq self.old other }
         ensures distinct { HasDistinctKeys K.eq self.new }
     {
-        if self.contains(&key) {
-            return Err(FlatMapError::KeyAlreadyExists);
-        }
-        // Names the capacity, by which the check knows that the bound does not overflow.
-        let _capacity = self.pairs.capacity();
-        match self.pairs.insert(Pair { key, value }) {
-            Some(place) => {
-                self.bound = bound_with(self.bound, place.value());
-                Ok(())
-            }
-            None => Err(FlatMapError::IsFull),
+        match self.try_insert(key, value) {
+            Ok(()) => Ok(()),
+            Err((error, _, _)) => Err(error),
         }
     }
 
@@ -160,10 +152,33 @@ impl<K: Eq + Drop, V: Drop, S: Table<Pair<K, V>>, L: Table<Link>> MetaFlatMap<Pa
             → flat_value K.eq self.new other ≡ flat_value K.eq self.old other }
         ensures distinct { HasDistinctKeys K.eq self.new }
     {
+        let (_, value) = self.remove_entry(key)?;
+        Some(value)
+    }
+
+    /// Removes `key` and returns the equal key of the map with its value, or `None` if the map has none. The next new key takes
+    /// its place.
+    pub fn remove_entry(&mut self, key: &K) -> Option<(K, V)>
+        ensures value { result ≡ option_map (λ entry. flat_item entry) (flat_entry K.eq self.old key.now) }
+        ensures map { self.new ≡ flat_remove K.eq self.old key.now }
+        ensures gone { flat_value K.eq self.new key.now ≡ None }
+        ensures refused { IsNone result → self.new ≡ self.old }
+        ensures kept { (other : K) → K.eq other key.now ≡ false
+            → flat_value K.eq self.new other ≡ flat_value K.eq self.old other }
+        ensures distinct { HasDistinctKeys K.eq self.new }
+    {
         let place = self.place(key)?;
         let pair = self.pairs.remove_unchecked(place);
         self.bound = bound_without(self.bound, place.value());
-        Some(pair.value)
+        Some((pair.key, pair.value))
+    }
+
+    /// Returns the maximum number of keys. O(1).
+    #[inline]
+    pub fn capacity(&self) -> usize
+        ensures { result ≡ length self.now.values }
+    {
+        self.pairs.capacity()
     }
 
     /// Returns `true` if the map has no key. O(1).
@@ -274,7 +289,7 @@ impl<K: Eq + Drop, V: Drop, S: Table<Pair<K, V>>, L: Table<Link>> MetaFlatMap<Pa
 
     /// Returns the place of the key that equals `key`.
     #[inline]
-    fn place(&self, key: &K) -> Option<SlotTableKey>
+    pub(crate) fn place(&self, key: &K) -> Option<SlotTableKey>
         ensures value { result ≡ option_map (λ entry. entry.0) (flat_entry K.eq self.now key.now) }
         ensures distinct { HasDistinctKeys K.eq self.now }
     {
@@ -286,7 +301,7 @@ impl<K: Eq + Drop, V: Drop, S: Table<Pair<K, V>>, L: Table<Link>> MetaFlatMap<Pa
 
     /// Returns a mutable reference to the value at a place that has a pair.
     #[inline]
-    fn value_mut(&mut self, place: SlotTableKey) -> &mut V
+    pub(crate) fn value_mut(&mut self, place: SlotTableKey) -> &mut V
         requires { IsHeld self.old place }
         ensures* writes_back { sem 𝓛
             (Lends (the_row (pair.the_row K.row V.row) S.row L.row ⟦<Pair<K, V> as Keyed>⟧ S.Table L.Table)
@@ -296,15 +311,6 @@ impl<K: Eq + Drop, V: Drop, S: Table<Pair<K, V>>, L: Table<Link>> MetaFlatMap<Pa
     {
         &mut self.pairs.get_unchecked_mut(place).value
     }
-}
-
-/// Returns what is above each place with a pair, and above this place too.
-#[inline]
-fn bound_with(bound: usize, place: usize) -> usize
-    requires { place + 1 ≤ 18446744073709551615 }
-    ensures { result ≡ bound_with bound place }
-{
-    if place < bound { bound } else { place + 1 }
 }
 
 /// Returns what is above each place with a pair but for this one, which was below `bound`.

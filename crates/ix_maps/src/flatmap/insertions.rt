@@ -1,0 +1,109 @@
+//! The calls of a flat map that insert a key.
+ghost use Rattle.std.specs.Prelude.{◌≡◌, ◌+◌, ◌↔◌, ◌≤◌, [], Some, None, IsOk, IsErr, IfOk, OnErr, false};
+ghost use Rattle.std.specs.Result.{IfErr};
+ghost use Rattle.ix_maps.specs.FlatState.{HasDistinctKeys, flat_entry, flat_value};
+ghost use Rattle.ix_maps.specs.FlatSteps.{flat_insert_result, flat_insert, flat_replace};
+ghost use Rattle.ix_maps.specs.inner.FlatSearch.{bound_with};
+
+use crate::flatmap::{FlatMapError, MetaFlatMap, Pair};
+use crate::slottable::Link;
+use ix_cells::Table;
+use std::mem;
+
+impl<K: Eq + Drop, V: Drop, S: Table<Pair<K, V>>, L: Table<Link>> MetaFlatMap<Pair<K, V>, S, L> {
+    /// Inserts `key` with `value`. What is refused is handed back.
+    ///
+    /// Returns [`FlatMapError::KeyAlreadyExists`] if the map has an equal key, and otherwise [`FlatMapError::IsFull`] if
+    /// it is full, with `key` and `value`.
+    ///
+    /// ```text
+    /// let mut map = FixedSizeFlatMap::<u16, char, 1>::new();
+    /// map.try_insert(80, 'a');              // Ok(())
+    /// map.try_insert(80, 'b');              // Err((KeyAlreadyExists, 80, 'b'))
+    /// map.try_insert(443, 'b');             // Err((IsFull, 443, 'b'))
+    /// ```
+    #[inline]
+    pub fn try_insert(&mut self, key: K, value: V) -> Result<(), (FlatMapError, K, V)>
+        ensures inserted { IsOk result ↔ IsOk (flat_insert_result K.eq self.old key) }
+        ensures error { IfErr result (λ refused.
+            IfErr (flat_insert_result K.eq self.old key) (λ error. refused.0 ≡ error)) }
+        ensures handed_back { IfErr result (λ refused. (refused.1 ≡ key) × (refused.2 ≡ value)) }
+        ensures map { self.new ≡ flat_insert K.eq self.old key value }
+        ensures holds { IsOk result → flat_value K.eq self.new key ≡ Some value }
+        ensures refused { OnErr result (self.new ≡ self.old) }
+        ensures kept { (other : K) → K.eq other key ≡ false
+            → flat_value K.eq self.new other ≡ flat_value K.eq self.old other }
+        ensures distinct { HasDistinctKeys K.eq self.new }
+    {
+        if self.place(&key).is_some() {
+            return Err((FlatMapError::KeyAlreadyExists, key, value));
+        }
+        match self.insert_new(key, value) {
+            Ok(()) => Ok(()),
+            Err(pair) => Err((FlatMapError::IsFull, pair.key, pair.value)),
+        }
+    }
+
+    /// Inserts `key` with `value`; or, if the map has an equal key, gives that one `value` and returns its old value. `key` is
+    /// dropped then.
+    ///
+    /// Returns `key` and `value` as the error if the map is full and has no equal key.
+    ///
+    /// ```text
+    /// let mut map = FixedSizeFlatMap::<u16, char, 1>::new();
+    /// map.replace(80, 'a');                 // Ok(None)
+    /// map.replace(80, 'b');                 // Ok(Some('a'))
+    /// map.replace(443, 'c');                // Err((443, 'c'))
+    /// ```
+    pub fn replace(&mut self, key: K, value: V) -> Result<Option<V>, (K, V)>
+        ensures value { IfOk result (λ old. old ≡ flat_value K.eq self.old key) }
+        ensures full { IsErr result ↔ ((flat_value K.eq self.old key ≡ None) × (self.old.free ≡ [])) }
+        ensures handed_back { IfErr result (λ refused. refused ≡ (key, value)) }
+        ensures map { self.new ≡ flat_replace K.eq self.old key value }
+        ensures holds { IsOk result → flat_value K.eq self.new key ≡ Some value }
+        ensures refused { OnErr result (self.new ≡ self.old) }
+        ensures kept { (other : K) → K.eq other key ≡ false
+            → flat_value K.eq self.new other ≡ flat_value K.eq self.old other }
+    {
+        if let Some(old) = self.get_mut_ref(&key) {
+            return Ok(Some(mem::replace(old, value)));
+        }
+        match self.insert_new(key, value) {
+            Ok(()) => Ok(None),
+            Err(pair) => Err((pair.key, pair.value)),
+        }
+    }
+
+    /// Inserts `key`, which the map does not have, with `value`. Returns both as the error if the map is full.
+    #[inline]
+    pub(crate) fn insert_new(&mut self, key: K, value: V) -> Result<(), Pair<K, V>>
+        requires { flat_entry K.eq self.old key ≡ None }
+        ensures full { IsErr result ↔ (self.old.free ≡ []) }
+        ensures handed_back { IfErr result (λ pair. (pair.key ≡ key) × (pair.value ≡ value)) }
+        ensures map { self.new ≡ flat_insert K.eq self.old key value }
+        ensures holds { IsOk result → flat_value K.eq self.new key ≡ Some value }
+        ensures refused { OnErr result (self.new ≡ self.old) }
+        ensures kept { (other : K) → K.eq other key ≡ false
+            → flat_value K.eq self.new other ≡ flat_value K.eq self.old other }
+        ensures distinct { HasDistinctKeys K.eq self.new }
+    {
+        // Names the capacity, by which the check knows that the bound does not overflow.
+        let _capacity = self.pairs.capacity();
+        match self.pairs.try_insert(Pair { key, value }) {
+            Ok(place) => {
+                self.bound = bound_with(self.bound, place.value());
+                Ok(())
+            }
+            Err(pair) => Err(pair),
+        }
+    }
+}
+
+/// Returns what is above each place with a pair, and above this place too.
+#[inline]
+fn bound_with(bound: usize, place: usize) -> usize
+    requires { place + 1 ≤ 18446744073709551615 }
+    ensures { result ≡ bound_with bound place }
+{
+    if place < bound { bound } else { place + 1 }
+}
