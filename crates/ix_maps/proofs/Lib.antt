@@ -20,3 +20,4 @@ pub mod WordTables
 pub mod Generations
 pub mod Words
 pub mod MapEntries
+pub mod SlotMapCalls

@@ -1,5 +1,6 @@
 -- The steps of a slot map with generations: the state after each call, and what the calls that change a map promise.
-use Rattle.std.specs.Prelude.{◌≡◌, ◌≢◌, ◌↔◌, ◌⊎◌, ℕ, ◌+◌, ◌<◌, List, [], nat_lt, if◌then◌else◌, Bool, Option, Some, None, IsSome, IsNone, IfSome, is_some, option_map, slice_get, slice_set}
+use Rattle.std.specs.Prelude.{◌≡◌, ◌≢◌, ◌↔◌, ◌⊎◌, ℕ, ◌+◌, ◌<◌, List, [], length, nat_lt, if◌then◌else◌, Bool, Option, Some, None, IsSome, IsNone, IfSome, is_some, option_map, slice_get, slice_set}
+use Rattle.std.specs.List.{fold, range_with_len}
 use Rattle.ix_maps.specs.SlotState.{IsFree}
 use Rattle.ix_maps.specs.SlotSteps.{slot_set, slot_fill, slot_vacate, slot_insert}
 use Rattle.ix_maps.specs.Generations.{SlotKey, SlotMapState, greatest_generation, generation_at, key_at, place_value, map_value, IsDead}
@@ -45,6 +46,14 @@ module _ {T : Type 0} where
   abbrev pub map_remove : SlotMapState T → SlotKey → SlotMapState T
   map_remove s key =
       if is_some (map_value s key) then (if is_raisable s key.index then map_vacate s key.index else map_retire s key.index) else s
+
+  -- the key of the place is removed, if a value is there
+  abbrev pub map_remove_at : SlotMapState T → ℕ → SlotMapState T
+  map_remove_at s place = map_remove s (key_at s place)
+
+  -- each held key is removed, that of the least place first
+  abbrev pub map_clear : SlotMapState T → SlotMapState T
+  map_clear s = fold map_remove_at s (range_with_len 0 (length s.slots.values))
 
   -- what `insert` and `insert_counted` promise
   pub record MapInsert (old : SlotMapState T) (x : T) (new : SlotMapState T) (result : Option SlotKey) : Type 0 where

@@ -15,15 +15,20 @@
 
 mod content;
 mod iter;
+mod keys;
 mod kinds;
 mod meta_slot_map;
 mod slot_map_key;
 mod try_insert;
+mod values;
+mod whole;
 mod word_table;
 
 pub use content::Content;
 pub use iter::Iter;
+pub use keys::Keys;
 pub use kinds::{FixedSizeSlotMap, RelocatableSlotMap, SlotMap, UninitSlotMap};
 pub use meta_slot_map::{MetaSlotMap, dead_keys_law};
 pub use slot_map_key::{SlotMapKey, key_order_law};
+pub use values::Values;
 pub(crate) use word_table::{RETIRED, WordTable};

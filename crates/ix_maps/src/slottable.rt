@@ -12,18 +12,22 @@
 
 mod free_list;
 mod iter;
+mod keys;
 mod kinds;
 mod link;
 mod meta_slot_table;
 mod slot_table_key;
 mod steps;
 mod try_insert;
+mod values;
 mod whole;
 
 pub use iter::Iter;
+pub use keys::Keys;
 pub use kinds::{
     FixedSizeSlotTable, RelocatableSlotTable, SlotTable, SlotTableFamily, UninitSlotTable,
 };
 pub use link::Link;
 pub use meta_slot_table::MetaSlotTable;
 pub use slot_table_key::SlotTableKey;
+pub use values::Values;

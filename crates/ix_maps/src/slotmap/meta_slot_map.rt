@@ -446,7 +446,7 @@ impl<T, S: Table<Option<T>>, L: Table<Link>, G: Table<u64>> MetaSlotMap<Option<T
 
     /// Returns a mutable reference to the value in a place.
     #[inline]
-    fn value_mut(&mut self, index: usize) -> &mut T
+    pub(crate) fn value_mut(&mut self, index: usize) -> &mut T
         requires { IsSome (place_value self.old index) }
         ensures* writes_back { sem 𝓛
             (Lends (the_row (option.the_row T.row) S.row L.row G.row ⟦<Option<T> as Content>⟧ S.Table L.Table G.Table)

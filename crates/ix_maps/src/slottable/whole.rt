@@ -1,11 +1,12 @@
 //! The calls of a slot table that go through all of its values.
-ghost use Rattle.std.specs.Prelude.{◌≡◌, ◌↔◌, ℕ, length, replicate, None};
+ghost use Rattle.std.specs.Prelude.{◌≡◌, ◌↔◌, ℕ, length, map, replicate, None};
 ghost use Rattle.std.specs.List.{FoldsTo};
+ghost use Rattle.std.specs.Map.{keys_of};
 ghost use Rattle.ix_maps.specs.SlotState.{IsHeld, entries};
 ghost use Rattle.ix_maps.specs.SlotSteps.{slot_set, slot_remove, slot_clear};
 ghost use Rattle.ix_maps.specs.SlotCalls.{IsCallableOnEach, ChangesItem, RetainsItem};
 
-use crate::slottable::{Link, MetaSlotTable, SlotTableKey};
+use crate::slottable::{Keys, Link, MetaSlotTable, SlotTableKey, Values};
 use ix_cells::Table;
 
 impl<T, S: Table<T>, L: Table<Link>> MetaSlotTable<T, S, L> {
@@ -22,6 +23,28 @@ impl<T, S: Table<T>, L: Table<Link>> MetaSlotTable<T, S, L> {
         for key in 0..self.capacity() {
             drop(self.remove(SlotTableKey::new(key)));
         }
+    }
+
+    /// Returns an iterator over the held keys in rising order. O(1), and O(capacity) for all of its items together.
+    ///
+    /// ```text
+    /// for key in map.keys() {
+    ///     report(key.value());
+    /// }
+    /// ```
+    #[inline]
+    pub fn keys(&self) -> Keys<'_, T, S, L>
+        ensures { result ≡ keys_of (entries self.now) }
+    {
+        Keys::new(self.iter())
+    }
+
+    /// Returns an iterator over the values in rising order of their keys. O(1), and O(capacity) for all of its items together.
+    #[inline]
+    pub fn values(&self) -> Values<'_, T, S, L>
+        ensures { result ≡ map (λ item. item.1) (entries self.now) }
+    {
+        Values::new(self.iter())
     }
 
     /// Calls `f` with each held key in rising order and a mutable reference to its value. O(capacity), with one call for each

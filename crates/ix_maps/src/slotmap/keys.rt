@@ -1,0 +1,96 @@
+//! The iterator over the keys of slot maps.
+ghost use Rattle.std.specs.Prelude.{◌≡◌, length, Some, IfSome};
+ghost use Rattle.std.specs.Iterator.{YieldsFirstBy, UpTo, at_most, item_count};
+ghost use Rattle.std.specs.Iterator.SizeHint.{IsWithinCount};
+ghost use Rattle.std.specs.Map.{keys_of};
+
+use crate::slotmap::{Iter, SlotMapKey};
+use crate::slottable::Link;
+use ix_cells::Table;
+use std::fmt::{self, Debug, Formatter, Write};
+use std::iter::FusedIterator;
+use std::marker::Model;
+
+/// An iterator over the held keys of a slot map in rising order of their indexes, as
+/// [`MetaSlotMap::keys`](crate::MetaSlotMap::keys) returns it. Contracts see the keys that are still to come.
+///
+/// ```text
+/// let mut map = FixedSizeSlotMap::<char, 3>::new();
+/// map.insert_at(2, 'c');
+/// map.insert('a');
+/// for key in map.keys() {               // index 0, index 2
+///     report(key.index());
+/// }
+/// ```
+#[derive(Drop)]
+pub struct Keys<'a, T, S: Table<Option<T>>, L: Table<Link>, G: Table<u64>> {
+    items: Iter<'a, T, S, L, G>,
+}
+
+impl<'a, T, S: Table<Option<T>>, L: Table<Link>, G: Table<u64>> Model for Keys<'a, T, S, L, G> {
+    ghost use Rattle.std.specs.Prelude.{List};
+    ghost use Rattle.std.specs.Map.{keys_of};
+    ghost use Rattle.ix_maps.specs.Generations.{SlotKey};
+
+    ghost Value = { List SlotKey };
+
+    ghost view = { λ keys. keys_of keys.items };
+}
+
+impl<'a, T, S: Table<Option<T>>, L: Table<Link>, G: Table<u64>> Keys<'a, T, S, L, G> {
+    /// Returns an iterator over the keys of entries. O(1).
+    #[inline]
+    pub(crate) fn new(items: Iter<'a, T, S, L, G>) -> Self
+        ensures { result ≡ keys_of items.entry }
+    {
+        Keys { items }
+    }
+}
+
+impl<'a, T, S: Table<Option<T>>, L: Table<Link>, G: Table<u64>> Iterator for Keys<'a, T, S, L, G> {
+    type Item = SlotMapKey;
+
+    ghost next_gives = { YieldsFirstBy (λ key. key) (λ rest. rest) };
+
+    ghost remaining = { item_count (λ rest. rest) };
+
+    /// Returns the next held key, or `None` after the last one. O(the number of places without a value before it).
+    #[inline]
+    fn next(&mut self) -> Option<SlotMapKey> {
+        match self.items.next() {
+            Some((key, _)) => Some(key),
+            None => None,
+        }
+    }
+
+    /// Returns the number of keys that are still to come, as both bounds. O(1).
+    #[inline]
+    fn size_hint(&self) -> (usize, Option<usize>)
+        ensures value { result ≡ (length self.now, Some (length self.now)) }
+        ensures lower { IsWithinCount result.0 (at_most (length self.now)) }
+        ensures upper { IfSome result.1 (UpTo (at_most (length self.now))) }
+    {
+        self.items.size_hint()
+    }
+}
+
+impl<'a, T, S: Table<Option<T>>, L: Table<Link>, G: Table<u64>> ExactSizeIterator for Keys<'a, T, S, L, G> {
+    /// Returns the number of keys that are still to come. O(1).
+    #[inline]
+    fn len(&self) -> usize {
+        self.items.len()
+    }
+}
+
+impl<'a, T, S: Table<Option<T>>, L: Table<Link>, G: Table<u64>> FusedIterator for Keys<'a, T, S, L, G> {}
+
+/// Prints a list of the indexes and generations of the keys that are still to come. O(capacity).
+impl<'a, T, S: Table<Option<T>>, L: Table<Link>, G: Table<u64>> Debug for Keys<'a, T, S, L, G> {
+    fn fmt<W: Write>(&self, f: &mut Formatter<W>) -> fmt::Result {
+        let mut list = f.debug_list();
+        for (key, _) in self.items.rest() {
+            list.entry(&(key.index(), key.generation()));
+        }
+        list.finish()
+    }
+}

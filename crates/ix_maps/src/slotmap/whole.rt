@@ -1,0 +1,128 @@
+//! The calls of a slot map that go through all of its values.
+ghost use Rattle.std.specs.Prelude.{◌≡◌, ◌≢◌, ◌<◌, ◌↔◌, ◌⊎◌, ℕ, length, map, None, IsSome};
+ghost use Rattle.std.specs.List.{FoldsTo};
+ghost use Rattle.std.specs.Map.{keys_of};
+ghost use Rattle.ix_maps.specs.SlotState.{value_at};
+ghost use Rattle.ix_maps.specs.Generations.{SlotKey, generation_at, key_at, place_value, map_value, IsDead, map_entries};
+ghost use Rattle.ix_maps.specs.SlotMapSteps.{map_set, map_remove, map_clear, MapRemove};
+ghost use Rattle.ix_maps.specs.SlotCalls.{IsCallableOnEach, ChangesItem, RetainsItem};
+
+use crate::slotmap::{Keys, MetaSlotMap, SlotMapKey, Values};
+use crate::slottable::Link;
+use ix_cells::{Table, Touches};
+
+impl<T, S: Table<Option<T>>, L: Table<Link>, G: Table<u64>> MetaSlotMap<Option<T>, S, L, G> {
+    /// Removes all values and drops them, that of the least index first. O(capacity).
+    ///
+    /// The map is as [`MetaSlotMap::remove`] of each held key in turn leaves it: each of these keys is dead, and the place
+    /// whose value was dropped last is the first free one, if it is not retired.
+    pub fn clear(&mut self)
+    where
+        T: Drop,
+        ensures map { self.new ≡ map_clear self.old }
+        ensures empty { (key : SlotKey) → map_value self.new key ≡ None }
+        ensures killed { (key : SlotKey) → IsSome (map_value self.old key) → IsDead self.new key }
+        ensures dead { (key : SlotKey) → IsDead self.old key → IsDead self.new key }
+        ensures capacity { length self.new.slots.values ≡ length self.old.slots.values }
+    {
+        for index in 0..self.capacity() {
+            drop(self.remove_at(index));
+        }
+    }
+
+    /// Returns an iterator over the held keys in rising order of their indexes. O(1), and O(capacity) for all of its items
+    /// together.
+    ///
+    /// ```text
+    /// for key in map.keys() {
+    ///     report(key.index());
+    /// }
+    /// ```
+    #[inline]
+    pub fn keys(&self) -> Keys<'_, T, S, L, G>
+        ensures { result ≡ keys_of (map_entries self.now) }
+    {
+        Keys::new(self.iter())
+    }
+
+    /// Returns an iterator over the values in rising order of the indexes of their keys. O(1), and O(capacity) for all of its
+    /// items together.
+    #[inline]
+    pub fn values(&self) -> Values<'_, T, S, L, G>
+        ensures { result ≡ map (λ item. item.1) (map_entries self.now) }
+    {
+        Values::new(self.iter())
+    }
+
+    /// Calls `f` with each held key in rising order of the indexes and a mutable reference to its value. O(capacity), with one
+    /// call for each value.
+    ///
+    /// ```text
+    /// map.for_each_mut(|_, value| *value += 1);
+    /// ```
+    pub fn for_each_mut<F: FnMut(SlotMapKey, &mut T)>(&mut self, mut f: F)
+        requires { IsCallableOnEach F.step F.pre f (map_entries self.old) }
+        ensures calls { (last : F) × FoldsTo (ChangesItem map_set F.step)
+            (f, self.old) (map_entries self.old) (last, self.new) }
+        ensures keys { (key : SlotKey) →
+            IsSome (map_value self.new key) ↔ IsSome (map_value self.old key) }
+        ensures free { self.new.slots.free ≡ self.old.slots.free }
+        ensures generations { self.new.generations ≡ self.old.generations }
+        ensures dead { (key : SlotKey) → IsDead self.old key → IsDead self.new key }
+        ensures capacity { length self.new.slots.values ≡ length self.old.slots.values }
+    {
+        for index in 0..self.capacity() {
+            if !self.has_value(index, &mut Touches::new()) {
+                continue;
+            }
+            let key = self.key_of(index, &mut Touches::new());
+            f(key, self.value_mut(index));
+        }
+    }
+
+    /// Calls `f` with each held key in rising order of the indexes and a mutable reference to its value. Removes each key for
+    /// which `f` returns `false`, as [`MetaSlotMap::remove`] does, and drops its value, right after the call. O(capacity), with
+    /// one call for each value.
+    ///
+    /// ```text
+    /// map.retain(|_, value| *value > 3);
+    /// ```
+    pub fn retain<F: FnMut(SlotMapKey, &mut T) -> bool>(&mut self, mut f: F)
+    where
+        T: Drop,
+        requires { IsCallableOnEach F.step F.pre f (map_entries self.old) }
+        ensures calls { (last : F) × FoldsTo (RetainsItem map_set map_remove F.step)
+            (f, self.old) (map_entries self.old) (last, self.new) }
+        // A key that was held still is, or it is dead.
+        ensures removed { (key : SlotKey) → IsSome (map_value self.old key)
+            → IsSome (map_value self.new key) ⊎ IsDead self.new key }
+        ensures dead { (key : SlotKey) → IsDead self.old key → IsDead self.new key }
+        ensures capacity { length self.new.slots.values ≡ length self.old.slots.values }
+    {
+        for index in 0..self.capacity() {
+            if !self.has_value(index, &mut Touches::new()) {
+                continue;
+            }
+            let key = self.key_of(index, &mut Touches::new());
+            if !f(key, self.value_mut(index)) {
+                drop(self.remove_at(index));
+            }
+        }
+    }
+
+    /// Removes the key of a place and returns its value, or `None` if no value is there.
+    #[inline]
+    pub(crate) fn remove_at(&mut self, index: usize) -> Option<T>
+        requires { index < length self.old.slots.values }
+        ensures step { MapRemove self.old (key_at self.old index) self.new result }
+        ensures value { result ≡ place_value self.old index }
+        ensures gone { place_value self.new index ≡ None }
+    {
+        let mut touches = Touches::new();
+        if !self.has_value(index, &mut touches) {
+            return None;
+        }
+        let key = self.key_of(index, &mut touches);
+        self.remove_counted(key, &mut touches)
+    }
+}

@@ -1,0 +1,94 @@
+//! The iterator over the keys of slot tables.
+ghost use Rattle.std.specs.Prelude.{◌≡◌, length, Some, IfSome};
+ghost use Rattle.std.specs.Iterator.{YieldsFirstBy, UpTo, at_most, item_count};
+ghost use Rattle.std.specs.Iterator.SizeHint.{IsWithinCount};
+ghost use Rattle.std.specs.Map.{keys_of};
+
+use crate::slottable::{Iter, Link, SlotTableKey};
+use ix_cells::Table;
+use std::fmt::{self, Debug, Formatter, Write};
+use std::iter::FusedIterator;
+use std::marker::Model;
+
+/// An iterator over the held keys of a slot table in rising order of their numbers, as
+/// [`MetaSlotTable::keys`](crate::MetaSlotTable::keys) returns it. Contracts see the keys that are still to come.
+///
+/// ```text
+/// let mut map = FixedSizeSlotTable::<char, 3>::new();
+/// map.insert_at(SlotTableKey::new(2), 'c');
+/// map.insert('a');
+/// for key in map.keys() {               // 0, 2
+///     report(key.value());
+/// }
+/// ```
+#[derive(Drop)]
+pub struct Keys<'a, T, S: Table<T>, L: Table<Link>> {
+    items: Iter<'a, T, S, L>,
+}
+
+impl<'a, T, S: Table<T>, L: Table<Link>> Model for Keys<'a, T, S, L> {
+    ghost use Rattle.std.specs.Prelude.{ℕ, List};
+    ghost use Rattle.std.specs.Map.{keys_of};
+
+    ghost Value = { List ℕ };
+
+    ghost view = { λ keys. keys_of keys.items };
+}
+
+impl<'a, T, S: Table<T>, L: Table<Link>> Keys<'a, T, S, L> {
+    /// Returns an iterator over the keys of entries. O(1).
+    #[inline]
+    pub(crate) fn new(items: Iter<'a, T, S, L>) -> Self
+        ensures { result ≡ keys_of items.entry }
+    {
+        Keys { items }
+    }
+}
+
+impl<'a, T, S: Table<T>, L: Table<Link>> Iterator for Keys<'a, T, S, L> {
+    type Item = SlotTableKey;
+
+    ghost next_gives = { YieldsFirstBy (λ key. key) (λ rest. rest) };
+
+    ghost remaining = { item_count (λ rest. rest) };
+
+    /// Returns the next held key, or `None` after the last one. O(the number of free keys before it).
+    #[inline]
+    fn next(&mut self) -> Option<SlotTableKey> {
+        match self.items.next() {
+            Some((key, _)) => Some(key),
+            None => None,
+        }
+    }
+
+    /// Returns the number of keys that are still to come, as both bounds. O(1).
+    #[inline]
+    fn size_hint(&self) -> (usize, Option<usize>)
+        ensures value { result ≡ (length self.now, Some (length self.now)) }
+        ensures lower { IsWithinCount result.0 (at_most (length self.now)) }
+        ensures upper { IfSome result.1 (UpTo (at_most (length self.now))) }
+    {
+        self.items.size_hint()
+    }
+}
+
+impl<'a, T, S: Table<T>, L: Table<Link>> ExactSizeIterator for Keys<'a, T, S, L> {
+    /// Returns the number of keys that are still to come. O(1).
+    #[inline]
+    fn len(&self) -> usize {
+        self.items.len()
+    }
+}
+
+impl<'a, T, S: Table<T>, L: Table<Link>> FusedIterator for Keys<'a, T, S, L> {}
+
+/// Prints a list of the numbers of the keys that are still to come. O(capacity).
+impl<'a, T, S: Table<T>, L: Table<Link>> Debug for Keys<'a, T, S, L> {
+    fn fmt<W: Write>(&self, f: &mut Formatter<W>) -> fmt::Result {
+        let mut list = f.debug_list();
+        for (key, _) in self.items.rest() {
+            list.entry(&key.value());
+        }
+        list.finish()
+    }
+}

@@ -1,0 +1,92 @@
+//! The iterator over the values of slot tables.
+ghost use Rattle.std.specs.Prelude.{◌≡◌, length, map, Some, IfSome};
+ghost use Rattle.std.specs.Iterator.{YieldsFirstBy, UpTo, at_most, item_count};
+ghost use Rattle.std.specs.Iterator.SizeHint.{IsWithinCount};
+
+use crate::slottable::{Iter, Link};
+use ix_cells::Table;
+use std::fmt::{self, Debug, Formatter, Write};
+use std::iter::FusedIterator;
+use std::marker::Model;
+
+/// An iterator over the values of a slot table in rising order of their keys, as
+/// [`MetaSlotTable::values`](crate::MetaSlotTable::values) returns it. Contracts see the values that are still to come.
+///
+/// ```text
+/// let mut map = FixedSizeSlotTable::<char, 3>::new();
+/// map.insert_at(SlotTableKey::new(2), 'c');
+/// map.insert('a');
+/// for value in map.values() {           // 'a', 'c'
+///     report(value);
+/// }
+/// ```
+#[derive(Drop)]
+pub struct Values<'a, T, S: Table<T>, L: Table<Link>> {
+    items: Iter<'a, T, S, L>,
+}
+
+impl<'a, T, S: Table<T>, L: Table<Link>> Model for Values<'a, T, S, L> {
+    ghost use Rattle.std.specs.Prelude.{List, map};
+
+    ghost Value = { List T };
+
+    ghost view = { λ values. map (λ item. item.1) values.items };
+}
+
+impl<'a, T, S: Table<T>, L: Table<Link>> Values<'a, T, S, L> {
+    /// Returns an iterator over the values of entries. O(1).
+    #[inline]
+    pub(crate) fn new(items: Iter<'a, T, S, L>) -> Self
+        ensures { result ≡ map (λ item. item.1) items.entry }
+    {
+        Values { items }
+    }
+}
+
+impl<'a, T, S: Table<T>, L: Table<Link>> Iterator for Values<'a, T, S, L> {
+    type Item = &'a T;
+
+    ghost next_gives = { YieldsFirstBy (λ value. value.now) (λ rest. rest) };
+
+    ghost remaining = { item_count (λ rest. rest) };
+
+    /// Returns the next value, or `None` after the last one. O(the number of free keys before it).
+    #[inline]
+    fn next(&mut self) -> Option<&'a T> {
+        match self.items.next() {
+            Some((_, value)) => Some(value),
+            None => None,
+        }
+    }
+
+    /// Returns the number of values that are still to come, as both bounds. O(1).
+    #[inline]
+    fn size_hint(&self) -> (usize, Option<usize>)
+        ensures value { result ≡ (length self.now, Some (length self.now)) }
+        ensures lower { IsWithinCount result.0 (at_most (length self.now)) }
+        ensures upper { IfSome result.1 (UpTo (at_most (length self.now))) }
+    {
+        self.items.size_hint()
+    }
+}
+
+impl<'a, T, S: Table<T>, L: Table<Link>> ExactSizeIterator for Values<'a, T, S, L> {
+    /// Returns the number of values that are still to come. O(1).
+    #[inline]
+    fn len(&self) -> usize {
+        self.items.len()
+    }
+}
+
+impl<'a, T, S: Table<T>, L: Table<Link>> FusedIterator for Values<'a, T, S, L> {}
+
+/// Prints a list of the values that are still to come. O(capacity).
+impl<'a, T: Debug, S: Table<T>, L: Table<Link>> Debug for Values<'a, T, S, L> {
+    fn fmt<W: Write>(&self, f: &mut Formatter<W>) -> fmt::Result {
+        let mut list = f.debug_list();
+        for (_, value) in self.items.rest() {
+            list.entry(value);
+        }
+        list.finish()
+    }
+}
