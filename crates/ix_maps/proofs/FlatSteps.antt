@@ -77,9 +77,6 @@ module _ {K V : Type 0} (eq : K → K → Bool) (laws : IsEquivalence eq) where
         let is : found.0 ≡ pair = cc in
         record { at = sym step.value; equal = ap (λ (p : Pair K V). eq p.key key) (sym is) ∙ found.2.equal }
 
-    pub flat_value-was : Some pair.value ≡ flat_value eq old key
-    flat_value-was = sym (flat_value-IsEntry eq laws old key place pair distinct was_entry.at was_entry.equal)
-
     value_at-removed : (i : ℕ) (a : Pair K V) → value_at new i ≡ Some a → (i ≢ place) × (value_at old i ≡ Some a)
     value_at-removed i a at =
         let other : i ≢ place = λ same. let none : Some a ≡ None = sym at ∙ (ap (value_at new) same ∙ step.gone) in absurd (cc) in

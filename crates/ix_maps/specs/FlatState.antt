@@ -26,6 +26,10 @@ module _ {K V : Type 0} where
   abbrev pub flat_keys : SlotState (Pair K V) → List K
   flat_keys s = map (λ entry. entry.1.key) (entries s)
 
+  -- the values in the same order
+  abbrev pub flat_values : SlotState (Pair K V) → List V
+  flat_values s = map (λ entry. entry.1.value) (entries s)
+
   -- the key and the value of an entry
   abbrev pub flat_item : ℕ × Pair K V → K × V
   flat_item entry = (entry.1.key, entry.1.value)

@@ -19,6 +19,7 @@ mod kinds;
 mod meta_flat_map;
 mod pair;
 mod search;
+mod values;
 
 pub use callback_progression::CallbackProgression;
 pub use flat_map_error::FlatMapError;
@@ -27,3 +28,4 @@ pub use keys::Keys;
 pub use kinds::{FixedSizeFlatMap, FlatMap, FlatMapFamily, RelocatableFlatMap, UninitFlatMap};
 pub use meta_flat_map::MetaFlatMap;
 pub use pair::{Keyed, Pair};
+pub use values::Values;

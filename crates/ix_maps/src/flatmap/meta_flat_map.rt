@@ -1,15 +1,16 @@
 //! The flat map over any two tables.
-ghost use Rattle.std.specs.Prelude.{◌≡◌, ◌↔◌, ◌+◌, ◌<◌, ◌≤◌, ℕ, [], length, Some, None, IsSome, IsTrue, IsNone, IsOk, IfSome, IfOk, OnErr, option_copied, option_map, slice_get, false, true};
+ghost use Rattle.std.specs.Prelude.{◌≡◌, ◌↔◌, ◌+◌, ◌<◌, ◌≤◌, ℕ, [], length, Some, None, IsSome, IsTrue, IsNone, IsOk, IfSome, IfOk, OnErr, option_copied, option_map, replicate, slice_get, false, true};
 ghost use Rattle.std.specs.Borrow.{sem, Lends, LendsIf};
 ghost use Rattle.std.specs.Option.{option_copied_mut};
 ghost use Rattle.std.specs.Map.{keys_of, lookup};
 ghost use Rattle.ix_cells.specs.Cloning.{AreEqualClones};
 ghost use Rattle.ix_maps.specs.SlotState.{IsWellFormed, IsHeld, value_at, held_count};
-ghost use Rattle.ix_maps.specs.FlatState.{HasDistinctKeys, flat_entry, flat_value, flat_keys, flat_item, flat_items};
+ghost use Rattle.ix_maps.specs.SlotSteps.{slot_clear};
+ghost use Rattle.ix_maps.specs.FlatState.{HasDistinctKeys, flat_entry, flat_value, flat_keys, flat_values, flat_item, flat_items};
 ghost use Rattle.ix_maps.specs.FlatSteps.{flat_insert_result, flat_insert, pair_set, flat_set, flat_remove, ListsUntilStop};
 ghost use Rattle.ix_maps.specs.inner.FlatSearch.{bound_without};
 
-use crate::flatmap::{CallbackProgression, FlatMapError, Iter, Keyed, Keys, Pair};
+use crate::flatmap::{CallbackProgression, FlatMapError, Iter, Keyed, Keys, Pair, Values};
 use crate::slottable::{Link, MetaSlotTable, SlotTableKey};
 use ix_cells::Table;
 use std::alloc::AllocError;
@@ -122,6 +123,18 @@ impl<K: Eq + Drop, V: Drop, S: Table<Pair<K, V>>, L: Table<Link>> MetaFlatMap<Pa
         }
     }
 
+    /// Returns references to the equal key of the map and to its value, or `None` if the map has no equal key.
+    #[inline]
+    pub fn get_key_value(&self, key: &K) -> Option<(&K, &V)>
+        ensures { option_map (λ item. (item.0.now, item.1.now)) result
+            ≡ option_map (λ entry. flat_item entry) (flat_entry K.eq self.now key.now) }
+    {
+        match self.find(key) {
+            Some((_, pair)) => Some((&pair.key, &pair.value)),
+            None => None,
+        }
+    }
+
     /// Returns a mutable reference to the value of `key`, or `None` if the map has no equal key.
     #[inline]
     pub fn get_mut_ref(&mut self, key: &K) -> Option<&mut V>
@@ -171,6 +184,18 @@ impl<K: Eq + Drop, V: Drop, S: Table<Pair<K, V>>, L: Table<Link>> MetaFlatMap<Pa
         let pair = self.pairs.remove_unchecked(place);
         self.bound = bound_without(self.bound, place.value());
         Some((pair.key, pair.value))
+    }
+
+    /// Removes all keys and drops them with their values, in slot order. O(capacity).
+    ///
+    /// The free places are in the order that [`MetaFlatMap::remove`] of each key in slot order leaves, so that the next new key
+    /// takes the place of the last one.
+    pub fn clear(&mut self)
+        ensures map { self.new ≡ slot_clear self.old }
+        ensures values { self.new.values ≡ replicate (length self.old.values) None }
+    {
+        self.pairs.clear();
+        self.bound = 0;
     }
 
     /// Returns the maximum number of keys. O(1).
@@ -245,6 +270,14 @@ impl<K: Eq + Drop, V: Drop, S: Table<Pair<K, V>>, L: Table<Link>> MetaFlatMap<Pa
         ensures { result ≡ flat_keys self.now }
     {
         Keys::new(self.pairs.iter())
+    }
+
+    /// Returns an iterator over the values in slot order of their keys. O(1), and O(capacity) for all of its items together.
+    #[inline]
+    pub fn values(&self) -> Values<'_, K, V, S, L>
+        ensures { result ≡ flat_values self.now }
+    {
+        Values::new(self.pairs.iter())
     }
 
     /// Returns an iterator over the keys in slot order, each with its value. O(1), and O(capacity) for all of its items

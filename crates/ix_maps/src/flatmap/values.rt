@@ -1,0 +1,93 @@
+//! The iterator over the values of flat maps.
+ghost use Rattle.std.specs.Prelude.{◌≡◌, length, map, Some, IfSome};
+ghost use Rattle.std.specs.Iterator.{YieldsFirstBy, UpTo, at_most, item_count};
+ghost use Rattle.std.specs.Iterator.SizeHint.{IsWithinCount};
+
+use crate::flatmap::Pair;
+use crate::slottable::{Iter, Link};
+use ix_cells::Table;
+use std::fmt::{self, Debug, Formatter, Write};
+use std::iter::FusedIterator;
+use std::marker::Model;
+
+/// An iterator over the values of a flat map in slot order of their keys, as
+/// [`MetaFlatMap::values`](crate::flatmap::MetaFlatMap::values) returns it. Contracts see the values that are still to come.
+///
+/// ```text
+/// let mut map = FixedSizeFlatMap::<u16, char, 3>::new();
+/// map.insert(443, 'b');
+/// map.insert(80, 'a');
+/// for value in map.values() {           // 'b', 'a'
+///     report(*value);
+/// }
+/// ```
+#[derive(Drop)]
+pub struct Values<'a, K, V, S: Table<Pair<K, V>>, L: Table<Link>> {
+    pairs: Iter<'a, Pair<K, V>, S, L>,
+}
+
+impl<'a, K, V, S: Table<Pair<K, V>>, L: Table<Link>> Model for Values<'a, K, V, S, L> {
+    ghost use Rattle.std.specs.Prelude.{List, map};
+
+    ghost Value = { List V };
+
+    ghost view = { λ values. map (λ entry. entry.1.value) values.pairs };
+}
+
+impl<'a, K, V, S: Table<Pair<K, V>>, L: Table<Link>> Values<'a, K, V, S, L> {
+    /// Returns an iterator over the values of pairs. O(1).
+    #[inline]
+    pub(crate) fn new(pairs: Iter<'a, Pair<K, V>, S, L>) -> Self
+        ensures { result ≡ map (λ entry. entry.1.value) pairs.entry }
+    {
+        Values { pairs }
+    }
+}
+
+impl<'a, K, V, S: Table<Pair<K, V>>, L: Table<Link>> Iterator for Values<'a, K, V, S, L> {
+    type Item = &'a V;
+
+    ghost next_gives = { YieldsFirstBy (λ value. value.now) (λ rest. rest) };
+
+    ghost remaining = { item_count (λ rest. rest) };
+
+    /// Returns the next value, or `None` after the last one. O(the number of free places before it).
+    #[inline]
+    fn next(&mut self) -> Option<&'a V> {
+        match self.pairs.next() {
+            Some((_, pair)) => Some(&pair.value),
+            None => None,
+        }
+    }
+
+    /// Returns the number of values that are still to come, as both bounds. O(1).
+    #[inline]
+    fn size_hint(&self) -> (usize, Option<usize>)
+        ensures value { result ≡ (length self.now, Some (length self.now)) }
+        ensures lower { IsWithinCount result.0 (at_most (length self.now)) }
+        ensures upper { IfSome result.1 (UpTo (at_most (length self.now))) }
+    {
+        self.pairs.size_hint()
+    }
+}
+
+impl<'a, K, V, S: Table<Pair<K, V>>, L: Table<Link>> ExactSizeIterator for Values<'a, K, V, S, L> {
+    /// Returns the number of values that are still to come. O(1).
+    #[inline]
+    fn len(&self) -> usize {
+        self.pairs.len()
+    }
+}
+
+impl<'a, K, V, S: Table<Pair<K, V>>, L: Table<Link>> FusedIterator for Values<'a, K, V, S, L> {}
+
+/// Prints a list of the values that are still to come. O(capacity).
+impl<'a, K, V: Debug, S: Table<Pair<K, V>>, L: Table<Link>> Debug for Values<'a, K, V, S, L> {
+    fn fmt<W: Write>(&self, f: &mut Formatter<W>) -> fmt::Result {
+        let mut list = f.debug_list();
+        for (_, pair) in self.pairs.rest() {
+            list.entry(&pair.value);
+        }
+        list.finish()
+    }
+}
