@@ -11,6 +11,7 @@
 //! ```
 
 mod free_list;
+mod into_iter;
 mod iter;
 mod keys;
 mod kinds;
@@ -22,6 +23,7 @@ mod try_insert;
 mod values;
 mod whole;
 
+pub use into_iter::IntoIter;
 pub use iter::Iter;
 pub use keys::Keys;
 pub use kinds::{
