@@ -13,6 +13,7 @@
 //! }
 //! ```
 
+mod compared;
 mod content;
 mod into_iter;
 mod iter;

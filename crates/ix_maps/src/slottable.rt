@@ -10,6 +10,7 @@
 //! }
 //! ```
 
+mod compared;
 mod free_list;
 mod into_iter;
 mod iter;
