@@ -21,3 +21,4 @@ pub mod Generations
 pub mod Words
 pub mod MapEntries
 pub mod SlotMapCalls
+pub mod MapRemovals

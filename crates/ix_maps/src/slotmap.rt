@@ -13,7 +13,9 @@
 //! }
 //! ```
 
+mod compared;
 mod content;
+mod into_iter;
 mod iter;
 mod keys;
 mod kinds;
@@ -25,6 +27,7 @@ mod whole;
 mod word_table;
 
 pub use content::Content;
+pub use into_iter::IntoIter;
 pub use iter::Iter;
 pub use keys::Keys;
 pub use kinds::{FixedSizeSlotMap, RelocatableSlotMap, SlotMap, UninitSlotMap};

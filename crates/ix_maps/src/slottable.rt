@@ -10,7 +10,9 @@
 //! }
 //! ```
 
+mod compared;
 mod free_list;
+mod into_iter;
 mod iter;
 mod keys;
 mod kinds;
@@ -22,6 +24,7 @@ mod try_insert;
 mod values;
 mod whole;
 
+pub use into_iter::IntoIter;
 pub use iter::Iter;
 pub use keys::Keys;
 pub use kinds::{

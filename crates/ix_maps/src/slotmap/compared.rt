@@ -1,0 +1,51 @@
+//! Equality of slot maps.
+ghost use Rattle.std.specs.Prelude.{nat_eq, ◌&&◌};
+ghost use Rattle.std.specs.Cmp.{and_per, on_per, on_equiv, partial_equiv_from_equiv};
+ghost use Rattle.std.proofs.lemmas.Cmp.{and_equiv, nat_eq_equiv};
+ghost use Rattle.std.specs.Cmp.Lexicographic.{pointwise, lists_per, lists_equiv};
+ghost use Rattle.ix_maps.specs.Generations.{map_entries};
+
+use crate::slotmap::MetaSlotMap;
+use crate::slottable::Link;
+use ix_cells::Table;
+
+/// Maps are equal if they have the same held keys, with their generations, with equal values. Their capacities, and the
+/// generations and the order of their free places do not matter.
+impl<T: PartialEq, S: Table<Option<T>>, L: Table<Link>, G: Table<u64>> PartialEq
+    for MetaSlotMap<Option<T>, S, L, G> {
+    ghost eq = { λ map other. pointwise
+        (λ p q. (nat_eq p.0.index q.0.index && nat_eq p.0.generation q.0.generation) && T.eq p.1 q.1)
+        (map_entries map) (map_entries other) };
+
+    ghost laws = { on_per map_entries (lists_per (and_per
+        (and_per (on_per (λ p. p.0.index) (partial_equiv_from_equiv nat_eq_equiv))
+        (on_per (λ p. p.0.generation) (partial_equiv_from_equiv nat_eq_equiv)))
+        (on_per (λ p. p.1) T.laws))) };
+
+    /// Returns `true` if the maps are equal. O(capacity).
+    fn eq(&self, other: &Self) -> bool {
+        let mut others = other.iter();
+        for (key, value) in self.iter() {
+            match others.next() {
+                Some((other_key, other_value)) => {
+                    if key != other_key {
+                        return false;
+                    }
+                    if value != other_value {
+                        return false;
+                    }
+                }
+                None => return false,
+            }
+        }
+        others.len() == 0
+    }
+}
+
+impl<T: Eq, S: Table<Option<T>>, L: Table<Link>, G: Table<u64>> Eq
+    for MetaSlotMap<Option<T>, S, L, G> {
+    ghost laws = { on_equiv map_entries (lists_equiv (and_equiv
+        (and_equiv (on_equiv (λ p. p.0.index) nat_eq_equiv)
+        (on_equiv (λ p. p.0.generation) nat_eq_equiv))
+        (on_equiv (λ p. p.1) T.Eq.laws))) };
+}

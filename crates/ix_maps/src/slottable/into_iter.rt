@@ -1,0 +1,104 @@
+//! The iterator that removes the values of a slot table.
+ghost use Rattle.std.specs.Prelude.{◌≡◌, length, Some, IfSome};
+ghost use Rattle.std.specs.Iterator.{YieldsFirst, UpTo, at_most, item_count};
+ghost use Rattle.std.specs.Iterator.SizeHint.{IsWithinCount};
+ghost use Rattle.ix_maps.specs.SlotState.{entries};
+
+use crate::slottable::{Link, MetaSlotTable, SlotTableKey};
+use ix_cells::Table;
+use std::fmt::{self, Debug, Formatter, Write};
+use std::iter::FusedIterator;
+use std::marker::Model;
+
+/// An iterator that removes the values of a slot table, each with its key, in rising order of the keys, as `into_iter`
+/// returns it. Contracts see the items that are still to come.
+///
+/// It has the map's memory. The values that are still to come when it is dropped are dropped with it, that of the least key
+/// first, in O(capacity) time.
+///
+/// ```text
+/// for (key, value) in map {             // the map is moved
+///     send(key.value(), value);
+/// }
+/// ```
+#[derive(Drop)]
+pub struct IntoIter<T, S: Table<T>, L: Table<Link>> {
+    map: MetaSlotTable<T, S, L>,
+    /// The least key that is still to be visited.
+    key: usize,
+}
+
+impl<T, S: Table<T>, L: Table<Link>> Model for IntoIter<T, S, L> {
+    ghost use Rattle.std.specs.Prelude.{◌≡◌, ℕ, List, length, drop};
+    ghost use Rattle.ix_maps.specs.SlotState.{held_count, entries_from};
+
+    ghost Value = { List (ℕ × T) };
+
+    ghost view = { λ iter. entries_from iter.key (drop iter.key iter.map.values) };
+
+    ghost invariant = { λ iter.
+        held_count iter.map ≡ length (entries_from iter.key (drop iter.key iter.map.values)) };
+}
+
+impl<T: Drop, S: Table<T>, L: Table<Link>> Iterator for IntoIter<T, S, L> {
+    type Item = (SlotTableKey, T);
+
+    ghost next_gives = { YieldsFirst (λ rest. rest) };
+
+    ghost remaining = { item_count (λ rest. rest) };
+
+    /// Removes the value of the next held key and returns both, or `None` after the last one. O(the number of free keys before
+    /// it).
+    #[inline]
+    fn next(&mut self) -> Option<(SlotTableKey, T)> {
+        if self.map.is_empty() {
+            return None;
+        }
+        let number = self.map.held_from(self.key);
+        self.key = number + 1;
+        let key = SlotTableKey::new(number);
+        Some((key, self.map.remove_unchecked(key)))
+    }
+
+    /// Returns the number of items that are still to come, as both bounds. O(1).
+    #[inline]
+    fn size_hint(&self) -> (usize, Option<usize>)
+        ensures value { result ≡ (length self.now, Some (length self.now)) }
+        ensures lower { IsWithinCount result.0 (at_most (length self.now)) }
+        ensures upper { IfSome result.1 (UpTo (at_most (length self.now))) }
+    {
+        let len = self.map.len();
+        (len, Some(len))
+    }
+}
+
+impl<T: Drop, S: Table<T>, L: Table<Link>> ExactSizeIterator for IntoIter<T, S, L> {
+    /// Returns the number of items that are still to come. O(1).
+    #[inline]
+    fn len(&self) -> usize {
+        self.map.len()
+    }
+}
+
+impl<T: Drop, S: Table<T>, L: Table<Link>> FusedIterator for IntoIter<T, S, L> {}
+
+/// Prints a list of the items that are still to come, each the number of its key and its value. O(capacity).
+impl<T: Debug, S: Table<T>, L: Table<Link>> Debug for IntoIter<T, S, L> {
+    fn fmt<W: Write>(&self, f: &mut Formatter<W>) -> fmt::Result {
+        self.map.iter().fmt(f)
+    }
+}
+
+impl<T: Drop, S: Table<T>, L: Table<Link>> IntoIterator for MetaSlotTable<T, S, L> {
+    type Item = (SlotTableKey, T);
+
+    type IntoIter = IntoIter<T, S, L>;
+
+    ghost into_iter_gives = { λ map iter. iter ≡ entries map };
+
+    /// Returns an iterator that removes the values, each with its key, in rising order of the keys. O(1).
+    #[inline]
+    fn into_iter(self) -> IntoIter<T, S, L> {
+        IntoIter { map: self, key: 0 }
+    }
+}
