@@ -1,6 +1,8 @@
 pub mod Pairs
 pub mod Rings
 pub mod Ranges
+pub mod Backs
+pub mod QueueCalls
 mod WorkedQueues
 mod WorkedFlatMaps
 mod WorkedSlotTables

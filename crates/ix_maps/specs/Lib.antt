@@ -1,5 +1,6 @@
 pub use Rattle.ix_cells.specs.Bounded
 pub mod QueueSteps
+pub mod QueueCalls
 pub mod SlotState
 pub mod SlotSteps
 pub mod Generations

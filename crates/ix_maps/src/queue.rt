@@ -9,6 +9,8 @@
 //! queue.pop();                      // Some(1)
 //! ```
 
+mod edits;
+mod items;
 mod iter;
 mod kinds;
 mod meta_queue;
