@@ -3,6 +3,7 @@ pub mod Rings
 pub mod Ranges
 pub mod Backs
 pub mod QueueCalls
+pub mod QueueDrains
 mod WorkedQueues
 mod WorkedFlatMaps
 mod WorkedSlotTables

@@ -9,12 +9,14 @@
 //! queue.pop();                      // Some(1)
 //! ```
 
+mod drain;
 mod edits;
 mod items;
 mod iter;
 mod kinds;
 mod meta_queue;
 
+pub use drain::Drain;
 pub use iter::{IntoIter, Iter};
 pub use kinds::{FixedSizeQueue, Queue, QueueFamily, RelocatableQueue, UninitQueue};
 pub use meta_queue::MetaQueue;
