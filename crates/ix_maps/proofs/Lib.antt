@@ -4,6 +4,8 @@ pub mod Ranges
 pub mod Backs
 pub mod QueueCalls
 pub mod QueueDrains
+pub mod QueueOrders
+pub mod QueueClones
 mod WorkedQueues
 mod WorkedFlatMaps
 mod WorkedSlotTables

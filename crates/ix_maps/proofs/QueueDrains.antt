@@ -1,5 +1,5 @@
 -- What stays while a queue is drained.
-use Rattle.std.proofs.Common.{List, [], ◌∷◌, refl, subst, ◌∙◌}
+use Rattle.std.proofs.Common.{[], ◌∷◌, refl, subst, ◌∙◌}
 use Rattle.ix_maps.specs.QueueDrain.{DrainKeeps, DrainKeepsAlong}
 use Rattle.ix_maps.specs.declared.queue.drain.Drain.{Drain}
 

@@ -9,12 +9,14 @@
 //! queue.pop();                      // Some(1)
 //! ```
 
+mod copies;
 mod drain;
 mod edits;
 mod items;
 mod iter;
 mod kinds;
 mod meta_queue;
+mod order;
 
 pub use drain::Drain;
 pub use iter::{IntoIter, Iter};

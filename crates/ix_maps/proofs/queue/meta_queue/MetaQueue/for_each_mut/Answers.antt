@@ -1,4 +1,4 @@
-use Rattle.std.proofs.Common.{◌≡◌, ◌+◌, ◌∷◌, ◌++◌, [], List, length, length-set, take, drop, refl, sym, subst, ap, ◌∙◌, arith, of_calls, append-nil}
+use Rattle.std.proofs.Common.{◌≡◌, ◌∷◌, ◌++◌, [], List, length-set, take, drop, refl, sym, subst, ◌∙◌, arith, of_calls, append-nil}
 use Rattle.std.specs.Fn.{CalledAtMut}
 use Rattle.std.proofs.lemmas.List.{drop_all, take_all}
 use Rattle.ix_cells.proofs.Calls.{Callable-now, Callable-on}
@@ -40,5 +40,5 @@ returns-clause-items g c =
     let whole : take c.loop-i.i items ++ [] ≡ items = append-nil _ ∙ take_all c.loop-i.i items (omega arith) in (
       c.loop-i.f,
       subst (λ (changed : List g.row.T.Denot). ChangesInTurn g.F.FnMut c.args.f old changed c.loop-i.f) whole
-      (at.calls [] c.loop-i.f (subst (λ (left : List g.row.T.Denot). ChangesInTurn g.F.FnMut c.loop-i.f left [] c.loop-i.f) (sym none) refl)),
+          (at.calls [] c.loop-i.f (subst (λ (left : List g.row.T.Denot). ChangesInTurn g.F.FnMut c.loop-i.f left [] c.loop-i.f) (sym none) refl)),
     )

@@ -1,4 +1,4 @@
-use Rattle.std.proofs.Common.{◌<◌, ◌≤◌, ◌≡◌, ◌-◌, ◌+◌, ◌∷◌, [], true, false, length, length-append, length-drop, drop, sym, refl, ap, ◌∙◌, arith, rules, of_calls}
+use Rattle.std.proofs.Common.{◌<◌, true, false, length, sym, refl, ap, arith, rules}
 use Rattle.std.proofs.lemmas.Fn.{called_at}
 use Rattle.std.proofs.lemmas.Grind.{common_steps}
 use Rattle.std.specs.Fn.{CalledAt}
