@@ -1,6 +1,11 @@
 pub mod Pairs
 pub mod Rings
 pub mod Ranges
+pub mod Backs
+pub mod QueueCalls
+pub mod QueueDrains
+pub mod QueueOrders
+pub mod QueueClones
 mod WorkedQueues
 mod WorkedFlatMaps
 mod WorkedSlotTables

@@ -3,12 +3,13 @@ use Rattle.std.proofs.Common.{◌≡◌, ℕ, zero, suc, ◌+◌, ◌-◌, ◌<�
 use Rattle.std.specs.Prelude.{replicate, if◌then◌else◌}
 use Rattle.std.proofs.lemmas.Bool.{cases_lt, cases_eq}
 use Rattle.std.proofs.lemmas.Bool.Decides.{nat_tests}
-use Rattle.std.proofs.lemmas.List.{append-nil, append_assoc, length-append, length-drop, length-map, length-replicate, length-set, drop-append-le, drop-drop, drop-set-add, drop-set-lt, drop_all, take-set-le, take_all, take_more_set, set-append_left, set-append_right, set-set, set_at, get_or-append_right, get_or-drop, get_or-replicate, get_or-take, get_or_append_left, map_push, replicate_more, take_at, drop_at, take-append-drop, take-replicate, drop-replicate, replicate-append-replicate}
+use Rattle.std.proofs.lemmas.List.{append-nil, append_assoc, length-append, length-drop, length-map, length-replicate, length-set, length-take-le, drop-append-le, drop-drop, drop-set-add, drop-set-lt, drop_all, take-set-le, take_all, take_more_set, set-append_left, set-append_right, set-set, set_at, get_or-append_right, get_or-drop, get_or-replicate, get_or-take, get_or_append_left, map-set, map_push, replicate_more, take_at, drop_at, take-append-drop, take-replicate, drop-replicate, replicate-append-replicate}
 use Rattle.std.proofs.Math.Seq.{take-set-lt}
 use Rattle.std.specs.List.{push}
 use Rattle.ix_cells.specs.Bounded.{Bounded, bounded_new, with_items}
 use Rattle.ix_cells.specs.Places.{place_at, IsEmptyAt, IsHeldAt, IsVacant}
-use Rattle.ix_maps.specs.QueueSteps.{is_too_long, queue_overflow, queue_pop, queue_set_front}
+use Rattle.ix_cells.specs.VectorSteps.{vec_last, vec_pop}
+use Rattle.ix_maps.specs.QueueSteps.{is_too_long, queue_overflow, queue_pop, queue_set, queue_set_front}
 use Rattle.ix_maps.specs.inner.Ring.{ring_place, ring_next, ring_row, row_items, IsRingOf, IsRing}
 
 -- before the end of the row
@@ -128,7 +129,7 @@ module _ {T : Type 0} where
       ∙ sym (append-nil _)
       ∙ ap (λ k. map Some (items ++ y ∷ []) ++ replicate k None) {x = 0} (omega arith)
 
-  IsSome-slice_get : (items : List T) (i : ℕ) → i < length items → IsSome (slice_get items i)
+  pub IsSome-slice_get : (items : List T) (i : ℕ) → i < length items → IsSome (slice_get items i)
   IsSome-slice_get [] i below = absurd (omega arith)
   IsSome-slice_get (x ∷ items) zero below = refl
   IsSome-slice_get (x ∷ items) (suc i) below = IsSome-slice_get items i (omega arith)
@@ -299,35 +300,93 @@ module _ {T : Type 0} where
         counted = omega arith;
       }))
 
-  -- the first item is replaced
-  set-row_of_first : (items : List T) (capacity : ℕ) (x : T) → 0 < length items → set (row_of items capacity) 0 (Some x) ≡ row_of (set items 0 x) capacity
-  set-row_of_first [] capacity x some = absurd (omega arith)
-  set-row_of_first (y ∷ items) capacity x some = refl
+  -- an item is replaced
+  set-row_of : (items : List T) (capacity i : ℕ) (x : T) → i < length items → set (row_of items capacity) i (Some x) ≡ row_of (set items i x) capacity
+  set-row_of items capacity i x below =
+      let same = length-set items i x in
+      set-append_left (map Some items) _ i (Some x) (omega (arith, length-map items Some))
+      ∙ ap₂ (λ r n. r ++ replicate (capacity - n) None) (sym (map-set Some items i x)) (sym same)
 
-  -- the front item is replaced
-  pub Shows-queue_set_front : (list : Bounded T) (row row' : List (Option T)) (start len : ℕ) (x : T) → Shows list row start len → 0 < length list.items → row' ≡ set row start (Some x) → Shows (queue_set_front list x) row' start len
-  Shows-queue_set_front list row row' start len x shows some written =
+  -- the item at an index is replaced
+  pub Shows-queue_set : (list : Bounded T) (row row' : List (Option T)) (start len i capacity place : ℕ) (x : T) → Shows list row start len → i < length list.items → capacity ≡ length row → place ≡ ring_place start i capacity → row' ≡ set row place (Some x) → Shows (queue_set list i x) row' start len
+  Shows-queue_set list row row' start len i capacity place x shows below rows at written =
       let facts = facts_of list row start len shows in
       let ring = facts.ring in
       let within = ring.within in
       let fits = ring.fits in
-      let below = ring.below (omega arith) in
-      let kept = length-set row start (Some x) in
-      let same = length-set list.items 0 x in
+      let start_below = ring.below (omega arith) in
+      let there = written ∙ ap (λ p. set row p (Some x)) (at ∙ ap (ring_place start i) rows) in
+      let kept = length-set row (ring_place start i (length row)) (Some x) in
+      let same = length-set list.items i x in
       let counted = facts.counted in
-      let first : ring_place start 0 (length row) ≡ start = grind (arith, nat_tests) in
       let steps =
-      ap (λ p. ring_row (set row p (Some x)) start) (sym first)
-      ∙ ring_row-set row start 0 (Some x) within (omega arith)
-      ∙ ap (λ r. set r 0 (Some x)) ring.in_turn
-      ∙ set-row_of_first list.items (length row) x some in
-      Shows-from (queue_set_front list x) _ row' start start len written refl (record {
+      ring_row-set row start i (Some x) within (omega arith)
+      ∙ ap (λ r. set r i (Some x)) ring.in_turn
+      ∙ set-row_of list.items (length row) i x below in
+      Shows-from (queue_set list i x) _ row' start start len there refl (record {
         ring = record {
           within = omega arith;
           below = λ _. omega arith;
           fits = omega arith;
-          in_turn = steps ∙ ap (row_of (set list.items 0 x)) (sym kept);
+          in_turn = steps ∙ ap (row_of (set list.items i x)) (sym kept);
         };
         rows = kept ∙ facts.rows;
         counted = omega arith;
       })
+
+  -- the front item is replaced
+  pub Shows-queue_set_front : (list : Bounded T) (row row' : List (Option T)) (start len : ℕ) (x : T) → Shows list row start len → 0 < length list.items → row' ≡ set row start (Some x) → Shows (queue_set_front list x) row' start len
+  Shows-queue_set_front list row row' start len x shows some written =
+      let ring = (facts_of list row start len shows).ring in
+      let fits = ring.fits in
+      let below = ring.below (omega arith) in
+      Shows-queue_set list row row' start len 0 (length row) start x shows some refl (grind (arith, nat_tests)) written
+
+  -- the last of the items is removed, and the empty places after it are one more
+  set-last_none : (items : List T) (last empty : ℕ) → length items ≡ suc last → set (map Some items ++ replicate empty None) last None ≡ map Some (take last items) ++ replicate (suc empty) None
+  set-last_none [] last empty is = absurd (omega arith)
+  set-last_none (x ∷ []) zero empty is = refl
+  set-last_none (x ∷ y ∷ items) zero empty is = absurd (omega arith)
+  set-last_none (x ∷ items) (suc last) empty is = ap (λ r. Some x ∷ r) (set-last_none items last empty (omega arith))
+
+  module _ (list : Bounded T) (row : List (Option T)) (start len capacity place : ℕ) (shows : Shows list row start len) (some : len ≢ 0) (rows : capacity ≡ length row) (at : place ≡ ring_place start (len - 1) capacity) where
+    -- the place of the last item holds that item
+    pub place_at-back : place_at row place ≡ vec_last list
+    place_at-back =
+        let counted = (facts_of list row start len shows).counted in
+        place_at-item list row start len (len - 1) capacity place shows (omega arith) rows at ∙ ap (λ n. slice_get list.items (n - 1)) counted
+
+    pub IsHeldAt-back : IsHeldAt row place
+    IsHeldAt-back =
+        let counted = (facts_of list row start len shows).counted in
+        IsHeldAt-item list row start len (len - 1) capacity place shows (omega arith) rows at
+
+    -- the back item is removed
+    pub Shows-vec_pop : (row' : List (Option T)) → row' ≡ set row place None → Shows (vec_pop list) row' start (len - 1)
+    Shows-vec_pop row' taken =
+        let facts = facts_of list row start len shows in
+        let ring = facts.ring in
+        let within = ring.within in
+        let fits = ring.fits in
+        let counted = facts.counted in
+        let last = length list.items - 1 in
+        let start_below = ring.below (omega arith) in
+        let there = taken ∙ ap (λ p. set row p None) (at ∙ ap₂ (λ n c. ring_place start (n - 1) c) counted rows) in
+        let kept = length-set row (ring_place start last (length row)) None in
+        let less : length (take last list.items) ≡ last = length-take-le last list.items (omega arith) in
+        let one_more : suc (length row - length list.items) ≡ length row - length (take last list.items) = omega (arith, less) in
+        let steps =
+        ring_row-set row start last None within (omega arith)
+        ∙ ap (λ r. set r last None) ring.in_turn
+        ∙ set-last_none list.items last (length row - length list.items) (omega arith)
+        ∙ ap (λ n. map Some (take last list.items) ++ replicate n None) one_more in
+        Shows-from (vec_pop list) _ row' start start (len - 1) there refl (record {
+          ring = record {
+            within = omega (arith, kept, within);
+            below = λ _. omega (arith, kept, start_below);
+            fits = omega (arith, kept, less, fits);
+            in_turn = steps ∙ ap (row_of (take last list.items)) (sym kept);
+          };
+          rows = kept ∙ facts.rows;
+          counted = omega (arith, less, counted);
+        })

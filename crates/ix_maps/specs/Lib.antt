@@ -1,5 +1,8 @@
 pub use Rattle.ix_cells.specs.Bounded
 pub mod QueueSteps
+pub mod QueueCalls
+pub mod QueueDrain
+pub mod QueueCopies
 pub mod SlotState
 pub mod SlotSteps
 pub mod SlotCalls

@@ -1,6 +1,6 @@
 -- The steps of a queue: the bounded list after each call, and the item that each call returns. The front item is the
 -- oldest.
-use Rattle.std.specs.Prelude.{ℕ, List, length, drop, slice_get, slice_set, nat_lt, if◌then◌else◌, Bool, Option, None}
+use Rattle.std.specs.Prelude.{ℕ, ◌-◌, List, length, drop, slice_get, slice_set, nat_lt, if◌then◌else◌, Bool, Option, None}
 use Rattle.std.specs.List.{push}
 use Rattle.ix_cells.specs.Bounded.{Bounded, with_items}
 
@@ -28,3 +28,11 @@ module _ {T : Type 0} where
   -- the front item replaced by x, if there is one
   abbrev pub queue_set_front : Bounded T → T → Bounded T
   queue_set_front queue x = with_items queue (slice_set queue.items 0 x)
+
+  -- the item at this index replaced by x, if there is one
+  abbrev pub queue_set : Bounded T → ℕ → T → Bounded T
+  queue_set queue index x = with_items queue (slice_set queue.items index x)
+
+  -- the back item replaced by x, if there is one
+  abbrev pub queue_set_back : Bounded T → T → Bounded T
+  queue_set_back queue x = queue_set queue (length queue.items - 1) x

@@ -9,10 +9,16 @@
 //! queue.pop();                      // Some(1)
 //! ```
 
+mod copies;
+mod drain;
+mod edits;
+mod items;
 mod iter;
 mod kinds;
 mod meta_queue;
+mod order;
 
+pub use drain::Drain;
 pub use iter::{IntoIter, Iter};
 pub use kinds::{FixedSizeQueue, Queue, QueueFamily, RelocatableQueue, UninitQueue};
 pub use meta_queue::MetaQueue;

@@ -1,6 +1,6 @@
 //! The iterators of queues.
 ghost use Rattle.std.specs.Prelude.{◌≡◌, length, Some, IfSome, ⊤};
-ghost use Rattle.std.specs.Iterator.{YieldsFirst, YieldsFirstRef, YieldsLastRef, UpTo, at_most, item_count};
+ghost use Rattle.std.specs.Iterator.{YieldsFirst, YieldsLast, YieldsFirstRef, YieldsLastRef, UpTo, at_most, item_count};
 ghost use Rattle.std.specs.Iterator.SizeHint.{IsWithinCount};
 
 use crate::queue::MetaQueue;
@@ -184,6 +184,16 @@ impl<T: Drop, S: Table<T>> Iterator for IntoIter<T, S> {
     {
         let len = self.queue.len();
         (len, Some(len))
+    }
+}
+
+impl<T: Drop, S: Table<T>> DoubleEndedIterator for IntoIter<T, S> {
+    ghost next_back_gives = { YieldsLast (λ rest. rest) };
+
+    /// Removes the last item that is still to come and returns it, or `None` if there is none. O(1).
+    #[inline]
+    fn next_back(&mut self) -> Option<T> {
+        self.queue.pop_back()
     }
 }
 

@@ -1,5 +1,5 @@
 //! The queue over any table.
-ghost use Rattle.std.specs.Prelude.{◌≡◌, ◌<◌, ◌≤◌, ◌↔◌, [], Some, IsTrue, IsSome, IsNone, length, option_copied, slice_get};
+ghost use Rattle.std.specs.Prelude.{◌≡◌, ◌<◌, ◌≤◌, ◌↔◌, [], Some, IsTrue, IsSome, IsNone, IsErr, IfErr, OnErr, length, option_copied, slice_get};
 ghost use Rattle.std.specs.List.{push};
 ghost use Rattle.std.specs.Bool.{OnFalse};
 ghost use Rattle.std.specs.Borrow.{sem, Lends, LendsIf};
@@ -8,7 +8,8 @@ ghost use Rattle.std.specs.Cmp.Lexicographic.{pointwise, lists_per, lists_equiv}
 ghost use Rattle.std.specs.Option.{option_copied_mut};
 ghost use Rattle.ix_cells.specs.Bounded.{IsWithin, IsFull, has_room, bounded_new, bounded_push, with_items};
 ghost use Rattle.ix_cells.specs.Places.{IsVacant};
-ghost use Rattle.ix_maps.specs.QueueSteps.{queue_overflow, queue_overflow_item, queue_front, queue_pop, queue_set_front};
+ghost use Rattle.ix_cells.specs.VectorSteps.{vec_last, vec_pop};
+ghost use Rattle.ix_maps.specs.QueueSteps.{queue_overflow, queue_overflow_item, queue_front, queue_pop, queue_set, queue_set_front};
 ghost use Rattle.ix_maps.specs.inner.Ring.{ring_place, ring_next};
 
 use crate::queue::Iter;
@@ -154,6 +155,28 @@ impl<T, S: Table<T>> MetaQueue<T, S> {
         has_room
     }
 
+    /// Appends `value` at the back. Returns `Err` with `value`, and leaves the queue unchanged, if the queue is full.
+    ///
+    /// ```text
+    /// let mut queue = FixedSizeQueue::<u64, 1>::new();
+    /// queue.try_push(1);                // Ok(())
+    /// queue.try_push(2);                // Err(2)
+    /// ```
+    #[inline]
+    pub fn try_push(&mut self, value: T) -> Result<(), T>
+        ensures queue { self.new ≡ bounded_push self.old value }
+        ensures full { IsErr result ↔ IsFull self.old }
+        ensures returned { IfErr result (λ returned. returned ≡ value) }
+        ensures refused { OnErr result (self.new ≡ self.old) }
+    {
+        let capacity = self.table.len();
+        if self.len == capacity {
+            return Err(value);
+        }
+        self.append(value, capacity);
+        Ok(())
+    }
+
     /// Appends `value` at the back. If the queue is full, removes the front item first and returns it; at capacity 0
     /// returns `value` itself. Returns `None` otherwise.
     ///
@@ -198,6 +221,30 @@ impl<T, S: Table<T>> MetaQueue<T, S> {
         let item = self.table.take(start);
         self.start = next_after(start, self.table.len());
         self.len = len - 1;
+        Some(item)
+    }
+
+    /// Removes the back item, which is the newest, and returns it, or `None` if the queue is empty.
+    ///
+    /// ```text
+    /// queue.push(1);                    // true
+    /// queue.push(2);                    // true
+    /// queue.pop_back();                 // Some(2)
+    /// ```
+    #[inline]
+    pub fn pop_back(&mut self) -> Option<T>
+        ensures value { result ≡ vec_last self.old }
+        ensures queue { self.new ≡ vec_pop self.old }
+        ensures empty { IsNone result ↔ (self.old.items ≡ []) }
+    {
+        let len = self.len;
+        if len == 0 {
+            return None;
+        }
+        let last = len - 1;
+        let place = place_after(self.start, last, self.table.len());
+        let item = self.table.take(place);
+        self.len = last;
         Some(item)
     }
 
@@ -292,6 +339,18 @@ impl<T, S: Table<T>> MetaQueue<T, S> {
             .get(place_after(self.start, index, self.table.len()))
     }
 
+    /// Returns a mutable reference to the item at `index`, where 0 is the front.
+    #[inline]
+    pub(crate) fn item_at_mut(&mut self, index: usize) -> &mut T
+        requires { index < length self.old.items }
+        ensures* writes_back { sem 𝓛 (Lends (the_row T.row S.row S.Table)
+            T.row self.entry result (queue_set self.old index)) }
+        ensures value { slice_get self.old.items index ≡ Some result.now }
+    {
+        let place = place_after(self.start, index, self.table.len());
+        self.table.get_mut(place)
+    }
+
     /// Returns a mutable reference to the front item of a queue that has one.
     #[inline]
     fn front_mut(&mut self) -> &mut T
@@ -305,7 +364,7 @@ impl<T, S: Table<T>> MetaQueue<T, S> {
 
     /// Appends `value` at the back of a queue of this capacity that is not full.
     #[inline]
-    fn append(&mut self, value: T, capacity: usize)
+    pub(crate) fn append(&mut self, value: T, capacity: usize)
         requires capacity { capacity ≡ self.old.capacity }
         requires room { length self.old.items < self.old.capacity }
         ensures { self.new ≡ with_items self.old (push self.old.items value) }

@@ -1,0 +1,71 @@
+//! Clones of queues.
+ghost use Rattle.std.specs.Prelude.{◌≡◌, ◌≤◌, [], IsOk, IfOk, OnOk};
+ghost use Rattle.std.specs.List.{AllZip};
+ghost use Rattle.ix_cells.specs.Bounded.{IsWithin};
+ghost use Rattle.ix_cells.specs.Cloning.{AreEqualClones, AreInfallible};
+ghost use Rattle.ix_maps.specs.QueueCopies.{QueueIsClone, FixedQueueIsInfallible};
+
+use crate::queue::{FixedSizeQueue, MetaQueue, Queue};
+use ix_cells::{MAX_FIXED_CAPACITY, Table};
+use std::alloc::{AllocError, Allocator};
+
+impl<T: Clone, S: Table<T>> MetaQueue<T, S> {
+    /// Appends clones of the items of `other` to an empty queue whose capacity is not less. Returns the error of the first
+    /// clone that fails, and keeps those already made.
+    fn fill_with_clones<R: Table<T>>(&mut self, other: &MetaQueue<T, R>) -> Result<(), AllocError>
+        requires empty { self.old.items ≡ [] }
+        requires room { other.now.capacity ≤ self.old.capacity }
+        ensures items { OnOk result (AllZip T.is_clone other.now.items self.new.items) }
+        ensures capacity { self.new.capacity ≡ self.old.capacity }
+        ensures memory { AreInfallible T.is_infallible other.now.items → IsOk result }
+        ensures within { IsWithin other.now }
+    {
+        let capacity = self.capacity();
+        for i in 0..other.len() {
+            let item = other.item_at(i).clone()?;
+            self.append(item, capacity);
+        }
+        Ok(())
+    }
+}
+
+impl<T: Clone, const CAPACITY: usize> Clone for FixedSizeQueue<T, CAPACITY> {
+    ghost is_clone = { QueueIsClone T.is_clone };
+
+    ghost is_infallible = { FixedQueueIsInfallible CAPACITY T.is_infallible };
+
+    /// Creates a queue that holds clones of the items. O(`CAPACITY`).
+    ///
+    /// Returns the error of the first clone that fails, and drops those already made.
+    fn clone(&self) -> Result<Self, AllocError> {
+        // True of no queue, and known when this is compiled. The contracts of tables do not say it.
+        if CAPACITY > MAX_FIXED_CAPACITY || self.capacity() != CAPACITY {
+            return Err(AllocError);
+        }
+        let mut copy = FixedSizeQueue::<T, CAPACITY>::new();
+        copy.fill_with_clones(self)?;
+        Ok(copy)
+    }
+}
+
+impl<T: Clone, A: Allocator> Queue<T, A> {
+    /// Creates a queue of the same capacity that holds clones of the items, in memory of `alloc`.
+    ///
+    /// O(`capacity`), with at most two allocations and `len` clones. Returns `AllocError` if an allocation or a clone fails;
+    /// nothing stays allocated then.
+    ///
+    /// ```text
+    /// queue.push(1);                    // true
+    /// let mut copy = queue.try_clone_in(alloc)?;
+    /// copy.pop();                       // Some(1)
+    /// ```
+    pub fn try_clone_in<B: Allocator>(&self, alloc: B) -> Result<Queue<T, B>, AllocError>
+        requires { AreEqualClones T.is_clone }
+        ensures value { IfOk result (λ queue. queue ≡ self.now) }
+        ensures memory { self.now.capacity ≡ 0 → IsOk result }
+    {
+        let mut copy = Queue::new(alloc, self.capacity())?;
+        copy.fill_with_clones(self)?;
+        Ok(copy)
+    }
+}

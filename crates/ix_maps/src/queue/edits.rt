@@ -1,0 +1,77 @@
+//! Calls that go through a queue and change, keep or drop its items.
+ghost use Rattle.std.specs.Prelude.{◌≡◌};
+ghost use Rattle.std.specs.Fn.{CalledAt};
+ghost use Rattle.std.specs.List.Retain.{IsFiltered};
+ghost use Rattle.ix_cells.specs.VectorSteps.{vec_truncate};
+ghost use Rattle.ix_maps.specs.QueueCalls.{ChangesInTurn, IsCallableOnEach, IsCallableOnEachMut};
+
+use crate::queue::MetaQueue;
+use ix_cells::Table;
+
+impl<T, S: Table<T>> MetaQueue<T, S> {
+    /// Keeps the first `len` items, and drops the others, the back item first. Does nothing if there are at most `len`
+    /// items. O(the number of dropped items).
+    ///
+    /// ```text
+    /// queue.push(1);                    // true
+    /// queue.push(2);                    // true
+    /// queue.truncate(1);
+    /// queue.pop_back();                 // Some(1)
+    /// ```
+    pub fn truncate(&mut self, len: usize)
+    where
+        T: Drop,
+        ensures { self.new ≡ vec_truncate self.old len }
+    {
+        while self.len() > len {
+            drop(self.pop_back());
+        }
+    }
+
+    /// Calls `f` with each item, the front item first, so that it can change it. O(`len`).
+    ///
+    /// There is no `iter_mut`, since a table can lend one item at a time.
+    ///
+    /// ```text
+    /// queue.push(1);                    // true
+    /// queue.push(2);                    // true
+    /// queue.for_each_mut(|item| *item = 0);
+    /// queue.pop();                      // Some(0)
+    /// ```
+    pub fn for_each_mut<F: FnMut(&mut T)>(&mut self, mut f: F)
+        requires { IsCallableOnEachMut F.FnMut self.old.items f }
+        ensures items { (last : F) × ChangesInTurn F.FnMut f self.old.items self.new.items last }
+        ensures capacity { self.new.capacity ≡ self.old.capacity }
+    {
+        for i in 0..self.len() {
+            f(self.item_at_mut(i));
+        }
+    }
+
+    /// Calls `f` with each item, the front item first. Keeps the items for which `f` returns `true`, in their order, and
+    /// drops each of the others once `f` was asked. O(`len`).
+    ///
+    /// ```text
+    /// queue.push(1);                    // true
+    /// queue.push(2);                    // true
+    /// queue.retain(|item| *item != 1);
+    /// queue.pop();                      // Some(2)
+    /// ```
+    pub fn retain<F: FnMut(&T) -> bool>(&mut self, mut f: F)
+    where
+        T: Drop,
+        requires { IsCallableOnEach F.FnMut self.old.items f }
+        ensures items { IsFiltered (CalledAt F.FnMut) f self.old.items self.new.items }
+        ensures capacity { self.new.capacity ≡ self.old.capacity }
+    {
+        let capacity = self.capacity();
+        // The ring turns once: what is kept goes from the front to the back.
+        for i in 0..self.len() {
+            if let Some(item) = self.pop() {
+                if f(&item) {
+                    self.append(item, capacity);
+                }
+            }
+        }
+    }
+}
