@@ -68,8 +68,8 @@ module _ {T : Type 0} where
       subst (λ t. RemovesFirst s t start place value) (sym is) (record {
         first = sym skips ∙ held_entries-first s place value (sym at)
             ∙ ap (λ items. (key_at s place, value) ∷ items) (sym (
-              ap (λ places. held_entries (map_remove_at s place) (entries_from (place + 1) places)) vacates.rest
-              ∙ held_entries-same s (map_remove_at s place) (place + 1) (λ other past. settles.generations other (λ e. omega arith)) (drop (place + 1) s.slots.values)
+            ap (λ places. held_entries (map_remove_at s place) (entries_from (place + 1) places)) vacates.rest
+            ∙ held_entries-same s (map_remove_at s place) (place + 1) (λ other past. settles.generations other (λ e. omega arith)) (drop (place + 1) s.slots.values)
             ));
         len = vacates.len;
       })

@@ -5,7 +5,6 @@ use Rattle.ix_maps.proofs.SlotMapCalls.{map_value-key_at}
 use Rattle.ix_maps.proofs.MapRemovals.{entries_left, RemovesFirst-map_remove_at}
 use Rattle.ix_maps.proofs.slotmap.into_iter.IntoIterIterator.next.Goals as goal
 
-
 pub invariant_of-self : goal.invariant_of-self
 invariant_of-self g c =
     let key = c.key_of-key.ensures.value in

@@ -29,4 +29,3 @@ loop-index-preserved g c =
       ];
       dead = λ key dead. step.dead key (at.dead key dead);
     }
-
