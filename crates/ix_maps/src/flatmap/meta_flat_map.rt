@@ -23,7 +23,8 @@ use std::marker::Model;
 /// A pair stays at its place until it is removed, and a new one takes the first free place: the one vacated last, or else
 /// the least that was never used. Slot order is that of the places. A call that looks for a key compares it with the keys
 /// of the map in slot order, up to the equal one. If the keys are in the first places and take at most eight bytes, it
-/// compares eight at a time, and so up to seven after that one; in any case it compares no key twice.
+/// compares eight at a time, and so up to seven after that one, or 32 at a time if there are 128 keys or more; in any case it
+/// compares no key twice.
 ///
 /// Each call that looks for a key takes O(capacity) time, any other O(1), if nothing else is said. No call allocates.
 /// A map that is dropped drops its pairs in slot order, in O(capacity) time.
