@@ -7,10 +7,13 @@
 //! string.find(b"l");                 // Some(1)
 //! ```
 
+mod creation;
+mod creation_error;
 mod escape;
 mod gaps;
 mod heap_string;
 mod kinds;
+mod lending;
 mod modification_error;
 mod nul;
 mod retaining;
@@ -19,7 +22,9 @@ mod static_traits;
 mod string_trait;
 mod text;
 mod vector_text;
+mod writing;
 
+pub use creation_error::StringCreationError;
 pub use escape::{EscapedByte, as_escaped_string, escape_byte};
 pub use heap_string::HeapString;
 pub use kinds::{
