@@ -119,7 +119,7 @@ pub trait String: Debug + Display + Eq + Ord + Hash {
         ensures string { bounded self.new ≡ text_insert (bounded self.old) idx bytes.now }
         ensures refused { OnErr result (self.new ≡ self.old) }
     {
-        if bytes.len() > self.capacity() - self.len() {
+        if bytes.len() > self.remaining_capacity() {
             return Err(StringModificationError::InsertWouldExceedCapacity);
         }
         if !is_text(bytes) {
