@@ -2,7 +2,8 @@
 use ix_cells::RelocatableContainer;
 use ix_string::StringModificationError::{InsertWouldExceedCapacity, InvalidCharacter};
 use ix_string::{
-    PolymorphicString, StaticString, String, UninitString, as_escaped_string, escape_byte,
+    PolymorphicString, StaticString, String, StringCreationError, UninitString, as_escaped_string,
+    escape_byte,
 };
 use std::alloc::Global;
 use std::fmt::InlineText;
@@ -162,5 +163,9 @@ fn error_texts() -> Result<(), Fail> {
     check_display(&findings, &InvalidCharacter, text);
     let text = "StringModificationError::InsertWouldExceedCapacity";
     check_display(&findings, &InsertWouldExceedCapacity, text);
+    let text = "StringCreationError::InvalidCharacter";
+    check_display(&findings, &StringCreationError::InvalidCharacter, text);
+    let text = "StringCreationError::OutOfMemory";
+    check_display(&findings, &StringCreationError::OutOfMemory, text);
     findings.verdict()
 }
