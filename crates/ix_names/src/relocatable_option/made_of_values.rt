@@ -61,10 +61,7 @@ impl<T> RelocatableOption<T> {
         ensures { MatchOption (option_of self) (result ≡ default)
             (λ value. F.post f value result) }
     {
-        match self {
-            RelocatableOption::Some(value) => f(value),
-            RelocatableOption::None => default,
-        }
+        self.map(f).unwrap_or(default)
     }
 
     /// Returns the value as `Ok`, or `error` as `Err` if there is none. `error` is dropped if it is not returned.
