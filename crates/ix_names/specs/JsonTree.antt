@@ -1,5 +1,5 @@
 -- The JSON tree of a value, and how a tree is read: as a value, or as the fault for which it is none.
-use Rattle.std.specs.Prelude.{ℕ, ℤ, ◌&&◌, ◌||◌, nat_le, List, ◌∷◌, [], length, map, Bool, is_some, ok_or, option_and_then, if◌then◌else◌, Result, Ok, Err}
+use Rattle.std.specs.Prelude.{ℕ, ℤ, pos, negsuc, ◌^◌, ◌&&◌, ◌||◌, nat_le, nat_lt, List, ◌∷◌, [], length, map, Bool, is_some, ok_or, option_and_then, if◌then◌else◌, Result, Ok, Err}
 use Rattle.std.specs.Option.{option_map_or}
 use Rattle.std.specs.Result.{result_map_both}
 use Rattle.serde_json.specs.Data.{Data, null, number, array, unsigned, Items, no_items, item}
@@ -27,6 +27,24 @@ i64_tree z = number (of_integer z)
 -- a number outside the range of `i64`, or held as a float is of the wrong kind
 abbrev pub i64_read : Data → Result ℤ JsonFault
 i64_read tree = ok_or (option_and_then as_i64 (as_number tree)) WrongKind
+
+-- the number that was read, if the smaller type has it: one that it has not is of the wrong kind
+abbrev pub narrowed : {N : Type 0} → (N → Bool) → Result N JsonFault → Result N JsonFault
+narrowed has (Ok n) = if has n then Ok n else Err WrongKind
+narrowed has (Err fault) = Err fault
+
+-- a number of an unsigned type of so many bits, fewer than 64
+abbrev pub unsigned_read : ℕ → Data → Result ℕ JsonFault
+unsigned_read bits tree = narrowed (λ n. nat_lt n (2 ^ bits)) (u64_read tree)
+
+-- a signed type has the number, whose greatest one is 2 ^ bits - 1 and whose least one is -(2 ^ bits)
+abbrev pub signed_has : ℕ → ℤ → Bool
+signed_has bits (pos n) = nat_lt n (2 ^ bits)
+signed_has bits (negsuc n) = nat_lt n (2 ^ bits)
+
+-- a number of such a type
+abbrev pub signed_read : ℕ → Data → Result ℤ JsonFault
+signed_read bits tree = narrowed (signed_has bits) (i64_read tree)
 
 abbrev pub bool_read : Data → Result Bool JsonFault
 bool_read tree = ok_or (as_bool tree) WrongKind

@@ -12,6 +12,8 @@ mod fixed_vectors;
 mod json_fault;
 mod json_form;
 mod options;
+mod other_signed;
+mod other_unsigned;
 mod semantic_strings;
 mod signed;
 mod texts;

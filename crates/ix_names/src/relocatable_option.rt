@@ -6,6 +6,7 @@ ghost use Rattle.std.specs.Option.{ForSome, ForNone, MatchOption, UnwrapsOrElse,
 ghost use Rattle.ix_names.specs.Optional.{option_of, relocatable_of, relocatable_lends, TakesIf};
 
 mod conversions;
+mod made_of_values;
 
 use std::mem;
 use std::ops::{AsDeref, DerefMut};
@@ -23,8 +24,10 @@ use std::ops::{AsDeref, DerefMut};
 /// port.unwrap_or(22);             // 22
 /// ```
 ///
+/// Options are ordered by their values, and `None` is less than each `Some`.
+///
 /// This is `RelocatableOption` of iceoryx2-bb-container.
-#[derive(Clone, Copy, PartialEq, Eq, Hash, Debug)]
+#[derive(Clone, Copy, PartialEq, Eq, PartialOrd, Ord, Hash, Debug)]
 pub enum RelocatableOption<T> {
     /// No value.
     None,

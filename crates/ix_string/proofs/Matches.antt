@@ -1,7 +1,7 @@
 -- Lemmas on the indexes at which one text occurs in another.
-use Rattle.std.proofs.Common.{ℕ, ◌≡◌, ◌+◌, ◌-◌, ◌≤◌, List, [], ◌++◌, length, take, drop, length-append, refl, sym, ap, ◌∙◌, arith}
+use Rattle.std.proofs.Common.{rules, ℕ, ◌≡◌, ◌+◌, ◌-◌, ◌≤◌, List, [], ◌++◌, length, take, drop, length-append, refl, sym, ap, ◌∙◌, arith}
 use native.Mathlib.Omega.{by_contra}
-use Rattle.std.specs.Prelude.{Option, Some, None, true, ◌==◌, ◌↔◌}
+use Rattle.std.specs.Prelude.{Option, Some, None, is_some, true, ◌==◌, ◌↔◌}
 use Rattle.std.specs.Cmp.Lexicographic.{same_text, nat_list_eq_equiv}
 use Rattle.std.proofs.lemmas.List.{take-append-drop, take_at, drop_at}
 use Rattle.std.proofs.lemmas.Grind.{common_steps}
@@ -9,6 +9,7 @@ use Rattle.memchr.specs.Find.{OccursAt, FindsNeedle, FindsLastNeedle}
 use Rattle.memchr.proofs.lemmas.MatchLemmas.{OccursAt-split, OccursAt-from_part}
 use Rattle.ix_string.specs.Text.{MatchesAt, IsFirstMatch, IsLastMatch, EndsWith}
 use Rattle.std.specs.List.{starts_with, ends_with}
+use Rattle.std.specs.Str.Iter.{HasSubslice}
 
 pub MatchesAt-OccursAt : (text needle : List ℕ) (i : ℕ) → OccursAt text needle i → MatchesAt text needle i
 MatchesAt-OccursAt text needle i occurs =
@@ -84,4 +85,12 @@ ends_with-EndsWith text ending = (
       let place : length ends.0 ≡ n = omega arith in
       let behind : drop n text ≡ ending = ap (drop n) ends.1 ∙ drop_at ends.0 ending n place in
       rw behind (nat_list_eq_equiv.refl ending),
+)
+
+-- a text has the needle if a search finds it
+pub IsFirstMatch-HasSubslice : (text needle : List ℕ) (found : Option ℕ) → IsFirstMatch text needle found → is_some found ≡ true ↔ HasSubslice text needle
+IsFirstMatch-HasSubslice text needle (Some i) is = (λ _. (is.0.front, is.0.rest, is.0.parts), λ _. refl)
+IsFirstMatch-HasSubslice text needle None is = (
+  λ never. absurd (search rules),
+  λ has. absurd (is (length has.0) (record { front = has.0; rest = has.1; parts = has.2; index = refl })),
 )

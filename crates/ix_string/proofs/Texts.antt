@@ -7,13 +7,15 @@ use Rattle.std.proofs.lemmas.List.Elements.{All-append, All-take, All-drop}
 use Rattle.std.proofs.Math.Seq.{drop-append-add}
 use Rattle.std.specs.Prelude.{replicate}
 use Rattle.std.specs.List.{insert_slice, remove_range}
+use Rattle.std.specs.Result.{result_or}
 use Rattle.std.specs.Str.{IsAscii, IsUtf8}
 use Rattle.std.proofs.lemmas.Str.{IsUtf8-from_ascii}
-use Rattle.std.proofs.lemmas.List.Sums.{list_all-from_AllPass}
-use Rattle.std.specs.Prelude.{Result, Ok, Err, IsOk, ◌↔◌, true, false}
+use Rattle.std.proofs.lemmas.List.Sums.{AllPass-from_list_all, list_all-from_AllPass}
+use Rattle.std.specs.Prelude.{if◌then◌else◌, Bool, Result, Ok, Err, IsOk, refl, ◌↔◌, true, false}
 use Rattle.ix_string.specs.Text.{IsText, IsTextByte, padded_text, is_text, is_text_byte}
 use Rattle.ix_string.specs.inner.Padding.{IsPadded}
-use Rattle.ix_string.specs.TextSteps.{StringFromBytes}
+use Rattle.ix_cells.specs.Bounded.{Bounded}
+use Rattle.ix_string.specs.TextSteps.{TextResult, StringFromBytes, has_room_for, text_insert_result}
 use Rattle.ix_string.specs.declared.string.modification_error.StringModificationError.{StringModificationError}
 use Rattle.ix_string.specs.declared.string.modification_error.StringModificationError.TheVariants.{InvalidCharacter, InsertWouldExceedCapacity}
 
@@ -72,6 +74,9 @@ IsPadded-shortened capacity count n bytes text buffer was le shorter is parts =
 pub is_text-yes : (bytes : List ℕ) → IsText bytes → is_text bytes ≡ true
 is_text-yes bytes is = list_all-from_AllPass is_text_byte bytes (λ k d lt. let here = is k d lt in grind (arith, common_steps))
 
+IsText-yes : (bytes : List ℕ) → is_text bytes ≡ true → IsText bytes
+IsText-yes bytes passes k d lt = let here = AllPass-from_list_all is_text_byte bytes passes k d lt in grind (arith, common_steps)
+
 pub IsText-not : (bytes : List ℕ) → is_text bytes ≡ false → ¬ IsText bytes
 IsText-not bytes fails is = let passes = is_text-yes bytes is in cc
 
@@ -80,3 +85,21 @@ pub IsOk-StringFromBytes : (capacity : ℕ) (bytes : List ℕ) (result : Result 
 IsOk-StringFromBytes capacity bytes (Ok string) gives room = (λ _. gives.1, λ _. search rules)
 IsOk-StringFromBytes capacity bytes (Err InvalidCharacter) gives room = (λ made. absurd (search rules), λ is. absurd (gives.1 is))
 IsOk-StringFromBytes capacity bytes (Err InsertWouldExceedCapacity) gives room = absurd (omega arith)
+
+-- what an insertion returns, by its two tests
+abbrev insert_result : Bool → Bool → TextResult
+insert_result room all = if room then (if all then Ok tt else Err InvalidCharacter) else Err InsertWouldExceedCapacity
+
+IsOk-insert_result : {E : Type 0} (error : E) (room all : Bool) → IsOk (result_or (insert_result room all) (Err error)) ↔ (room ≡ true) × (all ≡ true)
+IsOk-insert_result error true true = (λ _. (refl, refl), λ _. refl)
+IsOk-insert_result error true false = (λ never. absurd (search rules), λ both. absurd (search (rules, both.1)))
+IsOk-insert_result error false all = (λ never. absurd (search rules), λ both. absurd (search (rules, both.0)))
+
+-- an insertion is made exactly if the bytes fit and are text, whichever error is given for those of strings
+pub IsOk-text_insert_result : {E : Type 0} (error : E) (text : Bounded ℕ) (bytes : List ℕ)
+    → IsOk (result_or (text_insert_result text bytes) (Err error)) ↔ (length text.items + length bytes ≤ text.capacity) × IsText bytes
+IsOk-text_insert_result error text bytes =
+    let tests = IsOk-insert_result error (has_room_for text bytes) (is_text bytes) in (
+      λ made. let both = tests.0 made in (search (rules, both.0), IsText-yes bytes both.1),
+      λ fits. tests.1 (search (rules, fits.0), is_text-yes bytes fits.1),
+    )

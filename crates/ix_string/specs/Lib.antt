@@ -1,3 +1,4 @@
+pub mod Creation
 pub mod Debug
 pub mod ErrorTexts
 pub mod Escape

@@ -18,6 +18,6 @@ pub mod string;
 
 pub use string::{
     EscapedByte, HeapString, HeapStringKind, Polymorphic, PolymorphicString, Relocatable,
-    RelocatableString, StaticString, String, StringFamily, StringModificationError, UninitString,
-    as_escaped_string, escape_byte, strnlen,
+    RelocatableString, StaticString, String, StringCreationError, StringFamily,
+    StringModificationError, UninitString, as_escaped_string, escape_byte, strnlen,
 };

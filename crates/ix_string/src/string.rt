@@ -7,19 +7,25 @@
 //! string.find(b"l");                 // Some(1)
 //! ```
 
+mod creation;
+mod creation_error;
 mod escape;
 mod gaps;
 mod heap_string;
+mod heap_text;
 mod kinds;
 mod modification_error;
 mod nul;
 mod retaining;
 mod static_string;
+mod static_text;
 mod static_traits;
 mod string_trait;
 mod text;
 mod vector_text;
+mod writing;
 
+pub use creation_error::StringCreationError;
 pub use escape::{EscapedByte, as_escaped_string, escape_byte};
 pub use heap_string::HeapString;
 pub use kinds::{

@@ -7,7 +7,7 @@ use ix_names::{
     GroupName, GroupNameRules, Rules, Semantic, SemanticStringError, TrailingSlashRules,
 };
 use ix_string::String;
-use std::str::from_utf8;
+use std::str::{FromStr, from_utf8};
 use std::test::Fail;
 use test_support::Findings;
 
@@ -35,6 +35,7 @@ fn check_made<R: Rules<CAPACITY>, const CAPACITY: usize>(
             findings.expect_same_at(sizes, (CAPACITY, CAPACITY, text.len()), row, "sizes");
             let bytes = (string.as_bytes(), string.as_bytes_const());
             findings.expect_same_at(bytes, (text.as_bytes(), text.as_bytes()), row, "bytes");
+            findings.expect_same_at(string.as_str(), text, row, "as_str");
             let made = Semantic::<R, CAPACITY>::new_unchecked(bytes.0);
             findings.expect_same_at(made.as_bytes(), bytes.0, row, "new_unchecked");
             let made = Semantic::<R, CAPACITY>::new_unchecked_const(bytes.0);
@@ -51,9 +52,13 @@ fn check_new<R: Rules<CAPACITY>, const CAPACITY: usize>(findings: &Findings, row
     for (row, (bytes, wanted)) in rows.iter().enumerate() {
         let made = Semantic::<R, CAPACITY>::new(bytes);
         check_made(findings, made, wanted, row, "new");
+        let made = Semantic::<R, CAPACITY>::try_from(*bytes);
+        check_made(findings, made, wanted, row, "try_from bytes");
         if let Ok(text) = from_utf8(bytes) {
             let made = Semantic::<R, CAPACITY>::try_from(text);
             check_made(findings, made, wanted, row, "try_from");
+            let made = Semantic::<R, CAPACITY>::from_str(text);
+            check_made(findings, made, wanted, row, "from_str");
         }
     }
 }
@@ -133,6 +138,31 @@ fn makings() -> Result<(), Fail> {
     check_new::<NonEmptyRules, 1>(&findings, &[(b"a", Ok("a"))]);
     let full = Semantic::<TrailingSlashRules, 255>::new(&[b'/'; 255]);
     findings.expect_same(full.map(|text| text.is_full()), Ok(true), "255 bytes");
+    findings.verdict()
+}
+
+#[test]
+fn makings_of_arrays() -> Result<(), Fail> {
+    let findings = Findings::new();
+    check_made(
+        &findings,
+        GroupName::try_from(b"ab-1"),
+        &Ok("ab-1"),
+        0,
+        "an array",
+    );
+    let made = GroupName::try_from(&[b'a', 0]);
+    check_made(&findings, made, &Err(InvalidContent), 1, "a zero");
+    let made = GroupName::try_from(&[0u8; 0]);
+    check_made(&findings, made, &Err(InvalidContent), 2, "no byte");
+    let made = GroupName::try_from(&[b'1'; 32]);
+    check_made(
+        &findings,
+        made,
+        &Err(ExceedsMaximumLength),
+        3,
+        "too many bytes",
+    );
     findings.verdict()
 }
 

@@ -1,11 +1,13 @@
 //! Printed texts, texts in the machine's memory, and errors.
 use crate::own_rules::EvenLengthRules;
 use ix_names::SemanticStringError::{ExceedsMaximumLength, InvalidContent};
-use ix_names::{GroupName, Rules, Semantic, SemanticStringError, TrailingSlashRules};
+use ix_names::{
+    GroupName, GroupNameRules, Rules, Semantic, SemanticStringError, TrailingSlashRules,
+};
 use ix_string::StringModificationError;
 use std::alloc::Global;
 use std::test::Fail;
-use test_support::{Findings, check_printed};
+use test_support::{Findings, check_printed, check_text};
 
 /// Checks what is printed of the string, and its text in memory of `alloc`.
 fn check_string<R: Rules<CAPACITY>, const CAPACITY: usize>(
@@ -39,6 +41,14 @@ fn strings(rt: HostRuntime) -> Result<(), Fail> {
     let made = Semantic::<EvenLengthRules, 0>::new(b"");
     let debugged = "Semantic { text: StaticString<0> { len: 0, data: \"\" } }";
     check_string(&findings, rt.alloc(), made, ("", "", debugged));
+    findings.verdict()
+}
+
+#[test]
+fn rules_by_debug() -> Result<(), Fail> {
+    let findings = Findings::new();
+    check_text(&findings, &GroupNameRules, "GroupNameRules");
+    check_text(&findings, &TrailingSlashRules, "TrailingSlashRules");
     findings.verdict()
 }
 

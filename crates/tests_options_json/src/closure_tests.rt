@@ -71,3 +71,56 @@ fn take_if_calls_once() -> Result<(), Fail> {
     findings.expect_same(option, NOTHING, "after it was taken");
     findings.verdict()
 }
+
+/// An option, what `and_then` returns of it if a half is there for an even value alone, whether its value is above 5, and
+/// what `map_or` returns of it with the default 1.
+const COMBINED: &[(RelocatableOption<u64>, RelocatableOption<u64>, bool, u64)] = &[
+    (EIGHT, FOUR, true, 16),
+    (FOUR, RelocatableOption::Some(2), false, 8),
+    (RelocatableOption::Some(7), NOTHING, true, 14),
+    (NOTHING, NOTHING, false, 1),
+];
+
+/// Returns the half of an even number.
+fn half_of_even(number: u64) -> RelocatableOption<u64> {
+    if number % 2 == 0 {
+        RelocatableOption::Some(number / 2)
+    } else {
+        RelocatableOption::None
+    }
+}
+
+#[test]
+fn combining_calls_once() -> Result<(), Fail> {
+    let findings = Findings::new();
+    let calls = Cell::new(0u64);
+    for (row, (option, half, is_large, twice_or_one)) in COMBINED.iter().enumerate() {
+        let number = u64::from(option.is_some());
+        let found = option.and_then(|value| {
+            count(&calls);
+            half_of_even(value)
+        });
+        findings.expect_same_at(found, *half, row, "and_then");
+        findings.expect_same_at(calls.replace(0), number, row, "calls by and_then");
+        let found = option.is_some_and(|value| {
+            count(&calls);
+            value > 5
+        });
+        findings.expect_same_at(found, *is_large, row, "is_some_and");
+        findings.expect_same_at(calls.replace(0), number, row, "calls by is_some_and");
+        let found = option.map_or(1, |value| {
+            count(&calls);
+            value.wrapping_mul(2)
+        });
+        findings.expect_same_at(found, *twice_or_one, row, "map_or");
+        findings.expect_same_at(calls.replace(0), number, row, "calls by map_or");
+        let found = option.filter(|value| {
+            count(&calls);
+            *value > 5
+        });
+        let wanted = if *is_large { *option } else { NOTHING };
+        findings.expect_same_at(found, wanted, row, "filter");
+        findings.expect_same_at(calls.replace(0), number, row, "calls by filter");
+    }
+    findings.verdict()
+}

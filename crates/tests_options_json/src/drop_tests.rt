@@ -43,6 +43,30 @@ fn drops_of_what_is_not_returned() -> Result<(), Fail> {
     findings.verdict()
 }
 
+#[test]
+fn drops_of_what_combining_leaves_out() -> Result<(), Fail> {
+    let findings = Findings::new();
+    let notes = Notes::new(0);
+    let kept = RelocatableOption::Some(Noted::new(1, &notes)).filter(|noted| noted.name == 1);
+    findings.expect_same(notes.take_drops(), 0, "a value that is kept");
+    drop(kept.filter(|_| false));
+    findings.expect_same(notes.take_drops(), 1, "a value that is not kept");
+    let result = RelocatableOption::Some(4u64).ok_or(Noted::new(2, &notes));
+    findings.expect(result.is_ok(), "ok_or");
+    findings.expect_same(notes.take_drops(), 2, "the error is not returned");
+    let value = RelocatableOption::Some(4u64).map_or(Noted::new(3, &notes), |name| {
+        Noted::new(name, &notes)
+    });
+    findings.expect_same(notes.take_drops(), 3, "the default is not returned");
+    let nothing: RelocatableOption<u64> = RelocatableOption::None;
+    drop(RelocatableOption::Some(value).zip(nothing));
+    findings.expect_same(notes.take_drops(), 4, "one value alone");
+    let other = RelocatableOption::Some(Noted::new(5, &notes));
+    drop(nothing.zip(other));
+    findings.expect_same(notes.take_drops(), 5, "the other value alone");
+    findings.verdict()
+}
+
 /// Checks a clone of an option, for which `clones` clones of its value are needed, if that many succeed, and if none
 /// does.
 fn check_clone(findings: &Findings, notes: &Notes, option: &RelocatableOption<Noted>, clones: u64) {

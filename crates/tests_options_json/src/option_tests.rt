@@ -1,8 +1,9 @@
 //! Each function of options once, with a value and without one.
 use ix_names::RelocatableOption;
 use std::alloc::{AllocError, Global};
+use std::cmp::Ordering::{self, Equal, Greater, Less};
 use std::test::Fail;
-use test_support::{Findings, hash_of};
+use test_support::{Findings, hash_of, order_of};
 
 const NOTHING: RelocatableOption<u64> = RelocatableOption::None;
 
@@ -152,5 +153,60 @@ fn items_of_size_zero() -> Result<(), Fail> {
     findings.expect_same(option.take(), RelocatableOption::Some(()), "take");
     findings.expect_same(option.to_option(), None, "none");
     findings.expect_same(option.unwrap_or(()), (), "unwrap_or");
+    findings.verdict()
+}
+
+/// Two options, both values if there are two, and how the first one compares with the second one.
+const PAIRS: &[(
+    RelocatableOption<u64>,
+    RelocatableOption<u64>,
+    RelocatableOption<(u64, u64)>,
+    Ordering,
+)] = &[
+    (
+        FOUR,
+        RelocatableOption::Some(5),
+        RelocatableOption::Some((4, 5)),
+        Less,
+    ),
+    (FOUR, FOUR, RelocatableOption::Some((4, 4)), Equal),
+    (
+        RelocatableOption::Some(5),
+        FOUR,
+        RelocatableOption::Some((5, 4)),
+        Greater,
+    ),
+    (FOUR, NOTHING, RelocatableOption::None, Greater),
+    (NOTHING, FOUR, RelocatableOption::None, Less),
+    (
+        NOTHING,
+        RelocatableOption::Some(0),
+        RelocatableOption::None,
+        Less,
+    ),
+    (NOTHING, NOTHING, RelocatableOption::None, Equal),
+];
+
+#[test]
+fn pairs_and_order() -> Result<(), Fail> {
+    let findings = Findings::new();
+    for (row, (option, other, both, order)) in PAIRS.iter().enumerate() {
+        findings.expect_same_at(option.zip(*other), *both, row, "zip");
+        findings.expect_same_at(order_of(option, other), *order, row, "cmp");
+        findings.expect_same_at(option.partial_cmp(other), Some(*order), row, "partial_cmp");
+        findings.expect_same_at(*option < *other, *order == Less, row, "less");
+        let of_std = option.to_option().cmp(&other.to_option());
+        findings.expect_same_at(of_std, *order, row, "as the options of std");
+    }
+    let floats = RelocatableOption::Some(f64::NAN);
+    findings.expect_same(floats.partial_cmp(&floats), None, "values without an order");
+    findings.verdict()
+}
+
+#[test]
+fn results() -> Result<(), Fail> {
+    let findings = Findings::new();
+    findings.expect_same(FOUR.ok_or("none"), Ok(4), "ok_or");
+    findings.expect_same(NOTHING.ok_or("none"), Err("none"), "ok_or of none");
     findings.verdict()
 }

@@ -59,6 +59,23 @@ fn numbers(rt: HostRuntime) -> Result<(), Fail> {
     findings.verdict()
 }
 
+#[test]
+fn other_numbers(rt: HostRuntime) -> Result<(), Fail> {
+    let findings = Findings::new();
+    check(&findings, rt.alloc(), u8::MAX, "255");
+    check(&findings, rt.alloc(), u16::MAX, "65535");
+    check(&findings, rt.alloc(), u32::MAX, "4294967295");
+    check(&findings, rt.alloc(), usize::MAX, "18446744073709551615");
+    check(&findings, rt.alloc(), i8::MIN, "-128");
+    check(&findings, rt.alloc(), i8::MAX, "127");
+    check(&findings, rt.alloc(), i16::MIN, "-32768");
+    check(&findings, rt.alloc(), i32::MIN, "-2147483648");
+    check(&findings, rt.alloc(), isize::MIN, "-9223372036854775808");
+    check(&findings, rt.alloc(), isize::MAX, "9223372036854775807");
+    check(&findings, rt.alloc(), RelocatableOption::Some(7u8), "7");
+    findings.verdict()
+}
+
 /// Texts, and how JSON spells them.
 const TEXTS: &[(&str, &str)] = &[
     ("abc", "\"abc\""),

@@ -16,3 +16,5 @@ mod row_tests;
 mod rows;
 #[cfg(test)]
 mod text_tests;
+#[cfg(test)]
+mod writing_tests;

@@ -2,7 +2,11 @@
 use ix_cells::{PolymorphicVec, RelocatableContainer, Vector};
 use ix_commands::Reply::{self, Number};
 use ix_commands::TextCommand::{self, Capacity, Len};
-use ix_string::{PolymorphicString, String, UninitString, as_escaped_string};
+use ix_string::StringCreationError::{InvalidCharacter, OutOfMemory};
+use ix_string::{
+    PolymorphicString, RelocatableString, String, StringCreationError, UninitString,
+    as_escaped_string,
+};
 use linked_list_allocator::LocalHeap;
 use std::alloc::{AllocError, Allocator, Global};
 use std::test::Fail;
@@ -132,5 +136,79 @@ fn drawn_texts(rt: HostRuntime) -> Result<(), Fail> {
     } else {
         findings.miss("letters");
     }
+    findings.verdict()
+}
+
+/// Letters of which strings are made.
+const LETTERS: &[u8] = &[b'a'; 255];
+
+/// Returns how many bytes of the heap are in use with the string of these bytes, which was made, or `None` if there was no
+/// memory. It has the bytes, and no room for more.
+fn read_full<S: String + Drop>(
+    findings: &Findings,
+    made: Result<S, StringCreationError>,
+    bytes: &[u8],
+    heap: &LocalHeap,
+) -> Option<usize> {
+    match made {
+        Ok(string) => {
+            findings.expect(string.as_bytes() == bytes && string.is_full(), "the bytes");
+            Some(heap.used())
+        }
+        Err(error) => {
+            findings.expect_same(error, OutOfMemory, "no memory");
+            None
+        }
+    }
+}
+
+#[test]
+fn each_making_of_bytes_refused(rt: HostRuntime) -> Result<(), Fail> {
+    let findings = Findings::new();
+    let alloc = rt.alloc();
+    check_makings(
+        &findings,
+        alloc,
+        CAPACITIES,
+        "try_from_bytes",
+        |heap: &LocalHeap, n| {
+            let bytes = &LETTERS[..n.min(255)];
+            let made = PolymorphicString::try_from_bytes(heap, bytes);
+            read_full(&findings, made, bytes, heap)
+        },
+    );
+    check_makings(
+        &findings,
+        alloc,
+        CAPACITIES,
+        "of a relocatable one",
+        |heap: &LocalHeap, n| {
+            let bytes = &LETTERS[..n.min(255)];
+            let made = RelocatableString::try_from_bytes(heap, bytes);
+            read_full(&findings, made, bytes, heap)
+        },
+    );
+    findings.verdict()
+}
+
+/// Bytes of which no string is made.
+const NO_TEXTS: &[&[u8]] = &[&[0], &[128], &[255], &[97, 0], &[97, 0xc3, 0xa9, 98]];
+
+#[test]
+fn makings_of_refused_bytes(rt: HostRuntime) -> Result<(), Fail> {
+    let heap = LocalHeap::new(rt.alloc(), 64)?;
+    let findings = Findings::new();
+    for (row, bytes) in NO_TEXTS.iter().enumerate() {
+        let made = PolymorphicString::try_from_bytes(&heap, bytes).map(|string| string.len());
+        findings.expect_same_at(made, Err(InvalidCharacter), row, "try_from_bytes");
+        findings.expect_same_at(heap.used(), 0, row, "bytes in use");
+    }
+    let made = RelocatableString::try_from_str(&heap, "aé").map(|string| string.len());
+    findings.expect_same(made, Err(InvalidCharacter), "try_from_str");
+    let made = RelocatableString::try_from_str(&heap, "a\u{7f}").map(|string| string.len());
+    findings.expect_same(made, Ok(2), "try_from_str");
+    let made = PolymorphicString::try_from_str(&heap, "").map(|string| string.capacity());
+    findings.expect_same(made, Ok(0), "no bytes");
+    findings.expect_same(heap.used(), 0, "bytes in use at the end");
     findings.verdict()
 }

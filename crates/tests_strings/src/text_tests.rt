@@ -2,12 +2,13 @@
 use ix_cells::RelocatableContainer;
 use ix_string::StringModificationError::{InsertWouldExceedCapacity, InvalidCharacter};
 use ix_string::{
-    PolymorphicString, StaticString, String, UninitString, as_escaped_string, escape_byte,
+    Polymorphic, PolymorphicString, Relocatable, StaticString, String, StringCreationError,
+    StringFamily, UninitString, as_escaped_string, escape_byte,
 };
 use std::alloc::Global;
 use std::fmt::InlineText;
 use std::test::Fail;
-use test_support::{Findings, check_display, check_printed, made};
+use test_support::{Findings, check_display, check_printed, check_text, made};
 
 /// One byte of each form that text is escaped in: 9, 10, 13, 1, 31, 127, a backslash and a quote.
 const ALL: &[u8] = b"\t\n\r\x01\x1f\x7f\\\"";
@@ -53,6 +54,11 @@ fn escaped_bytes(rt: HostRuntime) -> Result<(), Fail> {
         findings.expect_same(escaped.as_str(), text, "the text of a byte");
         check_display(&findings, &escaped, text);
     }
+    check_text(&findings, &escape_byte(b'a'), "EscapedByte(\"a\")");
+    check_text(&findings, &escape_byte(9), "EscapedByte(\"\\\\t\")");
+    check_text(&findings, &Polymorphic, "Polymorphic");
+    check_text(&findings, &Relocatable, "Relocatable");
+    check_text(&findings, &StringFamily, "StringFamily");
     findings.verdict()
 }
 
@@ -162,5 +168,9 @@ fn error_texts() -> Result<(), Fail> {
     check_display(&findings, &InvalidCharacter, text);
     let text = "StringModificationError::InsertWouldExceedCapacity";
     check_display(&findings, &InsertWouldExceedCapacity, text);
+    let text = "StringCreationError::InvalidCharacter";
+    check_display(&findings, &StringCreationError::InvalidCharacter, text);
+    let text = "StringCreationError::OutOfMemory";
+    check_display(&findings, &StringCreationError::OutOfMemory, text);
     findings.verdict()
 }

@@ -9,7 +9,7 @@ use ix_string::StaticString;
 /// The rules of [`GroupName`].
 ///
 /// These are the rules of the example in iceoryx2-bb-container's `semantic_string`.
-#[derive(Clone, Copy)]
+#[derive(Clone, Copy, Debug)]
 pub struct GroupNameRules;
 
 /// A name of a group: 1 to 31 lower-case letters, digits and dashes, of which the first is a letter. Each name is its own

@@ -139,6 +139,15 @@ impl<R: Rules<CAPACITY>, const CAPACITY: usize> Semantic<R, CAPACITY> {
         self.as_bytes()
     }
 
+    /// Returns the bytes as a text. O(1).
+    #[inline]
+    pub fn as_str(&self) -> &str
+        ensures value { result.now ≡ self.now }
+        ensures accepted { IsAccepted CAPACITY R.rules result.now }
+    {
+        self.text.as_str()
+    }
+
     /// Returns the maximum number of bytes, `CAPACITY`. O(1).
     #[inline]
     pub fn capacity(&self) -> usize
@@ -223,7 +232,7 @@ impl<R: Rules<CAPACITY>, const CAPACITY: usize> Semantic<R, CAPACITY> {
     pub fn to_text(&self, alloc: Global) -> Result<std::string::String, AllocError>
         ensures { IfOk result (λ text. string_bytes text ≡ self.now) }
     {
-        std::string::String::from_str(alloc, self.text.as_str())
+        std::string::String::from_str(alloc, self.as_str())
     }
 
     /// Returns `true` if `other` is accepted and means the same. O(`CAPACITY`) beside the rules.

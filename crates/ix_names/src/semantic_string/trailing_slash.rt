@@ -14,7 +14,7 @@ use ix_string::{StaticString, String};
 /// path.eq_str("/tmp");          // true
 /// path.normalize().as_bytes();  // b"/tmp"
 /// ```
-#[derive(Clone, Copy)]
+#[derive(Clone, Copy, Debug)]
 pub struct TrailingSlashRules;
 
 impl Rules<255> for TrailingSlashRules {

@@ -49,6 +49,13 @@ impl fmt::Display for EscapedByte {
     }
 }
 
+/// Prints the text in quotes, as `EscapedByte("a")`.
+impl fmt::Debug for EscapedByte {
+    fn fmt<W: fmt::Write>(&self, f: &mut fmt::Formatter<W>) -> fmt::Result {
+        f.debug_tuple("EscapedByte").field(&self.as_str()).finish()
+    }
+}
+
 /// Returns the text that `byte` is printed as: `\t`, `\r` and `\n` for the bytes 9, 13 and 10, the byte itself for those
 /// from 32 to 127, a backslash and a quote too, and `\x` and two lower-case hexadecimal digits for every other byte. Does
 /// not allocate. O(1).

@@ -18,7 +18,7 @@ pub trait HeapStringKind {
 }
 
 /// The kind of [`PolymorphicString`](crate::PolymorphicString).
-#[derive(Drop)]
+#[derive(Drop, Debug)]
 pub struct Polymorphic;
 
 impl HeapStringKind for Polymorphic {
@@ -31,7 +31,7 @@ impl HeapStringKind for Polymorphic {
 }
 
 /// The kind of [`RelocatableString`](crate::RelocatableString).
-#[derive(Drop)]
+#[derive(Drop, Debug)]
 pub struct Relocatable;
 
 impl HeapStringKind for Relocatable {
@@ -108,7 +108,7 @@ impl<A: Allocator> RelocatableString<A> {
 }
 
 /// The family of relocatable strings: one type for each allocator.
-#[derive(Drop)]
+#[derive(Drop, Debug)]
 pub struct StringFamily;
 
 impl<A: Allocator> ContainerFamily<A> for StringFamily {

@@ -3,6 +3,7 @@ ghost use Rattle.std.specs.Prelude.{ℕ, ◌≡◌, ◌+◌, ◌-◌, ◌<◌, �
 ghost use Rattle.std.specs.Bool.{OnTrue, OnFalse};
 ghost use Rattle.std.specs.Cmp.Lexicographic.{pointwise, slice_cmp};
 ghost use Rattle.std.specs.Ordering.{nat_cmp};
+ghost use Rattle.std.specs.Str.Iter.{HasSubslice};
 ghost use Rattle.ix_cells.specs.Bounded.{Bounded, IsWithin, IsFull, with_items};
 ghost use Rattle.ix_cells.specs.VectorSteps.{HasRoomFor, vec_remove, vec_pop, vec_last, vec_truncate};
 ghost use Rattle.ix_string.specs.Escape.{escaped_text};
@@ -95,6 +96,14 @@ pub trait String: Debug + Display + Eq + Ord + Hash {
         self.len() == self.capacity()
     }
 
+    /// Returns how many more bytes fit, `capacity - len`. O(1).
+    #[inline]
+    final fn remaining_capacity(&self) -> usize
+        ensures { length (bounded self.now).items + result ≡ (bounded self.now).capacity }
+    {
+        self.capacity() - self.len()
+    }
+
     /// Inserts `bytes` at index `idx`, which is at most the length, shifting all later bytes to the right.
     /// O(`len - idx + bytes.len()`).
     ///
@@ -110,7 +119,7 @@ pub trait String: Debug + Display + Eq + Ord + Hash {
         ensures string { bounded self.new ≡ text_insert (bounded self.old) idx bytes.now }
         ensures refused { OnErr result (self.new ≡ self.old) }
     {
-        if bytes.len() > self.capacity() - self.len() {
+        if bytes.len() > self.remaining_capacity() {
             return Err(StringModificationError::InsertWouldExceedCapacity);
         }
         if !is_text(bytes) {
@@ -146,6 +155,19 @@ pub trait String: Debug + Display + Eq + Ord + Hash {
         ensures refused { OnErr result (self.new ≡ self.old) }
     {
         self.insert_bytes(self.len(), bytes)
+    }
+
+    /// Appends `text`. O(`text.len()`).
+    ///
+    /// Returns the errors of [`String::insert_bytes`].
+    #[inline]
+    final fn push_str(&mut self, text: &str) -> Result<(), StringModificationError>
+        ensures value { result ≡ text_insert_result (bounded self.old) text.now }
+        ensures string { bounded self.new
+            ≡ text_insert (bounded self.old) (length (bounded self.old).items) text.now }
+        ensures refused { OnErr result (self.new ≡ self.old) }
+    {
+        self.push_bytes(text.as_bytes())
     }
 
     /// Appends `byte`. O(1).
@@ -225,6 +247,30 @@ pub trait String: Debug + Display + Eq + Ord + Hash {
         memmem::rfind(self.as_bytes(), needle)
     }
 
+    /// Returns `true` if `needle` occurs in the string. An empty `needle` occurs in every string.
+    /// O(`len + needle.len()`).
+    final fn contains(&self, needle: &[u8]) -> bool
+        ensures { IsTrue result ↔ HasSubslice (bounded self.now).items needle.now }
+    {
+        self.find(needle).is_some()
+    }
+
+    /// Returns `true` if the string starts with `bytes`. Every string starts with an empty `bytes`. O(`bytes.len()`).
+    #[inline]
+    final fn starts_with(&self, bytes: &[u8]) -> bool
+        ensures { IsTrue result ↔ MatchesAt (bounded self.now).items bytes.now 0 }
+    {
+        self.as_bytes().starts_with(bytes)
+    }
+
+    /// Returns `true` if the string ends with `bytes`. Every string ends with an empty `bytes`. O(`bytes.len()`).
+    #[inline]
+    final fn ends_with(&self, bytes: &[u8]) -> bool
+        ensures { IsTrue result ↔ EndsWith (bounded self.now).items bytes.now }
+    {
+        self.as_bytes().ends_with(bytes)
+    }
+
     /// Removes `bytes` from the start of the string and returns `true`. Returns `false` if the string does not start
     /// with them. O(`len`).
     final fn strip_prefix(&mut self, bytes: &[u8]) -> bool
@@ -234,7 +280,7 @@ pub trait String: Debug + Display + Eq + Ord + Hash {
         ensures refused { OnFalse result (self.new ≡ self.old) }
         ensures no_bytes { bytes.now ≡ [] → self.new ≡ self.old }
     {
-        if self.as_bytes().starts_with(bytes) {
+        if self.starts_with(bytes) {
             return self.remove_range(0, bytes.len());
         }
         false
@@ -249,7 +295,7 @@ pub trait String: Debug + Display + Eq + Ord + Hash {
         ensures refused { OnFalse result (self.new ≡ self.old) }
         ensures no_bytes { bytes.now ≡ [] → self.new ≡ self.old }
     {
-        if self.as_bytes().ends_with(bytes) {
+        if self.ends_with(bytes) {
             self.truncate(self.len() - bytes.len());
             return true;
         }

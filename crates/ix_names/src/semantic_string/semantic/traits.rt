@@ -14,6 +14,18 @@ use ix_string::String;
 use std::cmp::Ordering;
 use std::fmt;
 use std::hash::{Hash, Hasher};
+use std::str::FromStr;
+
+impl<R: Rules<CAPACITY>, const CAPACITY: usize> FromStr for Semantic<R, CAPACITY> {
+    type Err = SemanticStringError;
+
+    ghost from_str_gives = { λ text result. SemanticResult CAPACITY R.rules text text result };
+
+    /// As [`Semantic::new`], of the bytes of `text`.
+    fn from_str(text: &str) -> Result<Self, SemanticStringError> {
+        Semantic::try_from(text)
+    }
+}
 
 impl<R: Rules<CAPACITY>, const CAPACITY: usize> TryFrom<&str> for Semantic<R, CAPACITY> {
     type Error = SemanticStringError;
@@ -24,6 +36,31 @@ impl<R: Rules<CAPACITY>, const CAPACITY: usize> TryFrom<&str> for Semantic<R, CA
     /// As [`Semantic::new`], of the bytes of `text`.
     fn try_from(text: &str) -> Result<Self, SemanticStringError> {
         Semantic::new(text.as_bytes())
+    }
+}
+
+impl<R: Rules<CAPACITY>, const CAPACITY: usize> TryFrom<&[u8]> for Semantic<R, CAPACITY> {
+    type Error = SemanticStringError;
+
+    ghost try_from_gives = { λ bytes result.
+        SemanticResult CAPACITY R.rules bytes.now bytes.now result };
+
+    /// As [`Semantic::new`].
+    fn try_from(bytes: &[u8]) -> Result<Self, SemanticStringError> {
+        Semantic::new(bytes)
+    }
+}
+
+impl<R: Rules<CAPACITY>, const CAPACITY: usize, const N: usize> TryFrom<&[u8; N]>
+    for Semantic<R, CAPACITY> {
+    type Error = SemanticStringError;
+
+    ghost try_from_gives = { λ bytes result.
+        SemanticResult CAPACITY R.rules bytes.now bytes.now result };
+
+    /// As [`Semantic::new`].
+    fn try_from(bytes: &[u8; N]) -> Result<Self, SemanticStringError> {
+        Semantic::new(bytes.as_slice())
     }
 }
 

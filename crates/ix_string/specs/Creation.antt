@@ -1,0 +1,16 @@
+-- Making a string of bytes, in memory of an allocator.
+use Rattle.std.specs.Prelude.{ℕ, ◌≡◌, ◌≢◌, List, [], length, Result, Ok, Err}
+use Rattle.ix_cells.specs.Bounded.{Bounded}
+use Rattle.ix_string.specs.Text.{IsText}
+use Rattle.ix_string.specs.declared.string.creation_error.StringCreationError.{StringCreationError}
+use Rattle.ix_string.specs.declared.string.creation_error.StringCreationError.TheVariants.{InvalidCharacter, OutOfMemory}
+
+-- a string that the bytes fill
+abbrev pub full_of : List ℕ → Bounded ℕ
+full_of bytes = record { items = bytes; capacity = length bytes }
+
+-- the result of making a string that the bytes fill: an invalid byte is refused before a lack of memory, and no bytes need no memory
+abbrev pub HeapStringFromBytes : List ℕ → Result (Bounded ℕ) StringCreationError → Type 0
+HeapStringFromBytes bytes (Ok string) = IsText bytes × (string ≡ full_of bytes)
+HeapStringFromBytes bytes (Err InvalidCharacter) = ¬ IsText bytes
+HeapStringFromBytes bytes (Err OutOfMemory) = IsText bytes × (bytes ≢ [])
