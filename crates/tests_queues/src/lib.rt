@@ -14,8 +14,7 @@ mod iter_tests;
 mod memory_tests;
 #[cfg(test)]
 mod own_table;
-#[cfg(test)]
-mod replacing;
+pub mod replacing;
 #[cfg(test)]
 mod ring_tests;
 #[cfg(test)]
