@@ -1,10 +1,13 @@
 -- A closure that is called with the items of a list in turn.
-use Rattle.std.proofs.Common.{◌≡◌, ℕ, ◌+◌, ◌<◌, ◌≤◌, List, [], ◌∷◌, ◌++◌, length, take, drop, set, get_or, slice_get, Bool, true, false, Some, refl, sym, ap, ap₂, ◌∙◌, subst, arith}
+use Rattle.std.proofs.Common.{◌≡◌, ℕ, ◌+◌, ◌<◌, ◌≤◌, List, [], ◌∷◌, ◌++◌, length, take, drop, map, set, get_or, slice_get, Bool, true, false, Some, refl, sym, ap, ap₂, ◌∙◌, subst, arith}
 use Rattle.std.specs.Prelude.{if◌then◌else◌}
+use Rattle.std.specs.Borrow.{MutBor}
+use Rattle.std.specs.Fn.{Mut, CalledAtMut}
 use Rattle.std.specs.List.{push, items_where_true}
 use Rattle.std.specs.List.Retain.{IsFiltered, ReturnsInTurn}
 use Rattle.std.proofs.lemmas.List.{append-nil, append_assoc, drop-drop, drop-set-lt, drop_all, drop_more, length-append, length-drop, take_all, take_more, take_more_set}
 use Rattle.std.proofs.lemmas.Option.{slice_get_within, get_or_from_slice_get}
+use Rattle.ix_maps.specs.QueueCalls.{ChangesInTurn}
 
 module _ {T : Type 0} where
   drop_at : (xs : List T) (i : ℕ) (x : T) → slice_get xs i ≡ Some x → drop i xs ≡ x ∷ drop (i + 1) xs
@@ -102,3 +105,13 @@ module _ {T P : Type 0} (R : P → T → Bool → P → Type 0) where
           at_back : (b : Bool) → (if b then push (drop 1 items) x else drop 1 items) ≡ drop 1 items ++ (if b then x ∷ [] else [])
           at_back true = refl
           at_back false = sym (append-nil (drop 1 items))
+
+module _ {F T : Type 0} (calls : Mut F (MutBor T × Unit {0}) ((Unit {0}) × (MutBor T × Unit {0}))) (change : T → T) (f : F) where
+  -- what a closure that changes no capture, and each item in one way, makes of the items
+  pub ChangesInTurn-map : ((x y : T) (next : F) → CalledAtMut calls f x tt next y → (y ≡ change x) × (next ≡ f)) → (xs ys : List T) (last : F) → ChangesInTurn calls f xs ys last → ys ≡ map change xs
+  ChangesInTurn-map one [] [] last changes = refl
+  ChangesInTurn-map one [] (y ∷ ys) last changes = absurd changes
+  ChangesInTurn-map one (x ∷ xs) [] last changes = absurd changes
+  ChangesInTurn-map one (x ∷ xs) (y ∷ ys) last (next, called, changes) =
+      let same = one x y next called in
+      ap₂ (λ z zs. z ∷ zs) same.0 (ChangesInTurn-map one xs ys last (subst (λ g. ChangesInTurn calls g xs ys last) same.1 changes))

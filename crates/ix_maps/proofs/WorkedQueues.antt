@@ -1,7 +1,7 @@
 -- Worked examples: the steps of a queue do what users expect.
 use Rattle.std.proofs.Common.{ℕ, ◌≡◌, List, [], ◌∷◌, true, false, Some, None, refl}
 use Rattle.ix_cells.specs.Bounded.{Bounded, has_room, bounded_push}
-use Rattle.ix_maps.specs.QueueSteps.{queue_overflow, queue_overflow_item, queue_front, queue_pop, queue_set_front}
+use Rattle.ix_maps.specs.QueueSteps.{queue_overflow, queue_overflow_item, queue_front, queue_pop, queue_set, queue_set_back, queue_set_front}
 
 -- a queue with this capacity
 abbrev queue_of : List ℕ → ℕ → Bounded ℕ
@@ -30,6 +30,16 @@ queue_pop-one = refl
 queue_set_front-two : queue_set_front (queue_of (1 ∷ 2 ∷ []) 2) 9 ≡ queue_of (9 ∷ 2 ∷ []) 2
 queue_set_front-two = refl
 
+-- the back item is replaced by 9, and the item at index 0, and none past the end
+queue_set_back-two : queue_set_back (queue_of (1 ∷ 2 ∷ []) 2) 9 ≡ queue_of (1 ∷ 9 ∷ []) 2
+queue_set_back-two = refl
+
+queue_set-two : queue_set (queue_of (1 ∷ 2 ∷ []) 2) 0 9 ≡ queue_of (9 ∷ 2 ∷ []) 2
+queue_set-two = refl
+
+queue_set-past : queue_set (queue_of (1 ∷ 2 ∷ []) 2) 2 9 ≡ queue_of (1 ∷ 2 ∷ []) 2
+queue_set-past = refl
+
 -- capacity 0: push 1 returns false, push_with_overflow 2 returns 2, and pop returns None; a write changes nothing
 has_room-none : has_room (queue_of [] 0) ≡ false
 has_room-none = refl
@@ -48,3 +58,6 @@ queue_front-none = refl
 
 queue_set_front-none : queue_set_front (queue_of [] 0) 9 ≡ queue_of [] 0
 queue_set_front-none = refl
+
+queue_set_back-none : queue_set_back (queue_of [] 0) 9 ≡ queue_of [] 0
+queue_set_back-none = refl

@@ -1,5 +1,8 @@
 //! When items are dropped: each one once, the front item first.
-use crate::drop_tests::Call::{Clear, Pop, Push, PushWithOverflow, Write};
+use crate::drop_tests::Call::{
+    Clear, KeepOdd, Pop, PopBack, Push, PushWithOverflow, Truncate, TryPush, Write, WriteBack,
+};
+use crate::replacing::replace_back;
 use ix_cells::{RelocatableContainer, Table};
 use ix_maps::{FixedSizeQueue, MetaQueue, Queue, RelocatableQueue};
 use std::alloc::Global;
@@ -14,6 +17,13 @@ enum Call {
     /// Replaces the front item through `peek_mut`.
     Write(u64),
     Clear,
+    TryPush(u64),
+    PopBack,
+    /// Replaces the back item through `back_mut`.
+    WriteBack(u64),
+    Truncate(usize),
+    /// Keeps the items with odd names.
+    KeepOdd,
 }
 
 /// A call, the names of all items that are dropped so far, and those once the returned item is dropped too.
@@ -43,6 +53,11 @@ fn returned_by<'a, S: Table<Noted<'a>>>(
         Pop => return queue.pop(),
         Write(name) => write(queue, Noted::new(*name, notes)),
         Clear => queue.clear(),
+        TryPush(name) => return queue.try_push(Noted::new(*name, notes)).err(),
+        PopBack => return queue.pop_back(),
+        WriteBack(name) => return replace_back(queue, Noted::new(*name, notes)),
+        Truncate(len) => queue.truncate(*len),
+        KeepOdd => queue.retain(|item| item.name % 2 == 1),
     }
     None
 }
@@ -105,8 +120,46 @@ const CLEARS: &[Row] = &[
     (Push(5), 12_734, 12_734),
 ];
 
+/// Calls of a queue of capacity 3.
+const BACK_ITEMS: &[Row] = &[
+    (TryPush(1), 0, 0),
+    (TryPush(2), 0, 0),
+    (Pop, 0, 1),
+    (TryPush(3), 1, 1),
+    (TryPush(4), 1, 1),
+    (TryPush(5), 1, 15),
+    (WriteBack(6), 15, 154),
+    (PopBack, 154, 1546),
+    (WriteBack(7), 1546, 15_463),
+    (TryPush(8), 15_463, 15_463),
+    (Truncate(3), 15_463, 15_463),
+    (Truncate(1), 1_546_387, 1_546_387),
+    (Truncate(1), 1_546_387, 1_546_387),
+];
+
+/// Calls of a queue of capacity 3.
+const ODD_ITEMS: &[Row] = &[
+    (KeepOdd, 0, 0),
+    (Push(1), 0, 0),
+    (Push(2), 0, 0),
+    (Push(3), 0, 0),
+    (KeepOdd, 2, 2),
+    (Push(4), 2, 2),
+    (KeepOdd, 24, 24),
+    (Push(5), 24, 24),
+    (KeepOdd, 24, 24),
+    (Truncate(2), 245, 245),
+    (Write(6), 2451, 2451),
+    (KeepOdd, 24_516, 24_516),
+];
+
 /// Calls of queues of capacity 3, and the names that are dropped once the queue is dropped.
-const OF_THREE: &[Example] = &[(REFUSALS, 1_523_746), (CLEARS, 127_345)];
+const OF_THREE: &[Example] = &[
+    (REFUSALS, 1_523_746),
+    (CLEARS, 127_345),
+    (BACK_ITEMS, 15_463_872),
+    (ODD_ITEMS, 245_163),
+];
 
 /// Calls of a queue of capacity 0.
 const OF_NONE: Example = (
@@ -114,8 +167,11 @@ const OF_NONE: Example = (
         (Push(1), 1, 1),
         (PushWithOverflow(2), 1, 12),
         (Clear, 12, 12),
+        (TryPush(3), 12, 123),
+        (Truncate(0), 123, 123),
+        (KeepOdd, 123, 123),
     ],
-    12,
+    123,
 );
 
 /// Calls of a queue of capacity 9, which is dropped when it is not full.

@@ -22,7 +22,6 @@ enum Step {
 /// The items of a queue of capacity 3, and steps of an iterator over it.
 type Walk<'a> = (&'a [u64], &'a [Step]);
 
-/// Walks over a queue, of which an iterator by value goes the steps up to the first from the back.
 const WALKS: &[Walk] = &[
     (&[], &[Left(0), Next(None), Next(None), Left(0)]),
     (&[4], &[Left(1), Next(Some(4)), Left(0), Next(None)]),
@@ -90,13 +89,13 @@ fn walk<S: Table<u64>>(findings: &Findings, queue: &MetaQueue<u64, S>, steps: &[
     }
 }
 
-/// Takes the steps up to the first from the back, and drops what is left of the queue.
+/// Takes the steps, and drops what is left of the queue.
 fn walk_by_value<S: Table<u64>>(findings: &Findings, queue: MetaQueue<u64, S>, steps: &[Step]) {
     let mut iter = queue.into_iter();
     for (number, step) in steps.iter().enumerate() {
         match step {
             Next(item) => findings.expect_same_at(iter.next(), *item, number, "next by value"),
-            Back(_) => return,
+            Back(item) => findings.expect_same_at(iter.next_back(), *item, number, "back by value"),
             Left(left) => {
                 findings.expect_same_at(iter.len(), *left, number, "len by value");
                 findings.expect_same_at(iter.size_hint(), (*left, Some(*left)), number, "hint");

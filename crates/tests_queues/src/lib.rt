@@ -3,6 +3,14 @@
 #![tactic(auto)]
 
 #[cfg(test)]
+mod call_tests;
+#[cfg(test)]
+mod closure_tests;
+#[cfg(test)]
+mod copy_tests;
+#[cfg(test)]
+mod drain_tests;
+#[cfg(test)]
 mod drop_tests;
 #[cfg(test)]
 mod equality_tests;
@@ -12,6 +20,8 @@ mod function_tests;
 mod iter_tests;
 #[cfg(test)]
 mod memory_tests;
+#[cfg(test)]
+mod order_tests;
 #[cfg(test)]
 mod own_table;
 #[cfg(test)]
