@@ -10,6 +10,8 @@ mod checks;
 #[cfg(test)]
 mod function_tests;
 #[cfg(test)]
+mod handed_back_tests;
+#[cfg(test)]
 mod keys;
 #[cfg(test)]
 mod memory_tests;

@@ -20,15 +20,15 @@ use test_support::{Findings, Noted, Notes, made};
 
 /// The notes of the keys, those of the values, and the number of comparisons of keys.
 #[derive(Drop)]
-struct AllNotes {
-    keys: Notes,
-    values: Notes,
-    comparisons: Cell<u64>,
+pub(crate) struct AllNotes {
+    pub(crate) keys: Notes,
+    pub(crate) values: Notes,
+    pub(crate) comparisons: Cell<u64>,
 }
 
 impl AllNotes {
     /// Returns notes of nothing. The next `clones` clones of values succeed, and none of a key.
-    fn new(clones: u64) -> AllNotes {
+    pub(crate) fn new(clones: u64) -> AllNotes {
         AllNotes {
             keys: Notes::new(0),
             values: Notes::new(clones),
@@ -39,15 +39,15 @@ impl AllNotes {
 
 /// A key that notes its drop and its comparisons. Keys are equal if their numbers are.
 #[derive(Drop)]
-struct NotedKey<'a> {
+pub(crate) struct NotedKey<'a> {
     number: u64,
-    noted: Noted<'a>,
+    pub(crate) noted: Noted<'a>,
     comparisons: &'a Cell<u64>,
 }
 
 impl<'a> NotedKey<'a> {
     /// Returns a key that notes its drop by `name`.
-    fn new(number: u64, name: u64, notes: &'a AllNotes) -> NotedKey<'a> {
+    pub(crate) fn new(number: u64, name: u64, notes: &'a AllNotes) -> NotedKey<'a> {
         NotedKey {
             number,
             noted: Noted::new(name, &notes.keys),
@@ -56,7 +56,7 @@ impl<'a> NotedKey<'a> {
     }
 
     /// Returns a key that notes no drop, to look for an equal one.
-    fn to_find(number: u64, notes: &'a AllNotes) -> NotedKey<'a> {
+    pub(crate) fn to_find(number: u64, notes: &'a AllNotes) -> NotedKey<'a> {
         NotedKey {
             number,
             noted: Noted::default(),
@@ -185,7 +185,7 @@ const CLONES: &[Row] = &[
     (Remove(1), 1, 0, (0, 0), None),
 ];
 
-type NotedMap<'a, S, L> = MetaFlatMap<Pair<NotedKey<'a>, Noted<'a>>, S, L>;
+pub(crate) type NotedMap<'a, S, L> = MetaFlatMap<Pair<NotedKey<'a>, Noted<'a>>, S, L>;
 
 /// Runs the command, and returns the value that it returns, if any.
 fn run<'a, S: Table<Pair<NotedKey<'a>, Noted<'a>>>, L: Table<Link>>(
@@ -218,7 +218,7 @@ fn run<'a, S: Table<Pair<NotedKey<'a>, Noted<'a>>>, L: Table<Link>>(
 }
 
 /// Returns the names of the dropped keys and those of the dropped values, and forgets them.
-fn take_drops(notes: &AllNotes) -> (u64, u64) {
+pub(crate) fn take_drops(notes: &AllNotes) -> (u64, u64) {
     (notes.keys.take_drops(), notes.values.take_drops())
 }
 

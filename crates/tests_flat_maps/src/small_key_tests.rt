@@ -145,11 +145,7 @@ fn eight_at_a_time() -> Result<(), Fail> {
 }
 
 /// Looks up a number in each row's map.
-fn check_large_rows(
-    findings: &Findings,
-    numbers: &[Number<'_>; 151],
-    comparisons: &Cell<u64>,
-) {
+fn check_large_rows(findings: &Findings, numbers: &[Number<'_>; 151], comparisons: &Cell<u64>) {
     for row in 0..LARGE_ROWS.len() {
         let (count, index, expected) = LARGE_ROWS[row];
         let mut map = FixedSizeFlatMap::<SmallKey<'_>, u64, 160>::new();
@@ -162,7 +158,11 @@ fn check_large_rows(
         comparisons.set(0);
         let found = map.get_ref(&SmallKey { number }).copied();
         findings.expect_same_at(comparisons.get(), expected, row, "comparisons");
-        let wanted = if index < count { Some(number.value) } else { None };
+        let wanted = if index < count {
+            Some(number.value)
+        } else {
+            None
+        };
         findings.expect_same_at(found, wanted, row, "the value");
     }
 }
