@@ -65,7 +65,7 @@ module _ {T : Type 0} where
     IsDead-map_set_at key (inl past) = inl (let same = length-set s.slots.values place (Some (Some left)) in omega arith)
     IsDead-map_set_at key (inr (inl retired)) =
         let apart : key.index ≢ place = λ here. (
-          let held : Some value ≡ None = sym at ∙ ap (place_value s) (sym here) ∙ ap option_flatten retired in absurd (cc)
+        let held : Some value ≡ None = sym at ∙ ap (place_value s) (sym here) ∙ ap option_flatten retired in absurd (cc)
         ) in
         inr (inl (get_or-set_other s.slots.values place key.index (Some (Some left)) None apart ∙ retired))
     IsDead-map_set_at key (inr (inr lower)) = inr (inr lower)

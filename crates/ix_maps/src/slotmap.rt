@@ -15,7 +15,6 @@
 
 mod compared;
 mod content;
-mod into_iter;
 mod iter;
 mod keys;
 mod kinds;
@@ -27,7 +26,6 @@ mod whole;
 mod word_table;
 
 pub use content::Content;
-pub use into_iter::IntoIter;
 pub use iter::Iter;
 pub use keys::Keys;
 pub use kinds::{FixedSizeSlotMap, RelocatableSlotMap, SlotMap, UninitSlotMap};

@@ -7,126 +7,56 @@ use std::alloc::{AllocError, Global};
 use std::test::Fail;
 use test_support::{Findings, Noted, Notes, check_display, check_text};
 
-/// Returns the key that a call returned, or the name of the value that it handed back.
-fn key_or_name(answer: Result<SlotMapKey, Noted>) -> Result<SlotMapKey, u64> {
-    match answer {
-        Ok(key) => Ok(key),
-        Err(value) => Err(value.name),
-    }
+/// Returns the name of the value, which is dropped.
+fn name_of(value: Option<Noted>) -> Option<u64> {
+    let value = value?;
+    Some(value.name)
 }
 
-/// Returns the key that a call returned with the name of the value that was replaced, 0 if there was none, or the name of the
-/// value that was handed back.
-fn both_or_name(
-    answer: Result<(SlotMapKey, Option<Noted>), Noted>,
-) -> Result<(SlotMapKey, u64), u64> {
-    match answer {
-        Ok((key, Some(value))) => Ok((key, value.name)),
-        Ok((key, None)) => Ok((key, 0)),
-        Err(value) => Err(value.name),
-    }
-}
-
-/// Fills an empty map with three places of the generation before the last: `{0: 1, 1: 5, 2: 3}`. The place 2 gets the last
-/// generation.
+/// Puts values in all places of an empty map, which has three: `{0: 1, 1: 5, 2: 3}`. Another one is handed back.
 fn fill<'a, S: Table<Option<Noted<'a>>>, L: Table<Link>, G: Table<u64>>(
     findings: &Findings,
     map: &mut MetaSlotMap<Option<Noted<'a>>, S, L, G>,
     notes: &'a Notes,
 ) {
-    let first = key_or_name(map.try_insert(Noted::new(1, notes)));
-    findings.expect_same(first, Ok(key(0, LAST - 1)), "the first free place");
-    let free = both_or_name(map.try_insert_at(2, Noted::new(2, notes)));
-    findings.expect_same(free, Ok((key(2, LAST - 1), 0)), "a free place");
-    findings.expect_same(notes.take_drops(), 0, "nothing is dropped");
-    let held = both_or_name(map.try_insert_at(2, Noted::new(3, notes)));
-    let replaced = (held, notes.take_drops());
-    findings.expect_same(replaced, (Ok((key(2, LAST), 2)), 2), "a held place");
-    let last = both_or_name(map.try_insert_at(2, Noted::new(4, notes)));
-    findings.expect_same(
-        (last, notes.take_drops()),
-        (Err(4), 4),
-        "the last generation",
-    );
-    let past = both_or_name(map.try_insert_at(3, Noted::new(6, notes)));
-    findings.expect_same((past, notes.take_drops()), (Err(6), 6), "out of range");
-    let past = both_or_name(map.try_insert_at(usize::MAX, Noted::new(7, notes)));
-    findings.expect_same((past, notes.take_drops()), (Err(7), 7), "out of range");
-    let second = key_or_name(map.try_insert(Noted::new(5, notes)));
-    findings.expect_same(second, Ok(key(1, LAST - 1)), "the last free place");
-    let full = key_or_name(map.try_insert(Noted::new(8, notes)));
-    findings.expect_same((full, notes.take_drops()), (Err(8), 8), "no free place");
-    default_key_law(&*map);
+    for name in [1, 5, 3] {
+        let refused = name_of(map.try_insert(Noted::new(name, notes)).err());
+        findings.expect_same((refused, notes.take_drops()), (None, 0), "a free place");
+    }
+    let refused = name_of(map.try_insert(Noted::new(6, notes)).err());
+    findings.expect_same((refused, notes.take_drops()), (Some(6), 6), "no free place");
 }
 
-/// Checks which values are dropped, and when, on a map whose places can be used twice.
+/// Checks which values are dropped, and when, on an empty map whose three places can be used twice.
 fn check_drops<'a, S: Table<Option<Noted<'a>>>, L: Table<Link>, G: Table<u64>>(
     findings: &Findings,
-    mut map: MetaSlotMap<Option<Noted<'a>>, S, L, G>,
+    map: &mut MetaSlotMap<Option<Noted<'a>>, S, L, G>,
     notes: &'a Notes,
 ) {
-    fill(findings, &mut map, notes);
+    fill(findings, map, notes);
     map.clear();
     findings.expect_same(notes.take_drops(), 153, "clear drops the values");
-    findings.expect_same(
-        (map.len(), map.retired()),
-        (0, 1),
-        "the last generation is used up",
-    );
     findings.expect(!map.contains(key(1, LAST - 1)), "a key that was removed");
-    let retired = both_or_name(map.try_insert_at(2, Noted::new(9, notes)));
-    findings.expect_same(
-        (retired, notes.take_drops()),
-        (Err(9), 9),
-        "a retired place",
-    );
-    let second = key_or_name(map.try_insert(Noted::new(1, notes)));
-    findings.expect_same(second, Ok(key(1, LAST)), "removed last, and free first");
-    let first = key_or_name(map.try_insert(Noted::new(2, notes)));
-    findings.expect_same(first, Ok(key(0, LAST)), "removed first");
-    map.retain(|place, value| place.index() == 1 && value.name == 1);
-    findings.expect_same(
-        (notes.take_drops(), map.retired()),
-        (2, 2),
-        "retain drops a value",
-    );
-    let mut values = map.into_iter();
-    findings.expect_same(values.size_hint(), (1, Some(1)), "one value");
-    if let Some((key_of_value, value)) = values.next() {
-        findings.expect_same((key_of_value, value.name), (key(1, LAST), 1), "the value");
-    }
-    findings.expect_same(notes.take_drops(), 1, "the caller drops a value");
-    findings.expect(values.next().is_none(), "the end");
+    let free = (map.len(), map.retired(), map.next_free_key());
+    findings.expect_same(free, (0, 0, Some(key(2, LAST))), "removed last, and free first");
+    fill(findings, map, notes);
+    map.retain(|place, value| place.index() == 1 && value.name == 5);
+    findings.expect_same(notes.take_drops(), 31, "retain drops the others");
+    findings.expect_same((map.len(), map.retired()), (1, 2), "the last generation is used up");
+    map.retain(|_, value| value.name != 5);
+    findings.expect_same(notes.take_drops(), 5, "retain drops the last value");
+    findings.expect_same((map.len(), map.retired()), (0, 3), "each place is retired");
 }
 
-/// Checks that what an iterator does not give is dropped with it.
-fn check_rest<'a, S: Table<Option<Noted<'a>>>, L: Table<Link>, G: Table<u64>>(
-    findings: &Findings,
-    mut map: MetaSlotMap<Option<Noted<'a>>, S, L, G>,
-    notes: &'a Notes,
-) {
-    fill(findings, &mut map, notes);
-    let mut values = map.into_iter();
-    findings.expect_same(values.len(), 3, "three values");
-    drop(values.next());
-    findings.expect_same(notes.take_drops(), 1, "the caller drops a value");
-    drop(values);
-    findings.expect_same(notes.take_drops(), 53, "the iterator drops the others");
-}
-
-/// Checks two maps whose makings did not fail.
+/// Checks a map whose making did not fail.
 fn check_made<'a, S: Table<Option<Noted<'a>>>, L: Table<Link>, G: Table<u64>, E: Drop>(
     findings: &Findings,
     made: Result<MetaSlotMap<Option<Noted<'a>>, S, L, G>, E>,
-    other: Result<MetaSlotMap<Option<Noted<'a>>, S, L, G>, E>,
     notes: &'a Notes,
 ) {
-    match (made, other) {
-        (Ok(map), Ok(other)) => {
-            check_drops(findings, map, notes);
-            check_rest(findings, other, notes);
-        }
-        _ => findings.miss("there is memory"),
+    match made {
+        Ok(mut map) => check_drops(findings, &mut map, notes),
+        Err(_) => findings.miss("there is memory"),
     }
 }
 
@@ -135,14 +65,11 @@ fn drops_of_each_kind(rt: HostRuntime) -> Result<(), Fail> {
     let findings = Findings::new();
     let notes = Notes::new(0);
     let fixed = Ok::<_, AllocError>(FixedSizeSlotMap::<Noted, 3>::starting_at(LAST - 1));
-    let other = Ok::<_, AllocError>(FixedSizeSlotMap::<Noted, 3>::starting_at(LAST - 1));
-    check_made(&findings, fixed, other, &notes);
+    check_made(&findings, fixed, &notes);
     let allocated = SlotMap::<Noted, Global>::starting_at(rt.alloc(), 3, LAST - 1);
-    let other = SlotMap::<Noted, Global>::starting_at(rt.alloc(), 3, LAST - 1);
-    check_made(&findings, allocated, other, &notes);
+    check_made(&findings, allocated, &notes);
     let relocatable = UninitSlotMap::<Noted>::starting_at(3, LAST - 1).init(rt.alloc());
-    let other = UninitSlotMap::<Noted>::starting_at(3, LAST - 1).init(rt.alloc());
-    check_made(&findings, relocatable, other, &notes);
+    check_made(&findings, relocatable, &notes);
     findings.verdict()
 }
 
@@ -210,6 +137,28 @@ fn check_calls<S: Table<Option<u64>>, L: Table<Link>, G: Table<u64>>(
     );
 }
 
+/// Checks the calls that hand back what they don't keep, on an empty map with three places of the generation before the last.
+fn check_refusals<S: Table<Option<u64>>, L: Table<Link>, G: Table<u64>>(
+    findings: &Findings,
+    map: &mut MetaSlotMap<Option<u64>, S, L, G>,
+) {
+    findings.expect_same(map.try_insert(1), Ok(key(0, LAST - 1)), "the first free place");
+    let free = map.try_insert_at(2, 2);
+    findings.expect_same(free, Ok((key(2, LAST - 1), None)), "a free place");
+    let held = map.try_insert_at(2, 3);
+    findings.expect_same(held, Ok((key(2, LAST), Some(2))), "a held place");
+    findings.expect_same(map.try_insert_at(2, 4), Err(4), "the last generation");
+    findings.expect_same(map.try_insert_at(3, 6), Err(6), "out of range");
+    findings.expect_same(map.try_insert_at(usize::MAX, 7), Err(7), "out of range");
+    findings.expect_same(map.try_insert(5), Ok(key(1, LAST - 1)), "the last free place");
+    findings.expect_same(map.try_insert(8), Err(8), "no free place");
+    default_key_law(&*map);
+    map.clear();
+    findings.expect_same((map.len(), map.retired()), (0, 1), "the last generation is used up");
+    findings.expect_same(map.try_insert_at(2, 9), Err(9), "a retired place");
+    findings.expect_same(map.try_insert(1), Ok(key(1, LAST)), "removed last, and free first");
+}
+
 /// Checks calls on a map without places.
 fn check_none<S: Table<Option<u64>>, L: Table<Link>, G: Table<u64>>(
     findings: &Findings,
@@ -232,9 +181,14 @@ fn check_none<S: Table<Option<u64>>, L: Table<Link>, G: Table<u64>>(
 fn calls_on_each_kind(rt: HostRuntime) -> Result<(), Fail> {
     let findings = Findings::new();
     check_calls(&findings, &mut FixedSizeSlotMap::<u64, 3>::new());
+    check_refusals(&findings, &mut FixedSizeSlotMap::<u64, 3>::starting_at(LAST - 1));
     check_none(&findings, &mut FixedSizeSlotMap::<u64, 0>::new());
     match SlotMap::<u64>::new(rt.alloc(), 3) {
         Ok(mut map) => check_calls(&findings, &mut map),
+        Err(AllocError) => findings.miss("there is memory"),
+    }
+    match SlotMap::<u64>::starting_at(rt.alloc(), 3, LAST - 1) {
+        Ok(mut map) => check_refusals(&findings, &mut map),
         Err(AllocError) => findings.miss("there is memory"),
     }
     match UninitSlotMap::<u64>::new_uninit(0).init(rt.alloc()) {
@@ -245,25 +199,7 @@ fn calls_on_each_kind(rt: HostRuntime) -> Result<(), Fail> {
     let _ = unit.try_insert(());
     findings.expect_same(unit.values().count(), 1, "of size zero");
     unit.clear();
-    findings.expect_same(unit.into_iter().count(), 0, "of size zero");
-    findings.verdict()
-}
-
-#[test]
-fn taken_apart() -> Result<(), Fail> {
-    let findings = Findings::new();
-    let mut map = FixedSizeSlotMap::<u64, 4>::new();
-    let _ = map.insert_at(3, 7);
-    let _ = map.insert_at(1, 4);
-    let _ = map.insert_at(1, 5);
-    let items = map.into_iter();
-    check_text(&findings, &items, "[(1, 1, 5), (3, 0, 7)]");
-    let mut digits = 0u64;
-    for (place, value) in items {
-        let item = (place.index() as u64).wrapping_mul(10).wrapping_add(value);
-        digits = digits.wrapping_mul(100).wrapping_add(item);
-    }
-    findings.expect_same(digits, 1537, "in rising order");
+    findings.expect_same(unit.len(), 0, "of size zero");
     findings.verdict()
 }
 

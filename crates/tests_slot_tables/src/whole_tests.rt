@@ -6,47 +6,32 @@ use std::alloc::{AllocError, Global};
 use std::test::Fail;
 use test_support::{Findings, Noted, Notes, check_display, check_text};
 
-/// Returns the key that a call returned, or the name of the value that it handed back.
-fn key_or_name(answer: Result<SlotTableKey, Noted>) -> Result<SlotTableKey, u64> {
-    match answer {
-        Ok(key) => Ok(key),
-        Err(value) => Err(value.name),
-    }
+/// Returns the name of the value, which is dropped.
+fn name_of(value: Option<Noted>) -> Option<u64> {
+    let value = value?;
+    Some(value.name)
 }
 
-/// Returns the name of the value that was replaced, 0 if there was none, or the name of the value that was handed back.
-fn name_or_name(answer: Result<Option<Noted>, Noted>) -> Result<u64, u64> {
-    match answer {
-        Ok(Some(value)) => Ok(value.name),
-        Ok(None) => Ok(0),
-        Err(value) => Err(value.name),
-    }
+/// Returns the name of the value that was replaced, or of the value that was handed back.
+fn replaced_or_name(answer: Result<Option<Noted>, Noted>) -> Result<Option<u64>, u64> {
+    let replaced = answer.map_err(|value| value.name)?;
+    Ok(name_of(replaced))
 }
 
-/// Fills an empty map with three keys by the calls that hand back what they don't keep: `{0: 1, 1: 5, 2: 3}`.
-fn fill<'a, S: Table<Noted<'a>>, L: Table<Link>>(
+/// Checks values that are handed back by a map `{0: 1, 1: 5, 2: 3}` that is full.
+fn check_handed_back<'a, S: Table<Noted<'a>>, L: Table<Link>>(
     findings: &Findings,
     map: &mut MetaSlotTable<Noted<'a>, S, L>,
     notes: &'a Notes,
 ) {
-    let first = key_or_name(map.try_insert(Noted::new(1, notes)));
-    findings.expect_same(first, Ok(SlotTableKey::new(0)), "the first free key");
-    let third = SlotTableKey::new(2);
-    let free = name_or_name(map.try_insert_at(third, Noted::new(2, notes)));
-    findings.expect_same(free, Ok(0), "a free key");
-    findings.expect_same(notes.take_drops(), 0, "nothing is dropped");
-    let held = name_or_name(map.try_insert_at(third, Noted::new(3, notes)));
-    findings.expect_same((held, notes.take_drops()), (Ok(2), 2), "a held key");
-    let past = name_or_name(map.try_insert_at(SlotTableKey::new(3), Noted::new(4, notes)));
+    let refused = name_of(map.try_insert(Noted::new(6, notes)).err());
+    findings.expect_same((refused, notes.take_drops()), (Some(6), 6), "a full map");
+    let past = replaced_or_name(map.try_insert_at(SlotTableKey::new(3), Noted::new(4, notes)));
     findings.expect_same((past, notes.take_drops()), (Err(4), 4), "out of range");
-    let greatest = SlotTableKey::default();
-    let past = name_or_name(map.try_insert_at(greatest, Noted::new(7, notes)));
-    findings.expect_same((past, notes.take_drops()), (Err(7), 7), "the default key");
-    let last = key_or_name(map.try_insert(Noted::new(5, notes)));
-    findings.expect_same(last, Ok(SlotTableKey::new(1)), "the last free key");
-    let full = key_or_name(map.try_insert(Noted::new(6, notes)));
-    findings.expect_same((full, notes.take_drops()), (Err(6), 6), "a full map");
-    default_key_law(&*map);
+    let held = replaced_or_name(map.try_insert_at(SlotTableKey::new(2), Noted::new(7, notes)));
+    findings.expect_same((held, notes.take_drops()), (Ok(Some(3)), 3), "a held key");
+    let held = replaced_or_name(map.try_insert_at(SlotTableKey::new(2), Noted::new(3, notes)));
+    findings.expect_same((held, notes.take_drops()), (Ok(Some(7)), 7), "a held key");
 }
 
 /// Checks which values are dropped, and when.
@@ -56,16 +41,17 @@ fn check_drops<'a, S: Table<Noted<'a>>, L: Table<Link>>(
     notes: &'a Notes,
 ) {
     fill(findings, &mut map, notes);
+    check_handed_back(findings, &mut map, notes);
     map.clear();
     findings.expect_same(notes.take_drops(), 153, "clear drops the values");
     findings.expect(map.is_empty(), "a map that was cleared");
-    fill_again(findings, &mut map, notes);
+    fill(findings, &mut map, notes);
     map.retain(|_, value| value.name == 5);
     findings.expect_same(notes.take_drops(), 13, "retain drops the others");
     findings.expect_same(map.len(), 1, "the value that is left");
     map.retain(|_, value| value.name != 5);
     findings.expect_same(notes.take_drops(), 5, "retain drops the last value");
-    fill_again(findings, &mut map, notes);
+    fill(findings, &mut map, notes);
     let mut values = map.into_iter();
     findings.expect_same(values.len(), 3, "three values");
     if let Some((key, value)) = values.next() {
@@ -84,8 +70,11 @@ fn fill_again<'a, S: Table<Noted<'a>>, L: Table<Link>>(
     notes: &'a Notes,
 ) {
     for (key, name) in [(0, 1), (1, 5), (2, 3)] {
-        let put = name_or_name(map.try_insert_at(SlotTableKey::new(key), Noted::new(name, notes)));
-        findings.expect_same(put, Ok(0), "a free key");
+        let put = replaced_or_name(map.try_insert_at(
+            SlotTableKey::new(key),
+            Noted::new(name, notes),
+        ));
+        findings.expect_same((put, notes.take_drops()), (Ok(None), 0), "a free key");
     }
 }
 
@@ -174,6 +163,25 @@ fn check_calls<S: Table<u64>, L: Table<Link>>(
     );
 }
 
+/// Checks the calls that hand back what they don't keep, on an empty map with three keys.
+fn check_refusals<S: Table<u64>, L: Table<Link>>(
+    findings: &Findings,
+    map: &mut MetaSlotTable<u64, S, L>,
+) {
+    let third = SlotTableKey::new(2);
+    findings.expect_same(map.try_insert(1), Ok(SlotTableKey::new(0)), "the first free key");
+    findings.expect_same(map.try_insert_at(third, 2), Ok(None), "a free key");
+    findings.expect_same(map.try_insert_at(third, 3), Ok(Some(2)), "a held key");
+    let past = map.try_insert_at(SlotTableKey::new(3), 4);
+    findings.expect_same(past, Err(4), "out of range");
+    let past = map.try_insert_at(SlotTableKey::default(), 7);
+    findings.expect_same(past, Err(7), "the default key");
+    default_key_law(&*map);
+    findings.expect_same(map.try_insert(5), Ok(SlotTableKey::new(1)), "the last free key");
+    findings.expect_same(map.try_insert(6), Err(6), "a full map");
+    check_text(findings, &*map, "{0: 1, 1: 5, 2: 3}");
+}
+
 /// Checks calls on a map without keys.
 fn check_none<S: Table<u64>, L: Table<Link>>(
     findings: &Findings,
@@ -197,9 +205,13 @@ fn check_none<S: Table<u64>, L: Table<Link>>(
 fn calls_on_each_kind(rt: HostRuntime) -> Result<(), Fail> {
     let findings = Findings::new();
     check_calls(&findings, &mut FixedSizeSlotTable::<u64, 3>::new());
+    check_refusals(&findings, &mut FixedSizeSlotTable::<u64, 3>::new());
     check_none(&findings, &mut FixedSizeSlotTable::<u64, 0>::new());
     match SlotTable::<u64>::new(rt.alloc(), 3) {
-        Ok(mut map) => check_calls(&findings, &mut map),
+        Ok(mut map) => {
+            check_calls(&findings, &mut map);
+            check_refusals(&findings, &mut map);
+        }
         Err(AllocError) => findings.miss("there is memory"),
     }
     match UninitSlotTable::<u64>::new_uninit(0).init(rt.alloc()) {

@@ -74,7 +74,8 @@ impl<'a, T, S: Table<Option<T>>, L: Table<Link>, G: Table<u64>> Iterator for Key
     }
 }
 
-impl<'a, T, S: Table<Option<T>>, L: Table<Link>, G: Table<u64>> ExactSizeIterator for Keys<'a, T, S, L, G> {
+impl<'a, T, S: Table<Option<T>>, L: Table<Link>, G: Table<u64>> ExactSizeIterator
+    for Keys<'a, T, S, L, G> {
     /// Returns the number of keys that are still to come. O(1).
     #[inline]
     fn len(&self) -> usize {
@@ -82,7 +83,8 @@ impl<'a, T, S: Table<Option<T>>, L: Table<Link>, G: Table<u64>> ExactSizeIterato
     }
 }
 
-impl<'a, T, S: Table<Option<T>>, L: Table<Link>, G: Table<u64>> FusedIterator for Keys<'a, T, S, L, G> {}
+impl<'a, T, S: Table<Option<T>>, L: Table<Link>, G: Table<u64>> FusedIterator
+    for Keys<'a, T, S, L, G> {}
 
 /// Prints a list of the indexes and generations of the keys that are still to come. O(capacity).
 impl<'a, T, S: Table<Option<T>>, L: Table<Link>, G: Table<u64>> Debug for Keys<'a, T, S, L, G> {

@@ -46,11 +46,7 @@ impl<T, S: Table<Option<T>>, L: Table<Link>, G: Table<u64>> MetaSlotMap<Option<T
     /// map.try_insert_at(1, 'c');            // Err('c')
     /// ```
     #[inline]
-    pub fn try_insert_at(
-        &mut self,
-        index: usize,
-        value: T,
-    ) -> Result<(SlotMapKey, Option<T>), T>
+    pub fn try_insert_at(&mut self, index: usize, value: T) -> Result<(SlotMapKey, Option<T>), T>
         ensures step { MapInsertAt self.old index value self.new
             (option_map (λ both. both.0) (result_ok result)) }
         ensures replaced { IfOk result (λ both. both.1 ≡ place_value self.old index) }

@@ -44,7 +44,8 @@ impl<'a, T, S: Table<Option<T>>, L: Table<Link>, G: Table<u64>> Values<'a, T, S,
     }
 }
 
-impl<'a, T, S: Table<Option<T>>, L: Table<Link>, G: Table<u64>> Iterator for Values<'a, T, S, L, G> {
+impl<'a, T, S: Table<Option<T>>, L: Table<Link>, G: Table<u64>> Iterator
+    for Values<'a, T, S, L, G> {
     type Item = &'a T;
 
     ghost next_gives = { YieldsFirstBy (λ value. value.now) (λ rest. rest) };
@@ -71,7 +72,8 @@ impl<'a, T, S: Table<Option<T>>, L: Table<Link>, G: Table<u64>> Iterator for Val
     }
 }
 
-impl<'a, T, S: Table<Option<T>>, L: Table<Link>, G: Table<u64>> ExactSizeIterator for Values<'a, T, S, L, G> {
+impl<'a, T, S: Table<Option<T>>, L: Table<Link>, G: Table<u64>> ExactSizeIterator
+    for Values<'a, T, S, L, G> {
     /// Returns the number of values that are still to come. O(1).
     #[inline]
     fn len(&self) -> usize {
@@ -79,10 +81,12 @@ impl<'a, T, S: Table<Option<T>>, L: Table<Link>, G: Table<u64>> ExactSizeIterato
     }
 }
 
-impl<'a, T, S: Table<Option<T>>, L: Table<Link>, G: Table<u64>> FusedIterator for Values<'a, T, S, L, G> {}
+impl<'a, T, S: Table<Option<T>>, L: Table<Link>, G: Table<u64>> FusedIterator
+    for Values<'a, T, S, L, G> {}
 
 /// Prints a list of the values that are still to come. O(capacity).
-impl<'a, T: Debug, S: Table<Option<T>>, L: Table<Link>, G: Table<u64>> Debug for Values<'a, T, S, L, G> {
+impl<'a, T: Debug, S: Table<Option<T>>, L: Table<Link>, G: Table<u64>> Debug
+    for Values<'a, T, S, L, G> {
     fn fmt<W: Write>(&self, f: &mut Formatter<W>) -> fmt::Result {
         let mut list = f.debug_list();
         for (_, value) in self.items.rest() {

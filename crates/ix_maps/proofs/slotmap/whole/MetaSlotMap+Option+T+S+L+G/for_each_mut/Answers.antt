@@ -32,7 +32,7 @@ loop-index-preserved g c =
     let value = c.value_mut.result.now in
     let left = c.f.new.arg3 in
     let called = subst (λ key. CalledOn (goal.F-step g) c.loop-index.f key value tt left c.f.new.self) c.key_of-key.ensures.value
-        (CalledOn-from_step (goal.F-step g) _ _ c.value_mut.result _ _ c.f.new.self c.f.ensures) in
+    (CalledOn-from_step (goal.F-step g) _ _ c.value_mut.result _ _ c.f.new.self c.f.ensures) in
     let same = held-map_set_at c.loop-index.self c.loop-index.index value left c.value_mut.ensures.value in
     record {
       visited = VisitedPlaces-with (ChangesItem map_set (goal.F-step g)) _ _ c.loop-index.index _ _ _ _ value at.visited c.value_mut.ensures.value (left, called, refl)

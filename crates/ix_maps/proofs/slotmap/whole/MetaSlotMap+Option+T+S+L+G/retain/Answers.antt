@@ -40,7 +40,7 @@ loop-index-preserved g c =
       | then-not-f w ↦
           let some = subst IsSome (sym (w.remove_at.ensures.value ∙ place_value-map_set_at_same now index value left here)) refl in (
             w.self-is ∙ w.remove_at.ensures.step.map ∙ map_remove_at-map_set_at now index value left here
-            ∙ sym (ap (λ (b : Bool). if b then map_set_at now index left else map_remove_at now index) w.if-not-f.true),
+                ∙ sym (ap (λ (b : Bool). if b then map_set_at now index left else map_remove_at now index) w.if-not-f.true),
             subst (Outlives now) (sym w.self-is) (Outlives-both now (map_set_at now index left) w.remove_at.new.self written (Outlives-removed _ _ _ _ w.remove_at.ensures.step some)),
           )
       | else-not-f w ↦ (
@@ -49,7 +49,7 @@ loop-index-preserved g c =
       )
     ] in
     let called = subst (λ key. CalledOn (goal.F-step g) c.loop-index.f key value c.f.result left c.f.new.self) c.key_of-key.ensures.value
-        (CalledOn-from_step (goal.F-step g) _ _ c.value_mut.result c.f.result _ c.f.new.self c.f.ensures) in
+    (CalledOn-from_step (goal.F-step g) _ _ c.value_mut.result c.f.result _ c.f.new.self c.f.ensures) in
     record {
       visited = VisitedPlaces-with (RetainsItem map_set map_remove (goal.F-step g)) _ _ index _ _ _ _ value at.visited here (c.f.result, left, called, settled.0)
           (SettlesPlace-retained _ _ left c.f.result _ settled.0);
