@@ -26,4 +26,3 @@ pub mod Generations
 pub mod Words
 pub mod MapEntries
 pub mod SlotMapCalls
-pub mod MapRemovals

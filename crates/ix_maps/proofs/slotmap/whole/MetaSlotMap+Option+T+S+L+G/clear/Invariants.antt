@@ -5,12 +5,12 @@ use Rattle.ix_maps.specs.SlotMapSteps.{map_remove_at}
 use Rattle.ix_maps.proofs.slotmap.whole.MetaSlotMap+Option+T+S+L+G.clear.Given as goal
 
 -- the keys of the places so far are removed
-abbrev pub invariant-loop-index : goal.invariant-loop-index
-invariant-loop-index g l = record {
-  map : l.self ≡ fold map_remove_at l.fn.self (range_with_len 0 l.index);
+abbrev pub invariant-loop-place : goal.invariant-loop-place
+invariant-loop-place g l = record {
+  map : l.self ≡ fold map_remove_at l.fn.self (range_with_len 0 l.place);
   capacity : length l.self.slots.values ≡ length l.fn.self.slots.values;
-  removed : (place : ℕ) → place < l.index → place_value l.self place ≡ None;
-  rest : (key : SlotKey) → l.index ≤ key.index → map_value l.self key ≡ map_value l.fn.self key;
-  killed : (key : SlotKey) → key.index < l.index → IsSome (map_value l.fn.self key) → IsDead l.self key;
+  removed : (place : ℕ) → place < l.place → place_value l.self place ≡ None;
+  rest : (key : SlotKey) → l.place ≤ key.index → map_value l.self key ≡ map_value l.fn.self key;
+  killed : (key : SlotKey) → key.index < l.place → IsSome (map_value l.fn.self key) → IsDead l.self key;
   dead : (key : SlotKey) → IsDead l.fn.self key → IsDead l.self key;
 }
