@@ -1,13 +1,14 @@
 -- A closure that is called with the items of a list in turn.
 use Rattle.std.proofs.Common.{◌≡◌, ℕ, ◌+◌, ◌<◌, ◌≤◌, List, [], ◌∷◌, ◌++◌, length, take, drop, map, set, get_or, slice_get, Bool, true, false, Some, refl, sym, ap, ap₂, ◌∙◌, subst, arith}
 use Rattle.std.specs.Prelude.{if◌then◌else◌}
-use Rattle.std.specs.Borrow.{MutBor}
-use Rattle.std.specs.Fn.{Mut, CalledAtMut}
-use Rattle.std.specs.List.{push, items_where_true}
+use denote.Param.Always.{always_mut, mut_next}
+use Rattle.std.specs.Borrow.{Bor, MutBor}
+use Rattle.std.specs.Fn.{Mut, CalledAt, CalledAtMut}
+use Rattle.std.specs.List.{FoldsTo, push, items_where_true}
 use Rattle.std.specs.List.Retain.{IsFiltered, ReturnsInTurn}
 use Rattle.std.proofs.lemmas.List.{append-nil, append_assoc, drop-drop, drop-set-lt, drop_all, drop_more, length-append, length-drop, take_all, take_more, take_more_set}
 use Rattle.std.proofs.lemmas.Option.{slice_get_within, get_or_from_slice_get}
-use Rattle.ix_maps.specs.QueueCalls.{ChangesInTurn}
+use Rattle.ix_maps.specs.QueueCalls.{ChangesInTurn, IsCallableOnEach, IsCallableOnEachMut}
 
 module _ {T : Type 0} where
   drop_at : (xs : List T) (i : ℕ) (x : T) → slice_get xs i ≡ Some x → drop i xs ≡ x ∷ drop (i + 1) xs
@@ -115,3 +116,24 @@ module _ {F T : Type 0} (calls : Mut F (MutBor T × Unit {0}) ((Unit {0}) × (Mu
   ChangesInTurn-map one (x ∷ xs) (y ∷ ys) last (next, called, changes) =
       let same = one x y next called in
       ap₂ (λ z zs. z ∷ zs) same.0 (ChangesInTurn-map one xs ys last (subst (λ g. ChangesInTurn calls g xs ys last) same.1 changes))
+
+module _ {F T R : Type 0} (calls : Mut F (Bor T × Unit {0}) R) where
+  always_after : (xs : List T) (f last : F) → FoldsTo (λ p x q. (r : R) × CalledAt calls p x r q) f xs last → always_mut calls f → always_mut calls last
+  always_after [] f last same always = subst (always_mut calls) same always
+  always_after (x ∷ xs) f last (next, (r, call), rest) always =
+      always_after xs next last rest (mut_next calls f (call.shown, tt) r next next call.called refl always)
+
+  -- a closure that may always be called may be called with each item
+  pub IsCallableOnEach-always : (items : List T) (f : F) → always_mut calls f → IsCallableOnEach calls items f
+  IsCallableOnEach-always items f always =
+      record { at = λ xs left q x rest yields folds comes shown is. ((always_after xs f q folds always).at ((shown, tt) ∷ [])).0 }
+
+module _ {F T : Type 0} (calls : Mut F (MutBor T × Unit {0}) ((Unit {0}) × (MutBor T × Unit {0}))) where
+  always_after_mut : (xs : List T) (f last : F) → FoldsTo (λ p x q. (y : T) × CalledAtMut calls p x tt q y) f xs last → always_mut calls f → always_mut calls last
+  always_after_mut [] f last same always = subst (always_mut calls) same always
+  always_after_mut (x ∷ xs) f last (next, (y, call), rest) always =
+      always_after_mut xs next last rest (mut_next calls f (call.shown, tt) (tt, (call.left, tt)) next next call.called refl always)
+
+  pub IsCallableOnEachMut-always : (items : List T) (f : F) → always_mut calls f → IsCallableOnEachMut calls items f
+  IsCallableOnEachMut-always items f always =
+      record { at = λ xs left q x rest yields folds comes shown is. ((always_after_mut xs f q folds always).at ((shown, tt) ∷ [])).0 }

@@ -1,4 +1,5 @@
 //! The calls of closures: one for each item, the front item first, in the closure's own state.
+use crate::replacing::{change_each, keep_passing};
 use crate::turning::TURNS;
 use ix_cells::{RelocatableContainer, Table};
 use ix_maps::{FixedSizeQueue, MetaQueue, Queue, RelocatableQueue};
@@ -45,8 +46,10 @@ fn check_calls<S: Table<u64>>(findings: &Findings, queue: &mut MetaQueue<u64, S>
     });
     findings.expect_same(seen.replace(0), 246, place);
     findings.expect_same(digits_of(queue), 26, place);
-    queue.retain(|_| true);
-    findings.expect_same(digits_of(queue), 26, place);
+    keep_passing(queue, |item| *item > 2);
+    findings.expect_same(digits_of(queue), 6, place);
+    change_each(queue, |item| *item = 9);
+    findings.expect_same(digits_of(queue), 9, place);
 }
 
 /// Checks the calls after each turn of a queue whose making did not fail.

@@ -2,7 +2,7 @@
 use ix_cells::Table;
 use ix_maps::{FixedSizeQueue, MetaQueue, Queue};
 use linked_list_allocator::LocalHeap;
-use std::alloc::{AllocError, Allocator};
+use std::alloc::AllocError;
 use std::test::Fail;
 use test_support::{Findings, Noted, Notes, check_text};
 
@@ -16,12 +16,16 @@ const CLONES: &[(u64, bool, u64)] = &[
     (5, true, 234),
 ];
 
-/// Appends the items 2, 3 and 4, round the end of the ring of a queue of capacity 3.
-fn fill<'a, S: Table<Noted<'a>>>(queue: &mut MetaQueue<Noted<'a>, S>, notes: &'a Notes) {
+/// Returns the queue, which is empty and of capacity 3, with the items 2, 3 and 4, round the end of its ring.
+fn filled<'a, S: Table<Noted<'a>>>(
+    mut queue: MetaQueue<Noted<'a>, S>,
+    notes: &'a Notes,
+) -> MetaQueue<Noted<'a>, S> {
     for name in 1..5 {
         drop(queue.push_with_overflow(Noted::new(name, notes)));
     }
     notes.take_drops();
+    queue
 }
 
 /// Checks a clone of a queue with the items 2, 3 and 4.
@@ -37,7 +41,12 @@ fn check_clone<'a, S: Table<Noted<'a>>>(
         findings.expect_same_at(copy.len(), 3, row, "the items");
         findings.expect_same_at(copy.capacity(), 3, row, "the capacity");
         findings.expect_same_at(notes.drops(), 0, row, "dropped while cloning");
-        findings.expect_same_at(notes.clones_left(), *allowed - 3, row, "clones");
+        findings.expect_same_at(
+            notes.clones_left(),
+            allowed.saturating_sub(3),
+            row,
+            "clones",
+        );
     }
     drop(clone);
     findings.expect_same_at(notes.take_drops(), *drops, row, "dropped with the clone");
@@ -47,8 +56,7 @@ fn check_clone<'a, S: Table<Noted<'a>>>(
 fn fixed() -> Result<(), Fail> {
     let findings = Findings::new();
     let notes = Notes::new(0);
-    let mut queue = FixedSizeQueue::<Noted, 3>::new();
-    fill(&mut queue, &notes);
+    let queue = filled(FixedSizeQueue::<Noted, 3>::new(), &notes);
     for row in CLONES {
         notes.allow_clones(row.0);
         check_clone(&findings, queue.clone(), &notes, row);
@@ -73,30 +81,42 @@ fn fixed_numbers() -> Result<(), Fail> {
     findings.verdict()
 }
 
-/// Clones a queue in memory of `alloc` into memory of `alloc`.
-fn check_allocated<A: Allocator + Copy>(findings: &Findings, alloc: A, notes: &Notes) {
-    match Queue::new(alloc, 3) {
-        Ok(mut queue) => {
-            fill(&mut queue, notes);
-            for row in CLONES {
-                notes.allow_clones(row.0);
-                check_clone(findings, queue.try_clone_in(alloc), notes, row);
-            }
-        }
-        Err(_) => findings.miss("there is memory"),
-    }
-    findings.expect_same(notes.take_drops(), 234, "the items of the queue");
-}
-
 #[test]
 fn allocated(rt: HostRuntime) -> Result<(), Fail> {
     let findings = Findings::new();
     let notes = Notes::new(0);
-    check_allocated(&findings, rt.alloc(), &notes);
+    let alloc = rt.alloc();
+    match Queue::new(alloc, 3) {
+        Ok(queue) => {
+            let queue = filled(queue, &notes);
+            for row in CLONES {
+                notes.allow_clones(row.0);
+                check_clone(&findings, queue.try_clone_in(alloc), &notes, row);
+            }
+        }
+        Err(_) => findings.miss("there is memory"),
+    }
+    findings.expect_same(notes.drops(), 234, "the items of the queue");
+    findings.verdict()
+}
+
+#[test]
+fn into_other_memory(rt: HostRuntime) -> Result<(), Fail> {
+    let findings = Findings::new();
+    let notes = Notes::new(0);
     match LocalHeap::new(rt.alloc(), 512) {
         Ok(heap) => {
-            check_allocated(&findings, &heap, &notes);
-            findings.expect_same(heap.used(), 0, "bytes in use");
+            match Queue::new(rt.alloc(), 3) {
+                Ok(made) => {
+                    let queue = filled(made, &notes);
+                    for row in CLONES {
+                        notes.allow_clones(row.0);
+                        check_clone(&findings, queue.try_clone_in(&heap), &notes, row);
+                        findings.expect_same_at(heap.used(), 0, row.0 as usize, "bytes in use");
+                    }
+                }
+                Err(_) => findings.miss("there is memory"),
+            }
         }
         Err(_) => findings.miss("a heap"),
     }

@@ -53,6 +53,25 @@ pub fn drop_below<S: Table<u64>>(queue: &mut MetaQueue<u64, S>, least: u64)
     queue.retain(|n| *n >= least);
 }
 
+/// Keeps the items that pass a test of the caller's own.
+pub fn keep_passing<T: Drop, S: Table<T>, F: FnMut(&T) -> bool>(
+    queue: &mut MetaQueue<T, S>,
+    test: F,
+)
+    requires { F.IsAlwaysCallable test }
+    ensures { queue.new.capacity ≡ queue.old.capacity }
+{
+    queue.retain(test);
+}
+
+/// Changes each item in a way of the caller's own.
+pub fn change_each<T, S: Table<T>, F: FnMut(&mut T)>(queue: &mut MetaQueue<T, S>, change: F)
+    requires { F.IsAlwaysCallable change }
+    ensures { queue.new.capacity ≡ queue.old.capacity }
+{
+    queue.for_each_mut(change);
+}
+
 /// Sets each number to 0.
 pub fn set_to_zero<S: Table<u64>>(queue: &mut MetaQueue<u64, S>)
     ensures capacity { queue.new.capacity ≡ queue.old.capacity }
