@@ -13,16 +13,21 @@ from checks.items import extent, paths, text_of
 FILES = [path for path in paths("ix_maps", "src/slot*/*.rt") if not path.endswith("/kinds.rt")]
 # By file, the functions that go through places, as their documentation says: those that make, end, walk or print a container.
 WALKS = {
+    "compared": ("eq",),
     "free_list": ("link_all",),
+    "into_iter": ("next",),
     "iter": ("next", "fmt"),
+    "keys": ("fmt",),
     "meta_slot_table": ("from_tables", "drop_all", "drop", "fmt"),
     "steps": ("held_from",),
+    "values": ("fmt",),
+    "whole": ("clear", "for_each_mut", "retain"),
     "meta_slot_map": ("held_from", "fmt"),
     "word_table": ("new", "drop", "fill", "empty"),
 }
 # Calls of a single step: those of counted tables, of new values, and of std.
 CALLS = {".put", ".take", ".get", ".get_mut", ".len", ".as_ref", ".is_some", "Touches::new", "SlotTableKey::new", "SlotMapKey::new",
-         "Link::held", "Iter::new", "Some"}
+         "Link::held", "Iter::new", "Keys::new", "Values::new", "mem::replace", "write!", "Some", "Ok", "Err"}
 FUNCTION = re.compile(r"( *)(?:pub(?:\(crate\))? )?fn (\w+)")
 LOOP = re.compile(r"\b(?:for|while|loop)\b")
 CALL = re.compile(r"(\.|(?:\w+::)*)\b(\w+!?)(?:::<[^>]*>)?\s*\(")
