@@ -14,4 +14,5 @@ pub mod RawSharing
 pub mod RawSteps
 pub mod Refilling
 pub mod Shifts
+pub mod Tails
 mod WorkedVectors

@@ -8,6 +8,7 @@
 //! ```
 
 mod modification_error;
+mod moves;
 mod polymorphic_vec;
 mod relocatable_vec;
 mod shifts;

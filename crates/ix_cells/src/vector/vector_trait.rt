@@ -1,6 +1,6 @@
 //! The trait of all vectors.
-ghost use Rattle.std.specs.Prelude.{◌≡◌, ◌+◌, ◌<◌, ◌≤◌, ◌↔◌, List, [], ◌∷◌, ◌++◌, length, take, drop, Ok, Err, IsTrue, IsOk, IsOkUnless, OnOk, OnErr, slice_get, slice_range};
-ghost use Rattle.std.specs.List.{AppendsResults, remove_range};
+ghost use Rattle.std.specs.Prelude.{◌≡◌, ◌+◌, ◌<◌, ◌≤◌, ◌↔◌, List, [], ◌∷◌, ◌++◌, length, take, drop, Ok, Err, IsTrue, IsErr, IsOk, IsOkUnless, IfErr, IfSome, OnOk, OnErr, slice_get, slice_range};
+ghost use Rattle.std.specs.List.{AppendsResults, remove_range, swap_remove};
 ghost use Rattle.std.specs.Borrow.{sem};
 ghost use Rattle.std.specs.Iterator.{IsFiniteIterable};
 ghost use Rattle.ix_cells.specs.Bounded.{Bounded, IsWithin, IsFull, with_items, bounded_push};
@@ -11,6 +11,7 @@ ghost use Rattle.ix_cells.specs.VectorSteps.{HasRoomFor, LacksRoomFor, vec_push_
 ghost use Rattle.ix_cells.specs.declared.vector.modification_error.VectorModificationError.TheVariants.{InsertWouldExceedCapacity, OutOfMemory};
 
 use crate::vector::VectorModificationError;
+use crate::vector::moves::move_tail;
 use crate::vector::shifts::{first_to_end, last_to_front};
 use std::alloc::AllocError;
 use std::slice;
@@ -92,6 +93,14 @@ pub trait Vector<T: Drop> {
         self.len() == self.capacity()
     }
 
+    /// Returns how many more items there is room for. O(1).
+    #[inline]
+    final fn remaining_capacity(&self) -> usize
+        ensures { length (bounded self.now).items + result ≡ (bounded self.now).capacity }
+    {
+        self.capacity() - self.len()
+    }
+
     /// Appends `item` to a vector that is not full. O(1).
     fn push_unchecked(&mut self, item: T)
         requires { length (bounded self.old).items < (bounded self.old).capacity }
@@ -119,6 +128,27 @@ pub trait Vector<T: Drop> {
         Err(VectorModificationError::InsertWouldExceedCapacity)
     }
 
+    /// Appends `item`. Returns `Err` with `item`, and leaves the vector unchanged, if the vector is full. O(1).
+    ///
+    /// ```text
+    /// let mut vector = StaticVec::<u64, 1>::new();
+    /// vector.try_push(1);         // Ok(())
+    /// vector.try_push(2);         // Err(2)
+    /// ```
+    #[inline]
+    final fn try_push(&mut self, item: T) -> Result<(), T>
+        ensures full { IsErr result ↔ IsFull (bounded self.old) }
+        ensures vector { bounded self.new ≡ bounded_push (bounded self.old) item }
+        ensures returned { IfErr result (λ returned. returned ≡ item) }
+        ensures refused { OnErr result (self.new ≡ self.old) }
+    {
+        if self.len() == self.capacity() {
+            return Err(item);
+        }
+        self.push_unchecked(item);
+        Ok(())
+    }
+
     /// Inserts `item` at `index`, shifting all later items to the right. O(`len - index`).
     ///
     /// Returns [`VectorModificationError::InsertWouldExceedCapacity`] if the vector is full, and otherwise
@@ -128,11 +158,37 @@ pub trait Vector<T: Drop> {
         ensures vector { bounded self.new ≡ vec_insert (bounded self.old) index item }
         ensures refused { OnErr result (self.new ≡ self.old) }
     {
+        match self.try_insert(index, item) {
+            Ok(()) => Ok(()),
+            Err((error, _item)) => Err(error),
+        }
+    }
+
+    /// Inserts `item` at `index` as [`Vector::insert`] does, and returns its error together with `item`.
+    /// O(`len - index`).
+    ///
+    /// ```text
+    /// let mut vector = StaticVec::<u64, 1>::new();
+    /// vector.try_insert(1, 5);    // Err((VectorModificationError::OutOfBounds, 5))
+    /// vector.try_insert(0, 5);    // Ok(())
+    /// ```
+    final fn try_insert(
+        &mut self,
+        index: usize,
+        item: T,
+    ) -> Result<(), (VectorModificationError, T)>
+        ensures inserted { OnOk result (vec_insert_result (bounded self.old) index ≡ Ok tt) }
+        ensures error { IfErr result (λ refusal.
+            vec_insert_result (bounded self.old) index ≡ Err refusal.0) }
+        ensures returned { IfErr result (λ refusal. refusal.1 ≡ item) }
+        ensures vector { bounded self.new ≡ vec_insert (bounded self.old) index item }
+        ensures refused { OnErr result (self.new ≡ self.old) }
+    {
         if self.is_full() {
-            return Err(VectorModificationError::InsertWouldExceedCapacity);
+            return Err((VectorModificationError::InsertWouldExceedCapacity, item));
         }
         if index > self.len() {
-            return Err(VectorModificationError::OutOfBounds);
+            return Err((VectorModificationError::OutOfBounds, item));
         }
         self.push_unchecked(item);
         move_last_to(self.as_mut_slice(), index);
@@ -151,6 +207,55 @@ pub trait Vector<T: Drop> {
             return self.pop();
         }
         None
+    }
+
+    /// Removes the item at `index` and returns it; the last item takes its place. Returns `None` if `index` is out of
+    /// bounds. O(1).
+    ///
+    /// ```text
+    /// vector.as_slice();          // [1, 2, 3]
+    /// vector.swap_remove(0);      // Some(1)
+    /// vector.as_slice();          // [3, 2]
+    /// ```
+    final fn swap_remove(&mut self, index: usize) -> Option<T>
+        ensures value { result ≡ slice_get (bounded self.old).items index }
+        ensures vector { IfSome result (λ item. bounded self.new
+            ≡ with_items (bounded self.old) (swap_remove (bounded self.old).items index item)) }
+        ensures refused { length (bounded self.old).items ≤ index → self.new ≡ self.old }
+    {
+        let len = self.len();
+        if index < len {
+            self.as_mut_slice().swap(index, len - 1);
+            return self.pop();
+        }
+        None
+    }
+
+    /// Moves all items of `other` to the end of the vector, in their order. `other` is empty then. O(`other.len()`).
+    ///
+    /// Returns [`VectorModificationError::InsertWouldExceedCapacity`], and leaves both unchanged, if there is no room for
+    /// all of them.
+    ///
+    /// ```text
+    /// first.append(&mut second)?; // [1, 2] and [3]
+    /// first.as_slice();           // [1, 2, 3]
+    /// ```
+    final fn append(&mut self, other: &mut Self) -> Result<(), VectorModificationError>
+        ensures full { LacksRoomFor (length (bounded other.old).items) (bounded self.old)
+            → result ≡ Err InsertWouldExceedCapacity }
+        ensures fits { HasRoomFor (length (bounded other.old).items) (bounded self.old)
+            → result ≡ Ok tt }
+        ensures vector { OnOk result
+            (bounded self.new ≡ vec_extend (bounded self.old) (bounded other.old).items) }
+        ensures emptied { OnOk result (bounded other.new ≡ with_items (bounded other.old) []) }
+        ensures refused { OnErr result (self.new ≡ self.old) }
+        ensures refused_other { OnErr result (other.new ≡ other.old) }
+    {
+        if other.len() > self.remaining_capacity() {
+            return Err(VectorModificationError::InsertWouldExceedCapacity);
+        }
+        move_tail(other, 0, self);
+        Ok(())
     }
 
     /// Shortens the vector, keeping the first `n` items and dropping the rest, the last one first. Does nothing if `n` is
