@@ -3,6 +3,7 @@ pub mod Counts
 pub mod Fronts
 pub mod FullArrays
 pub mod HeldItems
+pub mod Kept
 pub mod Lists
 pub mod Loans
 pub mod MovedItems
@@ -15,4 +16,5 @@ pub mod RawSteps
 pub mod Refilling
 pub mod Shifts
 pub mod Tails
+pub mod VectorDrains
 mod WorkedVectors

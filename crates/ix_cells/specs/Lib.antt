@@ -6,5 +6,6 @@ pub mod ErrorTexts
 pub mod Iterating
 pub mod Lending
 pub mod Places
+pub mod VectorDrain
 pub mod VectorSteps
 pub mod inner

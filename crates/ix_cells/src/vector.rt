@@ -7,6 +7,8 @@
 //! vector.as_slice();          // [1, 2, 3]
 //! ```
 
+mod drain;
+mod filters;
 mod modification_error;
 mod moves;
 mod polymorphic_vec;
@@ -15,6 +17,7 @@ mod shifts;
 mod static_vec;
 mod vector_trait;
 
+pub use drain::Drain;
 pub use modification_error::VectorModificationError;
 pub use polymorphic_vec::PolymorphicVec;
 pub use relocatable_vec::{RelocatableVec, UninitVec, VecFamily};
