@@ -6,6 +6,7 @@ pub mod HeldItems
 pub mod Kept
 pub mod Lists
 pub mod Loans
+pub mod Memory
 pub mod MovedItems
 pub mod Places
 pub mod RawNames

@@ -11,6 +11,7 @@ mod drain;
 mod filters;
 mod modification_error;
 mod moves;
+mod order;
 mod polymorphic_vec;
 mod relocatable_vec;
 mod shifts;

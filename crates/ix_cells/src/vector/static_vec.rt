@@ -73,7 +73,7 @@ impl<T: Default, const CAPACITY: usize> StaticVec<T, CAPACITY> {
     }
 
     #[inline]
-    fn items(&self) -> &[T]
+    pub(super) fn items(&self) -> &[T]
         ensures value { result.now ≡ self.now }
         ensures within { length result.now ≤ CAPACITY }
     {
@@ -222,6 +222,15 @@ impl<T: Default + Drop, const CAPACITY: usize> Vector<T> for StaticVec<T, CAPACI
         (Prim.search (arith, common_steps)) };
 }
 
+/// Creates an empty vector. O(`CAPACITY`).
+impl<T: Default, const CAPACITY: usize> Default for StaticVec<T, CAPACITY> {
+    ghost is_default = { λ vector. vector ≡ [] };
+
+    fn default() -> Self {
+        Self::empty()
+    }
+}
+
 /// Drops the items, the last one first.
 impl<T: Default + Drop, const CAPACITY: usize> Drop for StaticVec<T, CAPACITY> {
     fn drop(mut self) {
@@ -314,6 +323,22 @@ impl<T: Default + Clone, const CAPACITY: usize> TryFrom<&[T]> for StaticVec<T, C
             Ok(()) => Ok(vector),
             Err(AllocError) => Err(VectorModificationError::OutOfMemory),
         }
+    }
+}
+
+impl<T: Default + Clone, const CAPACITY: usize, const N: usize> TryFrom<&[T; N]>
+    for StaticVec<T, CAPACITY>
+{
+    type Error = VectorModificationError;
+
+    ghost use Rattle.ix_cells.specs.Conversions.{StaticVecFromSlice};
+
+    ghost try_from_gives = { λ items result.
+        StaticVecFromSlice CAPACITY T.is_clone T.is_infallible items.now result };
+
+    /// Does what the conversion of a slice of the array does.
+    fn try_from(items: &[T; N]) -> Result<Self, VectorModificationError> {
+        Self::try_from(items.as_slice())
     }
 }
 
