@@ -1,5 +1,5 @@
 -- A vector that is drained.
-use Rattle.std.proofs.Common.{◌≡◌, ◌-◌, List, [], ◌∷◌, ◌++◌, length, take, reverse, slice_get, Option, Some, None, refl, sym, subst, ap, ◌∙◌}
+use Rattle.std.proofs.Common.{◌≡◌, ◌-◌, List, [], ◌∷◌, length, take, reverse, slice_get, Option, Some, None, refl, sym, subst, ap, ◌∙◌}
 use Rattle.std.specs.Iterator.{YieldsFirst}
 use Rattle.std.proofs.lemmas.List.{reverse-append}
 use Rattle.ix_cells.specs.Bounded.{Bounded}

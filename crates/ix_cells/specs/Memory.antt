@@ -10,14 +10,15 @@ saturated n = min n (2 ^ 64 - 1)
 abbrev pub no_memory : MemorySize
 no_memory = record { bytes = 0; blocks = 0 }
 
--- n items of this size in one block, if they have bytes
+-- n items of this size in one block, which may have no bytes; no block if n is 0
 abbrev pub items_memory : ℕ → ℕ → MemorySize
-items_memory size n = if nat_eq (n * size) 0 then no_memory else record { bytes = saturated (n * size); blocks = 1 }
+items_memory size n = record { bytes = saturated (n * size); blocks = if nat_eq n 0 then 0 else 1 }
 
 -- both together
 abbrev pub memory_plus : MemorySize → MemorySize → MemorySize
 memory_plus a b = record { bytes = saturated (a.bytes + b.bytes); blocks = saturated (a.blocks + b.blocks) }
 
--- a table's places, and a mark of one byte for each
+-- n places, if they have bytes, and a mark of one byte for each
 abbrev pub table_memory : ℕ → ℕ → MemorySize
-table_memory size capacity = memory_plus (items_memory size capacity) (items_memory 1 capacity)
+table_memory size n =
+    if nat_eq (items_memory size n).bytes 0 then items_memory 1 n else memory_plus (items_memory size n) (items_memory 1 n)

@@ -140,7 +140,11 @@ fn check_appends<V: Vector<u64> + Drop, E: Drop>(
         other.clear();
         findings.expect_at(one.extend_from_slice(items).is_ok(), row, place);
         findings.expect_at(other.extend_from_slice(more).is_ok(), row, place);
-        let wanted = if *fits { Ok(()) } else { Err(InsertWouldExceedCapacity) };
+        let wanted = if *fits {
+            Ok(())
+        } else {
+            Err(InsertWouldExceedCapacity)
+        };
         findings.expect_same_at(one.append(&mut other), wanted, row, place);
         findings.expect_same_at(one.as_slice(), *left, row, place);
         let kept = if *fits { &[] } else { *more };
@@ -155,7 +159,12 @@ fn appends(rt: HostRuntime) -> Result<(), Fail> {
     check_appends(&findings, fixed, made(StaticVec::new()), "fixed");
     let alloc = rt.alloc();
     let allocated = PolymorphicVec::<u64, Global>::new(alloc, 3);
-    check_appends(&findings, allocated, PolymorphicVec::new(alloc, 3), "allocated");
+    check_appends(
+        &findings,
+        allocated,
+        PolymorphicVec::new(alloc, 3),
+        "allocated",
+    );
     findings.verdict()
 }
 

@@ -15,9 +15,17 @@ const TAKEN: &[(usize, u64, u64)] = &[
     (4, 234, 234),
 ];
 
-fn fill<'a, V: Vector<Noted<'a>>>(findings: &Findings, vector: &mut V, names: u64, notes: &'a Notes) {
+fn fill<'a, V: Vector<Noted<'a>>>(
+    findings: &Findings,
+    vector: &mut V,
+    names: u64,
+    notes: &'a Notes,
+) {
     for name in 2..names {
-        findings.expect(vector.push(Noted::new(name, notes)).is_ok(), "there is room");
+        findings.expect(
+            vector.push(Noted::new(name, notes)).is_ok(),
+            "there is room",
+        );
     }
 }
 
@@ -50,7 +58,12 @@ fn check_drains<'a, V: Vector<Noted<'a>> + Drop, E: Drop>(
 fn drains(rt: HostRuntime) -> Result<(), Fail> {
     let findings = Findings::new();
     let notes = Notes::new(0);
-    check_drains(&findings, made(StaticVec::<Noted, 3>::new()), &notes, "fixed");
+    check_drains(
+        &findings,
+        made(StaticVec::<Noted, 3>::new()),
+        &notes,
+        "fixed",
+    );
     let allocated = PolymorphicVec::<Noted, Global>::new(rt.alloc(), 3);
     check_drains(&findings, allocated, &notes, "allocated");
     let relocatable = UninitVec::<Noted>::new_uninit(3).init(rt.alloc());
@@ -62,7 +75,11 @@ fn drains(rt: HostRuntime) -> Result<(), Fail> {
 fn drained_items() -> Result<(), Fail> {
     let findings = Findings::new();
     let mut vector = StaticVec::<u64, 3>::new();
-    findings.expect_same(vector.extend_from_slice(&[4, 5, 6]), Ok(()), "there is room");
+    findings.expect_same(
+        vector.extend_from_slice(&[4, 5, 6]),
+        Ok(()),
+        "there is room",
+    );
     let mut drain = vector.drain();
     check_text(&findings, &drain, "[4, 5, 6]");
     findings.expect_same(drain.next(), Some(4), "the first");

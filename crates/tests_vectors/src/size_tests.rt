@@ -16,28 +16,43 @@ const WHOLE: &[usize] = &[0, 16, 64, 1008];
 /// The bytes of a block of a heap.
 const BLOCK: usize = 16;
 
-const NONE: MemorySize = MemorySize { bytes: 0, blocks: 0 };
+const NONE: MemorySize = MemorySize {
+    bytes: 0,
+    blocks: 0,
+};
 
-/// Returns what blocks of so many bytes take.
-fn wanted(places: usize, marks: usize) -> MemorySize {
-    MemorySize {
-        bytes: places.saturating_add(marks),
-        blocks: usize::from(places > 0).saturating_add(usize::from(marks > 0)),
-    }
+/// Returns what so many blocks of so many bytes together take.
+fn taken(bytes: usize, blocks: usize) -> MemorySize {
+    MemorySize { bytes, blocks }
 }
 
 fn check_numbers<T: Drop>(findings: &Findings, size: usize) {
     for n in NUMBERS {
         let places = n.saturating_mul(size);
         let vector = PolymorphicVec::<T, Global>::memory_size(*n);
-        findings.expect_same_at(vector, wanted(places, 0), *n, "a vector");
+        let some = usize::from(*n > 0);
+        findings.expect_same_at(vector, taken(places, some), *n, "a vector");
         let table = HeapTable::<T, Global>::memory_size(*n);
-        findings.expect_same_at(table, wanted(places, *n), *n, "a table");
+        let wanted = taken(
+            places.saturating_add(*n),
+            some.saturating_add(usize::from(places > 0)),
+        );
+        findings.expect_same_at(table, wanted, *n, "a table");
         let slots = RawSlots::<T, Global>::memory_size(*n);
         findings.expect_same_at(slots, table, *n, "raw places");
         let both = vector.saturating_add(table);
-        findings.expect_same_at(both.bytes, vector.bytes.saturating_add(table.bytes), *n, "both");
-        findings.expect_same_at(both.blocks, vector.blocks.saturating_add(table.blocks), *n, "both");
+        findings.expect_same_at(
+            both.bytes,
+            vector.bytes.saturating_add(table.bytes),
+            *n,
+            "both",
+        );
+        findings.expect_same_at(
+            both.blocks,
+            vector.blocks.saturating_add(table.blocks),
+            *n,
+            "both",
+        );
     }
 }
 
@@ -79,7 +94,11 @@ fn check_limit<T: Drop>(findings: &Findings, alloc: Global, n: usize, is_table: 
         } else {
             used_by_vector::<T>(&heap, n)
         };
-        let all = if is_enough { Some(size.bytes.saturating_add(BLOCK)) } else { None };
+        let all = if is_enough {
+            Some(size.bytes.saturating_add(BLOCK))
+        } else {
+            None
+        };
         findings.expect_same_at(used, all, n, "the bytes in use");
     }
 }
@@ -87,7 +106,10 @@ fn check_limit<T: Drop>(findings: &Findings, alloc: Global, n: usize, is_table: 
 fn check_item<T: Drop>(findings: &Findings, alloc: Global, size: usize) {
     check_numbers::<T>(findings, size);
     for n in WHOLE {
-        check_limit::<T>(findings, alloc, *n, false);
+        // A heap takes a whole block for one of no bytes.
+        if size > 0 {
+            check_limit::<T>(findings, alloc, *n, false);
+        }
         check_limit::<T>(findings, alloc, *n, true);
     }
 }
@@ -116,7 +138,7 @@ fn greatest_sizes() -> Result<(), Fail> {
     findings.expect_same(table.bytes, usize::MAX, "a table");
     findings.expect_same(most.saturating_add(vector).bytes, usize::MAX, "both");
     let units = PolymorphicVec::<(), Global>::memory_size(usize::MAX);
-    findings.expect_same(units, NONE, "items of size zero");
+    findings.expect_same(units, taken(0, 1), "items of size zero");
     findings.expect_same(MemorySize::of_items::<u16>(3).bytes, 6, "items");
     findings.verdict()
 }
@@ -130,7 +152,11 @@ fn texts(rt: HostRuntime) -> Result<(), Fail> {
     check_text(&findings, &inline, "InlineTable { len: 3, .. }");
     findings.expect_same(inline.take(1), 5, "the item");
     let counted = Counted::new(inline);
-    check_text(&findings, &counted, "Counted { table: InlineTable { len: 3, .. } }");
+    check_text(
+        &findings,
+        &counted,
+        "Counted { table: InlineTable { len: 3, .. } }",
+    );
     counted.end::<u64>();
     check_text(&findings, &Touches::new(), "Touches");
     match HeapTable::<u64, Global>::new(rt.alloc(), 2) {

@@ -28,7 +28,7 @@ impl<T, A: Allocator> Model for HeapTable<T, A> {
 
 impl<T: Drop, A: Allocator> HeapTable<T, A> {
     /// Returns how much memory a table of `len` places takes from its allocator when it is made: a block of the places, if
-    /// they have bytes, and a block of their marks.
+    /// they have bytes, and a block of their marks. None if `len` is 0.
     ///
     /// Does not allocate. O(1).
     #[inline]

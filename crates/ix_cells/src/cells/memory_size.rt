@@ -24,24 +24,20 @@ pub struct MemorySize {
 }
 
 impl MemorySize {
-    /// Returns what `n` items in one block take: no block if they have no bytes. O(1).
+    /// Returns what `n` items in one block take: no block if `n` is 0, and a block of no bytes if the items have none. O(1).
     ///
     /// ```text
     /// MemorySize::of_items::<u64>(3);     // 24 bytes, 1 block
-    /// MemorySize::of_items::<()>(3);      // 0 bytes, 0 blocks
+    /// MemorySize::of_items::<u64>(0);     // 0 bytes, 0 blocks
     /// ```
     #[inline]
     pub fn of_items<T>(n: usize) -> MemorySize
         ensures { result ≡ items_memory (type_size T.row) n }
     {
-        let bytes = n.saturating_mul(item_size::<T>());
-        if bytes == 0 {
-            return MemorySize {
-                bytes: 0,
-                blocks: 0,
-            };
+        MemorySize {
+            bytes: n.saturating_mul(item_size::<T>()),
+            blocks: if n == 0 { 0 } else { 1 },
         }
-        MemorySize { bytes, blocks: 1 }
     }
 
     /// Returns what both take together. O(1).

@@ -50,7 +50,7 @@ impl<T, A: Allocator> RawSlots<T, A> {
     ghost use Rattle.ix_cells.specs.Lending.{raw_slots_lends};
 
     /// Returns how much memory a row of `len` places takes from its allocator when it is made: a block of the places, if
-    /// they have bytes, and a block of their marks.
+    /// they have bytes, and a block of their marks. None if `len` is 0.
     ///
     /// Does not allocate. O(1).
     #[inline]
@@ -60,7 +60,12 @@ impl<T, A: Allocator> RawSlots<T, A> {
             → result.bytes ≤ (table_memory (type_size T.row) greater).bytes }
         ensures none { len ≡ 0 → result ≡ no_memory }
     {
-        MemorySize::of_items::<T>(len).saturating_add(MemorySize::of_items::<bool>(len))
+        let places = MemorySize::of_items::<T>(len);
+        let marks = MemorySize::of_items::<bool>(len);
+        if places.bytes == 0 {
+            return marks;
+        }
+        places.saturating_add(marks)
     }
 
     /// Creates a row of `len` empty places.

@@ -1,5 +1,5 @@
 //! The vector that allocates when it is made.
-ghost use Rattle.std.specs.Prelude.{◌≡◌, ◌*◌, ◌^◌, ℕ, ◌<◌, ◌≤◌, length, IsOk, IfOk};
+ghost use Rattle.std.specs.Prelude.{◌≡◌, ◌^◌, ℕ, ◌<◌, ◌≤◌, length, IsOk, IfOk};
 ghost use Rattle.std.specs.Cmp.{on_per, on_equiv};
 ghost use Rattle.std.specs.Cmp.Lexicographic.{pointwise, lists_per, lists_equiv};
 ghost use Rattle.std.proofs.Common.{arith, ap};
@@ -66,7 +66,8 @@ impl<T: Drop, A: Allocator> PolymorphicVec<T, A> {
         })
     }
 
-    /// Returns how much memory a vector of this capacity takes from its allocator when it is made: no block, or one.
+    /// Returns how much memory a vector of this capacity takes from its allocator when it is made: one block, and none if the
+    /// capacity is 0. The block of items of size zero has no bytes.
     ///
     /// Does not allocate. O(1).
     #[inline]
@@ -74,7 +75,8 @@ impl<T: Drop, A: Allocator> PolymorphicVec<T, A> {
         ensures value { result ≡ items_memory (type_size T.row) capacity }
         ensures monotone { (greater : ℕ) → capacity ≤ greater
             → result.bytes ≤ (items_memory (type_size T.row) greater).bytes }
-        ensures none { capacity * type_size T.row ≡ 0 → result ≡ no_memory }
+        ensures none { capacity ≡ 0 → result ≡ no_memory }
+        ensures no_bytes { type_size T.row ≡ 0 → result.bytes ≡ 0 }
     {
         MemorySize::of_items::<T>(capacity)
     }

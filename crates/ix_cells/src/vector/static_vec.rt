@@ -327,8 +327,7 @@ impl<T: Default + Clone, const CAPACITY: usize> TryFrom<&[T]> for StaticVec<T, C
 }
 
 impl<T: Default + Clone, const CAPACITY: usize, const N: usize> TryFrom<&[T; N]>
-    for StaticVec<T, CAPACITY>
-{
+    for StaticVec<T, CAPACITY> {
     type Error = VectorModificationError;
 
     ghost use Rattle.ix_cells.specs.Conversions.{StaticVecFromSlice};

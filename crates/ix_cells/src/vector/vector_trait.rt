@@ -14,10 +14,10 @@ ghost use Rattle.ix_cells.specs.VectorDrain.{drain_items, drain_capacity, drain_
 ghost use Rattle.ix_cells.specs.VectorSteps.{HasRoomFor, LacksRoomFor, vec_push_result, vec_insert, vec_insert_result, vec_remove, vec_pop, vec_last, vec_truncate, vec_extend, vec_resize, vec_resize_result};
 ghost use Rattle.ix_cells.specs.declared.vector.modification_error.VectorModificationError.TheVariants.{InsertWouldExceedCapacity, OutOfMemory};
 
-use crate::vector::{Drain, VectorModificationError};
 use crate::vector::filters::{keep_in_front, unlike_in_front};
 use crate::vector::moves::move_tail;
 use crate::vector::shifts::{first_to_end, last_to_front};
+use crate::vector::{Drain, VectorModificationError};
 use std::alloc::AllocError;
 use std::slice;
 

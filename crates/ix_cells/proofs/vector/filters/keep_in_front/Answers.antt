@@ -1,7 +1,6 @@
-use Rattle.std.proofs.Common.{rules, ◌≡◌, ◌+◌, ◌≤◌, ◌<◌, ◌∙◌, true, false, length, get_or, refl, sym, ap, arith}
+use Rattle.std.proofs.Common.{rules, ◌+◌, ◌≤◌, ◌∙◌, true, false, length, refl, sym, arith}
 use Rattle.std.specs.Fn.{CalledAt}
 use Rattle.std.proofs.lemmas.Fn.{called_at}
-use Rattle.std.proofs.lemmas.Grind.{common_steps}
 use Rattle.ix_cells.proofs.Calls.{Callable-now, Callable-on}
 use Rattle.ix_cells.proofs.Kept.{AreInFront-start, AreInFront-order, AreInFront-item, AreInFront-keeps, AreInFront-drops, AreInFront-end}
 use Rattle.ix_cells.proofs.vector.filters.keep_in_front.Goals.{then-f, else-f}

@@ -1,4 +1,4 @@
-use Rattle.std.proofs.Common.{rules, ◌≡◌, ◌+◌, ◌-◌, ◌≤◌, ◌<◌, ◌∙◌, List, true, false, true≢false, length, drop, take, refl, sym, ap, arith}
+use Rattle.std.proofs.Common.{rules, ◌≡◌, ◌+◌, ◌-◌, ◌≤◌, ◌∙◌, true, false, true≢false, length, drop, take, refl, sym, ap, arith}
 use Rattle.std.specs.List.{swap}
 use Rattle.std.specs.List.Retain.{DiffersFromLast}
 use Rattle.std.proofs.lemmas.List.Filters.{dedup_is}
@@ -46,14 +46,14 @@ loop-i-preserved g c =
           let behind : kept + 1 - 1 ≡ kept = omega arith in
           let moved = swap items kept i in
           let differs = DiffersFromLast-kept E items x (drop (kept + 1 - 1) (take (kept + 1) moved)) kept true within (λ none. refl)
-              (λ some. sym w.if-is_unlike_last.true ∙ c.is_unlike_last.ensures.last some x) (λ is. ap (λ n. drop n (take (kept + 1) moved)) behind ∙ last) (λ is. absurd (true≢false is)) in
+          (λ some. sym w.if-is_unlike_last.true ∙ c.is_unlike_last.ensures.last some x) (λ is. ap (λ n. drop n (take (kept + 1) moved)) behind ∙ last) (λ is. absurd (true≢false is)) in
           rw (w.items-is, w.kept-is, w.swap.ensures.after) (record {
             len = ap length (sym w.swap.ensures.after) ∙ w.swap.ensures.len ∙ at.len;
             front = AreInFront-keeps (DiffersFromLast E) _ _ i _ _ _ at.front x more here _ differs;
           })
       | else-is_unlike_last w ↦
           let differs = DiffersFromLast-kept E items x (drop (kept - 1) (take kept items)) kept false within (λ none. sym w.if-is_unlike_last.false ∙ c.is_unlike_last.ensures.none none)
-              (λ some. sym w.if-is_unlike_last.false ∙ c.is_unlike_last.ensures.last some x) (λ is. absurd (true≢false (sym is))) (λ is. refl) in
+          (λ some. sym w.if-is_unlike_last.false ∙ c.is_unlike_last.ensures.last some x) (λ is. absurd (true≢false (sym is))) (λ is. refl) in
           rw (w.items-is, w.kept-is) (record {
             len = at.len;
             front = AreInFront-drops (DiffersFromLast E) _ _ i _ _ _ at.front x more here _ differs;

@@ -1,4 +1,4 @@
-use Rattle.std.proofs.Common.{◌≡◌, ◌-◌, [], List, length, drop, take}
+use Rattle.std.proofs.Common.{◌≡◌, ◌-◌, [], length, drop, take}
 use Rattle.std.specs.List.Retain.{DiffersFromLast}
 use Rattle.ix_cells.proofs.Kept.{AreInFront}
 use Rattle.ix_cells.proofs.vector.filters.unlike_in_front.Given as goal
