@@ -3,8 +3,10 @@ pub mod Counts
 pub mod Fronts
 pub mod FullArrays
 pub mod HeldItems
+pub mod Kept
 pub mod Lists
 pub mod Loans
+pub mod Memory
 pub mod MovedItems
 pub mod Places
 pub mod RawNames
@@ -14,4 +16,6 @@ pub mod RawSharing
 pub mod RawSteps
 pub mod Refilling
 pub mod Shifts
+pub mod Tails
+pub mod VectorDrains
 mod WorkedVectors

@@ -1,8 +1,11 @@
 -- Lemmas on lists with an item moved to the end, and on overwritten lists.
-use Rattle.std.proofs.Common.{◌≡◌, ℕ, zero, suc, ◌-◌, ◌<◌, ◌≤◌, List, [], ◌∷◌, ◌++◌, length, take, drop, Some, refl, ap, arith}
+use Rattle.std.proofs.Common.{◌≡◌, ℕ, zero, suc, ◌-◌, ◌<◌, ◌≤◌, List, [], ◌∷◌, ◌++◌, length, length-set, take, drop, set, Some, refl, sym, ap, ◌∙◌, arith}
 use native.Mathlib.Numerals.{unary_clauses}
 use Rattle.std.specs.Prelude.{slice_get}
-use Rattle.std.specs.List.{refill}
+use Rattle.std.proofs.Math.ListN.{get_or}
+use Rattle.std.proofs.lemmas.List.{get_or-set_same}
+use Rattle.std.proofs.lemmas.Option.{slice_get-get_or}
+use Rattle.std.specs.List.{refill, swap}
 
 module _ {T : Type 0} where
   pub slice_get-length : (xs : List T) (x : T) → slice_get (xs ++ x ∷ []) (length xs) ≡ Some x
@@ -22,3 +25,13 @@ module _ {T : Type 0} where
   take-refill (suc n) [] ws within = absurd (omega arith)
   take-refill (suc n) (x ∷ xs) [] within = ap (λ (ys : List T). x ∷ ys) (take-refill n xs [] (omega arith))
   take-refill (suc n) (x ∷ xs) (w ∷ ws) within = ap (λ (ys : List T). w ∷ ys) (take-refill n xs ws (omega arith))
+
+  pub slice_get-swap : (xs : List T) (i j : ℕ) → i < length xs → j < length xs → slice_get (swap xs i j) j ≡ slice_get xs i
+  slice_get-swap [] i j lt below = absurd (omega arith)
+  slice_get-swap (d ∷ xs) i j lt below =
+      let once = set (d ∷ xs) i (get_or (d ∷ xs) j d) in
+      let long = length-set (d ∷ xs) i (get_or (d ∷ xs) j d) in
+      let there = length-set once j (get_or (d ∷ xs) i d) in
+      slice_get-get_or (set once j (get_or (d ∷ xs) i d)) j d (omega (arith, long, there, below))
+      ∙ ap Some (get_or-set_same once j (get_or (d ∷ xs) i d) d (omega (arith, long, below)))
+      ∙ sym (slice_get-get_or (d ∷ xs) i d lt)

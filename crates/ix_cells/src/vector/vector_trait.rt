@@ -1,17 +1,23 @@
 //! The trait of all vectors.
-ghost use Rattle.std.specs.Prelude.{◌≡◌, ◌+◌, ◌<◌, ◌≤◌, ◌↔◌, List, [], ◌∷◌, ◌++◌, length, take, drop, Ok, Err, IsTrue, IsOk, IsOkUnless, OnOk, OnErr, slice_get, slice_range};
-ghost use Rattle.std.specs.List.{AppendsResults, remove_range};
+ghost use Rattle.std.specs.Prelude.{◌≡◌, ◌+◌, ◌<◌, ◌≤◌, ◌↔◌, List, [], ◌∷◌, ◌++◌, length, take, drop, Ok, Err, IsTrue, IsErr, IsOk, IsOkUnless, IfErr, IfSome, OnOk, OnErr, slice_get, slice_range};
+ghost use Rattle.std.specs.Fn.{CalledAt};
+ghost use Rattle.std.specs.List.{AppendsResults, dedup, remove_range, swap_remove};
+ghost use Rattle.std.specs.List.Retain.{IsFiltered};
 ghost use Rattle.std.specs.Borrow.{sem};
 ghost use Rattle.std.specs.Iterator.{IsFiniteIterable};
 ghost use Rattle.ix_cells.specs.Bounded.{Bounded, IsWithin, IsFull, with_items, bounded_push};
+ghost use Rattle.ix_cells.specs.Calls.{IsCallableOnEach};
 ghost use Rattle.ix_cells.specs.Cloning.{AreEqualClones, AreInfallible};
 ghost use Rattle.ix_cells.specs.Lending.{vec_lends};
 ghost use Rattle.ix_cells.specs.Iterating.{YieldsRefsTo, YieldsMutRefsTo, vec_lends_iter, ExtendsByItemsOf, YieldsMoreThanFit};
+ghost use Rattle.ix_cells.specs.VectorDrain.{drain_items, drain_capacity, drain_lender, DrainKeepsAlong};
 ghost use Rattle.ix_cells.specs.VectorSteps.{HasRoomFor, LacksRoomFor, vec_push_result, vec_insert, vec_insert_result, vec_remove, vec_pop, vec_last, vec_truncate, vec_extend, vec_resize, vec_resize_result};
 ghost use Rattle.ix_cells.specs.declared.vector.modification_error.VectorModificationError.TheVariants.{InsertWouldExceedCapacity, OutOfMemory};
 
-use crate::vector::VectorModificationError;
+use crate::vector::filters::{keep_in_front, unlike_in_front};
+use crate::vector::moves::move_tail;
 use crate::vector::shifts::{first_to_end, last_to_front};
+use crate::vector::{Drain, VectorModificationError};
 use std::alloc::AllocError;
 use std::slice;
 
@@ -92,6 +98,14 @@ pub trait Vector<T: Drop> {
         self.len() == self.capacity()
     }
 
+    /// Returns how many more items there is room for. O(1).
+    #[inline]
+    final fn remaining_capacity(&self) -> usize
+        ensures { length (bounded self.now).items + result ≡ (bounded self.now).capacity }
+    {
+        self.capacity() - self.len()
+    }
+
     /// Appends `item` to a vector that is not full. O(1).
     fn push_unchecked(&mut self, item: T)
         requires { length (bounded self.old).items < (bounded self.old).capacity }
@@ -119,6 +133,27 @@ pub trait Vector<T: Drop> {
         Err(VectorModificationError::InsertWouldExceedCapacity)
     }
 
+    /// Appends `item`. Returns `Err` with `item`, and leaves the vector unchanged, if the vector is full. O(1).
+    ///
+    /// ```text
+    /// let mut vector = StaticVec::<u64, 1>::new();
+    /// vector.try_push(1);         // Ok(())
+    /// vector.try_push(2);         // Err(2)
+    /// ```
+    #[inline]
+    final fn try_push(&mut self, item: T) -> Result<(), T>
+        ensures full { IsErr result ↔ IsFull (bounded self.old) }
+        ensures vector { bounded self.new ≡ bounded_push (bounded self.old) item }
+        ensures returned { IfErr result (λ returned. returned ≡ item) }
+        ensures refused { OnErr result (self.new ≡ self.old) }
+    {
+        if self.len() == self.capacity() {
+            return Err(item);
+        }
+        self.push_unchecked(item);
+        Ok(())
+    }
+
     /// Inserts `item` at `index`, shifting all later items to the right. O(`len - index`).
     ///
     /// Returns [`VectorModificationError::InsertWouldExceedCapacity`] if the vector is full, and otherwise
@@ -128,11 +163,37 @@ pub trait Vector<T: Drop> {
         ensures vector { bounded self.new ≡ vec_insert (bounded self.old) index item }
         ensures refused { OnErr result (self.new ≡ self.old) }
     {
+        match self.try_insert(index, item) {
+            Ok(()) => Ok(()),
+            Err((error, _item)) => Err(error),
+        }
+    }
+
+    /// Inserts `item` at `index` as [`Vector::insert`] does, and returns its error together with `item`.
+    /// O(`len - index`).
+    ///
+    /// ```text
+    /// let mut vector = StaticVec::<u64, 1>::new();
+    /// vector.try_insert(1, 5);    // Err((VectorModificationError::OutOfBounds, 5))
+    /// vector.try_insert(0, 5);    // Ok(())
+    /// ```
+    final fn try_insert(
+        &mut self,
+        index: usize,
+        item: T,
+    ) -> Result<(), (VectorModificationError, T)>
+        ensures inserted { OnOk result (vec_insert_result (bounded self.old) index ≡ Ok tt) }
+        ensures error { IfErr result (λ refusal.
+            vec_insert_result (bounded self.old) index ≡ Err refusal.0) }
+        ensures returned { IfErr result (λ refusal. refusal.1 ≡ item) }
+        ensures vector { bounded self.new ≡ vec_insert (bounded self.old) index item }
+        ensures refused { OnErr result (self.new ≡ self.old) }
+    {
         if self.is_full() {
-            return Err(VectorModificationError::InsertWouldExceedCapacity);
+            return Err((VectorModificationError::InsertWouldExceedCapacity, item));
         }
         if index > self.len() {
-            return Err(VectorModificationError::OutOfBounds);
+            return Err((VectorModificationError::OutOfBounds, item));
         }
         self.push_unchecked(item);
         move_last_to(self.as_mut_slice(), index);
@@ -153,6 +214,55 @@ pub trait Vector<T: Drop> {
         None
     }
 
+    /// Removes the item at `index` and returns it; the last item takes its place. Returns `None` if `index` is out of
+    /// bounds. O(1).
+    ///
+    /// ```text
+    /// vector.as_slice();          // [1, 2, 3]
+    /// vector.swap_remove(0);      // Some(1)
+    /// vector.as_slice();          // [3, 2]
+    /// ```
+    final fn swap_remove(&mut self, index: usize) -> Option<T>
+        ensures value { result ≡ slice_get (bounded self.old).items index }
+        ensures vector { IfSome result (λ item. bounded self.new
+            ≡ with_items (bounded self.old) (swap_remove (bounded self.old).items index item)) }
+        ensures refused { length (bounded self.old).items ≤ index → self.new ≡ self.old }
+    {
+        let len = self.len();
+        if index < len {
+            self.as_mut_slice().swap(index, len - 1);
+            return self.pop();
+        }
+        None
+    }
+
+    /// Moves all items of `other` to the end of the vector, in their order. `other` is empty then. O(`other.len()`).
+    ///
+    /// Returns [`VectorModificationError::InsertWouldExceedCapacity`], and leaves both unchanged, if there is no room for
+    /// all of them.
+    ///
+    /// ```text
+    /// first.append(&mut second)?; // [1, 2] and [3]
+    /// first.as_slice();           // [1, 2, 3]
+    /// ```
+    final fn append(&mut self, other: &mut Self) -> Result<(), VectorModificationError>
+        ensures full { LacksRoomFor (length (bounded other.old).items) (bounded self.old)
+            → result ≡ Err InsertWouldExceedCapacity }
+        ensures fits { HasRoomFor (length (bounded other.old).items) (bounded self.old)
+            → result ≡ Ok tt }
+        ensures vector { OnOk result
+            (bounded self.new ≡ vec_extend (bounded self.old) (bounded other.old).items) }
+        ensures emptied { OnOk result (bounded other.new ≡ with_items (bounded other.old) []) }
+        ensures refused { OnErr result (self.new ≡ self.old) }
+        ensures refused_other { OnErr result (other.new ≡ other.old) }
+    {
+        if other.len() > self.remaining_capacity() {
+            return Err(VectorModificationError::InsertWouldExceedCapacity);
+        }
+        move_tail(other, 0, self);
+        Ok(())
+    }
+
     /// Shortens the vector, keeping the first `n` items and dropping the rest, the last one first. Does nothing if `n` is
     /// greater than or equal to the length. O(`len - n`).
     fn truncate(&mut self, n: usize)
@@ -161,6 +271,61 @@ pub trait Vector<T: Drop> {
         while n < self.len() {
             drop(self.pop());
         }
+    }
+
+    /// Calls `f` with each item, from the first to the last. Keeps the items for which `f` returns `true`, in their order,
+    /// and drops the others, in any order, once `f` was called with all. O(`len`).
+    ///
+    /// ```text
+    /// vector.as_slice();          // [1, 2, 3]
+    /// vector.retain(|item| *item != 2);
+    /// vector.as_slice();          // [1, 3]
+    /// ```
+    final fn retain<F: FnMut(&T) -> bool>(&mut self, f: F)
+        requires { IsCallableOnEach F.FnMut (bounded self.old).items f }
+        ensures items { IsFiltered (CalledAt F.FnMut) f
+            (bounded self.old).items (bounded self.new).items }
+        ensures capacity { (bounded self.new).capacity ≡ (bounded self.old).capacity }
+    {
+        let kept = keep_in_front(self.as_mut_slice(), f);
+        self.truncate(kept);
+    }
+
+    /// Removes and drops each item that equals the one before it, so that of equal items in a row the first stays. They are
+    /// dropped in any order. O(`len`).
+    ///
+    /// ```text
+    /// vector.as_slice();          // [1, 1, 2, 1]
+    /// vector.dedup();
+    /// vector.as_slice();          // [1, 2, 1]
+    /// ```
+    final fn dedup(&mut self)
+    where
+        T: PartialEq,
+        ensures { bounded self.new
+            ≡ with_items (bounded self.old) (dedup T.eq (bounded self.old).items) }
+    {
+        let kept = unlike_in_front(self.as_mut_slice());
+        self.truncate(kept);
+    }
+
+    /// Returns an iterator that removes all items, from the first to the last. O(`len`).
+    ///
+    /// ```text
+    /// for item in vector.drain() {
+    ///     send(item);
+    /// }
+    /// vector.is_empty();          // true
+    /// ```
+    #[inline]
+    final fn drain(&mut self) -> Drain<'_, T, Self>
+        ensures items { drain_items bounded result ≡ (bounded self.old).items }
+        ensures capacity { drain_capacity bounded result ≡ (bounded self.old).capacity }
+        // With these two a caller knows that the vector is empty once the iterator is dropped.
+        ensures same_reference { drain_lender bounded result ≡ self.entry.ghost_name }
+        ensures stays { DrainKeepsAlong bounded result }
+    {
+        Drain::new(self)
     }
 
     /// Removes and drops all items, the last one first. O(`len`).
