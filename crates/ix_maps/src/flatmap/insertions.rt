@@ -27,7 +27,7 @@ impl<K: Eq + Drop, V: Drop, S: Table<Pair<K, V>>, L: Table<Link>> MetaFlatMap<Pa
         ensures inserted { IsOk result ↔ IsOk (flat_insert_result K.eq self.old key) }
         ensures error { IfErr result (λ refused.
             IfErr (flat_insert_result K.eq self.old key) (λ error. refused.0 ≡ error)) }
-        ensures handed_back { IfErr result (λ refused. (refused.1 ≡ key) × (refused.2 ≡ value)) }
+        ensures returned { IfErr result (λ refused. (refused.1 ≡ key) × (refused.2 ≡ value)) }
         ensures map { self.new ≡ flat_insert K.eq self.old key value }
         ensures holds { IsOk result → flat_value K.eq self.new key ≡ Some value }
         ensures refused { OnErr result (self.new ≡ self.old) }
@@ -58,7 +58,7 @@ impl<K: Eq + Drop, V: Drop, S: Table<Pair<K, V>>, L: Table<Link>> MetaFlatMap<Pa
     pub fn replace(&mut self, key: K, value: V) -> Result<Option<V>, (K, V)>
         ensures value { IfOk result (λ old. old ≡ flat_value K.eq self.old key) }
         ensures full { IsErr result ↔ ((flat_value K.eq self.old key ≡ None) × (self.old.free ≡ [])) }
-        ensures handed_back { IfErr result (λ refused. refused ≡ (key, value)) }
+        ensures returned { IfErr result (λ refused. refused ≡ (key, value)) }
         ensures map { self.new ≡ flat_replace K.eq self.old key value }
         ensures holds { IsOk result → flat_value K.eq self.new key ≡ Some value }
         ensures refused { OnErr result (self.new ≡ self.old) }
@@ -79,7 +79,7 @@ impl<K: Eq + Drop, V: Drop, S: Table<Pair<K, V>>, L: Table<Link>> MetaFlatMap<Pa
     pub(crate) fn insert_new(&mut self, key: K, value: V) -> Result<(), Pair<K, V>>
         requires { flat_entry K.eq self.old key ≡ None }
         ensures full { IsErr result ↔ (self.old.free ≡ []) }
-        ensures handed_back { IfErr result (λ pair. (pair.key ≡ key) × (pair.value ≡ value)) }
+        ensures returned { IfErr result (λ pair. (pair.key ≡ key) × (pair.value ≡ value)) }
         ensures map { self.new ≡ flat_insert K.eq self.old key value }
         ensures holds { IsOk result → flat_value K.eq self.new key ≡ Some value }
         ensures refused { OnErr result (self.new ≡ self.old) }

@@ -21,7 +21,7 @@ impl<T, S: Table<Option<T>>, L: Table<Link>, G: Table<u64>> MetaSlotMap<Option<T
     #[inline]
     pub fn try_insert(&mut self, value: T) -> Result<SlotMapKey, T>
         ensures step { MapInsert self.old value self.new (result_ok result) }
-        ensures handed_back { IfErr result (λ refused. refused ≡ value) }
+        ensures returned { IfErr result (λ refused. refused ≡ value) }
     {
         match self.next_free_key() {
             Some(key) => {
@@ -50,7 +50,7 @@ impl<T, S: Table<Option<T>>, L: Table<Link>, G: Table<u64>> MetaSlotMap<Option<T
         ensures step { MapInsertAt self.old index value self.new
             (option_map (λ both. both.0) (result_ok result)) }
         ensures replaced { IfOk result (λ both. both.1 ≡ place_value self.old index) }
-        ensures handed_back { IfErr result (λ refused. refused ≡ value) }
+        ensures returned { IfErr result (λ refused. refused ≡ value) }
     {
         let mut touches = Touches::new();
         if index >= self.capacity() || self.is_retired(index, &mut touches) {

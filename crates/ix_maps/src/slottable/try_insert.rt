@@ -21,7 +21,7 @@ impl<T, S: Table<T>, L: Table<Link>> MetaSlotTable<T, S, L> {
     #[inline]
     pub fn try_insert(&mut self, value: T) -> Result<SlotTableKey, T>
         ensures step { SlotInsert self.old value self.new (result_ok result) }
-        ensures handed_back { IfErr result (λ refused. refused ≡ value) }
+        ensures returned { IfErr result (λ refused. refused ≡ value) }
     {
         if self.first == NO_KEY {
             return Err(value);
@@ -44,7 +44,7 @@ impl<T, S: Table<T>, L: Table<Link>> MetaSlotTable<T, S, L> {
     pub fn try_insert_at(&mut self, key: SlotTableKey, value: T) -> Result<Option<T>, T>
         ensures step { SlotInsertAt self.old key value self.new (is_ok result) }
         ensures replaced { IfOk result (λ replaced. replaced ≡ value_at self.old key) }
-        ensures handed_back { IfErr result (λ refused. refused ≡ value) }
+        ensures returned { IfErr result (λ refused. refused ≡ value) }
     {
         let mut touches = Touches::new();
         let key = key.value();
