@@ -38,7 +38,7 @@ impl<T: Clone, const CAPACITY: usize> Clone for FixedSizeQueue<T, CAPACITY> {
     ///
     /// Returns the error of the first clone that fails, and drops those already made.
     fn clone(&self) -> Result<Self, AllocError> {
-        // True of no queue, and known when this is compiled. The contracts of tables do not say it.
+        // Both are false of every queue, which no contract of a table says, and cost nothing once compiled.
         if CAPACITY > MAX_FIXED_CAPACITY || self.capacity() != CAPACITY {
             return Err(AllocError);
         }
