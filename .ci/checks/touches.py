@@ -19,10 +19,16 @@ WALKS = {
     "steps": ("held_from",),
     "meta_slot_map": ("held_from", "fmt"),
     "word_table": ("new", "drop", "fill", "empty"),
+    "whole": ("clear", "for_each_mut", "retain"),
+    "into_iter": ("next",),
+    "keys": ("fmt",),
+    "values": ("fmt",),
+    "compared": ("eq",),
+    "slot_map_key": ("fmt",),
 }
 # Calls of a single step: those of counted tables, of new values, and of std.
 CALLS = {".put", ".take", ".get", ".get_mut", ".len", ".as_ref", ".is_some", "Touches::new", "SlotTableKey::new", "SlotMapKey::new",
-         "Link::held", "Iter::new", "Some"}
+         "Link::held", "Iter::new", "Keys::new", "Values::new", "Some", "Ok", "Err", "mem::replace"}
 FUNCTION = re.compile(r"( *)(?:pub(?:\(crate\))? )?fn (\w+)")
 LOOP = re.compile(r"\b(?:for|while|loop)\b")
 CALL = re.compile(r"(\.|(?:\w+::)*)\b(\w+!?)(?:::<[^>]*>)?\s*\(")

@@ -216,10 +216,11 @@ fn calls_on_each_kind(rt: HostRuntime) -> Result<(), Fail> {
     check_refusals(&findings, &mut FixedSizeSlotTable::<u64, 3>::new());
     check_none(&findings, &mut FixedSizeSlotTable::<u64, 0>::new());
     match SlotTable::<u64>::new(rt.alloc(), 3) {
-        Ok(mut map) => {
-            check_calls(&findings, &mut map);
-            check_refusals(&findings, &mut map);
-        }
+        Ok(mut map) => check_calls(&findings, &mut map),
+        Err(AllocError) => findings.miss("there is memory"),
+    }
+    match SlotTable::<u64>::new(rt.alloc(), 3) {
+        Ok(mut map) => check_refusals(&findings, &mut map),
         Err(AllocError) => findings.miss("there is memory"),
     }
     match UninitSlotTable::<u64>::new_uninit(0).init(rt.alloc()) {
