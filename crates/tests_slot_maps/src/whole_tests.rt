@@ -38,11 +38,19 @@ fn check_drops<'a, S: Table<Option<Noted<'a>>>, L: Table<Link>, G: Table<u64>>(
     findings.expect_same(notes.take_drops(), 153, "clear drops the values");
     findings.expect(!map.contains(key(1, LAST - 1)), "a key that was removed");
     let free = (map.len(), map.retired(), map.next_free_key());
-    findings.expect_same(free, (0, 0, Some(key(2, LAST))), "removed last, and free first");
+    findings.expect_same(
+        free,
+        (0, 0, Some(key(2, LAST))),
+        "removed last, and free first",
+    );
     fill(findings, map, notes);
     map.retain(|place, value| place.index() == 1 && value.name == 5);
     findings.expect_same(notes.take_drops(), 31, "retain drops the others");
-    findings.expect_same((map.len(), map.retired()), (1, 2), "the last generation is used up");
+    findings.expect_same(
+        (map.len(), map.retired()),
+        (1, 2),
+        "the last generation is used up",
+    );
     map.retain(|_, value| value.name != 5);
     findings.expect_same(notes.take_drops(), 5, "retain drops the last value");
     findings.expect_same((map.len(), map.retired()), (0, 3), "each place is retired");
@@ -142,7 +150,11 @@ fn check_refusals<S: Table<Option<u64>>, L: Table<Link>, G: Table<u64>>(
     findings: &Findings,
     map: &mut MetaSlotMap<Option<u64>, S, L, G>,
 ) {
-    findings.expect_same(map.try_insert(1), Ok(key(0, LAST - 1)), "the first free place");
+    findings.expect_same(
+        map.try_insert(1),
+        Ok(key(0, LAST - 1)),
+        "the first free place",
+    );
     let free = map.try_insert_at(2, 2);
     findings.expect_same(free, Ok((key(2, LAST - 1), None)), "a free place");
     let held = map.try_insert_at(2, 3);
@@ -150,13 +162,25 @@ fn check_refusals<S: Table<Option<u64>>, L: Table<Link>, G: Table<u64>>(
     findings.expect_same(map.try_insert_at(2, 4), Err(4), "the last generation");
     findings.expect_same(map.try_insert_at(3, 6), Err(6), "out of range");
     findings.expect_same(map.try_insert_at(usize::MAX, 7), Err(7), "out of range");
-    findings.expect_same(map.try_insert(5), Ok(key(1, LAST - 1)), "the last free place");
+    findings.expect_same(
+        map.try_insert(5),
+        Ok(key(1, LAST - 1)),
+        "the last free place",
+    );
     findings.expect_same(map.try_insert(8), Err(8), "no free place");
     default_key_law(&*map);
     map.clear();
-    findings.expect_same((map.len(), map.retired()), (0, 1), "the last generation is used up");
+    findings.expect_same(
+        (map.len(), map.retired()),
+        (0, 1),
+        "the last generation is used up",
+    );
     findings.expect_same(map.try_insert_at(2, 9), Err(9), "a retired place");
-    findings.expect_same(map.try_insert(1), Ok(key(1, LAST)), "removed last, and free first");
+    findings.expect_same(
+        map.try_insert(1),
+        Ok(key(1, LAST)),
+        "removed last, and free first",
+    );
 }
 
 /// Checks calls on a map without places.
@@ -181,7 +205,10 @@ fn check_none<S: Table<Option<u64>>, L: Table<Link>, G: Table<u64>>(
 fn calls_on_each_kind(rt: HostRuntime) -> Result<(), Fail> {
     let findings = Findings::new();
     check_calls(&findings, &mut FixedSizeSlotMap::<u64, 3>::new());
-    check_refusals(&findings, &mut FixedSizeSlotMap::<u64, 3>::starting_at(LAST - 1));
+    check_refusals(
+        &findings,
+        &mut FixedSizeSlotMap::<u64, 3>::starting_at(LAST - 1),
+    );
     check_none(&findings, &mut FixedSizeSlotMap::<u64, 0>::new());
     match SlotMap::<u64>::new(rt.alloc(), 3) {
         Ok(mut map) => check_calls(&findings, &mut map),

@@ -64,7 +64,7 @@ fn check_drops<'a, S: Table<Noted<'a>>, L: Table<Link>>(
 }
 
 /// Puts values at all keys of an empty map, which has three: `{0: 1, 1: 5, 2: 3}`.
-fn fill_again<'a, S: Table<Noted<'a>>, L: Table<Link>>(
+fn fill<'a, S: Table<Noted<'a>>, L: Table<Link>>(
     findings: &Findings,
     map: &mut MetaSlotTable<Noted<'a>, S, L>,
     notes: &'a Notes,
@@ -169,7 +169,11 @@ fn check_refusals<S: Table<u64>, L: Table<Link>>(
     map: &mut MetaSlotTable<u64, S, L>,
 ) {
     let third = SlotTableKey::new(2);
-    findings.expect_same(map.try_insert(1), Ok(SlotTableKey::new(0)), "the first free key");
+    findings.expect_same(
+        map.try_insert(1),
+        Ok(SlotTableKey::new(0)),
+        "the first free key",
+    );
     findings.expect_same(map.try_insert_at(third, 2), Ok(None), "a free key");
     findings.expect_same(map.try_insert_at(third, 3), Ok(Some(2)), "a held key");
     let past = map.try_insert_at(SlotTableKey::new(3), 4);
@@ -177,7 +181,11 @@ fn check_refusals<S: Table<u64>, L: Table<Link>>(
     let past = map.try_insert_at(SlotTableKey::default(), 7);
     findings.expect_same(past, Err(7), "the default key");
     default_key_law(&*map);
-    findings.expect_same(map.try_insert(5), Ok(SlotTableKey::new(1)), "the last free key");
+    findings.expect_same(
+        map.try_insert(5),
+        Ok(SlotTableKey::new(1)),
+        "the last free key",
+    );
     findings.expect_same(map.try_insert(6), Err(6), "a full map");
     check_text(findings, &*map, "{0: 1, 1: 5, 2: 3}");
 }
@@ -208,10 +216,11 @@ fn calls_on_each_kind(rt: HostRuntime) -> Result<(), Fail> {
     check_refusals(&findings, &mut FixedSizeSlotTable::<u64, 3>::new());
     check_none(&findings, &mut FixedSizeSlotTable::<u64, 0>::new());
     match SlotTable::<u64>::new(rt.alloc(), 3) {
-        Ok(mut map) => {
-            check_calls(&findings, &mut map);
-            check_refusals(&findings, &mut map);
-        }
+        Ok(mut map) => check_calls(&findings, &mut map),
+        Err(AllocError) => findings.miss("there is memory"),
+    }
+    match SlotTable::<u64>::new(rt.alloc(), 3) {
+        Ok(mut map) => check_refusals(&findings, &mut map),
         Err(AllocError) => findings.miss("there is memory"),
     }
     match UninitSlotTable::<u64>::new_uninit(0).init(rt.alloc()) {
