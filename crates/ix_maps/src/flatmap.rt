@@ -13,7 +13,6 @@
 mod callback_progression;
 mod flat_map_error;
 mod insertions;
-mod into_iter;
 mod iter;
 mod keys;
 mod kinds;
@@ -24,7 +23,6 @@ mod values;
 
 pub use callback_progression::CallbackProgression;
 pub use flat_map_error::FlatMapError;
-pub use into_iter::IntoIter;
 pub use iter::Iter;
 pub use keys::Keys;
 pub use kinds::{FixedSizeFlatMap, FlatMap, FlatMapFamily, RelocatableFlatMap, UninitFlatMap};

@@ -150,25 +150,3 @@ fn each_kind(rt: HostRuntime) -> Result<(), Fail> {
     check_made(&findings, made, &notes);
     findings.verdict()
 }
-
-/// The items that come out are the caller's, and the others are dropped with the iterator.
-#[test]
-fn by_value() -> Result<(), Fail> {
-    let findings = Findings::new();
-    let notes = AllNotes::new(0);
-    let mut map = FixedSizeFlatMap::<NotedKey, Noted, 3>::new();
-    for (number, name) in [(5, 7), (6, 8), (7, 9)] {
-        let (key, value) = named(number, name, &notes);
-        let _ = map.insert(key, value);
-    }
-    let mut rest = map.into_iter();
-    findings.expect_same(rest.len(), 3, "to come");
-    match rest.next() {
-        Some((key, value)) => findings.expect_same((key.noted.name, value.name), (7, 7), "the first"),
-        None => findings.miss("the first of three"),
-    }
-    findings.expect_same(take_drops(&notes), (7, 7), "by its owner");
-    drop(rest);
-    findings.expect_same(take_drops(&notes), (89, 89), "with the iterator");
-    findings.verdict()
-}
