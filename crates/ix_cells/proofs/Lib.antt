@@ -18,4 +18,5 @@ pub mod Refilling
 pub mod Shifts
 pub mod Tails
 pub mod VectorDrains
+mod WorkedMemory
 mod WorkedVectors

@@ -29,45 +29,62 @@ fn fill<'a, V: Vector<Noted<'a>>>(
     }
 }
 
-fn check_drains<'a, V: Vector<Noted<'a>> + Drop, E: Drop>(
+/// Takes the items of a vector of capacity 3, some at a time.
+fn check_drains<V: Vector<u64> + Drop, E: Drop>(
     findings: &Findings,
     made: Result<V, E>,
-    notes: &'a Notes,
     place: &str,
 ) {
     let Ok(mut vector) = made else {
         return findings.miss(place);
     };
-    for (taken, before, after) in TAKEN {
-        fill(findings, &mut vector, 5, notes);
+    for taken in 0..5usize {
+        let filled = vector.extend_from_slice(&[2, 3, 4]);
+        findings.expect_same_at(filled, Ok(()), taken, place);
         let mut drain = vector.drain();
-        for number in 0..*taken {
+        for number in 0..taken {
             let left = 3usize.saturating_sub(number);
-            findings.expect_same_at(drain.len(), left, *taken, place);
-            findings.expect_same_at(drain.size_hint(), (left, Some(left)), *taken, place);
-            drop(drain.next());
+            findings.expect_same_at(drain.len(), left, taken, place);
+            findings.expect_same_at(drain.size_hint(), (left, Some(left)), taken, place);
+            let wanted = if left > 0 {
+                Some(number as u64 + 2)
+            } else {
+                None
+            };
+            findings.expect_same_at(drain.next(), wanted, taken, place);
         }
-        findings.expect_same_at(notes.drops(), *before, *taken, place);
         drop(drain);
-        findings.expect_same_at(notes.take_drops(), *after, *taken, place);
-        findings.expect_at(vector.is_empty(), *taken, place);
+        findings.expect_at(vector.is_empty(), taken, place);
     }
 }
 
 #[test]
-fn drains(rt: HostRuntime) -> Result<(), Fail> {
+fn each_kind(rt: HostRuntime) -> Result<(), Fail> {
+    let findings = Findings::new();
+    check_drains(&findings, made(StaticVec::<u64, 3>::new()), "fixed");
+    let allocated = PolymorphicVec::<u64, Global>::new(rt.alloc(), 3);
+    check_drains(&findings, allocated, "allocated");
+    let relocatable = UninitVec::<u64>::new_uninit(3).init(rt.alloc());
+    check_drains(&findings, relocatable, "in two steps");
+    findings.verdict()
+}
+
+#[test]
+fn drops() -> Result<(), Fail> {
     let findings = Findings::new();
     let notes = Notes::new(0);
-    check_drains(
-        &findings,
-        made(StaticVec::<Noted, 3>::new()),
-        &notes,
-        "fixed",
-    );
-    let allocated = PolymorphicVec::<Noted, Global>::new(rt.alloc(), 3);
-    check_drains(&findings, allocated, &notes, "allocated");
-    let relocatable = UninitVec::<Noted>::new_uninit(3).init(rt.alloc());
-    check_drains(&findings, relocatable, &notes, "in two steps");
+    let mut vector = StaticVec::<Noted, 3>::new();
+    for (taken, before, after) in TAKEN {
+        fill(&findings, &mut vector, 5, &notes);
+        let mut drain = vector.drain();
+        for _ in 0..*taken {
+            drop(drain.next());
+        }
+        findings.expect_same_at(notes.drops(), *before, *taken, "taken");
+        drop(drain);
+        findings.expect_same_at(notes.take_drops(), *after, *taken, "dropped");
+        findings.expect_at(vector.is_empty(), *taken, "empty");
+    }
     findings.verdict()
 }
 

@@ -1,7 +1,7 @@
 //! The trait of all vectors.
-ghost use Rattle.std.specs.Prelude.{◌≡◌, ◌+◌, ◌<◌, ◌≤◌, ◌↔◌, List, [], ◌∷◌, ◌++◌, length, take, drop, Ok, Err, IsTrue, IsErr, IsOk, IsOkUnless, IfErr, IfSome, OnOk, OnErr, slice_get, slice_range};
+ghost use Rattle.std.specs.Prelude.{◌≡◌, ◌+◌, ◌<◌, ◌≤◌, ◌↔◌, List, [], ◌∷◌, ◌++◌, length, take, Ok, Err, IsTrue, IsErr, IsOk, IsOkUnless, IfErr, IfSome, OnOk, OnErr, slice_get};
 ghost use Rattle.std.specs.Fn.{CalledAt};
-ghost use Rattle.std.specs.List.{AppendsResults, dedup, remove_range, swap_remove};
+ghost use Rattle.std.specs.List.{AppendsResults, dedup, swap_remove};
 ghost use Rattle.std.specs.List.Retain.{IsFiltered};
 ghost use Rattle.std.specs.Borrow.{sem};
 ghost use Rattle.std.specs.Iterator.{IsFiniteIterable};
@@ -16,7 +16,7 @@ ghost use Rattle.ix_cells.specs.declared.vector.modification_error.VectorModific
 
 use crate::vector::filters::{keep_in_front, unlike_in_front};
 use crate::vector::moves::move_tail;
-use crate::vector::shifts::{first_to_end, last_to_front};
+use crate::vector::shifts::{move_last_to, move_to_end};
 use crate::vector::{Drain, VectorModificationError};
 use std::alloc::AllocError;
 use std::slice;
@@ -486,24 +486,4 @@ pub trait Vector<T: Drop> {
     ghost bounded_with_slice: { (vector : Self) (xs : List T)
         → length xs ≡ length (bounded vector).items
         → bounded (with_slice vector xs) ≡ with_items (bounded vector) xs };
-}
-
-/// Moves the last item to `index`, shifting all items from there on to the right.
-#[inline]
-fn move_last_to<T>(items: &mut [T], index: usize)
-    requires { index < length items.old }
-    ensures { (front : List T) (last : T) → items.old ≡ front ++ last ∷ []
-        → items.new ≡ take index front ++ last ∷ drop index front }
-{
-    last_to_front(&mut items[index..]);
-}
-
-/// Moves the item at `index` to the end, shifting all later items to the left.
-#[inline]
-fn move_to_end<T>(items: &mut [T], index: usize)
-    requires { index < length items.old }
-    ensures { items.new ≡ remove_range items.old index (index + 1)
-        ++ slice_range items.old index (index + 1) }
-{
-    first_to_end(&mut items[index..]);
 }
