@@ -3,8 +3,10 @@ pub mod Counts
 pub mod Fronts
 pub mod FullArrays
 pub mod HeldItems
+pub mod Kept
 pub mod Lists
 pub mod Loans
+pub mod Memory
 pub mod MovedItems
 pub mod Places
 pub mod RawNames
@@ -15,4 +17,6 @@ pub mod RawSteps
 pub mod Refilling
 pub mod Shifts
 pub mod Tails
+pub mod VectorDrains
+mod WorkedMemory
 mod WorkedVectors

@@ -5,6 +5,8 @@ pub mod Conversions
 pub mod ErrorTexts
 pub mod Iterating
 pub mod Lending
+pub mod Memory
 pub mod Places
+pub mod VectorDrain
 pub mod VectorSteps
 pub mod inner

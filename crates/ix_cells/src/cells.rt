@@ -14,6 +14,7 @@ mod heap_table;
 mod held_item;
 mod inline_table;
 mod maybe_moved;
+mod memory_size;
 pub(crate) mod raw_row;
 mod raw_slots;
 mod relocatable_container;
@@ -23,6 +24,7 @@ mod uninit;
 pub use counted::{Counted, Touches};
 pub use heap_table::HeapTable;
 pub use inline_table::InlineTable;
+pub use memory_size::MemorySize;
 #[doc(hidden)]
 pub use raw_row::{RowGrant, RowOwner, RowPtr};
 pub use raw_slots::RawSlots;

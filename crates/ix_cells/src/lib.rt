@@ -20,8 +20,8 @@ pub mod cells;
 pub mod vector;
 
 pub use cells::{
-    ContainerFamily, Counted, HeapTable, InitError, InlineTable, MAX_FIXED_CAPACITY, RawSlots,
-    RelocatableContainer, Table, Touches, Uninit,
+    ContainerFamily, Counted, HeapTable, InitError, InlineTable, MAX_FIXED_CAPACITY, MemorySize,
+    RawSlots, RelocatableContainer, Table, Touches, Uninit,
 };
 pub use vector::{
     PolymorphicVec, RelocatableVec, StaticVec, StaticVecIntoIter, UninitVec, VecFamily, Vector,

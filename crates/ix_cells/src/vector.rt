@@ -7,14 +7,18 @@
 //! vector.as_slice();          // [1, 2, 3]
 //! ```
 
+mod drain;
+mod filters;
 mod modification_error;
 mod moves;
+mod order;
 mod polymorphic_vec;
 mod relocatable_vec;
 mod shifts;
 mod static_vec;
 mod vector_trait;
 
+pub use drain::Drain;
 pub use modification_error::VectorModificationError;
 pub use polymorphic_vec::PolymorphicVec;
 pub use relocatable_vec::{RelocatableVec, UninitVec, VecFamily};

@@ -3,7 +3,11 @@
 #![tactic(auto)]
 
 #[cfg(test)]
+mod call_tests;
+#[cfg(test)]
 mod clone_tests;
+#[cfg(test)]
+mod drain_tests;
 #[cfg(test)]
 mod drop_tests;
 #[cfg(test)]
@@ -12,6 +16,8 @@ mod function_tests;
 mod iterating_tests;
 #[cfg(test)]
 mod memory_tests;
+#[cfg(test)]
+mod order_tests;
 #[cfg(test)]
 mod rolling;
 #[cfg(test)]
@@ -22,5 +28,7 @@ mod row_tests;
 mod rows;
 #[cfg(test)]
 mod shift_tests;
+#[cfg(test)]
+mod size_tests;
 #[cfg(test)]
 mod table_tests;

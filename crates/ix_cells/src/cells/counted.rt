@@ -1,9 +1,10 @@
 //! A table that counts the calls on it.
-ghost use Rattle.std.specs.Prelude.{◌≡◌, ℕ, ◌+◌, length, Some, None, slice_set};
+ghost use Rattle.std.specs.Prelude.{◌≡◌, ℕ, ◌+◌, length, Some, None, codes, slice_set};
 ghost use Rattle.std.specs.Borrow.{ftrue, sem};
 ghost use Rattle.ix_cells.specs.Places.{place_at, IsEmptyAt, IsHeldAt, IsVacant};
 
 use crate::cells::Table;
+use std::fmt;
 use std::marker::Model;
 
 /// A number that has no bytes: only contracts see it.
@@ -71,6 +72,16 @@ impl Touches {
     }
 }
 
+/// Prints the type's name. The number is not known at run time.
+impl fmt::Debug for Touches {
+    ghost debug_output = { λ _. Some (codes "Touches") };
+
+    fn fmt<W: fmt::Write>(&self, f: &mut fmt::Formatter<W>) -> fmt::Result {
+        let _count = &self.count;
+        f.write_str("Touches")
+    }
+}
+
 /// A table whose calls raise a [`Touches`]: each by one, and [`Counted::get_mut`] by two, since its caller may read and
 /// write the item. Contracts see the table itself.
 ///
@@ -85,6 +96,15 @@ impl<S> Model for Counted<S> {
     ghost coded = { S.code };
 
     ghost view = { λ counted. counted.table };
+}
+
+/// Prints the type's name and the table.
+impl<S: fmt::Debug> fmt::Debug for Counted<S> {
+    fn fmt<W: fmt::Write>(&self, f: &mut fmt::Formatter<W>) -> fmt::Result {
+        f.debug_struct("Counted")
+            .field("table", &self.table)
+            .finish()
+    }
 }
 
 impl<S> Counted<S> {

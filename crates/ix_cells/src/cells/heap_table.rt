@@ -1,8 +1,11 @@
 //! A table in memory of an allocator.
-ghost use Rattle.std.specs.Prelude.{◌≡◌, Some, None, IsOk, IfOk, slice_set, replicate, refl};
+ghost use Rattle.std.specs.Prelude.{◌≡◌, ℕ, ◌≤◌, Some, None, IsOk, IfOk, slice_set, replicate, refl};
+ghost use Rattle.std.specs.Mem.{type_size};
+ghost use Rattle.ix_cells.specs.Memory.{no_memory, table_memory};
 
-use crate::cells::{RawSlots, Table};
+use crate::cells::{MemorySize, RawSlots, Table};
 use std::alloc::{AllocError, Allocator, Global};
+use std::fmt;
 use std::marker::Model;
 
 /// A table that allocates its places from `A` when it is made, and never after, and deallocates them when it ends.
@@ -24,6 +27,20 @@ impl<T, A: Allocator> Model for HeapTable<T, A> {
 }
 
 impl<T: Drop, A: Allocator> HeapTable<T, A> {
+    /// Returns how much memory a table of `len` places takes from its allocator when it is made: a block of the places, if
+    /// they have bytes, and a block of their marks. None if `len` is 0.
+    ///
+    /// Does not allocate. O(1).
+    #[inline]
+    pub fn memory_size(len: usize) -> MemorySize
+        ensures value { result ≡ table_memory (type_size T.row) len }
+        ensures monotone { (greater : ℕ) → len ≤ greater
+            → result.bytes ≤ (table_memory (type_size T.row) greater).bytes }
+        ensures none { len ≡ 0 → result ≡ no_memory }
+    {
+        RawSlots::<T, A>::memory_size(len)
+    }
+
     /// Creates a table of `len` empty places.
     ///
     /// O(`len`), with at most two allocations, one of the places and one of their marks. Returns `AllocError` if one fails,
@@ -34,6 +51,15 @@ impl<T: Drop, A: Allocator> HeapTable<T, A> {
     {
         let slots = RawSlots::new(alloc, len)?;
         Ok(HeapTable { slots })
+    }
+}
+
+/// Prints the type's name and the number of places. A table can't be asked which of them hold an item.
+impl<T, A: Allocator> fmt::Debug for HeapTable<T, A> {
+    fn fmt<W: fmt::Write>(&self, f: &mut fmt::Formatter<W>) -> fmt::Result {
+        f.debug_struct("HeapTable")
+            .field("len", &self.slots.len())
+            .finish_non_exhaustive()
     }
 }
 

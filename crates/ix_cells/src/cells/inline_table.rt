@@ -6,6 +6,7 @@ use crate::cells::held_item::{item, item_mut};
 use crate::cells::maybe_moved::MaybeMoved;
 use crate::cells::{MAX_FIXED_CAPACITY, Table};
 use arrayvec::ArrayVec;
+use std::fmt;
 use std::marker::Model;
 
 /// A table of `CAP` places that is stored inline and does not allocate.
@@ -39,6 +40,16 @@ impl<T: Drop, const CAP: usize> InlineTable<T, CAP> {
         InlineTable {
             places: ArrayVec::from(vacant()),
         }
+    }
+}
+
+/// Prints the type's name and the number of places. A table can't be asked which of them hold an item.
+impl<T, const CAP: usize> fmt::Debug for InlineTable<T, CAP> {
+    fn fmt<W: fmt::Write>(&self, f: &mut fmt::Formatter<W>) -> fmt::Result {
+        let _places = &self.places;
+        f.debug_struct("InlineTable")
+            .field("len", &CAP)
+            .finish_non_exhaustive()
     }
 }
 

@@ -1,11 +1,14 @@
 //! Places in raw memory, beside a mark for each.
-ghost use Rattle.std.specs.Prelude.{◌≡◌, ◌*◌, length, replicate, Some, None, false, slice_set, IfOk, IsOk};
+ghost use Rattle.std.specs.Prelude.{◌≡◌, ℕ, ◌≤◌, ◌*◌, length, replicate, Some, None, false, slice_set, IfOk, IsOk};
 ghost use Rattle.std.specs.Borrow.{sem};
 ghost use Rattle.std.specs.Mem.{type_size};
+ghost use Rattle.ix_cells.specs.Memory.{no_memory, table_memory};
 ghost use Rattle.ix_cells.specs.Places.{place_at, IsEmptyAt, IsHeldAt, IsVacant};
 
+use crate::cells::MemorySize;
 use crate::cells::raw_row::{RowGrant, RowOwner, RowPtr};
 use std::alloc::{AllocError, Allocator, Global};
+use std::fmt;
 use std::marker::Model;
 use std::mem::size_of;
 use std_alloc::room::may_hold;
@@ -45,6 +48,25 @@ impl<T, A: Allocator> Model for RawSlots<T, A> {
 
 impl<T, A: Allocator> RawSlots<T, A> {
     ghost use Rattle.ix_cells.specs.Lending.{raw_slots_lends};
+
+    /// Returns how much memory a row of `len` places takes from its allocator when it is made: a block of the places, if
+    /// they have bytes, and a block of their marks. None if `len` is 0.
+    ///
+    /// Does not allocate. O(1).
+    #[inline]
+    pub fn memory_size(len: usize) -> MemorySize
+        ensures value { result ≡ table_memory (type_size T.row) len }
+        ensures monotone { (greater : ℕ) → len ≤ greater
+            → result.bytes ≤ (table_memory (type_size T.row) greater).bytes }
+        ensures none { len ≡ 0 → result ≡ no_memory }
+    {
+        let places = MemorySize::of_items::<T>(len);
+        let marks = MemorySize::of_items::<bool>(len);
+        if places.bytes == 0 {
+            return marks;
+        }
+        places.saturating_add(marks)
+    }
 
     /// Creates a row of `len` empty places.
     ///
@@ -152,6 +174,15 @@ impl<T, A: Allocator> RawSlots<T, A> {
             Some(grant) => grant.deallocate(held.allocator(), ptr, held.len(), row),
             None => row.forget(),
         }
+    }
+}
+
+/// Prints the type's name and the number of places.
+impl<T, A: Allocator> fmt::Debug for RawSlots<T, A> {
+    fn fmt<W: fmt::Write>(&self, f: &mut fmt::Formatter<W>) -> fmt::Result {
+        f.debug_struct("RawSlots")
+            .field("len", &self.len())
+            .finish_non_exhaustive()
     }
 }
 

@@ -1,5 +1,5 @@
 //! The vector that allocates when it is made.
-ghost use Rattle.std.specs.Prelude.{◌≡◌, ◌^◌, ◌<◌, ◌≤◌, length, IsOk, IfOk};
+ghost use Rattle.std.specs.Prelude.{◌≡◌, ◌^◌, ℕ, ◌<◌, ◌≤◌, length, IsOk, IfOk};
 ghost use Rattle.std.specs.Cmp.{on_per, on_equiv};
 ghost use Rattle.std.specs.Cmp.Lexicographic.{pointwise, lists_per, lists_equiv};
 ghost use Rattle.std.proofs.Common.{arith, ap};
@@ -7,8 +7,11 @@ ghost use Rattle.std.proofs.lemmas.Grind.{common_steps};
 ghost use Rattle.ix_cells.specs.Bounded.{bounded_new, with_items, IsFull};
 ghost use Rattle.ix_cells.specs.Calls.{IsCallableBelow, ResultsFrom};
 ghost use Rattle.ix_cells.specs.Cloning.{AreEqualClones};
+ghost use Rattle.ix_cells.specs.Memory.{items_memory, no_memory};
+ghost use Rattle.std.specs.Mem.{type_size};
 ghost use Rattle.ix_cells.specs.VectorSteps.{vec_refill};
 
+use crate::cells::MemorySize;
 use crate::vector::Vector;
 use std::alloc::{AllocError, Allocator, Global};
 use std::marker::Model;
@@ -29,7 +32,7 @@ use std::{fmt, slice, vec};
 ///
 /// This is `PolymorphicVec` of iceoryx2-bb-container.
 pub struct PolymorphicVec<T, A: Allocator = Global> {
-    items: Vec<T, A>,
+    pub(super) items: Vec<T, A>,
 }
 
 impl<T, A: Allocator> Model for PolymorphicVec<T, A> {
@@ -61,6 +64,21 @@ impl<T: Drop, A: Allocator> PolymorphicVec<T, A> {
         Ok(PolymorphicVec {
             items: Vec::with_capacity(alloc, capacity)?,
         })
+    }
+
+    /// Returns how much memory a vector of this capacity takes from its allocator when it is made: one block, and none if the
+    /// capacity is 0. The block of items of size zero has no bytes.
+    ///
+    /// Does not allocate. O(1).
+    #[inline]
+    pub fn memory_size(capacity: usize) -> MemorySize
+        ensures value { result ≡ items_memory (type_size T.row) capacity }
+        ensures monotone { (greater : ℕ) → capacity ≤ greater
+            → result.bytes ≤ (items_memory (type_size T.row) greater).bytes }
+        ensures none { capacity ≡ 0 → result ≡ no_memory }
+        ensures no_bytes { type_size T.row ≡ 0 → result.bytes ≡ 0 }
+    {
+        MemorySize::of_items::<T>(capacity)
     }
 
     /// Creates a full vector whose item `n` is `f(n)`.

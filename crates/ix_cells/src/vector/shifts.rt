@@ -1,12 +1,13 @@
 //! Shifts of the items of a slice by one place.
-ghost use Rattle.std.specs.Prelude.{◌≡◌, ◌-◌, ◌<◌, ◌++◌, length, take, drop};
+ghost use Rattle.std.specs.Prelude.{◌≡◌, ◌+◌, ◌-◌, ◌<◌, List, [], ◌∷◌, ◌++◌, length, take, drop, slice_range};
+ghost use Rattle.std.specs.List.{remove_range};
 ghost use Rattle.core.specs.Mem.Slots.{slots_items, slots_len, IsFull, Refills};
 
 use core::slots::{Slots, with_slots};
 
 /// Moves the last item of a slice to its front, and each other item one place to the right. Moves each item once.
 #[inline]
-pub(crate) fn last_to_front<T>(items: &mut [T])
+fn last_to_front<T>(items: &mut [T])
     requires { 0 < length items.old }
     ensures { items.new ≡ drop (length items.old - 1) items.old
         ++ take (length items.old - 1) items.old }
@@ -31,7 +32,7 @@ fn put_last_first<T>(mut row: Slots<T>, state: (), _argument: ()) -> (Slots<T>, 
 
 /// Moves the first item of a slice to its end, and each other item one place to the left. Moves each item once.
 #[inline]
-pub(crate) fn first_to_end<T>(items: &mut [T])
+fn first_to_end<T>(items: &mut [T])
     requires { 0 < length items.old }
     ensures { items.new ≡ drop 1 items.old ++ take 1 items.old }
 {
@@ -50,4 +51,24 @@ fn put_first_last<T>(mut row: Slots<T>, state: (), _argument: ()) -> (Slots<T>, 
     row.move_within(1, 0, end);
     row.put(end, first);
     (row, state, ())
+}
+
+/// Moves the last item to `index`, shifting all items from there on to the right.
+#[inline]
+pub(crate) fn move_last_to<T>(items: &mut [T], index: usize)
+    requires { index < length items.old }
+    ensures { (front : List T) (last : T) → items.old ≡ front ++ last ∷ []
+        → items.new ≡ take index front ++ last ∷ drop index front }
+{
+    last_to_front(&mut items[index..]);
+}
+
+/// Moves the item at `index` to the end, shifting all later items to the left.
+#[inline]
+pub(crate) fn move_to_end<T>(items: &mut [T], index: usize)
+    requires { index < length items.old }
+    ensures { items.new ≡ remove_range items.old index (index + 1)
+        ++ slice_range items.old index (index + 1) }
+{
+    first_to_end(&mut items[index..]);
 }

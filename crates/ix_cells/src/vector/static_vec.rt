@@ -1,17 +1,18 @@
 //! The vector that is stored inline.
-ghost use Rattle.std.specs.Prelude.{◌≡◌, ◌+◌, ◌<◌, ◌≤◌, [], length, take, IsOk, IsOkUnless, IfOk, OnOk, OnErr};
+ghost use Rattle.std.specs.Prelude.{◌≡◌, ◌+◌, ◌<◌, ◌≤◌, [], length, take, drop, Err, IsOk, IsOkUnless, IfOk, OnOk, OnErr};
 ghost use Rattle.std.specs.List.{AllZip, AppendsClones, refill};
 ghost use Rattle.std.specs.Iterator.{IsFiniteIterable};
 ghost use Rattle.std.specs.Cmp.Lexicographic.{pointwise, lists_per, lists_equiv};
 ghost use Rattle.ix_cells.specs.Bounded.{bounded_new};
 ghost use Rattle.ix_cells.specs.Cloning.{AreInfallible};
 ghost use Rattle.ix_cells.specs.Iterating.{AreItemsOf, YieldsMoreThanFit};
-ghost use Rattle.ix_cells.specs.declared.vector.modification_error.VectorModificationError.TheVariants.{InsertWouldExceedCapacity};
+ghost use Rattle.ix_cells.specs.declared.vector.modification_error.VectorModificationError.TheVariants.{InsertWouldExceedCapacity, OutOfBounds};
 ghost use Rattle.std.proofs.Common.{arith, ap};
 ghost use Rattle.std.proofs.lemmas.Grind.{common_steps};
 
 use crate::cells::MAX_FIXED_CAPACITY;
 use crate::cells::full_array::{front_mut, put, put_clones, put_defaults, replace};
+use crate::vector::moves::move_tail;
 use crate::vector::{Vector, VectorModificationError};
 use arrayvec::ArrayVec;
 use std::alloc::AllocError;
@@ -72,7 +73,7 @@ impl<T: Default, const CAPACITY: usize> StaticVec<T, CAPACITY> {
     }
 
     #[inline]
-    fn items(&self) -> &[T]
+    pub(super) fn items(&self) -> &[T]
         ensures value { result.now ≡ self.now }
         ensures within { length result.now ≤ CAPACITY }
     {
@@ -109,6 +110,34 @@ impl<T: Default + Drop, const CAPACITY: usize> StaticVec<T, CAPACITY> {
         let mut vector = StaticVec::new();
         vector.extend_from_iter(iter)?;
         Ok(vector)
+    }
+}
+
+impl<T: Default + Drop, const CAPACITY: usize> StaticVec<T, CAPACITY> {
+    /// Moves the items from index `at` on to a new vector of the same capacity, in their order, and returns it.
+    /// O(`CAPACITY`).
+    ///
+    /// Returns [`VectorModificationError::OutOfBounds`], and leaves the vector unchanged, if `at` is greater than the length.
+    ///
+    /// ```text
+    /// vector.as_slice();          // [1, 2, 3]
+    /// let tail = vector.split_off(1)?;
+    /// tail.as_slice();            // [2, 3]
+    /// vector.as_slice();          // [1]
+    /// ```
+    pub fn split_off(&mut self, at: usize) -> Result<Self, VectorModificationError>
+        ensures tail { IfOk result (λ tail. tail ≡ drop at self.old) }
+        ensures vector { self.new ≡ take at self.old }
+        ensures bounds { at ≤ length self.old → IsOk result }
+        ensures past { length self.old < at → result ≡ Err OutOfBounds }
+        ensures refused { OnErr result (self.new ≡ self.old) }
+    {
+        if at > self.len() {
+            return Err(VectorModificationError::OutOfBounds);
+        }
+        let mut tail = StaticVec::empty();
+        move_tail(self, at, &mut tail);
+        Ok(tail)
     }
 }
 
@@ -191,6 +220,15 @@ impl<T: Default + Drop, const CAPACITY: usize> Vector<T> for StaticVec<T, CAPACI
     ghost bounded_with_slice = { λ vector xs same. ap
         (λ items. record { items = items; capacity = CAPACITY })
         (Prim.search (arith, common_steps)) };
+}
+
+/// Creates an empty vector. O(`CAPACITY`).
+impl<T: Default, const CAPACITY: usize> Default for StaticVec<T, CAPACITY> {
+    ghost is_default = { λ vector. vector ≡ [] };
+
+    fn default() -> Self {
+        Self::empty()
+    }
 }
 
 /// Drops the items, the last one first.
@@ -285,6 +323,21 @@ impl<T: Default + Clone, const CAPACITY: usize> TryFrom<&[T]> for StaticVec<T, C
             Ok(()) => Ok(vector),
             Err(AllocError) => Err(VectorModificationError::OutOfMemory),
         }
+    }
+}
+
+impl<T: Default + Clone, const CAPACITY: usize, const N: usize> TryFrom<&[T; N]>
+    for StaticVec<T, CAPACITY> {
+    type Error = VectorModificationError;
+
+    ghost use Rattle.ix_cells.specs.Conversions.{StaticVecFromSlice};
+
+    ghost try_from_gives = { λ items result.
+        StaticVecFromSlice CAPACITY T.is_clone T.is_infallible items.now result };
+
+    /// Does what the conversion of a slice of the array does.
+    fn try_from(items: &[T; N]) -> Result<Self, VectorModificationError> {
+        Self::try_from(items.as_slice())
     }
 }
 

@@ -1,18 +1,23 @@
 //! The trait of all vectors.
-ghost use Rattle.std.specs.Prelude.{◌≡◌, ◌+◌, ◌<◌, ◌≤◌, ◌↔◌, List, [], ◌∷◌, ◌++◌, length, take, drop, Ok, Err, IsTrue, IsErr, IsOk, IsOkUnless, IfErr, IfSome, OnOk, OnErr, slice_get, slice_range};
-ghost use Rattle.std.specs.List.{AppendsResults, remove_range, swap_remove};
+ghost use Rattle.std.specs.Prelude.{◌≡◌, ◌+◌, ◌<◌, ◌≤◌, ◌↔◌, List, [], ◌∷◌, ◌++◌, length, take, Ok, Err, IsTrue, IsErr, IsOk, IsOkUnless, IfErr, IfSome, OnOk, OnErr, slice_get};
+ghost use Rattle.std.specs.Fn.{CalledAt};
+ghost use Rattle.std.specs.List.{AppendsResults, dedup, swap_remove};
+ghost use Rattle.std.specs.List.Retain.{IsFiltered};
 ghost use Rattle.std.specs.Borrow.{sem};
 ghost use Rattle.std.specs.Iterator.{IsFiniteIterable};
 ghost use Rattle.ix_cells.specs.Bounded.{Bounded, IsWithin, IsFull, with_items, bounded_push};
+ghost use Rattle.ix_cells.specs.Calls.{IsCallableOnEach};
 ghost use Rattle.ix_cells.specs.Cloning.{AreEqualClones, AreInfallible};
 ghost use Rattle.ix_cells.specs.Lending.{vec_lends};
 ghost use Rattle.ix_cells.specs.Iterating.{YieldsRefsTo, YieldsMutRefsTo, vec_lends_iter, ExtendsByItemsOf, YieldsMoreThanFit};
+ghost use Rattle.ix_cells.specs.VectorDrain.{drain_items, drain_capacity, drain_lender, DrainKeepsAlong};
 ghost use Rattle.ix_cells.specs.VectorSteps.{HasRoomFor, LacksRoomFor, vec_push_result, vec_insert, vec_insert_result, vec_remove, vec_pop, vec_last, vec_truncate, vec_extend, vec_resize, vec_resize_result};
 ghost use Rattle.ix_cells.specs.declared.vector.modification_error.VectorModificationError.TheVariants.{InsertWouldExceedCapacity, OutOfMemory};
 
-use crate::vector::VectorModificationError;
+use crate::vector::filters::{keep_in_front, unlike_in_front};
 use crate::vector::moves::move_tail;
-use crate::vector::shifts::{first_to_end, last_to_front};
+use crate::vector::shifts::{move_last_to, move_to_end};
+use crate::vector::{Drain, VectorModificationError};
 use std::alloc::AllocError;
 use std::slice;
 
@@ -268,6 +273,61 @@ pub trait Vector<T: Drop> {
         }
     }
 
+    /// Calls `f` with each item, from the first to the last. Keeps the items for which `f` returns `true`, in their order,
+    /// and drops the others, in any order, once `f` was called with all. O(`len`).
+    ///
+    /// ```text
+    /// vector.as_slice();          // [1, 2, 3]
+    /// vector.retain(|item| *item != 2);
+    /// vector.as_slice();          // [1, 3]
+    /// ```
+    final fn retain<F: FnMut(&T) -> bool>(&mut self, f: F)
+        requires { IsCallableOnEach F.FnMut (bounded self.old).items f }
+        ensures items { IsFiltered (CalledAt F.FnMut) f
+            (bounded self.old).items (bounded self.new).items }
+        ensures capacity { (bounded self.new).capacity ≡ (bounded self.old).capacity }
+    {
+        let kept = keep_in_front(self.as_mut_slice(), f);
+        self.truncate(kept);
+    }
+
+    /// Removes and drops each item that equals the one before it, so that of equal items in a row the first stays. They are
+    /// dropped in any order. O(`len`).
+    ///
+    /// ```text
+    /// vector.as_slice();          // [1, 1, 2, 1]
+    /// vector.dedup();
+    /// vector.as_slice();          // [1, 2, 1]
+    /// ```
+    final fn dedup(&mut self)
+    where
+        T: PartialEq,
+        ensures { bounded self.new
+            ≡ with_items (bounded self.old) (dedup T.eq (bounded self.old).items) }
+    {
+        let kept = unlike_in_front(self.as_mut_slice());
+        self.truncate(kept);
+    }
+
+    /// Returns an iterator that removes all items, from the first to the last. O(`len`).
+    ///
+    /// ```text
+    /// for item in vector.drain() {
+    ///     send(item);
+    /// }
+    /// vector.is_empty();          // true
+    /// ```
+    #[inline]
+    final fn drain(&mut self) -> Drain<'_, T, Self>
+        ensures items { drain_items bounded result ≡ (bounded self.old).items }
+        ensures capacity { drain_capacity bounded result ≡ (bounded self.old).capacity }
+        // With these two a caller knows that the vector is empty once the iterator is dropped.
+        ensures same_reference { drain_lender bounded result ≡ self.entry.ghost_name }
+        ensures stays { DrainKeepsAlong bounded result }
+    {
+        Drain::new(self)
+    }
+
     /// Removes and drops all items, the last one first. O(`len`).
     final fn clear(&mut self)
         ensures { bounded self.new ≡ with_items (bounded self.old) [] }
@@ -426,24 +486,4 @@ pub trait Vector<T: Drop> {
     ghost bounded_with_slice: { (vector : Self) (xs : List T)
         → length xs ≡ length (bounded vector).items
         → bounded (with_slice vector xs) ≡ with_items (bounded vector) xs };
-}
-
-/// Moves the last item to `index`, shifting all items from there on to the right.
-#[inline]
-fn move_last_to<T>(items: &mut [T], index: usize)
-    requires { index < length items.old }
-    ensures { (front : List T) (last : T) → items.old ≡ front ++ last ∷ []
-        → items.new ≡ take index front ++ last ∷ drop index front }
-{
-    last_to_front(&mut items[index..]);
-}
-
-/// Moves the item at `index` to the end, shifting all later items to the left.
-#[inline]
-fn move_to_end<T>(items: &mut [T], index: usize)
-    requires { index < length items.old }
-    ensures { items.new ≡ remove_range items.old index (index + 1)
-        ++ slice_range items.old index (index + 1) }
-{
-    first_to_end(&mut items[index..]);
 }

@@ -1,4 +1,4 @@
-use Rattle.std.proofs.Common.{◌≡◌, ◌++◌, ◌∙◌, List, length, take, drop, reverse, sym, ap, arith}
+use Rattle.std.proofs.Common.{◌∙◌, List, length, drop, reverse, ap, arith}
 use Rattle.std.proofs.lemmas.List.{reverse-reverse}
 use Rattle.ix_cells.specs.Bounded.{with_items}
 use Rattle.ix_cells.specs.VectorSteps.{vec_extend, vec_truncate}

@@ -1,0 +1,158 @@
+//! Drains: the items that come, those that are dropped with the drain, and the vector afterwards. And the drops of the other
+//! calls that remove or move items.
+use ix_cells::{PolymorphicVec, RelocatableContainer, StaticVec, UninitVec, Vector};
+use std::alloc::Global;
+use std::test::Fail;
+use test_support::{Findings, Noted, Notes, check_text, made, names_of};
+
+/// The number of items that are taken of a vector with the items 2, 3 and 4, the names of the items that are dropped then,
+/// and those once the drain is dropped.
+const TAKEN: &[(usize, u64, u64)] = &[
+    (0, 0, 234),
+    (1, 2, 234),
+    (2, 23, 234),
+    (3, 234, 234),
+    (4, 234, 234),
+];
+
+fn fill<'a, V: Vector<Noted<'a>>>(
+    findings: &Findings,
+    vector: &mut V,
+    names: u64,
+    notes: &'a Notes,
+) {
+    for name in 2..names {
+        findings.expect(
+            vector.push(Noted::new(name, notes)).is_ok(),
+            "there is room",
+        );
+    }
+}
+
+/// Takes the items of a vector of capacity 3, some at a time.
+fn check_drains<V: Vector<u64> + Drop, E: Drop>(
+    findings: &Findings,
+    made: Result<V, E>,
+    place: &str,
+) {
+    let Ok(mut vector) = made else {
+        return findings.miss(place);
+    };
+    for taken in 0..5usize {
+        let filled = vector.extend_from_slice(&[2, 3, 4]);
+        findings.expect_same_at(filled, Ok(()), taken, place);
+        let mut drain = vector.drain();
+        for number in 0..taken {
+            let left = 3usize.saturating_sub(number);
+            findings.expect_same_at(drain.len(), left, taken, place);
+            findings.expect_same_at(drain.size_hint(), (left, Some(left)), taken, place);
+            let wanted = if left > 0 {
+                Some(number as u64 + 2)
+            } else {
+                None
+            };
+            findings.expect_same_at(drain.next(), wanted, taken, place);
+        }
+        drop(drain);
+        findings.expect_at(vector.is_empty(), taken, place);
+    }
+}
+
+#[test]
+fn each_kind(rt: HostRuntime) -> Result<(), Fail> {
+    let findings = Findings::new();
+    check_drains(&findings, made(StaticVec::<u64, 3>::new()), "fixed");
+    let allocated = PolymorphicVec::<u64, Global>::new(rt.alloc(), 3);
+    check_drains(&findings, allocated, "allocated");
+    let relocatable = UninitVec::<u64>::new_uninit(3).init(rt.alloc());
+    check_drains(&findings, relocatable, "in two steps");
+    findings.verdict()
+}
+
+#[test]
+fn drops() -> Result<(), Fail> {
+    let findings = Findings::new();
+    let notes = Notes::new(0);
+    let mut vector = StaticVec::<Noted, 3>::new();
+    for (taken, before, after) in TAKEN {
+        fill(&findings, &mut vector, 5, &notes);
+        let mut drain = vector.drain();
+        for _ in 0..*taken {
+            drop(drain.next());
+        }
+        findings.expect_same_at(notes.drops(), *before, *taken, "taken");
+        drop(drain);
+        findings.expect_same_at(notes.take_drops(), *after, *taken, "dropped");
+        findings.expect_at(vector.is_empty(), *taken, "empty");
+    }
+    findings.verdict()
+}
+
+#[test]
+fn drained_items() -> Result<(), Fail> {
+    let findings = Findings::new();
+    let mut vector = StaticVec::<u64, 3>::new();
+    findings.expect_same(
+        vector.extend_from_slice(&[4, 5, 6]),
+        Ok(()),
+        "there is room",
+    );
+    let mut drain = vector.drain();
+    check_text(&findings, &drain, "[4, 5, 6]");
+    findings.expect_same(drain.next(), Some(4), "the first");
+    check_text(&findings, &drain, "[5, 6]");
+    findings.expect_same(drain.next(), Some(5), "the second");
+    findings.expect_same(drain.next(), Some(6), "the third");
+    findings.expect_same(drain.next(), None, "the end");
+    findings.expect_same(drain.next(), None, "after the end");
+    drop(drain);
+    findings.expect_same(vector.push(7), Ok(()), "an item after the drain");
+    findings.expect_same(vector.as_slice(), &[7], "the item after the drain");
+    let empty = StaticVec::<u64, 0>::new().drain().next();
+    findings.expect_same(empty, None, "no capacity");
+    findings.verdict()
+}
+
+/// Returns `true` if the digits are those of the names, in any order of two.
+fn are_both(drops: u64, one: u64, other: u64) -> bool {
+    drops == one * 10 + other || drops == other * 10 + one
+}
+
+#[test]
+fn drops_of_other_calls() -> Result<(), Fail> {
+    let findings = Findings::new();
+    let notes = Notes::new(0);
+    let mut vector = StaticVec::<Noted, 4>::new();
+    fill(&findings, &mut vector, 6, &notes);
+    match vector.try_push(Noted::new(7, &notes)) {
+        Ok(()) => findings.miss("a full vector"),
+        Err(item) => {
+            findings.expect_same(notes.drops(), 0, "handed back");
+            findings.expect_same(item.name, 7, "handed back");
+        }
+    }
+    findings.expect_same(notes.take_drops(), 7, "dropped by its owner");
+    match vector.try_insert(0, Noted::new(8, &notes)) {
+        Ok(()) => findings.miss("a full vector"),
+        Err((_error, item)) => findings.expect_same(item.name, 8, "handed back"),
+    }
+    findings.expect_same(notes.take_drops(), 8, "dropped by its owner");
+    vector.retain(|item| item.name == 3 || item.name == 5);
+    findings.expect_same(names_of(vector.as_slice()), 35, "what is kept");
+    findings.expect(are_both(notes.take_drops(), 2, 4), "what is not kept");
+    let mut other = StaticVec::<Noted, 4>::new();
+    fill(&findings, &mut other, 4, &notes);
+    findings.expect_same(vector.append(&mut other), Ok(()), "there is room");
+    findings.expect_same(names_of(vector.as_slice()), 3523, "appended");
+    match vector.split_off(1) {
+        Ok(tail) => {
+            findings.expect_same(notes.drops(), 0, "moved");
+            findings.expect_same(names_of(tail.as_slice()), 523, "the tail");
+        }
+        Err(_) => findings.miss("a split"),
+    }
+    findings.expect_same(notes.take_drops(), 325, "the tail is dropped");
+    drop(vector.swap_remove(0));
+    findings.expect_same(notes.take_drops(), 3, "taken out");
+    findings.verdict()
+}
