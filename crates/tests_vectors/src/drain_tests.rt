@@ -5,16 +5,6 @@ use std::alloc::Global;
 use std::test::Fail;
 use test_support::{Findings, Noted, Notes, check_text, made, names_of};
 
-/// The number of items that are taken of a vector with the items 2, 3 and 4, the names of the items that are dropped then,
-/// and those once the drain is dropped.
-const TAKEN: &[(usize, u64, u64)] = &[
-    (0, 0, 234),
-    (1, 2, 234),
-    (2, 23, 234),
-    (3, 234, 234),
-    (4, 234, 234),
-];
-
 fn fill<'a, V: Vector<Noted<'a>>>(
     findings: &Findings,
     vector: &mut V,
@@ -70,25 +60,6 @@ fn each_kind(rt: HostRuntime) -> Result<(), Fail> {
 }
 
 #[test]
-fn drops() -> Result<(), Fail> {
-    let findings = Findings::new();
-    let notes = Notes::new(0);
-    let mut vector = StaticVec::<Noted, 3>::new();
-    for (taken, before, after) in TAKEN {
-        fill(&findings, &mut vector, 5, &notes);
-        let mut drain = vector.drain();
-        for _ in 0..*taken {
-            drop(drain.next());
-        }
-        findings.expect_same_at(notes.drops(), *before, *taken, "taken");
-        drop(drain);
-        findings.expect_same_at(notes.take_drops(), *after, *taken, "dropped");
-        findings.expect_at(vector.is_empty(), *taken, "empty");
-    }
-    findings.verdict()
-}
-
-#[test]
 fn drained_items() -> Result<(), Fail> {
     let findings = Findings::new();
     let mut vector = StaticVec::<u64, 3>::new();
@@ -115,7 +86,11 @@ fn drained_items() -> Result<(), Fail> {
 
 /// Returns `true` if the digits are those of the names, in any order of two.
 fn are_both(drops: u64, one: u64, other: u64) -> bool {
-    drops == one * 10 + other || drops == other * 10 + one
+    let digits = (
+        one.wrapping_mul(10).wrapping_add(other),
+        other.wrapping_mul(10).wrapping_add(one),
+    );
+    drops == digits.0 || drops == digits.1
 }
 
 #[test]
