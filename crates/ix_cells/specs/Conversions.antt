@@ -1,5 +1,5 @@
--- The result of converting a slice into a fixed vector.
-use Rattle.std.specs.Prelude.{ℕ, ◌<◌, ◌≤◌, ◌⊎◌, List, length, Result, Ok, Err}
+-- The result of converting a slice or an array into a fixed vector.
+use Rattle.std.specs.Prelude.{◌≡◌, ℕ, ◌<◌, ◌≤◌, ◌⊎◌, List, length, Result, Ok, Err}
 use Rattle.std.specs.List.{AllZip}
 use Rattle.ix_cells.specs.Cloning.{AreInfallible}
 use Rattle.ix_cells.specs.declared.cells.table.TheConstants.{MAX_FIXED_CAPACITY}
@@ -18,3 +18,8 @@ module _ {T : Type 0} where
   StaticVecFromSlice capacity is_clone is_infallible items (Err InsertWouldExceedCapacity) = (MAX_FIXED_CAPACITY < capacity) ⊎ (capacity < length items)
   StaticVecFromSlice capacity is_clone is_infallible items (Err OutOfMemory) = FitsFixed capacity items × ¬ (AreInfallible is_infallible items)
   StaticVecFromSlice capacity is_clone is_infallible items (Err OutOfBounds) = ⊥
+
+  -- the items of the array, or the array itself if they do not fit
+  abbrev pub StaticVecFromArray : ℕ → List T → Result (List T) (List T) → Type 0
+  StaticVecFromArray capacity items (Ok vector) = (length items ≤ capacity) × (vector ≡ items)
+  StaticVecFromArray capacity items (Err array) = (capacity < length items) × (array ≡ items)

@@ -23,6 +23,8 @@ mod uninit;
 
 pub use counted::{Counted, Touches};
 pub use heap_table::HeapTable;
+#[doc(hidden)]
+pub use held_item::{item, item_mut};
 pub use inline_table::InlineTable;
 pub use memory_size::MemorySize;
 #[doc(hidden)]

@@ -15,6 +15,7 @@ mod order;
 mod polymorphic_vec;
 mod relocatable_vec;
 mod shifts;
+mod slices;
 mod static_vec;
 mod vector_trait;
 

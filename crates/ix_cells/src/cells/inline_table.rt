@@ -1,5 +1,5 @@
 //! A table that is stored inline.
-ghost use Rattle.std.specs.Prelude.{◌≡◌, ◌≤◌, Some, None, slice_set, replicate, refl};
+ghost use Rattle.std.specs.Prelude.{◌≡◌, ◌≤◌, length, Some, None, slice_set, replicate, refl};
 
 use crate::cells::full_array::{place, place_mut, put};
 use crate::cells::held_item::{item, item_mut};
@@ -37,9 +37,24 @@ impl<T: Drop, const CAP: usize> InlineTable<T, CAP> {
         requires { CAP ≤ MAX_FIXED_CAPACITY }
         ensures { result ≡ replicate CAP None }
     {
+        InlineTable::vacant()
+    }
+
+    fn vacant() -> Self
+        ensures { result ≡ replicate CAP None }
+    {
         InlineTable {
-            places: ArrayVec::from(vacant()),
+            places: ArrayVec::from(no_items()),
         }
+    }
+}
+
+/// Creates a table of empty places. O(`CAP`).
+impl<T: Drop, const CAP: usize> Default for InlineTable<T, CAP> {
+    ghost is_default = { λ table. table ≡ replicate CAP None };
+
+    fn default() -> Self {
+        InlineTable::vacant()
     }
 }
 
@@ -61,7 +76,10 @@ impl<T: Drop, const CAP: usize> Table<T> for InlineTable<T, CAP> {
     ghost places_with_item = { λ table i x. refl };
 
     #[inline]
-    fn len(&self) -> usize {
+    fn len(&self) -> usize
+        ensures value { result ≡ length self.now }
+        ensures constant { result ≡ CAP }
+    {
         let _places = &self.places;
         CAP
     }
@@ -91,7 +109,7 @@ impl<T: Drop, const CAP: usize> Table<T> for InlineTable<T, CAP> {
     }
 }
 
-fn vacant<T, const CAP: usize>() -> [Option<MaybeMoved<T>>; CAP]
+fn no_items<T, const CAP: usize>() -> [Option<MaybeMoved<T>>; CAP]
     ensures { result ≡ replicate CAP None }
 {
     [const { None }; CAP]

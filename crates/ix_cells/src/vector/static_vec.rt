@@ -17,7 +17,7 @@ use crate::vector::{Vector, VectorModificationError};
 use arrayvec::ArrayVec;
 use std::alloc::AllocError;
 use std::marker::Model;
-use std::{fmt, slice};
+use std::{fmt, mem, slice};
 
 /// A vector of at most `CAPACITY` items that is stored inline and does not allocate. Contracts see it as the list of
 /// its items.
@@ -338,6 +338,29 @@ impl<T: Default + Clone, const CAPACITY: usize, const N: usize> TryFrom<&[T; N]>
     /// Does what the conversion of a slice of the array does.
     fn try_from(items: &[T; N]) -> Result<Self, VectorModificationError> {
         Self::try_from(items.as_slice())
+    }
+}
+
+impl<T: Default + Drop, const CAPACITY: usize, const N: usize> TryFrom<[T; N]>
+    for StaticVec<T, CAPACITY> {
+    type Error = [T; N];
+
+    ghost use Rattle.ix_cells.specs.Conversions.{StaticVecFromArray};
+
+    ghost try_from_gives = { λ items result. StaticVecFromArray CAPACITY items result };
+
+    /// Creates a vector that holds the items of the array. O(`CAPACITY`).
+    ///
+    /// Returns the array if it has more items than `CAPACITY`.
+    fn try_from(mut items: [T; N]) -> Result<Self, [T; N]> {
+        if N > CAPACITY {
+            return Err(items);
+        }
+        let mut vector = StaticVec::empty();
+        for i in 0..N {
+            vector.push_unchecked(mem::take(&mut items[i]));
+        }
+        Ok(vector)
     }
 }
 

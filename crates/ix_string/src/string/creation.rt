@@ -1,9 +1,11 @@
-//! Strings that are made of bytes, in memory of an allocator.
+//! Strings that are made of bytes, in memory of an allocator, and how much of it a string takes.
+ghost use Rattle.std.specs.Prelude.{◌≡◌, ℕ, ◌≤◌};
+ghost use Rattle.ix_cells.specs.Memory.{items_memory, no_memory};
 ghost use Rattle.ix_string.specs.Creation.{HeapStringFromBytes};
 
 use crate::string::text::is_text;
 use crate::string::{HeapString, HeapStringKind, String, StringCreationError};
-use ix_cells::PolymorphicVec;
+use ix_cells::{MemorySize, PolymorphicVec};
 use std::alloc::Allocator;
 
 impl<K: HeapStringKind, A: Allocator> HeapString<K, A> {
@@ -37,5 +39,23 @@ impl<K: HeapStringKind, A: Allocator> HeapString<K, A> {
         ensures { HeapStringFromBytes text.now result }
     {
         HeapString::try_from_bytes(alloc, text.as_bytes())
+    }
+
+    /// Returns how much memory a string of this capacity takes from its allocator when it is made: one block of as many bytes,
+    /// and none if the capacity is 0.
+    ///
+    /// Does not allocate. O(1).
+    ///
+    /// ```text
+    /// PolymorphicString::memory_size(31);   // 31 bytes, 1 block
+    /// ```
+    #[inline]
+    pub fn memory_size(capacity: usize) -> MemorySize
+        ensures value { result ≡ items_memory 1 capacity }
+        ensures monotone { (greater : ℕ) → capacity ≤ greater
+            → result.bytes ≤ (items_memory 1 greater).bytes }
+        ensures none { capacity ≡ 0 → result ≡ no_memory }
+    {
+        PolymorphicVec::<u8, A>::memory_size(capacity)
     }
 }

@@ -1,7 +1,0 @@
-use Rattle.std.proofs.Common.{◌∙◌, map, ap}
-use Rattle.std.specs.Option.{option_flatten}
-use Rattle.ix_cells.proofs.Places.{shown_vacant}
-use Rattle.ix_cells.proofs.cells.inline_table.InlineTable.new.Goals as goal
-
-pub returns : goal.returns
-returns g c = ap (map option_flatten) (c.from.ensures.0 ∙ c.vacant.ensures) ∙ shown_vacant g.row.CAP
