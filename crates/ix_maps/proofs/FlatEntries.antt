@@ -4,14 +4,14 @@ use Rattle.std.proofs.lemmas.Bool.{cases_Bool, cases_lt, both_ways}
 use Rattle.std.specs.Cmp.{IsEquivalence}
 use Rattle.std.specs.List.{find}
 use Rattle.std.specs.Map.{keys_of, lookup}
-use Rattle.std.specs.Prelude.{map, option_map}
+use Rattle.std.specs.Prelude.{map, option_map, is_some}
 use Rattle.std.proofs.lemmas.Simd.{map-map}
 use Rattle.ix_cells.specs.Places.{place_at}
 use Rattle.ix_maps.specs.SlotState.{SlotState, value_at, entries, entries_from, slot_new}
 use Rattle.ix_maps.specs.inner.FlatSearch.{is_key_at, HasNoKeyIn}
 use Rattle.std.specs.Option.{option_map_or}
 use Rattle.ix_maps.proofs.VacantTables.{place_at-replicate}
-use Rattle.ix_maps.specs.FlatState.{HasDistinctKeys, flat_entry, flat_value, flat_keys, flat_item, flat_items}
+use Rattle.ix_maps.specs.FlatState.{AreDistinctBy, HasDistinctKeys, flat_entry, flat_value, flat_keys, flat_item, flat_items}
 use Rattle.ix_maps.specs.declared.flatmap.pair.Pair.{Pair}
 
 find-equal : {X : Type 0} (test : X → Bool) (x : X) (xs : List X) → test x ≡ true → find test (x ∷ xs) ≡ Some x
@@ -142,6 +142,17 @@ module _ {K V : Type 0} (eq : K → K → Bool) where
       go None is = refl
       go (Some entry) is = absurd (cc)
 
+  -- a key without a place has no entry
+  pub flat_entry-unplaced : (s : SlotState (Pair K V)) (key : K) (found : Option ℕ) → found ≡ option_map (λ e. e.0) (flat_entry eq s key) → is_some found ≡ false → flat_entry eq s key ≡ None
+  flat_entry-unplaced s key found is none = go (flat_entry eq s key) (ap is_some (sym is) ∙ none)
+    where
+      go : (entry : Option (ℕ × Pair K V)) → is_some (option_map (λ e. e.0) entry) ≡ false → entry ≡ None
+      go None none = refl
+      go (Some entry) none = absurd (cc)
+
+  pub flat_entry-without_place : (s : SlotState (Pair K V)) (key : K) → None ≡ option_map (λ e. e.0) (flat_entry eq s key) → flat_entry eq s key ≡ None
+  flat_entry-without_place s key is = flat_entry-unplaced s key None is refl
+
   -- a key without a value has no entry
   pub flat_entry-absent : (s : SlotState (Pair K V)) (key : K) → (IsSome (flat_value eq s key) → ⊥) → flat_entry eq s key ≡ None
   flat_entry-absent s key absent = go (flat_entry eq s key) absent
@@ -199,13 +210,17 @@ module _ {K V : Type 0} (eq : K → K → Bool) where
         go None none = there (flat_entry eq t key) refl none
         go (Some entry) some = flat_entry-IsEntry t key entry.0 entry.1 distinct (to entry.0 entry.1 (IsEntry-flat_entry s key entry some))
 
+-- an empty map has no two values
+pub AreDistinctBy-slot_new : {T : Type 0} (same : T → T → Bool) (capacity : ℕ) (s : SlotState T) → s ≡ slot_new capacity → AreDistinctBy same s
+AreDistinctBy-slot_new {T} same capacity s is i j a b at_i at_j equal =
+    let some : value_at (slot_new capacity) i ≡ Some a = subst (λ (t : SlotState T). value_at t i ≡ Some a) is at_i in
+    let clash : Some a ≡ None = sym some ∙ place_at-replicate capacity i in
+    absurd (cc)
+
 module _ {K V : Type 0} where
-  -- an empty map has no two keys
+  -- and so no two keys
   pub HasDistinctKeys-slot_new : (eq : K → K → Bool) (capacity : ℕ) (s : SlotState (Pair K V)) → s ≡ slot_new capacity → HasDistinctKeys eq s
-  HasDistinctKeys-slot_new eq capacity s is i j a b at_i at_j equal =
-      let some : value_at (slot_new capacity) i ≡ Some a = subst (λ (t : SlotState (Pair K V)). value_at t i ≡ Some a) is at_i in
-      let clash : Some a ≡ None = sym some ∙ place_at-replicate capacity i in
-      absurd (cc)
+  HasDistinctKeys-slot_new eq capacity s is = AreDistinctBy-slot_new (λ (a b : Pair K V). eq a.key b.key) capacity s is
 
 module _ {K V : Type 0} where
   pub keys_of-flat_items : (s : SlotState (Pair K V)) → keys_of (flat_items s) ≡ flat_keys s

@@ -1,16 +1,21 @@
 -- What each step of a flat map leaves: distinct keys, and the value of each key.
-use Rattle.std.proofs.Common.{◌≡◌, ◌≢◌, ℕ, ◌⊎◌, Option, Some, None, IsSome, Bool, true, false, get_or-set_same, get_or-set_other, refl, sym, ap, ◌∙◌, subst, inl, inr}
+use Rattle.std.proofs.Common.{◌≡◌, ◌≢◌, ℕ, ◌⊎◌, List, [], ◌∷◌, Option, Some, None, IsSome, Bool, true, false, get_or-set_same, get_or-set_other, refl, sym, ap, ◌∙◌, subst, inl, inr}
 use Rattle.std.proofs.lemmas.Bool.{cases_eq, both_ways}
 use Rattle.std.specs.Cmp.{IsEquivalence}
-use Rattle.std.specs.Prelude.{option_map, slice_get, IfSome}
+use Rattle.std.specs.Prelude.{if◌then◌else◌, is_some, option_map, slice_get, IfSome}
 use Rattle.std.specs.Option.{option_map_or}
-use Rattle.ix_maps.specs.SlotState.{SlotState, value_at}
-use Rattle.ix_maps.specs.SlotSteps.{slot_set, slot_fill, SlotInsert, SlotRemove}
+use Rattle.std.proofs.lemmas.List.{set-set}
+use Rattle.ix_maps.specs.SlotState.{SlotState, value_at, IsFree}
+use Rattle.ix_maps.specs.SlotSteps.{slot_set, slot_fill, slot_insert, keys_without, SlotInsert, SlotRemove}
 use Rattle.ix_maps.specs.FlatState.{HasDistinctKeys, flat_entry, flat_value}
-use Rattle.ix_maps.specs.FlatSteps.{pair_set, flat_set}
+use Rattle.ix_maps.specs.FlatSteps.{flat_insert, pair_set, flat_set, flat_replace}
 use Rattle.ix_maps.specs.declared.flatmap.pair.Pair.{Pair}
 use Rattle.ix_cells.proofs.Places.{place_at_within}
 use Rattle.ix_maps.proofs.FlatEntries.{IsEntry, IsEntry-flat_entry, flat_entry_none, flat_entry-place, flat_entry-IsEntry, flat_value-IsEntry, flat_entry_same, equal_keys}
+
+pub first_free : (free : List ℕ) → (free ≡ [] → ⊥) → IsSome (slice_get free 0)
+first_free [] some = absurd (some refl)
+first_free (place ∷ free) some = refl
 
 module _ {K V : Type 0} (eq : K → K → Bool) (laws : IsEquivalence eq) where
   -- a pair with a new key is inserted
@@ -70,8 +75,8 @@ module _ {K V : Type 0} (eq : K → K → Bool) (laws : IsEquivalence eq) where
 
   -- the pair of a key is removed
   module _ (old new : SlotState (Pair K V)) (key : K) (place : ℕ) (pair : Pair K V) (has : Some place ≡ option_map (λ e. e.0) (flat_entry eq old key)) (step : SlotRemove old place new (Some pair)) (distinct : HasDistinctKeys eq old) where
-    was_entry : IsEntry eq old key place pair
-    was_entry =
+    pub removed_entry : IsEntry eq old key place pair
+    removed_entry =
         let found = flat_entry-place eq old key place has in
         let both : Some found.0 ≡ Some pair = sym found.2.at ∙ sym step.value in
         let is : found.0 ≡ pair = cc in
@@ -93,7 +98,7 @@ module _ {K V : Type 0} (eq : K → K → Bool) (laws : IsEquivalence eq) where
         go (Some entry) some =
             let left = IsEntry-flat_entry eq new key entry some in
             let was = value_at-removed entry.0 entry.1 left.at in
-            absurd (was.0 (distinct entry.0 place entry.1 pair was.1 was_entry.at (equal_keys laws entry.1.key pair.key key left.equal was_entry.equal)))
+            absurd (was.0 (distinct entry.0 place entry.1 pair was.1 removed_entry.at (equal_keys laws entry.1.key pair.key key left.equal removed_entry.equal)))
 
     pub flat_value-removed_other : (other : K) → eq other key ≡ false → flat_value eq new other ≡ flat_value eq old other
     flat_value-removed_other other differs =
@@ -104,10 +109,10 @@ module _ {K V : Type 0} (eq : K → K → Bool) (laws : IsEquivalence eq) where
       where
         elsewhere : (i : ℕ) (a : Pair K V) → IsEntry eq old other i a → i ≢ place
         elsewhere i a was same =
-            let both : Some a ≡ Some pair = sym was.at ∙ (ap (value_at old) same ∙ was_entry.at) in
+            let both : Some a ≡ Some pair = sym was.at ∙ (ap (value_at old) same ∙ removed_entry.at) in
             let is : a ≡ pair = cc in
             let equal : eq pair.key other ≡ true = ap (λ (p : Pair K V). eq p.key other) (sym is) ∙ was.equal in
-            both_ways _ differs (laws.symm other key ∙ (sym (laws.congr pair.key key other was_entry.equal) ∙ equal))
+            both_ways _ differs (laws.symm other key ∙ (sym (laws.congr pair.key key other removed_entry.equal) ∙ equal))
 
   -- the value of a key is written
   module _ (s : SlotState (Pair K V)) (key : K) (written : V) (distinct : HasDistinctKeys eq s) where
@@ -128,7 +133,7 @@ module _ {K V : Type 0} (eq : K → K → Bool) (laws : IsEquivalence eq) where
         | inr other ↦ (a, sym (at_other i other) ∙ at, refl)
       ]
 
-      HasDistinctKeys-set : HasDistinctKeys eq (slot_set s place (record pair { value = written }))
+      pub HasDistinctKeys-set : HasDistinctKeys eq (slot_set s place (record pair { value = written }))
       HasDistinctKeys-set i j a b at_i at_j equal =
           let was_i = was_key i a at_i in
           let was_j = was_key j b at_j in
@@ -155,10 +160,14 @@ module _ {K V : Type 0} (eq : K → K → Bool) (laws : IsEquivalence eq) where
               let equal_pair : eq pair.key other ≡ true = ap (λ k. eq k other) (sym same) ∙ equal in
               both_ways _ differs (laws.symm other key ∙ (sym (laws.congr pair.key key other is.equal) ∙ equal_pair))
 
-    flat_set-found : (entry : ℕ × Pair K V) → flat_entry eq s key ≡ Some entry → flat_set eq s key written ≡ slot_set s entry.0 (record entry.1 { value = written })
+    pub flat_set-found : (entry : ℕ × Pair K V) → flat_entry eq s key ≡ Some entry → flat_set eq s key written ≡ slot_set s entry.0 (record entry.1 { value = written })
     flat_set-found entry found =
         ap (λ e. option_map_or (λ e. pair_set s e.0 written) e s) found
         ∙ ap (λ p. option_map_or (λ pair. slot_set s entry.0 (record pair { value = written })) p s) (IsEntry-flat_entry eq s key entry found).at
+
+    -- to write a value at the place of a key is to write the key's value
+    pub pair_set-place : (place : ℕ) → Some place ≡ option_map (λ e. e.0) (flat_entry eq s key) → pair_set s place written ≡ flat_set eq s key written
+    pair_set-place place has = sym (ap (λ e. option_map_or (λ e. pair_set s e.0 written) e s) (flat_entry-place eq s key place has).1)
 
     -- the key has what was written
     pub flat_value-flat_set : IsSome (flat_value eq s key) → flat_value eq (flat_set eq s key written) key ≡ Some written
@@ -175,3 +184,58 @@ module _ {K V : Type 0} (eq : K → K → Bool) (laws : IsEquivalence eq) where
         go : (found : Option (ℕ × Pair K V)) → flat_entry eq s key ≡ found → flat_value eq (flat_set eq s key written) other ≡ flat_value eq s other
         go None none = ap (λ e. flat_value eq (option_map_or (λ e. pair_set s e.0 written) e s) other) none
         go (Some entry) some = ap (λ t. flat_value eq t other) (flat_set-found entry some) ∙ set_other entry.0 entry.1 (IsEntry-flat_entry eq s key entry some) other differs
+
+  -- the value of a key is exchanged, or the key is inserted with it
+  module _ (s : SlotState (Pair K V)) (key : K) where
+    pub flat_replace-found : (entry : ℕ × Pair K V) → flat_entry eq s key ≡ Some entry → (written : V) → flat_replace eq s key written ≡ flat_set eq s key written
+    flat_replace-found entry found written = ap (λ found. if is_some found then flat_set eq s key written else flat_insert eq s key written) found
+
+    pub pair_set-found : (entry : ℕ × Pair K V) → flat_entry eq s key ≡ Some entry → (written : V) → pair_set s entry.0 written ≡ flat_set eq s key written
+    pair_set-found entry found written = sym (ap (λ found. option_map_or (λ entry. pair_set s entry.0 written) found s) found)
+
+    flat_replace-absent : flat_entry eq s key ≡ None → (written : V) → flat_replace eq s key written ≡ slot_insert s (record { key = key; value = written })
+    flat_replace-absent none written =
+        ap (λ found. if is_some found then flat_set eq s key written else flat_insert eq s key written) none
+        ∙ ap (λ found. if is_some found then s else slot_insert s (record { key = key; value = written })) none
+
+    pub flat_replace-full : flat_entry eq s key ≡ None → s.free ≡ [] → (written : V) → flat_replace eq s key written ≡ s
+    flat_replace-full none full written =
+        flat_replace-absent none written
+        ∙ ap (λ first. option_map_or (λ place. slot_fill s place (record { key = key; value = written })) first s) (ap (λ free. slice_get free 0) full)
+
+    -- the key was inserted at the first free place, and its value is written
+    module _ (new : SlotState (Pair K V)) (place : ℕ) (value : V) (none : flat_entry eq s key ≡ None) (first : slice_get s.free 0 ≡ Some place) (free : IsFree s place) (is : new ≡ flat_insert eq s key value) where
+      filled : new ≡ slot_fill s place (record { key = key; value = value })
+      filled =
+          is
+          ∙ ap (λ found. if is_some found then s else slot_insert s (record { key = key; value = value })) none
+          ∙ ap (λ first. option_map_or (λ place. slot_fill s place (record { key = key; value = value })) first s) first
+
+      pub value_at-new : value_at new place ≡ Some (record { key = key; value = value })
+      value_at-new = ap (λ t. value_at t place) filled ∙ get_or-set_same s.values place (Some (record { key = key; value = value })) None free.0
+
+      pair_set-new : (written : V) → pair_set new place written ≡ slot_set new place (record { key = key; value = written })
+      pair_set-new written = ap (λ pair. option_map_or (λ (pair : Pair K V). slot_set new place (record pair { value = written })) pair new) value_at-new
+
+      pub flat_replace-new : (written : V) → pair_set new place written ≡ flat_replace eq s key written
+      flat_replace-new written =
+          pair_set-new written
+          ∙ ap (λ t. slot_set t place (record { key = key; value = written })) filled
+          ∙ ap (λ places. let t : SlotState (Pair K V) = record { values = places; free = keys_without place s.free } in t)
+          (set-set s.values place (Some (record { key = key; value = value })) (Some (record { key = key; value = written })))
+          ∙ sym (flat_replace-absent none written ∙ ap (λ first. option_map_or (λ place. slot_fill s place (record { key = key; value = written })) first s) first)
+
+      module _ (distinct : HasDistinctKeys eq new) where
+        flat_set-new : (written : V) → flat_set eq new key written ≡ flat_replace eq s key written
+        flat_set-new written =
+            sym (pair_set-found-at new (flat_entry-IsEntry eq laws new key place (record { key = key; value = value }) distinct (record { at = value_at-new; equal = laws.refl key })) written)
+            ∙ flat_replace-new written
+          where
+            pair_set-found-at : (t : SlotState (Pair K V)) → flat_entry eq t key ≡ Some (place, record { key = key; value = value }) → (written : V) → pair_set t place written ≡ flat_set eq t key written
+            pair_set-found-at t found written = sym (ap (λ found. option_map_or (λ entry. pair_set t entry.0 written) found t) found)
+
+        pub flat_value-replace_new : (written : V) → IsSome (flat_value eq new key) → flat_value eq (flat_replace eq s key written) key ≡ Some written
+        flat_value-replace_new written has = ap (λ t. flat_value eq t key) (sym (flat_set-new written)) ∙ flat_value-flat_set new key written distinct has
+
+        pub flat_value-replace_new_other : (written : V) (other : K) → eq other key ≡ false → flat_value eq (flat_replace eq s key written) other ≡ flat_value eq new other
+        flat_value-replace_new_other written other differs = ap (λ t. flat_value eq t other) (sym (flat_set-new written)) ∙ flat_value-flat_set_other new key written distinct other differs

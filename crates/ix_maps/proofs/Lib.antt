@@ -1,3 +1,4 @@
+pub mod Memory
 pub mod Pairs
 pub mod Rings
 pub mod Ranges
@@ -16,13 +17,22 @@ pub mod SlotTables
 pub mod SlotSteps
 pub mod Entries
 pub mod SlotCalls
+pub mod SlotCopies
 pub mod VacantTables
 pub mod FlatBounds
 pub mod FlatEntries
 pub mod FlatSteps
 pub mod FlatCalls
+pub mod FlatCopies
+pub mod FlatEqual
 pub mod WordTables
+pub mod HashChains
+pub mod HashSteps
 pub mod Generations
 pub mod Words
 pub mod MapEntries
 pub mod SlotMapCalls
+pub mod SlotMapCopies
+pub mod Draining
+pub mod SlotDrains
+pub mod MapDrains

@@ -1,19 +1,18 @@
 -- The calls that a slot map makes of a closure, one for each held key.
-use Rattle.std.proofs.Common.{◌≡◌, ◌≢◌, ◌⊎◌, ℕ, ◌+◌, ◌<◌, ◌≤◌, ◌↔◌, inl, inr, List, [], ◌∷◌, ◌++◌, length, take, drop, set, IsSome, Bool, true, false, Option, Some, None, refl, sym, ap, ◌∙◌, subst, arith}
+use Rattle.std.proofs.Common.{◌≡◌, ◌≢◌, ◌⊎◌, ℕ, ◌+◌, ◌<◌, ◌≤◌, ◌↔◌, inl, inr, List, [], ◌∷◌, ◌++◌, length, take, drop, IsSome, Bool, true, false, Option, Some, None, refl, sym, ap, ◌∙◌, subst, arith}
 use Rattle.std.specs.Prelude.{is_some, nat_eq, if◌then◌else◌}
 use Rattle.std.specs.Borrow.{MutBor}
 use Rattle.std.specs.List.{FoldsTo}
 use Rattle.std.specs.Option.{option_flatten}
-use Rattle.std.proofs.lemmas.Bool.{cases_eq, eqb-true, eq-eqb}
+use Rattle.std.proofs.lemmas.Bool.{cases_eq, eqb-true}
 use Rattle.std.proofs.lemmas.Bool.Decides.{nat_tests}
 use Rattle.std.proofs.lemmas.Fn.{FoldsTo-push}
 use Rattle.std.proofs.lemmas.List.{append-nil, take_all, get_or-set_same, get_or-set_other, length-set, set-set}
-use Rattle.ix_cells.specs.Places.{place_at}
 use Rattle.ix_cells.proofs.Places.{place_at_within}
-use Rattle.ix_maps.specs.SlotState.{SlotState, value_at, entries_from}
+use Rattle.ix_maps.specs.SlotState.{value_at, entries_from}
 use Rattle.ix_maps.specs.Generations.{SlotKey, SlotMapState, generation_at, key_at, place_value, map_value, IsDead, held_entries, map_entries}
-use Rattle.ix_maps.specs.SlotMapSteps.{is_raisable, map_set_at, map_set, map_vacate, map_retire, map_remove, map_remove_at, MapRemove}
-use Rattle.ix_maps.specs.SlotCalls.{CalledOn, SomeCallOn, IsCallableOnEach}
+use Rattle.ix_maps.specs.SlotMapSteps.{is_raisable, map_set_at, map_vacate, map_retire, map_remove_at, MapRemove}
+use Rattle.ix_maps.specs.SlotCalls.{SomeCallOn, IsCallableOnEach}
 use Rattle.ix_maps.proofs.SlotCalls.{FoldsTo-first, entries_from-take, entries_from-split}
 
 keys_same : (key other : SlotKey) → key.index ≡ other.index → key.generation ≡ other.generation → key ≡ other

@@ -1,4 +1,5 @@
 pub use Rattle.ix_cells.specs.Bounded
+pub mod Memory
 pub mod QueueSteps
 pub mod QueueCalls
 pub mod QueueDrain
@@ -6,8 +7,19 @@ pub mod QueueCopies
 pub mod SlotState
 pub mod SlotSteps
 pub mod SlotCalls
+pub mod SlotCopies
 pub mod Generations
 pub mod SlotMapSteps
+pub mod SlotMapCopies
 pub mod FlatState
 pub mod FlatSteps
+pub mod BoundedMap
+pub mod FlatCalls
+pub mod FlatCopies
+pub mod FlatCompared
+pub mod Draining
+pub mod SlotDrain
+pub mod FlatDrain
+pub mod MapDrain
+pub mod laws
 pub mod inner

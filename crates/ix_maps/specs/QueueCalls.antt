@@ -1,13 +1,8 @@
 -- The calls that a queue makes of a closure: one with each item in turn, the front item first.
 use Rattle.std.specs.Prelude.{◌≡◌, List, [], ◌∷◌}
-use Rattle.std.specs.Borrow.{Bor, MutBor}
+use Rattle.std.specs.Borrow.{MutBor}
 use Rattle.std.specs.Fn.{Mut, Takes, CalledAtMut}
-use Rattle.std.specs.Iterator.{CallableAtEachTurn, CallableOnAllAt, YieldsFirst}
-
-module _ {F T R : Type 0} (calls : Mut F (Bor T × Unit {0}) R) where
-  -- f may be called with a `&` to each of these items in turn, whatever the calls return
-  abbrev pub IsCallableOnEach : List T → F → Type 0
-  IsCallableOnEach = CallableOnAllAt (YieldsFirst (λ rest. rest)) calls
+use Rattle.std.specs.Iterator.{CallableAtEachTurn, YieldsFirst}
 
 module _ {F T : Type 0} (calls : Mut F (MutBor T × Unit {0}) ((Unit {0}) × (MutBor T × Unit {0}))) where
   -- f may be called with a `&mut` to each of these items in turn, whatever the calls leave there

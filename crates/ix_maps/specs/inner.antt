@@ -3,3 +3,5 @@ pub mod Ring
 pub mod FreeList
 pub mod Words
 pub mod FlatSearch
+pub mod FullTables
+pub mod HashChains

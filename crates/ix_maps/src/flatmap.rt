@@ -11,7 +11,11 @@
 //! ```
 
 mod callback_progression;
+mod compared;
+mod copies;
+mod drain;
 mod flat_map_error;
+mod index;
 mod insertions;
 mod iter;
 mod keys;
@@ -20,8 +24,10 @@ mod meta_flat_map;
 mod pair;
 mod search;
 mod values;
+mod whole;
 
 pub use callback_progression::CallbackProgression;
+pub use drain::Drain;
 pub use flat_map_error::FlatMapError;
 pub use iter::Iter;
 pub use keys::Keys;

@@ -12,6 +12,7 @@
 mod copies;
 mod drain;
 mod edits;
+mod index;
 mod items;
 mod iter;
 mod kinds;

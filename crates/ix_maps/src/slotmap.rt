@@ -15,6 +15,9 @@
 
 mod compared;
 mod content;
+mod copies;
+mod drain;
+mod index;
 mod iter;
 mod keys;
 mod kinds;
@@ -26,10 +29,11 @@ mod whole;
 mod word_table;
 
 pub use content::Content;
+pub use drain::Drain;
 pub use iter::Iter;
 pub use keys::Keys;
 pub use kinds::{FixedSizeSlotMap, RelocatableSlotMap, SlotMap, UninitSlotMap};
 pub use meta_slot_map::{MetaSlotMap, dead_keys_law};
 pub use slot_map_key::{SlotMapKey, default_key_law, key_order_law};
 pub use values::Values;
-pub(crate) use word_table::{RETIRED, WordTable};
+pub(crate) use word_table::{RETIRED, WordTable, empty, fill};

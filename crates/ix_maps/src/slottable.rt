@@ -11,7 +11,10 @@
 //! ```
 
 mod compared;
+mod copies;
+mod drain;
 mod free_list;
+mod index;
 mod into_iter;
 mod iter;
 mod keys;
@@ -24,6 +27,7 @@ mod try_insert;
 mod values;
 mod whole;
 
+pub use drain::Drain;
 pub use into_iter::IntoIter;
 pub use iter::Iter;
 pub use keys::Keys;

@@ -1,16 +1,22 @@
 //! The calls of a flat map that insert a key.
-ghost use Rattle.std.specs.Prelude.{◌≡◌, ◌+◌, ◌↔◌, ◌≤◌, [], Some, None, IsOk, IsErr, IfOk, OnErr, false};
+ghost use Rattle.std.specs.Prelude.{◌≡◌, ◌≢◌, ◌+◌, ◌↔◌, ◌≤◌, [], Some, None, IsOk, IsErr, IfOk, IfSome, OnErr, slice_get, false};
+ghost use Rattle.std.specs.Borrow.{sem, LendsIfOk};
+ghost use Rattle.std.specs.Option.{UnwrapsOrElse};
 ghost use Rattle.std.specs.Result.{IfErr};
+ghost use Rattle.ix_maps.specs.SlotState.{IsFree};
 ghost use Rattle.ix_maps.specs.FlatState.{HasDistinctKeys, flat_entry, flat_value};
 ghost use Rattle.ix_maps.specs.FlatSteps.{flat_insert_result, flat_insert, flat_replace};
 ghost use Rattle.ix_maps.specs.inner.FlatSearch.{bound_with};
 
-use crate::flatmap::{FlatMapError, MetaFlatMap, Pair};
-use crate::slottable::Link;
+use crate::flatmap::{FlatMapError, Keyed, MetaFlatMap, Pair};
+use crate::slottable::{Link, SlotTableKey};
 use ix_cells::Table;
 use std::mem;
 
 impl<K: Eq + Drop, V: Drop, S: Table<Pair<K, V>>, L: Table<Link>> MetaFlatMap<Pair<K, V>, S, L> {
+    ghost use Rattle.ix_maps.specs.contracts.flatmap.meta_flat_map.MetaFlatMap.{the_row};
+    ghost use Rattle.ix_maps.specs.contracts.flatmap.pair.Pair as pair;
+
     /// Inserts `key` with `value`. What is refused is handed back.
     ///
     /// Returns [`FlatMapError::KeyAlreadyExists`] if the map has an equal key, and otherwise [`FlatMapError::IsFull`] if
@@ -72,6 +78,55 @@ impl<K: Eq + Drop, V: Drop, S: Table<Pair<K, V>>, L: Table<Link>> MetaFlatMap<Pa
             Ok(()) => Ok(None),
             Err(pair) => Err((pair.key, pair.value)),
         }
+    }
+
+    /// Returns a mutable reference to the value of `key`. If the map has no equal key, it first inserts `key` with the value that
+    /// `f` returns; if it has one, `key` is dropped, and `f` is not called.
+    ///
+    /// Returns `key` as the error if the map is full and has no equal key. `f` is not called then.
+    ///
+    /// ```text
+    /// let mut map = FixedSizeFlatMap::<u16, u32, 1>::new();
+    /// if let Ok(count) = map.get_or_insert_with(80, || 0) {
+    ///     *count += 1;
+    /// }
+    /// map.get_or_insert_with(80, || 7);     // Ok: 1
+    /// map.get_or_insert_with(443, || 7);    // Err(443)
+    /// ```
+    pub fn get_or_insert_with<F: FnOnce() -> V>(&mut self, key: K, f: F) -> Result<&mut V, K>
+        requires { flat_value K.eq self.old key ≡ None → self.old.free ≢ [] → F.pre f }
+        ensures* writes_back { sem 𝓛
+            (LendsIfOk (the_row (pair.the_row K.row V.row) S.row L.row ⟦<Pair<K, V> as Keyed>⟧ S.Table L.Table)
+            V.row self.entry result (flat_replace K.eq self.old key) self.old) }
+        ensures value { IfOk result (λ value. UnwrapsOrElse (flat_value K.eq self.old key) (F.post f) value.now) }
+        ensures full { IsErr result ↔ ((flat_value K.eq self.old key ≡ None) × (self.old.free ≡ [])) }
+        ensures returned { IfErr result (λ refused. refused ≡ key) }
+        // Whatever value is written, the key has it, and any other key keeps its own.
+        ensures holds { (written : V) → IsOk result
+            → flat_value K.eq (flat_replace K.eq self.old key written) key ≡ Some written }
+        ensures kept { (written : V) (other : K) → K.eq other key ≡ false
+            → flat_value K.eq (flat_replace K.eq self.old key written) other
+            ≡ flat_value K.eq self.old other }
+    {
+        if let Some(place) = self.place(&key) {
+            return Ok(self.value_mut(place));
+        }
+        let Some(place) = self.next_free_place() else {
+            return Err(key);
+        };
+        match self.insert_new(key, f()) {
+            Ok(()) => Ok(self.value_mut(place)),
+            Err(_) => unreachable!(),
+        }
+    }
+
+    /// Returns the place that the next new key takes, or `None` if the map is full.
+    #[inline]
+    fn next_free_place(&self) -> Option<SlotTableKey>
+        ensures value { result ≡ slice_get self.now.free 0 }
+        ensures free { IfSome result (IsFree self.now) }
+    {
+        self.pairs.next_free_key()
     }
 
     /// Inserts `key`, which the map does not have, with `value`. Returns both as the error if the map is full.

@@ -1,10 +1,13 @@
 //! The kinds of flat maps: stored inline, in memory of an allocator, and made in two steps.
-ghost use Rattle.std.specs.Prelude.{◌≡◌, ◌≤◌, IfOk, IsOk};
+ghost use Rattle.std.specs.Prelude.{◌≡◌, ℕ, ◌≤◌, IfOk, IsOk};
+ghost use Rattle.std.specs.Mem.{type_size};
+ghost use Rattle.ix_cells.specs.Memory.{no_memory};
+ghost use Rattle.ix_maps.specs.Memory.{slot_table_memory};
 ghost use Rattle.ix_maps.specs.SlotState.{slot_new};
 
 use crate::flatmap::{MetaFlatMap, Pair};
 use crate::slottable::{FixedSizeSlotTable, Link, SlotTable};
-use ix_cells::{ContainerFamily, HeapTable, InlineTable, MAX_FIXED_CAPACITY, Uninit};
+use ix_cells::{ContainerFamily, HeapTable, InlineTable, MAX_FIXED_CAPACITY, MemorySize, Uninit};
 use std::alloc::{AllocError, Allocator, Global};
 use std::marker::PhantomData;
 
@@ -38,6 +41,16 @@ impl<K: Eq + Drop, V: Drop, const CAPACITY: usize> FixedSizeFlatMap<K, V, CAPACI
     }
 }
 
+/// Creates an empty map. O(`CAPACITY`).
+impl<K: Eq + Drop, V: Drop, const CAPACITY: usize> Default for FixedSizeFlatMap<K, V, CAPACITY> {
+    ghost is_default = { λ map. map ≡ slot_new CAPACITY };
+
+    fn default() -> Self {
+        let pairs = FixedSizeSlotTable::default();
+        MetaFlatMap { pairs, bound: 0 }
+    }
+}
+
 /// A flat map whose memory is allocated from `A` when it is made, and deallocated when it is dropped.
 ///
 /// ```text
@@ -53,6 +66,27 @@ pub type FlatMap<K, V, A = Global> = MetaFlatMap<
 >;
 
 impl<K: Eq + Drop, V: Drop, A: Allocator + Copy> FlatMap<K, V, A> {
+    ghost use Rattle.ix_maps.specs.contracts.flatmap.pair.Pair as pair;
+    ghost use Rattle.ix_maps.specs.contracts.slottable.link.Link as link;
+
+    /// Returns how much memory a map of this capacity takes from its allocator when it is made: that of a table of pairs and of
+    /// a table of links. None if the capacity is 0.
+    ///
+    /// Does not allocate. O(1).
+    ///
+    /// ```text
+    /// FlatMap::<u64, u64>::memory_size(100);    // 3400 bytes, 4 blocks
+    /// ```
+    #[inline]
+    pub fn memory_size(capacity: usize) -> MemorySize
+        ensures value { result ≡ slot_table_memory (type_size (pair.the_row K.row V.row)) (type_size link.the_row) capacity }
+        ensures monotone { (greater : ℕ) → capacity ≤ greater
+            → result.bytes ≤ (slot_table_memory (type_size (pair.the_row K.row V.row)) (type_size link.the_row) greater).bytes }
+        ensures none { capacity ≡ 0 → result ≡ no_memory }
+    {
+        SlotTable::<Pair<K, V>, A>::memory_size(capacity)
+    }
+
     /// Creates an empty map with room for `capacity` keys.
     ///
     /// O(`capacity`), with at most four allocations. Returns `AllocError` if one fails, and if the pairs would take more

@@ -182,8 +182,7 @@ impl<K: Eq + Drop, V: Drop, S: Table<Pair<K, V>>, L: Table<Link>> MetaFlatMap<Pa
         ensures distinct { HasDistinctKeys K.eq self.new }
     {
         let place = self.place(key)?;
-        let pair = self.pairs.remove_unchecked(place);
-        self.bound = bound_without(self.bound, place.value());
+        let pair = self.remove_at(place);
         Some((pair.key, pair.value))
     }
 
@@ -349,7 +348,7 @@ impl<K: Eq + Drop, V: Drop, S: Table<Pair<K, V>>, L: Table<Link>> MetaFlatMap<Pa
 
 /// Returns what is above each place with a pair but for this one, which was below `bound`.
 #[inline]
-fn bound_without(bound: usize, place: usize) -> usize
+pub(crate) fn bound_without(bound: usize, place: usize) -> usize
     requires { place < bound }
     ensures { result ≡ bound_without bound place }
 {

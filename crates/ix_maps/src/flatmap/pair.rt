@@ -9,7 +9,7 @@ pub trait Keyed {
 }
 
 /// A key and its value, as the tables of a flat map hold them.
-#[derive(Drop)]
+#[derive(Debug, Drop)]
 pub struct Pair<K, V> {
     /// The key.
     pub key: K,

@@ -3,10 +3,10 @@ ghost use Rattle.std.specs.Prelude.{◌≡◌, ◌≤◌, [], IsOk, IfOk, OnOk};
 ghost use Rattle.std.specs.List.{AllZip};
 ghost use Rattle.ix_cells.specs.Bounded.{IsWithin};
 ghost use Rattle.ix_cells.specs.Cloning.{AreEqualClones, AreInfallible};
-ghost use Rattle.ix_maps.specs.QueueCopies.{QueueIsClone, FixedQueueIsInfallible};
+ghost use Rattle.ix_maps.specs.QueueCopies.{QueueIsClone};
 
 use crate::queue::{FixedSizeQueue, MetaQueue, Queue};
-use ix_cells::{MAX_FIXED_CAPACITY, Table};
+use ix_cells::Table;
 use std::alloc::{AllocError, Allocator};
 
 impl<T: Clone, S: Table<T>> MetaQueue<T, S> {
@@ -32,17 +32,15 @@ impl<T: Clone, S: Table<T>> MetaQueue<T, S> {
 impl<T: Clone, const CAPACITY: usize> Clone for FixedSizeQueue<T, CAPACITY> {
     ghost is_clone = { QueueIsClone T.is_clone };
 
-    ghost is_infallible = { FixedQueueIsInfallible CAPACITY T.is_infallible };
+    ghost is_infallible = { λ queue. AreInfallible T.is_infallible queue.items };
 
     /// Creates a queue that holds clones of the items. O(`CAPACITY`).
     ///
     /// Returns the error of the first clone that fails, and drops those already made.
     fn clone(&self) -> Result<Self, AllocError> {
-        // Both are false of every queue, which no contract of a table says, and cost nothing once compiled.
-        if CAPACITY > MAX_FIXED_CAPACITY || self.capacity() != CAPACITY {
-            return Err(AllocError);
-        }
-        let mut copy = FixedSizeQueue::<T, CAPACITY>::new();
+        // Names the capacity, by which the check knows that the copy has the same.
+        let _capacity = self.fixed_capacity();
+        let mut copy = FixedSizeQueue::<T, CAPACITY>::default();
         copy.fill_with_clones(self)?;
         Ok(copy)
     }

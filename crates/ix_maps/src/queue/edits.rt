@@ -3,7 +3,8 @@ ghost use Rattle.std.specs.Prelude.{◌≡◌};
 ghost use Rattle.std.specs.Fn.{CalledAt};
 ghost use Rattle.std.specs.List.Retain.{IsFiltered};
 ghost use Rattle.ix_cells.specs.VectorSteps.{vec_truncate};
-ghost use Rattle.ix_maps.specs.QueueCalls.{ChangesInTurn, IsCallableOnEach, IsCallableOnEachMut};
+ghost use Rattle.ix_cells.specs.Calls.{IsCallableOnEach};
+ghost use Rattle.ix_maps.specs.QueueCalls.{ChangesInTurn, IsCallableOnEachMut};
 
 use crate::queue::MetaQueue;
 use ix_cells::Table;

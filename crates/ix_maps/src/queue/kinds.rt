@@ -1,9 +1,13 @@
 //! The kinds of queues: stored inline, in memory of an allocator, and made in two steps.
-ghost use Rattle.std.specs.Prelude.{◌≡◌, ◌≤◌, IsOk, IfOk};
+ghost use Rattle.std.specs.Prelude.{◌≡◌, ℕ, ◌≤◌, IsOk, IfOk};
+ghost use Rattle.std.specs.Mem.{type_size};
+ghost use Rattle.ix_cells.specs.Memory.{no_memory, table_memory};
 ghost use Rattle.ix_cells.specs.Bounded.{bounded_new};
 
 use crate::queue::MetaQueue;
-use ix_cells::{ContainerFamily, HeapTable, InlineTable, MAX_FIXED_CAPACITY, Uninit};
+use ix_cells::{
+    ContainerFamily, HeapTable, InlineTable, MAX_FIXED_CAPACITY, MemorySize, Table, Uninit,
+};
 use std::alloc::{AllocError, Allocator, Global};
 use std::marker::PhantomData;
 
@@ -22,6 +26,15 @@ use std::marker::PhantomData;
 pub type FixedSizeQueue<T, const CAPACITY: usize> = MetaQueue<T, InlineTable<T, CAPACITY>>;
 
 impl<T: Drop, const CAPACITY: usize> FixedSizeQueue<T, CAPACITY> {
+    /// Returns the capacity, which is that of the type.
+    #[inline]
+    pub(crate) fn fixed_capacity(&self) -> usize
+        ensures value { result ≡ CAPACITY }
+        ensures capacity { self.now.capacity ≡ CAPACITY }
+    {
+        self.table.len()
+    }
+
     /// Creates an empty queue.
     ///
     /// O(`CAPACITY`). `CAPACITY` is at most [`MAX_FIXED_CAPACITY`].
@@ -30,6 +43,15 @@ impl<T: Drop, const CAPACITY: usize> FixedSizeQueue<T, CAPACITY> {
         ensures { result ≡ bounded_new CAPACITY }
     {
         MetaQueue::from_table(InlineTable::new())
+    }
+}
+
+/// Creates an empty queue. O(`CAPACITY`).
+impl<T: Drop, const CAPACITY: usize> Default for FixedSizeQueue<T, CAPACITY> {
+    ghost is_default = { λ queue. queue ≡ bounded_new CAPACITY };
+
+    fn default() -> Self {
+        MetaQueue::from_table(InlineTable::default())
     }
 }
 
@@ -59,6 +81,24 @@ pub type Queue<T, A = Global> = MetaQueue<T, HeapTable<T, A>>;
 pub type RelocatableQueue<T, A = Global> = MetaQueue<T, HeapTable<T, A>>;
 
 impl<T: Drop, A: Allocator> Queue<T, A> {
+    /// Returns how much memory a queue of this capacity takes from its allocator when it is made: that of a table. None if the
+    /// capacity is 0.
+    ///
+    /// Does not allocate. O(1).
+    ///
+    /// ```text
+    /// Queue::<u64>::memory_size(100);       // 900 bytes, 2 blocks
+    /// ```
+    #[inline]
+    pub fn memory_size(capacity: usize) -> MemorySize
+        ensures value { result ≡ table_memory (type_size T.row) capacity }
+        ensures monotone { (greater : ℕ) → capacity ≤ greater
+            → result.bytes ≤ (table_memory (type_size T.row) greater).bytes }
+        ensures none { capacity ≡ 0 → result ≡ no_memory }
+    {
+        HeapTable::<T, A>::memory_size(capacity)
+    }
+
     /// Creates an empty queue with memory for `capacity` items.
     ///
     /// O(`capacity`), with at most two allocations. Returns `AllocError` if one fails, and if the items would take more

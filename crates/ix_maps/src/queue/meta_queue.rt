@@ -33,7 +33,7 @@ use std::marker::{Model, PhantomData};
 ///
 /// This is `MetaQueue` of iceoryx2-bb-container.
 pub struct MetaQueue<T, S: Table<T>> {
-    table: S,
+    pub(crate) table: S,
     start: usize,
     len: usize,
     of: PhantomData<T>,

@@ -90,10 +90,8 @@ impl<'a, T, S: Table<Option<T>>, L: Table<Link>, G: Table<u64>> Iterator for Ite
         let index = self.map.held_from(self.index);
         self.index = index + 1;
         self.left -= 1;
-        match self.map.value_at(index) {
-            Some(value) => Some((self.map.key_of(index, &mut Touches::new()), value)),
-            None => None,
-        }
+        let key = self.map.key_of(index, &mut Touches::new());
+        Some((key, self.map.value_at(index)))
     }
 
     /// Returns the number of items that are still to come, as both bounds. O(1).

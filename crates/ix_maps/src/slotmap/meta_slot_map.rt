@@ -11,6 +11,7 @@ ghost use Rattle.ix_maps.specs.SlotMapSteps.{map_set, map_set_at, map_fill, map_
 
 use crate::slotmap::{Content, Iter, RETIRED, SlotMapKey, WordTable};
 use crate::slottable::{Link, MetaSlotTable, SlotTableKey};
+use ix_cells::cells::{item, item_mut};
 use ix_cells::{Table, Touches};
 use std::fmt::{self, Debug, Formatter, Write};
 use std::marker::Model;
@@ -139,9 +140,7 @@ impl<T, S: Table<Option<T>>, L: Table<Link>, G: Table<u64>> MetaSlotMap<Option<T
         if !self.is_held(key, &mut Touches::new()) {
             return None;
         }
-        self.slots
-            .get_unchecked(SlotTableKey::new(key.index()))
-            .as_ref()
+        Some(self.value_at(key.index()))
     }
 
     /// Returns a mutable reference to the value of `key`, or `None` if `key` is not held.
@@ -357,11 +356,11 @@ impl<T, S: Table<Option<T>>, L: Table<Link>, G: Table<u64>> MetaSlotMap<Option<T
 
     /// Returns the value in a place.
     #[inline]
-    pub(crate) fn value_at(&self, index: usize) -> Option<&T>
+    pub(crate) fn value_at(&self, index: usize) -> &T
         requires { IsSome (place_value self.now index) }
-        ensures { option_copied result ≡ place_value self.now index }
+        ensures { place_value self.now index ≡ Some result.now }
     {
-        self.slots.get_unchecked(SlotTableKey::new(index)).as_ref()
+        item(self.slots.get_unchecked(SlotTableKey::new(index)))
     }
 
     /// Inserts a value in the first free place and returns that place, or returns `None` if no place is free.
@@ -453,7 +452,7 @@ impl<T, S: Table<Option<T>>, L: Table<Link>, G: Table<u64>> MetaSlotMap<Option<T
             T.row self.entry result (map_set_at self.old index)) }
         ensures value { place_value self.old index ≡ Some result.now }
     {
-        content_mut(self.slots.get_unchecked_mut(SlotTableKey::new(index)))
+        item_mut(self.slots.get_unchecked_mut(SlotTableKey::new(index)))
     }
 }
 
@@ -461,19 +460,6 @@ impl<T, S: Table<Option<T>>, L: Table<Link>, G: Table<u64>> MetaSlotMap<Option<T
 pub fn dead_keys_law<T>()
     ensures { (map : SlotMapState T) → DeadAreNotHeld map }
 {}
-
-/// Returns a mutable reference to the value of a place that holds one.
-#[inline]
-fn content_mut<T>(content: &mut Option<T>) -> &mut T
-    requires { IsSome content.old }
-    ensures* writes_back { sem 𝓛 (Lends (option.the_row T.row) T.row content.entry result Some) }
-    ensures value { content.old ≡ Some result.now }
-{
-    match content {
-        Some(value) => value,
-        None => unreachable!(),
-    }
-}
 
 /// Prints a map from the held keys, each its index and its generation, to their values, in rising order. O(capacity).
 impl<T: Debug, S: Table<Option<T>>, L: Table<Link>, G: Table<u64>> Debug

@@ -40,6 +40,17 @@ impl<G: Table<u64>> WordTable<G> {
         WordTable { words }
     }
 
+    /// Puts the words of `other` into the places of an empty table, of which there are as many. O(the number of places).
+    pub(crate) fn copy_of<H: Table<u64>>(table: G, other: &WordTable<H>) -> Self
+        requires vacant { IsVacant (G.places table) }
+        requires len { length (G.places table) ≡ length other.now }
+        ensures { result ≡ other.now }
+    {
+        let mut words = Counted::new(table);
+        copy_words(&mut words, &other.words);
+        WordTable { words }
+    }
+
     /// Returns the word of a place.
     #[inline]
     pub(crate) fn get(&self, place: usize, touches: &mut Touches) -> u64
@@ -72,26 +83,40 @@ impl<G: Table<u64>> Drop for WordTable<G> {
     }
 }
 
-/// Puts `word` into each place.
-fn fill<G: Table<u64>>(words: &mut Counted<G>, word: u64)
-    requires { IsVacant (G.places words.old) }
-    ensures len { length (G.places words.new) ≡ length (G.places words.old) }
-    ensures each { (place : ℕ) → place < length (G.places words.old)
-        → place_at (G.places words.new) place ≡ Some word }
+/// Puts `item` into each place.
+pub(crate) fn fill<T: Copy, G: Table<T>>(table: &mut Counted<G>, item: T)
+    requires { IsVacant (G.places table.old) }
+    ensures len { length (G.places table.new) ≡ length (G.places table.old) }
+    ensures each { (place : ℕ) → place < length (G.places table.old)
+        → place_at (G.places table.new) place ≡ Some item }
+{
+    let mut touches = Touches::new();
+    for place in 0..table.len() {
+        table.put(place, item, &mut touches);
+    }
+}
+
+/// Puts the words of `others` into the places of an empty table, of which there are as many.
+fn copy_words<G: Table<u64>, H: Table<u64>>(words: &mut Counted<G>, others: &Counted<H>)
+    requires vacant { IsVacant (G.places words.old) }
+    requires len { length (G.places words.old) ≡ length (H.places others.now) }
+    requires each { HasEachPlace (H.places others.now) }
+    ensures { G.places words.new ≡ H.places others.now }
 {
     let mut touches = Touches::new();
     for place in 0..words.len() {
+        let word = *others.get(place, &mut touches);
         words.put(place, word, &mut touches);
     }
 }
 
-/// Takes the word out of each place.
-fn empty<G: Table<u64>>(words: &mut Counted<G>)
-    requires { HasEachPlace (G.places words.old) }
-    ensures { IsVacant (G.places words.new) }
+/// Takes the item out of each place.
+pub(crate) fn empty<T: Copy, G: Table<T>>(table: &mut Counted<G>)
+    requires { HasEachPlace (G.places table.old) }
+    ensures { IsVacant (G.places table.new) }
 {
     let mut touches = Touches::new();
-    for place in 0..words.len() {
-        words.take(place, &mut touches);
+    for place in 0..table.len() {
+        table.take(place, &mut touches);
     }
 }

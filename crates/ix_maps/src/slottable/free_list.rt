@@ -141,3 +141,20 @@ pub(crate) fn link_all<L: Table<Link>>(links: &mut Counted<L>, len: usize) -> us
     }
     if len == 0 { NO_KEY } else { 0 }
 }
+
+/// Makes the links those of `others`, of which there are as many. O(the number of links).
+pub(crate) fn copy_links<L: Table<Link>, M: Table<Link>>(
+    links: &mut Counted<L>,
+    others: &Counted<M>,
+)
+    requires links { IsLinkTable (L.places links.old) }
+    requires others { IsLinkTable (M.places others.now) }
+    requires len { length (L.places links.old) ≡ length (M.places others.now) }
+    ensures { L.places links.new ≡ M.places others.now }
+{
+    let mut touches = Touches::new();
+    for key in 0..links.len() {
+        let link = *others.get(key, &mut touches);
+        set_link(links, key, link, &mut touches);
+    }
+}

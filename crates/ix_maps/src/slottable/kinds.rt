@@ -1,9 +1,14 @@
 //! The kinds of slot tables: stored inline, in memory of an allocator, and made in two steps.
-ghost use Rattle.std.specs.Prelude.{◌≡◌, ◌≤◌, IfOk, IsOk};
+ghost use Rattle.std.specs.Prelude.{◌≡◌, ℕ, ◌≤◌, IfOk, IsOk};
+ghost use Rattle.std.specs.Mem.{type_size};
+ghost use Rattle.ix_cells.specs.Memory.{no_memory};
+ghost use Rattle.ix_maps.specs.Memory.{slot_table_memory};
 ghost use Rattle.ix_maps.specs.SlotState.{slot_new};
 
 use crate::slottable::{Link, MetaSlotTable};
-use ix_cells::{ContainerFamily, HeapTable, InlineTable, MAX_FIXED_CAPACITY, Table, Uninit};
+use ix_cells::{
+    ContainerFamily, HeapTable, InlineTable, MAX_FIXED_CAPACITY, MemorySize, Table, Uninit,
+};
 use std::alloc::{AllocError, Allocator, Global};
 use std::marker::PhantomData;
 
@@ -37,6 +42,15 @@ impl<T: Drop, const CAPACITY: usize> FixedSizeSlotTable<T, CAPACITY> {
     }
 }
 
+/// Creates an empty map. O(`CAPACITY`).
+impl<T: Drop, const CAPACITY: usize> Default for FixedSizeSlotTable<T, CAPACITY> {
+    ghost is_default = { λ map. map ≡ slot_new CAPACITY };
+
+    fn default() -> Self {
+        MetaSlotTable::from_tables(InlineTable::default(), InlineTable::default())
+    }
+}
+
 /// A slot table whose memory is allocated from `A` when it is made, and deallocated when it is dropped.
 ///
 /// ```text
@@ -48,6 +62,28 @@ impl<T: Drop, const CAPACITY: usize> FixedSizeSlotTable<T, CAPACITY> {
 pub type SlotTable<T, A = Global> = MetaSlotTable<T, HeapTable<T, A>, HeapTable<Link, A>>;
 
 impl<T: Drop, A: Allocator + Copy> SlotTable<T, A> {
+    ghost use Rattle.ix_maps.specs.contracts.slottable.link.Link as link;
+
+    /// Returns how much memory a map of this capacity takes from its allocator when it is made: that of a table of values and
+    /// of a table of links. None if the capacity is 0.
+    ///
+    /// Does not allocate. O(1).
+    ///
+    /// ```text
+    /// SlotTable::<u64>::memory_size(100);       // 2600 bytes, 4 blocks
+    /// ```
+    #[inline]
+    pub fn memory_size(capacity: usize) -> MemorySize
+        ensures value { result ≡ slot_table_memory (type_size T.row) (type_size link.the_row) capacity }
+        ensures monotone { (greater : ℕ) → capacity ≤ greater
+            → result.bytes ≤ (slot_table_memory (type_size T.row) (type_size link.the_row) greater).bytes }
+        ensures none { capacity ≡ 0 → result ≡ no_memory }
+    {
+        let values = HeapTable::<T, A>::memory_size(capacity);
+        let links = HeapTable::<Link, A>::memory_size(capacity);
+        values.saturating_add(links)
+    }
+
     /// Creates an empty map with `capacity` keys.
     ///
     /// O(`capacity`), with at most four allocations. Returns `AllocError` if one fails, and if the values would take more

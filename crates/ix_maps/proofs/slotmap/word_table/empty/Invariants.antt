@@ -5,7 +5,7 @@ use Rattle.ix_maps.proofs.slotmap.word_table.empty.Given as goal
 -- nothing is left in the places so far, and the others still hold a number
 abbrev pub invariant-loop-place : goal.invariant-loop-place
 invariant-loop-place g l = record {
-  len : length (g.G.Table.places l.words) ≡ l.place-end;
-  emptied : (place : ℕ) → place < l.place → place_at (g.G.Table.places l.words) place ≡ None;
-  rest : (place : ℕ) → l.place ≤ place → place < l.place-end → IsHeldAt (g.G.Table.places l.words) place;
+  len : length (g.G.Table.places l.table) ≡ l.place-end;
+  emptied : (place : ℕ) → place < l.place → place_at (g.G.Table.places l.table) place ≡ None;
+  rest : (place : ℕ) → l.place ≤ place → place < l.place-end → IsHeldAt (g.G.Table.places l.table) place;
 }

@@ -5,7 +5,7 @@ use Rattle.ix_maps.proofs.slotmap.word_table.fill.Given as goal
 -- the places so far are filled, and the others are still empty
 abbrev pub invariant-loop-place : goal.invariant-loop-place
 invariant-loop-place g l = record {
-  len : length (g.G.Table.places l.words) ≡ l.place-end;
-  filled : (place : ℕ) → place < l.place → place_at (g.G.Table.places l.words) place ≡ Some l.word;
-  rest : (place : ℕ) → l.place ≤ place → place < l.place-end → place_at (g.G.Table.places l.words) place ≡ None;
+  len : length (g.G.Table.places l.table) ≡ l.place-end;
+  filled : (place : ℕ) → place < l.place → place_at (g.G.Table.places l.table) place ≡ Some l.item;
+  rest : (place : ℕ) → l.place ≤ place → place < l.place-end → place_at (g.G.Table.places l.table) place ≡ None;
 }

@@ -1,6 +1,6 @@
 use Rattle.std.proofs.Common.{◌≡◌, ◌≤◌, length, drop}
 use Rattle.std.specs.Fn.{CalledAt}
-use Rattle.ix_maps.specs.QueueCalls.{IsCallableOnEach}
+use Rattle.ix_cells.specs.Calls.{IsCallableOnEach}
 use Rattle.ix_maps.proofs.QueueCalls.{Asked}
 use Rattle.ix_maps.proofs.queue.meta_queue.MetaQueue.retain.Given as goal
 

@@ -1,7 +1,7 @@
-use Rattle.std.proofs.Common.{◌+◌, length, inl, inr, IsSome, sym, ap, ◌∙◌, subst, arith}
+use Rattle.std.proofs.Common.{inl, inr, IsSome, sym, ap, ◌∙◌, subst, arith}
 use Rattle.std.specs.Option.{option_flatten}
 use Rattle.std.proofs.lemmas.Bool.{cases_eq}
-use Rattle.ix_maps.specs.Generations.{SlotKey, SlotMapState, place_value, map_value, key_at, IsDead}
+use Rattle.ix_maps.specs.Generations.{SlotKey, SlotMapState, place_value, key_at, IsDead}
 use Rattle.ix_maps.specs.SlotMapSteps.{map_remove_at}
 use Rattle.ix_maps.proofs.SlotCalls.{fold-range_with_len}
 use Rattle.ix_maps.proofs.SlotMapCalls.{SettlesPlace-map_remove_at, held_key}

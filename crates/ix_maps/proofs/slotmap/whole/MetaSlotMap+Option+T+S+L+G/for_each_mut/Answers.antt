@@ -1,4 +1,4 @@
-use Rattle.std.proofs.Common.{◌≡◌, ◌+◌, refl, sym, ap, ◌∙◌, subst, arith}
+use Rattle.std.proofs.Common.{refl, subst, arith}
 use Rattle.std.proofs.lemmas.Bool.{iff_false}
 use Rattle.ix_maps.specs.SlotMapSteps.{map_set}
 use Rattle.ix_maps.specs.SlotCalls.{CalledOn, ChangesItem}

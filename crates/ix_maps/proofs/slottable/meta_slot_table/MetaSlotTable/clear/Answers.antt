@@ -1,4 +1,4 @@
-use Rattle.std.proofs.Common.{◌+◌, length, inl, inr, None, sym, ap, ◌∙◌, arith}
+use Rattle.std.proofs.Common.{length, inl, inr, None, sym, ap, ◌∙◌, arith}
 use Rattle.std.specs.Prelude.{replicate}
 use Rattle.std.proofs.lemmas.Bool.{cases_eq}
 use Rattle.ix_maps.specs.SlotState.{SlotState, value_at}

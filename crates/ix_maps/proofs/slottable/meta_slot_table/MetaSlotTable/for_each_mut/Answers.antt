@@ -1,6 +1,6 @@
-use Rattle.std.proofs.Common.{◌≡◌, ◌+◌, refl, sym, ap, ◌∙◌, subst, arith}
+use Rattle.std.proofs.Common.{◌+◌, refl, sym, ap, ◌∙◌, subst, arith}
 use Rattle.std.proofs.lemmas.Bool.{iff_false}
-use Rattle.ix_maps.specs.SlotState.{SlotState, value_at, IsHeld}
+use Rattle.ix_maps.specs.SlotState.{value_at}
 use Rattle.ix_maps.specs.SlotSteps.{slot_set}
 use Rattle.ix_maps.specs.SlotCalls.{ChangesItem}
 use Rattle.ix_maps.proofs.Generations.{none_of_not_some}

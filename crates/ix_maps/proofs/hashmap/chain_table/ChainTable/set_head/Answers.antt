@@ -1,0 +1,15 @@
+use Rattle.std.proofs.Common.{List, ◌/◌, set, get_or, sym, ap, ◌∙◌}
+use Rattle.ix_maps.specs.declared.hashmap.chain_link.ChainLink.{ChainLink}
+use Rattle.ix_maps.specs.inner.HashChains.{no_link, links_in, link_set_head}
+use Rattle.ix_maps.proofs.WordTables.{items_in-at, items_in-set}
+use Rattle.ix_maps.proofs.hashmap.chain_table.ChainTable.set_head.Goals as goal
+
+pub returns : goal.returns
+returns g c =
+    let number = c.args.bucket / 2 in
+    ap links_in (g.met.C.Table.places_with_item c.self.inside.links number c.set_head.new.self)
+    ∙ items_in-set no_link _ number c.set_head.new.self
+    ∙ ap (λ (links : List ChainLink). set links number c.set_head.new.self) c.self.view_is
+    ∙ ap (set c.args.self.now number) (c.set_head.ensures
+    ∙ ap (λ (old : ChainLink). link_set_head old c.args.bucket c.args.place)
+    (sym (items_in-at no_link _ number _ c.get_mut.ensures.value) ∙ ap (λ (links : List ChainLink). get_or links number no_link) c.self.view_is))

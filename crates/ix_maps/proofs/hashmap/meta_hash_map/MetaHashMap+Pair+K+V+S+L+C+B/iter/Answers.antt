@@ -1,0 +1,15 @@
+use Rattle.std.proofs.Common.{map, ap, ◌∙◌}
+use Rattle.std.specs.Map.{keys_of, lookup}
+use Rattle.ix_maps.specs.SlotState.{entries}
+use Rattle.ix_maps.specs.FlatState.{flat_item}
+use Rattle.ix_maps.proofs.FlatEntries.{keys_of-flat_items, lookup-flat_items}
+use Rattle.ix_maps.proofs.hashmap.meta_hash_map.MetaHashMap+Pair+K+V+S+L+C+B.iter.Goals as goal
+
+pub returns-clause-keys : goal.returns-clause-keys
+returns-clause-keys g c =
+    ap keys_of (c.new.ensures ∙ ap (map flat_item) (c.iter.ensures.entries ∙ ap entries c.self.view_is)) ∙ keys_of-flat_items c.args.self.now
+
+pub returns-clause-exactly : goal.returns-clause-exactly
+returns-clause-exactly g c key =
+    ap (lookup (λ other. g.K.PartialEq.eq other key)) (c.new.ensures ∙ ap (map flat_item) (c.iter.ensures.entries ∙ ap entries c.self.view_is))
+    ∙ lookup-flat_items g.K.PartialEq.eq c.args.self.now key

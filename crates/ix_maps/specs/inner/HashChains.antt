@@ -1,0 +1,123 @@
+-- How a hash map finds a pair: the places whose keys have one bucket are a chain of links. No clause of a public call cites
+-- this.
+use Rattle.std.specs.Prelude.{◌≡◌, ◌≢◌, ◌↔◌, ℕ, zero, suc, ◌*◌, ◌/◌, ◌%◌, ◌^◌, ◌<◌, ◌≤◌, List, [], ◌∷◌, ◌++◌, length, nat_eq, count_by, if◌then◌else◌, Option, Some, option_map, slice_index_or, slice_set, Bool, true}
+use Rattle.std.specs.List.{fold}
+use Rattle.ix_maps.specs.SlotState.{SlotState, value_at, IsHeld}
+use Rattle.ix_maps.specs.inner.FlatSearch.{is_key_at}
+use Rattle.ix_maps.specs.inner.FullTables.{items_in}
+use Rattle.ix_maps.specs.declared.hashmap.chain_link.ChainLink.{ChainLink}
+use Rattle.ix_maps.specs.declared.flatmap.pair.Pair.{Pair}
+
+-- the number for no place: no table has so many
+abbrev pub no_place : ℕ
+no_place = 18446744073709551615
+
+-- the link of two buckets without a place, and of a place without a next one
+abbrev pub no_link : ChainLink
+no_link = record { even = no_place; odd = no_place; next = no_place }
+
+-- the first place of a bucket, of the two that a link has
+abbrev pub link_head : ChainLink → ℕ → ℕ
+link_head link bucket = if nat_eq (bucket % 2) 0 then link.even else link.odd
+
+-- the first place of this bucket is another
+abbrev pub link_set_head : ChainLink → ℕ → ℕ → ChainLink
+link_set_head link bucket place = if nat_eq (bucket % 2) 0 then record link { even = place } else record link { odd = place }
+
+-- the links in the places of a table
+abbrev pub links_in : List (Option ChainLink) → List ChainLink
+links_in places = items_in no_link places
+
+-- the bucket of a hash, of two for each place: as far from the first one as the hash is from 0
+abbrev pub bucket_of : ℕ → ℕ → ℕ
+bucket_of hash places = hash * places / 2 ^ 63
+
+-- what a hasher answers that is fed this
+abbrev pub hash_of : {H : Type 0} → (H → ℕ) → (H → List ℕ → H) → H → List (List ℕ) → ℕ
+hash_of finish write hasher input = finish (fold write hasher input)
+
+-- the first place in the chain of a bucket
+abbrev pub head_at : List ChainLink → ℕ → ℕ
+head_at links bucket = link_head (slice_index_or links (bucket / 2) no_link) bucket
+
+-- the next place of a place in its chain
+abbrev pub next_at : List ChainLink → ℕ → ℕ
+next_at links place = (slice_index_or links place no_link).next
+
+-- the chain of this bucket begins at this place
+abbrev pub links_set_head : List ChainLink → ℕ → ℕ → List ChainLink
+links_set_head links bucket place = slice_set links (bucket / 2) (link_set_head (slice_index_or links (bucket / 2) no_link) bucket place)
+
+-- this place is followed by that one
+abbrev pub links_set_next : List ChainLink → ℕ → ℕ → List ChainLink
+links_set_next links place next = slice_set links place (let link = slice_index_or links place no_link in record link { next = next })
+
+-- this place is the first in the chain of this bucket
+abbrev pub links_insert_first : List ChainLink → ℕ → ℕ → List ChainLink
+links_insert_first links bucket place = links_set_head (links_set_next links place (head_at links bucket)) bucket place
+
+-- the places that are met from this one on, in at most so many steps
+abbrev pub places_met : ℕ → List ChainLink → ℕ → List ℕ
+places_met zero links place = []
+places_met (suc steps) links place = if nat_eq place no_place then [] else place ∷ places_met steps links (next_at links place)
+
+-- the places that are met from this one on
+abbrev pub chain_from : List ChainLink → ℕ → List ℕ
+chain_from links place = places_met (length links) links place
+
+-- the places in the chain of a bucket
+abbrev pub chain_at : List ChainLink → ℕ → List ℕ
+chain_at links bucket = chain_from links (head_at links bucket)
+
+-- `first` is the first of these places, each is followed by the next one, and none by the last
+abbrev pub IsLinked : List ChainLink → ℕ → List ℕ → Type 0
+IsLinked links first [] = first ≡ no_place
+IsLinked links first (place ∷ places) = (first ≡ place) × IsLinked links (next_at links place) places
+
+-- these places are linked, and each is one of the table's and comes once
+pub record IsChain (links : List ChainLink) (first : ℕ) (places : List ℕ) : Type 0 where
+  pub linked : IsLinked links first places
+  pub once : (place : ℕ) → count_by (nat_eq place) places ≤ 1
+  pub within : (place : ℕ) → 0 < count_by (nat_eq place) places → place < length links
+  pub fits : length links ≤ no_place
+
+-- what is met from this place on is a chain
+abbrev pub IsChainFrom : List ChainLink → ℕ → Type 0
+IsChainFrom links first = IsChain links first (chain_from links first)
+
+-- a place is in the chain that begins at this one
+abbrev pub IsOnChain : List ChainLink → ℕ → ℕ → Type 0
+IsOnChain links first place = 0 < count_by (nat_eq place) (chain_from links first)
+
+-- on the chain that begins at `first`, a place comes right before another one
+pub record IsBefore (links : List ChainLink) (first place next : ℕ) : Type 0 where
+  pub front : List ℕ
+  pub back : List ℕ
+  pub is : chain_from links first ≡ front ++ place ∷ next ∷ back
+
+-- a place leaves the chain of a bucket, and no other does
+pub record IsUnlinked (links : List ChainLink) (bucket place : ℕ) (new : List ChainLink) : Type 0 where
+  pub lengths : length new ≡ length links
+  pub rest : List ℕ
+  pub linked : IsLinked new (head_at new bucket) rest
+  pub counts : (other : ℕ) → count_by (nat_eq other) (place ∷ rest) ≡ count_by (nat_eq other) (chain_at links bucket)
+  pub heads : (other : ℕ) → other ≢ bucket → head_at new other ≡ head_at links other
+  pub nexts : (other : ℕ) → count_by (nat_eq other) (chain_at links bucket) ≡ 0 → next_at new other ≡ next_at links other
+
+module _ {T : Type 0} (hash : T → ℕ) (s : SlotState T) (links : List ChainLink) where
+  -- the chain of a bucket has exactly the places of its values
+  pub record HasChain (bucket : ℕ) : Type 0 where
+    pub chain : IsChainFrom links (head_at links bucket)
+    pub exactly : (place : ℕ) → IsOnChain links (head_at links bucket) place ↔ (option_map (λ value. bucket_of (hash value) (length links)) (value_at s place) ≡ Some bucket)
+
+  -- each bucket has its chain
+  pub record IsHashed : Type 0 where
+    pub lengths : length links ≡ length s.values
+    pub fits : length links ≤ no_place
+    pub each : (bucket : ℕ) → HasChain bucket
+
+-- on the chain that begins at `first` each place has a pair, and if a place has the key, it is there
+pub record LeadsToKey {K V : Type 0} (eq : K → K → Bool) (s : SlotState (Pair K V)) (links : List ChainLink) (key : K) (first : ℕ) : Type 0 where
+  pub chain : IsChainFrom links first
+  pub held : (place : ℕ) → IsOnChain links first place → IsHeld s place
+  pub has : (place : ℕ) → is_key_at eq s key place ≡ true → IsOnChain links first place

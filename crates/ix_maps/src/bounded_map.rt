@@ -1,0 +1,346 @@
+//! The calls that flat maps and hash maps share.
+ghost use Rattle.std.specs.Prelude.{◌≡◌, ◌↔◌, ◌+◌, ℕ, [], length, Some, None, IsSome, IsTrue, IsNone, IsOk, IsErr, IfOk, OnErr, option_copied, option_map, replicate, slice_get, false, true, refl};
+ghost use Rattle.std.specs.Borrow.{sem};
+ghost use Rattle.std.specs.Option.{option_copied_mut};
+ghost use Rattle.std.specs.Result.{IfErr};
+ghost use Rattle.ix_maps.specs.SlotState.{SlotState, IsWellFormed, value_at, held_count};
+ghost use Rattle.ix_maps.specs.SlotSteps.{slot_clear};
+ghost use Rattle.ix_maps.specs.FlatState.{HasDistinctKeys, flat_entry, flat_value, flat_keys, flat_item};
+ghost use Rattle.ix_maps.specs.FlatSteps.{flat_insert_result, flat_insert, flat_replace, flat_set, flat_remove};
+ghost use Rattle.ix_maps.specs.BoundedMap.{map_lends};
+ghost use Rattle.ix_maps.specs.declared.flatmap.pair.Pair.{Pair};
+
+use crate::flatmap::{FlatMapError, MetaFlatMap, Pair};
+use crate::hashmap::{ChainLink, MetaHashMap};
+use crate::slottable::Link;
+use ix_cells::Table;
+use std::hash::{BuildHasher, Hash};
+
+/// A map with room for a set number of keys, each with a value, as [`MetaFlatMap`](crate::flatmap::MetaFlatMap) and
+/// [`MetaHashMap`](crate::hashmap::MetaHashMap) are. A function over any such map is written over this trait. What a call costs
+/// is said at each map.
+///
+/// ```text
+/// fn count_word<M: BoundedMap<Word, u64>>(counts: &mut M, word: Word) {
+///     match counts.get_mut_ref(&word) {
+///         Some(count) => *count += 1,
+///         None => drop(counts.insert(word, 1)),
+///     }
+/// }
+/// ```
+pub trait BoundedMap<K: Eq, V>: Sized {
+    /// The pair or nothing at each place.
+    ghost state: { Self → SlotState (Pair K V) };
+
+    /// The map with another value of a key that it has.
+    ghost with_value: { Self → K → V → Self };
+
+    /// Inserts `key` with `value`.
+    ///
+    /// Returns [`FlatMapError::KeyAlreadyExists`] if the map has an equal key, and otherwise [`FlatMapError::IsFull`] if
+    /// it is full. `key` and `value` are dropped then.
+    fn insert(&mut self, key: K, value: V) -> Result<(), FlatMapError>
+        ensures value { result ≡ flat_insert_result K.eq (state self.old) key }
+        ensures map { state self.new ≡ flat_insert K.eq (state self.old) key value }
+        ensures holds { IsOk result → flat_value K.eq (state self.new) key ≡ Some value }
+        ensures refused { OnErr result (state self.new ≡ state self.old) }
+        ensures kept { (other : K) → K.eq other key ≡ false
+            → flat_value K.eq (state self.new) other ≡ flat_value K.eq (state self.old) other }
+        ensures distinct { HasDistinctKeys K.eq (state self.new) };
+
+    /// Inserts `key` with `value`. What is refused is handed back.
+    ///
+    /// Returns [`FlatMapError::KeyAlreadyExists`] if the map has an equal key, and otherwise [`FlatMapError::IsFull`] if
+    /// it is full, with `key` and `value`.
+    fn try_insert(&mut self, key: K, value: V) -> Result<(), (FlatMapError, K, V)>
+        ensures inserted { IsOk result ↔ IsOk (flat_insert_result K.eq (state self.old) key) }
+        ensures error { IfErr result (λ refused.
+            IfErr (flat_insert_result K.eq (state self.old) key) (λ error. refused.0 ≡ error)) }
+        ensures returned { IfErr result (λ refused. (refused.1 ≡ key) × (refused.2 ≡ value)) }
+        ensures map { state self.new ≡ flat_insert K.eq (state self.old) key value }
+        ensures holds { IsOk result → flat_value K.eq (state self.new) key ≡ Some value }
+        ensures refused { OnErr result (state self.new ≡ state self.old) }
+        ensures kept { (other : K) → K.eq other key ≡ false
+            → flat_value K.eq (state self.new) other ≡ flat_value K.eq (state self.old) other }
+        ensures distinct { HasDistinctKeys K.eq (state self.new) };
+
+    /// Inserts `key` with `value`; or, if the map has an equal key, gives that one `value` and returns its old value. `key` is
+    /// dropped then.
+    ///
+    /// Returns `key` and `value` as the error if the map is full and has no equal key.
+    fn replace(&mut self, key: K, value: V) -> Result<Option<V>, (K, V)>
+        ensures value { IfOk result (λ old. old ≡ flat_value K.eq (state self.old) key) }
+        ensures full { IsErr result
+            ↔ ((flat_value K.eq (state self.old) key ≡ None) × ((state self.old).free ≡ [])) }
+        ensures returned { IfErr result (λ refused. refused ≡ (key, value)) }
+        ensures map { state self.new ≡ flat_replace K.eq (state self.old) key value }
+        ensures holds { IsOk result → flat_value K.eq (state self.new) key ≡ Some value }
+        ensures refused { OnErr result (state self.new ≡ state self.old) }
+        ensures kept { (other : K) → K.eq other key ≡ false
+            → flat_value K.eq (state self.new) other ≡ flat_value K.eq (state self.old) other };
+
+    /// Returns a reference to the value of `key`, or `None` if the map has no equal key.
+    fn get_ref(&self, key: &K) -> Option<&V>
+        ensures value { option_copied result ≡ flat_value K.eq (state self.now) key.now }
+        // The key's value is that of the one pair whose key equals it.
+        ensures found { (place : ℕ) (pair : Pair K V) → value_at (state self.now) place ≡ Some pair
+            → K.eq pair.key key.now ≡ true → option_copied result ≡ Some pair.value }
+        ensures absent { IsNone result ↔ ((place : ℕ) (pair : Pair K V)
+            → value_at (state self.now) place ≡ Some pair → K.eq pair.key key.now ≡ false) };
+
+    /// Returns references to the equal key of the map and to its value, or `None` if the map has no equal key.
+    fn get_key_value(&self, key: &K) -> Option<(&K, &V)>
+        ensures { option_map (λ item. (item.0.now, item.1.now)) result
+            ≡ option_map (λ entry. flat_item entry) (flat_entry K.eq (state self.now) key.now) };
+
+    /// Returns a mutable reference to the value of `key`, or `None` if the map has no equal key.
+    fn get_mut_ref(&mut self, key: &K) -> Option<&mut V>
+        ensures* writes_back { sem 𝓛 (map_lends Self.row V.row with_value self.entry key.now result) }
+        ensures value { option_copied_mut result ≡ flat_value K.eq (state self.old) key.now }
+        // Whatever value is written, the key has it, and any other key keeps its own.
+        ensures holds { (written : V) → IsSome (flat_value K.eq (state self.old) key.now)
+            → flat_value K.eq (flat_set K.eq (state self.old) key.now written) key.now
+            ≡ Some written }
+        ensures kept { (written : V) (other : K) → K.eq other key.now ≡ false
+            → flat_value K.eq (flat_set K.eq (state self.old) key.now written) other
+            ≡ flat_value K.eq (state self.old) other };
+
+    /// Removes `key` and returns its value, or `None` if the map has no equal key. The next new key takes its place.
+    fn remove(&mut self, key: &K) -> Option<V>
+        ensures value { result ≡ flat_value K.eq (state self.old) key.now }
+        ensures map { state self.new ≡ flat_remove K.eq (state self.old) key.now }
+        ensures gone { flat_value K.eq (state self.new) key.now ≡ None }
+        ensures refused { IsNone result → state self.new ≡ state self.old }
+        ensures kept { (other : K) → K.eq other key.now ≡ false
+            → flat_value K.eq (state self.new) other ≡ flat_value K.eq (state self.old) other }
+        ensures distinct { HasDistinctKeys K.eq (state self.new) };
+
+    /// Removes `key` and returns the equal key of the map with its value, or `None` if the map has none. The next new key takes
+    /// its place.
+    fn remove_entry(&mut self, key: &K) -> Option<(K, V)>
+        ensures value { result
+            ≡ option_map (λ entry. flat_item entry) (flat_entry K.eq (state self.old) key.now) }
+        ensures map { state self.new ≡ flat_remove K.eq (state self.old) key.now }
+        ensures gone { flat_value K.eq (state self.new) key.now ≡ None }
+        ensures refused { IsNone result → state self.new ≡ state self.old }
+        ensures kept { (other : K) → K.eq other key.now ≡ false
+            → flat_value K.eq (state self.new) other ≡ flat_value K.eq (state self.old) other }
+        ensures distinct { HasDistinctKeys K.eq (state self.new) };
+
+    /// Removes all keys and drops them with their values, in slot order.
+    ///
+    /// The free places are in the order that [`BoundedMap::remove`] of each key in slot order leaves, so that the next new key
+    /// takes the place of the last one.
+    fn clear(&mut self)
+        ensures map { state self.new ≡ slot_clear (state self.old) }
+        ensures values { (state self.new).values ≡ replicate (length (state self.old).values) None };
+
+    /// Returns the maximum number of keys.
+    fn capacity(&self) -> usize
+        ensures { result ≡ length (state self.now).values };
+
+    /// Returns `true` if the map has no key.
+    fn is_empty(&self) -> bool
+        ensures { IsTrue result ↔ (held_count (state self.now) ≡ 0) };
+
+    /// Returns `true` if there is no room for another key. A map of capacity 0 is both empty and full.
+    fn is_full(&self) -> bool
+        ensures value { IsTrue result
+            ↔ (held_count (state self.now) ≡ length (state self.now).values) }
+        ensures free { IsTrue result ↔ ((state self.now).free ≡ []) };
+
+    /// Returns `true` if the map has an equal key.
+    fn contains(&self, key: &K) -> bool
+        ensures { IsTrue result ↔ IsSome (flat_value K.eq (state self.now) key.now) };
+
+    /// Returns the number of keys.
+    fn len(&self) -> usize
+        ensures value { result ≡ held_count (state self.now) }
+        ensures rest { held_count (state self.now) + length (state self.now).free
+            ≡ length (state self.now).values }
+        // These hold of every map, whatever calls were made.
+        ensures formed { IsWellFormed (state self.now) }
+        ensures distinct { HasDistinctKeys K.eq (state self.now) };
+
+    /// Returns the key that comes after `n` others in slot order, or `None` if there are at most `n` keys.
+    fn nth_key(&self, n: usize) -> Option<&K>
+        ensures { option_copied result ≡ slice_get (flat_keys (state self.now)) n };
+
+    /// Another value of a key is what a write to it leaves.
+    ghost state_with_value: { (map : Self) (key : K) (value : V)
+        → state (with_value map key value) ≡ flat_set K.eq (state map) key value };
+}
+
+impl<K: Eq + Drop, V: Drop, S: Table<Pair<K, V>>, L: Table<Link>> BoundedMap<K, V>
+    for MetaFlatMap<Pair<K, V>, S, L> {
+    ghost state = { λ map. map };
+
+    ghost with_value = { λ map key value. flat_set K.eq map key value };
+
+    ghost state_with_value = { λ map key value. refl };
+
+    #[inline]
+    fn insert(&mut self, key: K, value: V) -> Result<(), FlatMapError> {
+        MetaFlatMap::insert(self, key, value)
+    }
+
+    #[inline]
+    fn try_insert(&mut self, key: K, value: V) -> Result<(), (FlatMapError, K, V)> {
+        MetaFlatMap::try_insert(self, key, value)
+    }
+
+    #[inline]
+    fn replace(&mut self, key: K, value: V) -> Result<Option<V>, (K, V)> {
+        MetaFlatMap::replace(self, key, value)
+    }
+
+    #[inline]
+    fn get_ref(&self, key: &K) -> Option<&V> {
+        MetaFlatMap::get_ref(self, key)
+    }
+
+    #[inline]
+    fn get_key_value(&self, key: &K) -> Option<(&K, &V)> {
+        MetaFlatMap::get_key_value(self, key)
+    }
+
+    #[inline]
+    fn get_mut_ref(&mut self, key: &K) -> Option<&mut V> {
+        MetaFlatMap::get_mut_ref(self, key)
+    }
+
+    #[inline]
+    fn remove(&mut self, key: &K) -> Option<V> {
+        MetaFlatMap::remove(self, key)
+    }
+
+    #[inline]
+    fn remove_entry(&mut self, key: &K) -> Option<(K, V)> {
+        MetaFlatMap::remove_entry(self, key)
+    }
+
+    #[inline]
+    fn clear(&mut self) {
+        MetaFlatMap::clear(self);
+    }
+
+    #[inline]
+    fn capacity(&self) -> usize {
+        MetaFlatMap::capacity(self)
+    }
+
+    #[inline]
+    fn is_empty(&self) -> bool {
+        MetaFlatMap::is_empty(self)
+    }
+
+    #[inline]
+    fn is_full(&self) -> bool {
+        MetaFlatMap::is_full(self)
+    }
+
+    #[inline]
+    fn contains(&self, key: &K) -> bool {
+        MetaFlatMap::contains(self, key)
+    }
+
+    #[inline]
+    fn len(&self) -> usize {
+        MetaFlatMap::len(self)
+    }
+
+    #[inline]
+    fn nth_key(&self, n: usize) -> Option<&K> {
+        MetaFlatMap::nth_key(self, n)
+    }
+}
+
+impl<
+    K: Eq + Hash + Drop,
+    V: Drop,
+    S: Table<Pair<K, V>>,
+    L: Table<Link>,
+    C: Table<ChainLink>,
+    B: BuildHasher,
+> BoundedMap<K, V> for MetaHashMap<Pair<K, V>, S, L, C, B> {
+    ghost state = { λ map. map };
+
+    ghost with_value = { λ map key value. flat_set K.eq map key value };
+
+    ghost state_with_value = { λ map key value. refl };
+
+    #[inline]
+    fn insert(&mut self, key: K, value: V) -> Result<(), FlatMapError> {
+        MetaHashMap::insert(self, key, value)
+    }
+
+    #[inline]
+    fn try_insert(&mut self, key: K, value: V) -> Result<(), (FlatMapError, K, V)> {
+        MetaHashMap::try_insert(self, key, value)
+    }
+
+    #[inline]
+    fn replace(&mut self, key: K, value: V) -> Result<Option<V>, (K, V)> {
+        MetaHashMap::replace(self, key, value)
+    }
+
+    #[inline]
+    fn get_ref(&self, key: &K) -> Option<&V> {
+        MetaHashMap::get_ref(self, key)
+    }
+
+    #[inline]
+    fn get_key_value(&self, key: &K) -> Option<(&K, &V)> {
+        MetaHashMap::get_key_value(self, key)
+    }
+
+    #[inline]
+    fn get_mut_ref(&mut self, key: &K) -> Option<&mut V> {
+        MetaHashMap::get_mut_ref(self, key)
+    }
+
+    #[inline]
+    fn remove(&mut self, key: &K) -> Option<V> {
+        MetaHashMap::remove(self, key)
+    }
+
+    #[inline]
+    fn remove_entry(&mut self, key: &K) -> Option<(K, V)> {
+        MetaHashMap::remove_entry(self, key)
+    }
+
+    #[inline]
+    fn clear(&mut self) {
+        MetaHashMap::clear(self);
+    }
+
+    #[inline]
+    fn capacity(&self) -> usize {
+        MetaHashMap::capacity(self)
+    }
+
+    #[inline]
+    fn is_empty(&self) -> bool {
+        MetaHashMap::is_empty(self)
+    }
+
+    #[inline]
+    fn is_full(&self) -> bool {
+        MetaHashMap::is_full(self)
+    }
+
+    #[inline]
+    fn contains(&self, key: &K) -> bool {
+        MetaHashMap::contains(self, key)
+    }
+
+    #[inline]
+    fn len(&self) -> usize {
+        MetaHashMap::len(self)
+    }
+
+    #[inline]
+    fn nth_key(&self, n: usize) -> Option<&K> {
+        MetaHashMap::nth_key(self, n)
+    }
+}

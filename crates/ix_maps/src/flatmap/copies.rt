@@ -1,0 +1,79 @@
+//! Clones of flat maps.
+ghost use Rattle.std.specs.Prelude.{◌≡◌, length, IsOk, IfOk};
+ghost use Rattle.ix_cells.specs.Cloning.{AreEqualClones};
+ghost use Rattle.ix_maps.specs.SlotCopies.{SlotIsClone, SlotIsInfallible};
+ghost use Rattle.ix_maps.specs.FlatCopies.{PairIsClone, PairIsInfallible};
+
+use crate::flatmap::{FixedSizeFlatMap, FlatMap, MetaFlatMap, Pair};
+use std::alloc::{AllocError, Allocator};
+
+impl<K: Eq + Clone, V: Clone> Clone for Pair<K, V> {
+    ghost is_clone = { PairIsClone K.eq K.is_clone V.is_clone };
+
+    ghost is_infallible = { PairIsInfallible K.eq K.is_clone K.is_infallible V.is_infallible };
+
+    /// Creates a pair of clones of the key and of the value.
+    ///
+    /// Returns `AllocError` if a clone fails, and if the clone of the key is not equal to the key, which a key of a map may not
+    /// do without.
+    fn clone(&self) -> Result<Self, AllocError> {
+        let key = self.key.clone()?;
+        if key != self.key {
+            return Err(AllocError);
+        }
+        let value = self.value.clone()?;
+        Ok(Pair { key, value })
+    }
+}
+
+impl<K: Eq + Clone, V: Clone, const CAPACITY: usize> Clone for FixedSizeFlatMap<K, V, CAPACITY> {
+    ghost is_clone = { SlotIsClone (PairIsClone K.eq K.is_clone V.is_clone) };
+
+    ghost is_infallible = { SlotIsInfallible
+        (PairIsInfallible K.eq K.is_clone K.is_infallible V.is_infallible) };
+
+    /// Creates a map that holds clones of the keys and values in the same places, and has the same free places in the same
+    /// order. O(`CAPACITY`).
+    ///
+    /// Returns `AllocError` if a clone fails, and if the clone of a key is not equal to the key; the clones already made are
+    /// dropped.
+    fn clone(&self) -> Result<Self, AllocError> {
+        match self.pairs.clone() {
+            Ok(pairs) => Ok(MetaFlatMap {
+                pairs,
+                bound: self.bound,
+            }),
+            Err(error) => Err(error),
+        }
+    }
+}
+
+impl<K: Eq + Clone, V: Clone, A: Allocator + Copy> FlatMap<K, V, A> {
+    /// Creates a map of the same capacity that holds clones of the keys and values in the same places, and has the same free
+    /// places in the same order, in memory of `alloc`.
+    ///
+    /// O(`capacity`), with at most four allocations and `len` clones of keys and of values. Returns `AllocError` if an
+    /// allocation or a clone fails; nothing stays allocated then.
+    ///
+    /// ```text
+    /// map.insert(80, 'a');                      // Ok(())
+    /// let mut copy = map.try_clone_in(alloc)?;
+    /// copy.remove(&80);                         // Some('a')
+    /// map.contains(&80);                        // true
+    /// ```
+    pub fn try_clone_in<B: Allocator + Copy>(
+        &self,
+        alloc: B,
+    ) -> Result<FlatMap<K, V, B>, AllocError>
+        requires keys { AreEqualClones K.is_clone }
+        requires values { AreEqualClones V.is_clone }
+        ensures value { IfOk result (λ map. map ≡ self.now) }
+        ensures memory { length self.now.values ≡ 0 → IsOk result }
+    {
+        let pairs = self.pairs.try_clone_in(alloc)?;
+        Ok(MetaFlatMap {
+            pairs,
+            bound: self.bound,
+        })
+    }
+}

@@ -1,0 +1,26 @@
+//! Values of a flat map by their keys.
+ghost use Rattle.std.specs.Prelude.{◌≡◌, IsSome, Some};
+ghost use Rattle.ix_maps.specs.FlatState.{flat_value};
+
+use crate::flatmap::{MetaFlatMap, Pair};
+use crate::slottable::Link;
+use ix_cells::Table;
+use std::ops::Index;
+
+/// `map[&key]` is the value of `key`, which the map has; [`MetaFlatMap::get_ref`] asks for nothing. O(capacity).
+impl<'q, K: Eq + Drop, V: Drop, S: Table<Pair<K, V>>, L: Table<Link>> Index<&'q K>
+    for MetaFlatMap<Pair<K, V>, S, L> {
+    type Output = V;
+
+    ghost can_index = { λ map key. IsSome (flat_value K.eq map key.now) };
+
+    ghost index_gives = { λ map key value. flat_value K.eq map key.now ≡ Some value };
+
+    #[inline]
+    fn index(&self, key: &'q K) -> &V {
+        match self.get_ref(key) {
+            Some(value) => value,
+            None => unreachable!(),
+        }
+    }
+}

@@ -1,0 +1,28 @@
+//! Hash maps: bounded maps from keys of your own to values, for keys that implement `Hash`.
+//!
+//! [`FixedSizeHashMap`] is stored inline, [`HashMap`] and [`RelocatableHashMap`] allocate only when they are made. Their calls
+//! promise what those of [`flatmap`](crate::flatmap) do, and take O(1) time on average.
+//!
+//! ```text
+//! let mut map = FixedSizeHashMap::<u16, char, 3>::new();
+//! map.insert(80, 'a');                  // Ok(())
+//! map.insert(80, 'b');                  // Err(KeyAlreadyExists)
+//! map.get_ref(&80);                     // Some(&'a')
+//! map.remove(&80);                      // Some('a')
+//! ```
+
+mod chain_link;
+mod chain_table;
+mod hashed;
+mod insertions;
+mod iter;
+mod kinds;
+mod meta_hash_map;
+mod search;
+
+pub use chain_link::ChainLink;
+pub use hashed::Hashed;
+pub use kinds::{
+    DefaultHashBuilder, FixedSizeHashMap, HashMap, HashMapFamily, RelocatableHashMap, UninitHashMap,
+};
+pub use meta_hash_map::MetaHashMap;

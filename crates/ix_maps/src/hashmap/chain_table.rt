@@ -1,0 +1,155 @@
+//! A table of links, which are chains of places.
+ghost use Rattle.std.specs.Prelude.{◌≡◌, ◌≢◌, ◌*◌, ◌<◌, ◌≤◌, length, replicate};
+ghost use Rattle.ix_cells.specs.Places.{IsVacant};
+ghost use Rattle.ix_maps.specs.inner.HashChains.{no_link, head_at, next_at, links_set_head, links_set_next, links_insert_first, IsChainFrom, IsOnChain, IsBefore, IsUnlinked};
+
+use crate::hashmap::ChainLink;
+use crate::hashmap::chain_link::NO_LINK;
+use crate::slotmap::{empty, fill};
+use ix_cells::{Counted, Table, Touches};
+use std::marker::Model;
+
+/// A link in each place of a table. Contracts see the list of them.
+pub(crate) struct ChainTable<C: Table<ChainLink>> {
+    links: Counted<C>,
+}
+
+impl<C: Table<ChainLink>> Model for ChainTable<C> {
+    ghost use Rattle.std.specs.Prelude.{List};
+    ghost use Rattle.ix_maps.specs.inner.Words.{HasEachPlace};
+    ghost use Rattle.ix_maps.specs.inner.HashChains.{links_in};
+    ghost use Rattle.ix_maps.specs.declared.hashmap.chain_link.ChainLink.{ChainLink};
+
+    ghost Value = { List ChainLink };
+
+    ghost view = { λ table. links_in (C.places table.links) };
+
+    ghost invariant = { λ table. HasEachPlace (C.places table.links) };
+}
+
+impl<C: Table<ChainLink>> ChainTable<C> {
+    /// Makes the chains of an empty table, all without a place. O(the number of places).
+    pub(crate) fn new(table: C) -> Self
+        requires { IsVacant (C.places table) }
+        ensures { result ≡ replicate (length (C.places table)) no_link }
+    {
+        let mut links = Counted::new(table);
+        fill(&mut links, NO_LINK);
+        ChainTable { links }
+    }
+
+    /// Returns the number of places, which is half of that of buckets.
+    #[inline]
+    pub(crate) fn len(&self) -> usize
+        ensures { result ≡ length self.now }
+    {
+        self.links.len()
+    }
+
+    /// Returns the first place in the chain of a bucket, or the number for no place.
+    #[inline]
+    pub(crate) fn head(&self, bucket: u128) -> usize
+        requires { bucket < 2 * length self.now }
+        ensures { result ≡ head_at self.now bucket }
+    {
+        // Names the number of places, by which the check knows that half of a bucket's fits.
+        let _places = self.len();
+        self.links
+            .get((bucket / 2) as usize, &mut Touches::new())
+            .head(bucket)
+    }
+
+    /// Returns the next place of a place in its chain, or the number for no place.
+    #[inline]
+    pub(crate) fn next(&self, place: usize) -> usize
+        requires { place < length self.now }
+        ensures { result ≡ next_at self.now place }
+    {
+        self.links.get(place, &mut Touches::new()).next
+    }
+
+    /// Makes `place` the first in the chain of a bucket, before those that are in it.
+    #[inline]
+    pub(crate) fn insert_first(&mut self, bucket: u128, place: usize)
+        requires bucket { bucket < 2 * length self.old }
+        requires place { place < length self.old }
+        ensures { self.new ≡ links_insert_first self.old bucket place }
+    {
+        let next = self.head(bucket);
+        self.set_next(place, next);
+        self.set_head(bucket, place);
+    }
+
+    /// Takes a place out of the chain of a bucket. O(the number of places before it).
+    #[inline]
+    pub(crate) fn remove(&mut self, bucket: u128, place: usize)
+        requires bucket { bucket < 2 * length self.old }
+        requires chain { IsChainFrom self.old (head_at self.old bucket) }
+        requires has { IsOnChain self.old (head_at self.old bucket) place }
+        ensures { IsUnlinked self.old bucket place self.new }
+    {
+        let next = self.next(place);
+        let first = self.head(bucket);
+        if first == place {
+            self.set_head(bucket, next);
+            return;
+        }
+        let previous = self.before(first, place);
+        self.set_next(previous, next);
+    }
+
+    /// Makes all chains empty. O(the number of places).
+    pub(crate) fn clear(&mut self)
+        ensures { self.new ≡ replicate (length self.old) no_link }
+    {
+        for number in 0..self.links.len() {
+            *self.links.get_mut(number, &mut Touches::new()) = NO_LINK;
+        }
+    }
+
+    /// Returns the place before another one, on the chain that begins at `first`.
+    #[inline]
+    fn before(&self, first: usize, place: usize) -> usize
+        requires chain { IsChainFrom self.now first }
+        requires has { IsOnChain self.now first place }
+        requires later { first ≢ place }
+        ensures { IsBefore self.now first result place }
+    {
+        let mut previous = first;
+        let mut next = self.next(first);
+        while next != place {
+            previous = next;
+            next = self.next(next);
+        }
+        previous
+    }
+
+    #[inline]
+    fn set_head(&mut self, bucket: u128, place: usize)
+        requires { bucket < 2 * length self.old }
+        ensures { self.new ≡ links_set_head self.old bucket place }
+    {
+        // Names the number of places, by which the check knows that half of a bucket's fits.
+        let _places = self.len();
+        self.links
+            .get_mut((bucket / 2) as usize, &mut Touches::new())
+            .set_head(bucket, place);
+    }
+
+    #[inline]
+    fn set_next(&mut self, place: usize, next: usize)
+        requires { place < length self.old }
+        ensures { self.new ≡ links_set_next self.old place next }
+    {
+        self.links.get_mut(place, &mut Touches::new()).next = next;
+    }
+}
+
+/// O(the number of places).
+impl<C: Table<ChainLink>> Drop for ChainTable<C> {
+    fn drop(self) {
+        let ChainTable { mut links } = self;
+        empty(&mut links);
+        links.end();
+    }
+}

@@ -1,0 +1,28 @@
+//! What a hash map has at a place, and which bucket a key has.
+ghost use Rattle.std.specs.Prelude.{◌≡◌, ◌*◌, ◌<◌, ℕ, List};
+ghost use Rattle.ix_maps.specs.inner.HashChains.{bucket_of, hash_of};
+
+use crate::flatmap::Pair;
+use std::hash::{BuildHasher, Hash};
+
+/// What a [`MetaHashMap`](crate::hashmap::MetaHashMap) can hold at a place: it has a key that can be hashed. Every
+/// [`Pair`](crate::flatmap::Pair) whose key implements `Hash` is, and nothing else has the calls of a map.
+pub trait Hashed {
+    /// What the key feeds a hasher.
+    ghost key_input: { Self → List (List ℕ) };
+}
+
+impl<K: Eq + Hash, V> Hashed for Pair<K, V> {
+    ghost key_input = { λ pair. K.hash_input pair.key };
+}
+
+/// Returns the bucket of a key in a map of so many places, of which there is at least one. There are two buckets for each.
+#[inline]
+pub(crate) fn bucket_of<K: Eq + Hash, B: BuildHasher>(hasher: &B, key: &K, places: usize) -> u128
+    requires { 0 < places }
+    ensures value { result
+        ≡ bucket_of (hash_of B.Hasher.finish B.Hasher.write (B.build_hasher hasher.now) (K.hash_input key.now)) places }
+    ensures below { result < 2 * places }
+{
+    (hasher.hash_one(key) as u128 * places as u128) >> 63
+}

@@ -1,0 +1,426 @@
+//! The hash map over any three tables.
+ghost use Rattle.std.specs.Prelude.{◌≡◌, ◌↔◌, ◌+◌, ℕ, [], length, Some, None, IsSome, IsTrue, IsNone, IsOk, IfSome, IfOk, OnErr, option_copied, option_map, replicate, slice_get, false, true};
+ghost use Rattle.std.specs.Borrow.{sem, Lends, LendsIf};
+ghost use Rattle.std.specs.Option.{option_copied_mut};
+ghost use Rattle.std.specs.Map.{keys_of, lookup};
+ghost use Rattle.ix_cells.specs.Cloning.{AreEqualClones};
+ghost use Rattle.ix_maps.specs.SlotState.{IsWellFormed, IsHeld, value_at, held_count, slot_new};
+ghost use Rattle.ix_maps.specs.SlotSteps.{slot_clear};
+ghost use Rattle.ix_maps.specs.FlatState.{HasDistinctKeys, flat_entry, flat_value, flat_keys, flat_values, flat_item, flat_items};
+ghost use Rattle.ix_maps.specs.FlatSteps.{flat_insert_result, flat_insert, pair_set, flat_set, flat_remove, ListsUntilStop};
+
+use crate::flatmap::{CallbackProgression, FlatMapError, Iter, Keyed, Keys, Pair, Values};
+use crate::hashmap::chain_table::ChainTable;
+use crate::hashmap::hashed::bucket_of;
+use crate::hashmap::search::{find_from, place_from};
+use crate::hashmap::{ChainLink, Hashed};
+use crate::slottable::{Link, MetaSlotTable, SlotTableKey};
+use ix_cells::Table;
+use std::alloc::AllocError;
+use std::fmt::{self, Debug, Formatter, Write};
+use std::hash::{BuildHasher, Hash};
+use std::marker::Model;
+
+/// A map from keys to values, over a table of pairs `S`, a table of links `L` and a table of chain links `C`. Keys are
+/// compared by their `Eq`, and found by their `Hash`, which `B` makes hashers for. Contracts see a slot table of pairs, in which
+/// no two keys are equal, as they see a [`MetaFlatMap`](crate::flatmap::MetaFlatMap).
+///
+/// A pair stays at its place until it is removed, and a new one takes the first free place: the one vacated last, or else
+/// the least that was never used. Slot order is that of the places. A call that looks for a key compares it with the keys
+/// of its bucket, up to the equal one. A map has two buckets for each place, and where hashes are spread evenly over the
+/// numbers below 2<sup>64</sup>, a bucket of a full map has half a key on average.
+///
+/// Each call that looks for a key takes O(1) time on average, and O(capacity) if all keys have one bucket; any other takes O(1),
+/// if nothing else is said. No call allocates. A map that is dropped drops its pairs in slot order, in O(capacity) time.
+///
+/// ```text
+/// let mut map = FixedSizeHashMap::<u16, char, 2>::new();
+/// map.insert(80, 'a');                  // Ok(())
+/// map.insert(80, 'b');                  // Err(KeyAlreadyExists)
+/// if let Some(value) = map.get_mut_ref(&80) {
+///     *value = 'c';
+/// }
+/// map.remove(&80);                      // Some('c')
+/// ```
+#[derive(Drop)]
+pub struct MetaHashMap<
+    P: Keyed + Hashed,
+    S: Table<P>,
+    L: Table<Link>,
+    C: Table<ChainLink>,
+    B: BuildHasher,
+> {
+    pub(crate) pairs: MetaSlotTable<P, S, L>,
+    pub(crate) chains: ChainTable<C>,
+    pub(crate) hasher: B,
+}
+
+impl<P: Keyed + Hashed, S: Table<P>, L: Table<Link>, C: Table<ChainLink>, B: BuildHasher> Model
+    for MetaHashMap<P, S, L, C, B> {
+    ghost use Rattle.ix_maps.specs.SlotState.{SlotState, slot_state_code};
+    ghost use Rattle.ix_maps.specs.FlatState.{AreDistinctBy};
+    ghost use Rattle.ix_maps.specs.inner.HashChains.{hash_of, IsHashed};
+
+    ghost Value = { SlotState P };
+
+    ghost coded = { slot_state_code P.code };
+
+    ghost view = { λ map. map.pairs };
+
+    ghost invariant = { λ map.
+        AreDistinctBy P.has_key_of map.pairs
+        × IsHashed (λ pair. hash_of B.Hasher.finish B.Hasher.write (B.build_hasher map.hasher) (P.key_input pair)) map.pairs map.chains };
+}
+
+impl<
+    P: Keyed + Hashed,
+    S: Table<P>,
+    L: Table<Link>,
+    C: Table<ChainLink>,
+    B: BuildHasher,
+> MetaHashMap<P, S, L, C, B> {
+    ghost use Rattle.ix_cells.specs.Places.{IsVacant};
+
+    /// Makes a map of an empty slot table and an empty table of as many places. O(capacity).
+    pub(crate) fn over(pairs: MetaSlotTable<P, S, L>, chains: C, hasher: B) -> Self
+        requires pairs { pairs ≡ slot_new (length (C.places chains)) }
+        requires chains { IsVacant (C.places chains) }
+        ensures { result ≡ slot_new (length (C.places chains)) }
+    {
+        // Names the capacity, by which the check knows that it is below the number for no place.
+        let _capacity = pairs.capacity();
+        MetaHashMap {
+            pairs,
+            chains: ChainTable::new(chains),
+            hasher,
+        }
+    }
+}
+
+impl<
+    K: Eq + Hash + Drop,
+    V: Drop,
+    S: Table<Pair<K, V>>,
+    L: Table<Link>,
+    C: Table<ChainLink>,
+    B: BuildHasher,
+> MetaHashMap<Pair<K, V>, S, L, C, B> {
+    ghost use Rattle.ix_maps.specs.contracts.hashmap.meta_hash_map.MetaHashMap.{the_row};
+    ghost use Rattle.ix_maps.specs.contracts.flatmap.pair.Pair as pair;
+
+    /// Inserts `key` with `value`.
+    ///
+    /// Returns [`FlatMapError::KeyAlreadyExists`] if the map has an equal key, and otherwise [`FlatMapError::IsFull`] if
+    /// it is full. `key` and `value` are dropped then.
+    ///
+    /// ```text
+    /// let mut map = FixedSizeHashMap::<u16, char, 1>::new();
+    /// map.insert(80, 'a');                  // Ok(())
+    /// map.insert(80, 'b');                  // Err(KeyAlreadyExists)
+    /// map.insert(443, 'b');                 // Err(IsFull)
+    /// ```
+    pub fn insert(&mut self, key: K, value: V) -> Result<(), FlatMapError>
+        ensures value { result ≡ flat_insert_result K.eq self.old key }
+        ensures map { self.new ≡ flat_insert K.eq self.old key value }
+        ensures holds { IsOk result → flat_value K.eq self.new key ≡ Some value }
+        ensures refused { OnErr result (self.new ≡ self.old) }
+        ensures kept { (other : K) → K.eq other key ≡ false
+            → flat_value K.eq self.new other ≡ flat_value K.eq self.old other }
+        ensures distinct { HasDistinctKeys K.eq self.new }
+    {
+        match self.try_insert(key, value) {
+            Ok(()) => Ok(()),
+            Err((error, _, _)) => Err(error),
+        }
+    }
+
+    /// Returns a clone of the value of `key`, or `None` if the map has no equal key.
+    ///
+    /// Returns `AllocError` if cloning the value fails. [`MetaHashMap::get_ref`] clones nothing.
+    #[inline]
+    pub fn get(&self, key: &K) -> Result<Option<V>, AllocError>
+    where
+        V: Clone,
+        requires clones { AreEqualClones V.is_clone }
+        ensures value { IfOk result (λ value. value ≡ flat_value K.eq self.now key.now) }
+        ensures memory { IfSome (flat_value K.eq self.now key.now) V.is_infallible → IsOk result }
+    {
+        match self.get_ref(key) {
+            Some(value) => Ok(Some(value.clone()?)),
+            None => Ok(None),
+        }
+    }
+
+    /// Returns a reference to the value of `key`, or `None` if the map has no equal key.
+    #[inline]
+    pub fn get_ref(&self, key: &K) -> Option<&V>
+        ensures value { option_copied result ≡ flat_value K.eq self.now key.now }
+        // The key's value is that of the one pair whose key equals it.
+        ensures found { (place : ℕ) (pair : Pair K V) → value_at self.now place ≡ Some pair
+            → K.eq pair.key key.now ≡ true → option_copied result ≡ Some pair.value }
+        ensures absent { IsNone result ↔ ((place : ℕ) (pair : Pair K V)
+            → value_at self.now place ≡ Some pair → K.eq pair.key key.now ≡ false) }
+    {
+        match self.find(key) {
+            Some((_, pair)) => Some(&pair.value),
+            None => None,
+        }
+    }
+
+    /// Returns references to the equal key of the map and to its value, or `None` if the map has no equal key.
+    #[inline]
+    pub fn get_key_value(&self, key: &K) -> Option<(&K, &V)>
+        ensures { option_map (λ item. (item.0.now, item.1.now)) result
+            ≡ option_map (λ entry. flat_item entry) (flat_entry K.eq self.now key.now) }
+    {
+        match self.find(key) {
+            Some((_, pair)) => Some((&pair.key, &pair.value)),
+            None => None,
+        }
+    }
+
+    /// Returns a mutable reference to the value of `key`, or `None` if the map has no equal key.
+    #[inline]
+    pub fn get_mut_ref(&mut self, key: &K) -> Option<&mut V>
+        ensures* writes_back { sem 𝓛
+            (LendsIf (the_row (pair.the_row K.row V.row) S.row L.row C.row B.row B.Hasher.row ⟦<Pair<K, V> as Keyed>⟧ ⟦<Pair<K, V> as Hashed>⟧ S.Table L.Table C.Table B.BuildHasher B.Hasher.Hasher)
+            V.row self.entry result (flat_set K.eq self.old key.now) self.old) }
+        ensures value { option_copied_mut result ≡ flat_value K.eq self.old key.now }
+        // Whatever value is written, the key has it, and any other key keeps its own.
+        ensures holds { (written : V) → IsSome (flat_value K.eq self.old key.now)
+            → flat_value K.eq (flat_set K.eq self.old key.now written) key.now ≡ Some written }
+        ensures kept { (written : V) (other : K) → K.eq other key.now ≡ false
+            → flat_value K.eq (flat_set K.eq self.old key.now written) other
+            ≡ flat_value K.eq self.old other }
+    {
+        match self.place(key) {
+            Some(place) => Some(self.value_mut(place)),
+            None => None,
+        }
+    }
+
+    /// Removes `key` and returns its value, or `None` if the map has no equal key. The next new key takes its place.
+    pub fn remove(&mut self, key: &K) -> Option<V>
+        ensures value { result ≡ flat_value K.eq self.old key.now }
+        ensures map { self.new ≡ flat_remove K.eq self.old key.now }
+        ensures gone { flat_value K.eq self.new key.now ≡ None }
+        ensures refused { IsNone result → self.new ≡ self.old }
+        ensures kept { (other : K) → K.eq other key.now ≡ false
+            → flat_value K.eq self.new other ≡ flat_value K.eq self.old other }
+        ensures distinct { HasDistinctKeys K.eq self.new }
+    {
+        let (_, value) = self.remove_entry(key)?;
+        Some(value)
+    }
+
+    /// Removes `key` and returns the equal key of the map with its value, or `None` if the map has none. The next new key takes
+    /// its place.
+    pub fn remove_entry(&mut self, key: &K) -> Option<(K, V)>
+        ensures value { result ≡ option_map (λ entry. flat_item entry) (flat_entry K.eq self.old key.now) }
+        ensures map { self.new ≡ flat_remove K.eq self.old key.now }
+        ensures gone { flat_value K.eq self.new key.now ≡ None }
+        ensures refused { IsNone result → self.new ≡ self.old }
+        ensures kept { (other : K) → K.eq other key.now ≡ false
+            → flat_value K.eq self.new other ≡ flat_value K.eq self.old other }
+        ensures distinct { HasDistinctKeys K.eq self.new }
+    {
+        let places = self.chains.len();
+        if places == 0 {
+            return None;
+        }
+        let bucket = bucket_of(&self.hasher, key, places);
+        let place = place_from(&self.pairs, &self.chains, self.chains.head(bucket), key)?;
+        self.chains.remove(bucket, place.value());
+        let pair = self.pairs.remove_unchecked(place);
+        Some((pair.key, pair.value))
+    }
+
+    /// Removes all keys and drops them with their values, in slot order. O(capacity).
+    ///
+    /// The free places are in the order that [`MetaHashMap::remove`] of each key in slot order leaves, so that the next new key
+    /// takes the place of the last one.
+    pub fn clear(&mut self)
+        ensures map { self.new ≡ slot_clear self.old }
+        ensures values { self.new.values ≡ replicate (length self.old.values) None }
+    {
+        self.pairs.clear();
+        self.chains.clear();
+    }
+
+    /// Returns the maximum number of keys. O(1).
+    #[inline]
+    pub fn capacity(&self) -> usize
+        ensures { result ≡ length self.now.values }
+    {
+        self.pairs.capacity()
+    }
+
+    /// Returns `true` if the map has no key. O(1).
+    #[inline]
+    pub fn is_empty(&self) -> bool
+        ensures { IsTrue result ↔ (held_count self.now ≡ 0) }
+    {
+        self.pairs.is_empty()
+    }
+
+    /// Returns `true` if there is no room for another key. A map of capacity 0 is both empty and full. O(1).
+    #[inline]
+    pub fn is_full(&self) -> bool
+        ensures value { IsTrue result ↔ (held_count self.now ≡ length self.now.values) }
+        ensures free { IsTrue result ↔ (self.now.free ≡ []) }
+    {
+        self.pairs.is_full()
+    }
+
+    /// Returns `true` if the map has an equal key.
+    #[inline]
+    pub fn contains(&self, key: &K) -> bool
+        ensures { IsTrue result ↔ IsSome (flat_value K.eq self.now key.now) }
+    {
+        self.find(key).is_some()
+    }
+
+    /// Returns the number of keys. O(1).
+    #[inline]
+    pub fn len(&self) -> usize
+        ensures value { result ≡ held_count self.now }
+        ensures rest { held_count self.now + length self.now.free ≡ length self.now.values }
+        // These hold of every map, whatever calls were made.
+        ensures formed { IsWellFormed self.now }
+        ensures distinct { HasDistinctKeys K.eq self.now }
+    {
+        self.pairs.len()
+    }
+
+    /// Calls `callback` with each key in slot order, until it returns [`CallbackProgression::Stop`].
+    ///
+    /// ```text
+    /// map.list_keys(|key| {
+    ///     report(*key);
+    ///     CallbackProgression::Continue
+    /// });
+    /// ```
+    pub fn list_keys<F: FnMut(&K) -> CallbackProgression>(&self, mut callback: F)
+        requires { F.IsAlwaysCallable callback }
+        ensures { (last : F) × ListsUntilStop F.FnMut callback (flat_keys self.now) last }
+    {
+        self.list_with(&mut callback);
+    }
+
+    /// Returns an iterator over the keys in slot order. O(1), and O(capacity) for all of its items together.
+    ///
+    /// ```text
+    /// for key in map.keys() {
+    ///     report(*key);
+    /// }
+    /// ```
+    #[inline]
+    pub fn keys(&self) -> Keys<'_, K, V, S, L>
+        ensures { result ≡ flat_keys self.now }
+    {
+        Keys::new(self.pairs.iter())
+    }
+
+    /// Returns an iterator over the values in slot order of their keys. O(1), and O(capacity) for all of its items together.
+    #[inline]
+    pub fn values(&self) -> Values<'_, K, V, S, L>
+        ensures { result ≡ flat_values self.now }
+    {
+        Values::new(self.pairs.iter())
+    }
+
+    /// Returns an iterator over the keys in slot order, each with its value. O(1), and O(capacity) for all of its items
+    /// together.
+    ///
+    /// ```text
+    /// for (key, value) in map.iter() {      // or `in &map`
+    ///     report(*key, *value);
+    /// }
+    /// ```
+    #[inline]
+    pub fn iter(&self) -> Iter<'_, K, V, S, L>
+        ensures items { result ≡ flat_items self.now }
+        ensures keys { keys_of result ≡ flat_keys self.now }
+        // A key comes with its value exactly if the map has an equal one.
+        ensures exactly { (key : K)
+            → lookup (λ other. K.eq other key) result ≡ flat_value K.eq self.now key }
+    {
+        Iter::new(self.pairs.iter())
+    }
+
+    /// Returns the key that [`MetaHashMap::list_keys`] lists after `n` others, or `None` if there are at most `n` keys.
+    pub fn nth_key(&self, n: usize) -> Option<&K>
+        ensures { option_copied result ≡ slice_get (flat_keys self.now) n }
+    {
+        self.keys().nth(n)
+    }
+
+    /// Does what [`MetaHashMap::list_keys`] does. The callback is left as its last call leaves it.
+    #[inline]
+    fn list_with<F: FnMut(&K) -> CallbackProgression>(&self, callback: &mut F)
+        requires { F.IsAlwaysCallable callback.old }
+        ensures { ListsUntilStop F.FnMut callback.old (flat_keys self.now) callback.new }
+    {
+        for key in self.keys() {
+            match callback(key) {
+                CallbackProgression::Continue => {}
+                CallbackProgression::Stop => return,
+            }
+        }
+    }
+
+    /// Returns the place of the key that equals `key`.
+    #[inline]
+    pub(crate) fn place(&self, key: &K) -> Option<SlotTableKey>
+        ensures value { result ≡ option_map (λ entry. entry.0) (flat_entry K.eq self.now key.now) }
+        ensures distinct { HasDistinctKeys K.eq self.now }
+    {
+        match self.find(key) {
+            Some((place, _)) => Some(place),
+            None => None,
+        }
+    }
+
+    /// Returns a mutable reference to the value at a place that has a pair.
+    #[inline]
+    pub(crate) fn value_mut(&mut self, place: SlotTableKey) -> &mut V
+        requires { IsHeld self.old place }
+        ensures* writes_back { sem 𝓛
+            (Lends (the_row (pair.the_row K.row V.row) S.row L.row C.row B.row B.Hasher.row ⟦<Pair<K, V> as Keyed>⟧ ⟦<Pair<K, V> as Hashed>⟧ S.Table L.Table C.Table B.BuildHasher B.Hasher.Hasher)
+            V.row self.entry result (pair_set self.old place)) }
+        ensures value { option_map (λ pair. pair.value) (value_at self.old place)
+            ≡ Some result.now }
+    {
+        &mut self.pairs.get_unchecked_mut(place).value
+    }
+
+    /// Returns the place of the key that equals `key`, and the pair there.
+    #[inline]
+    pub(crate) fn find(&self, key: &K) -> Option<(SlotTableKey, &Pair<K, V>)>
+        ensures value { option_map (λ entry. (entry.0, entry.1.now)) result
+            ≡ flat_entry K.eq self.now key.now }
+        ensures distinct { HasDistinctKeys K.eq self.now }
+    {
+        let places = self.chains.len();
+        // A map without places has no bucket.
+        if places == 0 {
+            return None;
+        }
+        let bucket = bucket_of(&self.hasher, key, places);
+        find_from(&self.pairs, &self.chains, self.chains.head(bucket), key)
+    }
+}
+
+/// Prints a map from the keys to their values, in slot order. O(capacity).
+impl<
+    K: Eq + Hash + Debug,
+    V: Debug,
+    S: Table<Pair<K, V>>,
+    L: Table<Link>,
+    C: Table<ChainLink>,
+    B: BuildHasher,
+> Debug for MetaHashMap<Pair<K, V>, S, L, C, B> {
+    fn fmt<W: Write>(&self, f: &mut Formatter<W>) -> fmt::Result {
+        f.debug_map().entries(Iter::new(self.pairs.iter())).finish()
+    }
+}

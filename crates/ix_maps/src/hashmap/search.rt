@@ -1,0 +1,55 @@
+//! How a hash map looks for a key.
+ghost use Rattle.std.specs.Prelude.{◌≡◌, option_map};
+ghost use Rattle.ix_maps.specs.FlatState.{HasDistinctKeys, flat_entry};
+ghost use Rattle.ix_maps.specs.inner.HashChains.{LeadsToKey};
+
+use crate::flatmap::Pair;
+use crate::hashmap::ChainLink;
+use crate::hashmap::chain_link::NO_PLACE;
+use crate::hashmap::chain_table::ChainTable;
+use crate::slottable::{Link, MetaSlotTable, SlotTableKey};
+use ix_cells::Table;
+
+/// Returns the place of the key that equals `key`, and the pair there. If the map has one, it is in the chain that begins at
+/// `first`.
+#[inline]
+pub(crate) fn find_from<'a, K: Eq, V, S: Table<Pair<K, V>>, L: Table<Link>, C: Table<ChainLink>>(
+    pairs: &'a MetaSlotTable<Pair<K, V>, S, L>,
+    chains: &ChainTable<C>,
+    first: usize,
+    key: &K,
+) -> Option<(SlotTableKey, &'a Pair<K, V>)>
+    requires leads { LeadsToKey K.eq pairs.now chains.now key.now first }
+    requires distinct { HasDistinctKeys K.eq pairs.now }
+    ensures { option_map (λ entry. (entry.0, entry.1.now)) result
+        ≡ flat_entry K.eq pairs.now key.now }
+{
+    let mut place = first;
+    while place != NO_PLACE {
+        let number = SlotTableKey::new(place);
+        let pair = pairs.get_unchecked(number);
+        if pair.key == *key {
+            return Some((number, pair));
+        }
+        place = chains.next(place);
+    }
+    None
+}
+
+/// Returns the place of the key that equals `key`. If the map has one, it is in the chain that begins at `first`.
+#[inline]
+pub(crate) fn place_from<K: Eq, V, S: Table<Pair<K, V>>, L: Table<Link>, C: Table<ChainLink>>(
+    pairs: &MetaSlotTable<Pair<K, V>, S, L>,
+    chains: &ChainTable<C>,
+    first: usize,
+    key: &K,
+) -> Option<SlotTableKey>
+    requires leads { LeadsToKey K.eq pairs.now chains.now key.now first }
+    requires distinct { HasDistinctKeys K.eq pairs.now }
+    ensures { result ≡ option_map (λ entry. entry.0) (flat_entry K.eq pairs.now key.now) }
+{
+    match find_from(pairs, chains, first, key) {
+        Some((place, _)) => Some(place),
+        None => None,
+    }
+}

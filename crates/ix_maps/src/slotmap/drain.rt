@@ -1,0 +1,129 @@
+//! The iterator that drains a slot map.
+ghost use Rattle.std.specs.Prelude.{◌≡◌, length, drop, Some, IfSome};
+ghost use Rattle.std.specs.Iterator.{UpTo, at_most, item_count};
+ghost use Rattle.std.specs.Iterator.SizeHint.{IsWithinCount};
+ghost use Rattle.ix_maps.specs.SlotState.{entries_from};
+ghost use Rattle.ix_maps.specs.Generations.{map_len, held_entries, map_entries};
+ghost use Rattle.ix_maps.specs.SlotMapSteps.{map_clear};
+
+use crate::slotmap::{MetaSlotMap, SlotMapKey};
+use crate::slottable::Link;
+use ix_cells::{Table, Touches};
+use std::fmt::{self, Debug, Formatter, Write};
+use std::iter::FusedIterator;
+
+/// An iterator that removes the held keys of a slot map, each with its value, in rising order of the indexes, as
+/// [`MetaSlotMap::drain`] returns it.
+///
+/// The values that are still to come when it is dropped are dropped with it, that of the least index first, and no key is held
+/// then.
+pub struct Drain<'a, T, S: Table<Option<T>>, L: Table<Link>, G: Table<u64>> {
+    map: &'a mut MetaSlotMap<Option<T>, S, L, G>,
+    /// No place before this one has a value.
+    index: usize,
+    ghost counted: { map_len map.now ≡ length (held_entries map.now (entries_from index (drop index map.now.slots.values))) },
+}
+
+impl<T, S: Table<Option<T>>, L: Table<Link>, G: Table<u64>> MetaSlotMap<Option<T>, S, L, G> {
+    ghost use Rattle.ix_maps.specs.Draining.{DrainingKeepsAlong};
+    ghost use Rattle.ix_maps.specs.MapDrain.{drain_items, drain_left, drain_lender};
+
+    /// Returns an iterator that removes all held keys, each with its value, in rising order of the indexes. What is not taken is
+    /// dropped with it, and the map is as [`MetaSlotMap::clear`] leaves it then. O(1), and O(capacity) for all of its items
+    /// together.
+    ///
+    /// ```text
+    /// for (key, value) in map.drain() {
+    ///     send(key.index(), value);
+    /// }
+    /// map.is_empty();                       // true
+    /// ```
+    #[inline]
+    pub fn drain(&mut self) -> Drain<'_, T, S, L, G>
+    where
+        T: Drop,
+        ensures items { drain_items result ≡ map_entries self.old }
+        ensures left { drain_left result ≡ map_clear self.old }
+        // With these two a caller knows what the map is once the iterator is dropped.
+        ensures same_reference { drain_lender result ≡ self.entry.ghost_name }
+        ensures stays { DrainingKeepsAlong drain_items drain_lender drain_left result }
+    {
+        // Names the number of values, by which the check knows that all are still to come.
+        let _len = self.len();
+        Drain {
+            map: self,
+            index: 0,
+        }
+    }
+}
+
+/// Drops the values that are still to come, that of the least index first. No key is held then. O(capacity).
+impl<T: Drop, S: Table<Option<T>>, L: Table<Link>, G: Table<u64>> Drop for Drain<'_, T, S, L, G> {
+    ghost use Rattle.ix_maps.specs.MapDrain.{drain_left};
+
+    fn drop(self)
+        ensures { self.exit.0.now ≡ drain_left self.entry }
+    {
+        let Drain { map, index: _ } = self;
+        map.clear();
+    }
+}
+
+impl<T: Drop, S: Table<Option<T>>, L: Table<Link>, G: Table<u64>> Iterator
+    for Drain<'_, T, S, L, G> {
+    type Item = (SlotMapKey, T);
+
+    ghost use Rattle.ix_maps.specs.Draining.{DrainingSteps};
+    ghost use Rattle.ix_maps.specs.MapDrain.{drain_items, drain_left, drain_lender};
+
+    ghost next_gives = { DrainingSteps drain_items drain_lender drain_left };
+
+    ghost remaining = { item_count drain_items };
+
+    /// Removes the next held key and returns it with its value, or `None` after the last one. O(the number of places without a
+    /// value before it).
+    #[inline]
+    fn next(&mut self) -> Option<(SlotMapKey, T)> {
+        if self.map.is_empty() {
+            return None;
+        }
+        let index = self.map.held_from(self.index);
+        let key = self.map.key_of(index, &mut Touches::new());
+        let Some(value) = self.map.remove_at(index) else {
+            unreachable!()
+        };
+        self.index = index + 1;
+        Some((key, value))
+    }
+
+    /// Returns the number of items that are still to come, as both bounds. O(1).
+    #[inline]
+    fn size_hint(&self) -> (usize, Option<usize>)
+        ensures value { result ≡ (length (drain_items self.now), Some (length (drain_items self.now))) }
+        ensures lower { IsWithinCount result.0 (at_most (length (drain_items self.now))) }
+        ensures upper { IfSome result.1 (UpTo (at_most (length (drain_items self.now)))) }
+    {
+        let len = self.map.len();
+        (len, Some(len))
+    }
+}
+
+impl<T: Drop, S: Table<Option<T>>, L: Table<Link>, G: Table<u64>> ExactSizeIterator
+    for Drain<'_, T, S, L, G> {
+    /// Returns the number of items that are still to come. O(1).
+    #[inline]
+    fn len(&self) -> usize {
+        self.map.len()
+    }
+}
+
+impl<T: Drop, S: Table<Option<T>>, L: Table<Link>, G: Table<u64>> FusedIterator
+    for Drain<'_, T, S, L, G> {}
+
+/// Prints a list of the items that are still to come, each the index and the generation of its key, and its value.
+/// O(capacity).
+impl<T: Debug, S: Table<Option<T>>, L: Table<Link>, G: Table<u64>> Debug for Drain<'_, T, S, L, G> {
+    fn fmt<W: Write>(&self, f: &mut Formatter<W>) -> fmt::Result {
+        self.map.iter().fmt(f)
+    }
+}

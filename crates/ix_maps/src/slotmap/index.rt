@@ -1,0 +1,23 @@
+//! Values of a slot map by their keys.
+ghost use Rattle.std.specs.Prelude.{◌≡◌, IsSome, Some};
+ghost use Rattle.ix_maps.specs.Generations.{map_value};
+
+use crate::slotmap::{MetaSlotMap, SlotMapKey};
+use crate::slottable::Link;
+use ix_cells::Table;
+use std::ops::Index;
+
+/// `map[key]` is the value of `key`, which is held; [`MetaSlotMap::get`] asks for nothing. O(1).
+impl<T, S: Table<Option<T>>, L: Table<Link>, G: Table<u64>> Index<SlotMapKey>
+    for MetaSlotMap<Option<T>, S, L, G> {
+    type Output = T;
+
+    ghost can_index = { λ map key. IsSome (map_value map key) };
+
+    ghost index_gives = { λ map key value. map_value map key ≡ Some value };
+
+    #[inline]
+    fn index(&self, key: SlotMapKey) -> &T {
+        self.value_at(key.index())
+    }
+}

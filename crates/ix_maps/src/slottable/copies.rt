@@ -1,0 +1,118 @@
+//! Clones of slot tables.
+ghost use Rattle.std.specs.Prelude.{◌≡◌, ◌↔◌, ℕ, length, replicate, None, IsOk, IfOk, OnOk};
+ghost use Rattle.ix_cells.specs.Cloning.{AreEqualClones};
+ghost use Rattle.ix_maps.specs.SlotState.{value_at, IsHeld};
+ghost use Rattle.ix_maps.specs.SlotCopies.{IsCloneAt, SlotIsClone, SlotIsInfallible};
+
+use crate::slottable::free_list::copy_links;
+use crate::slottable::{FixedSizeSlotTable, Link, MetaSlotTable, SlotTable, SlotTableKey};
+use ix_cells::Table;
+use std::alloc::{AllocError, Allocator};
+
+impl<T, S: Table<T>, L: Table<Link>> MetaSlotTable<T, S, L> {
+    /// Puts clones of the values of `other` at their keys in an empty map of the same capacity, whose free keys are then those
+    /// of `other`, in the same order. Returns the error of the first clone that fails, and keeps those already made.
+    fn fill_with_clones<R: Table<T>, M: Table<Link>>(
+        &mut self,
+        other: &MetaSlotTable<T, R, M>,
+    ) -> Result<(), AllocError>
+    where
+        T: Clone,
+        requires { self.old.values ≡ replicate (length other.now.values) None }
+        ensures clones { OnOk result (SlotIsClone T.is_clone other.now self.new) }
+        ensures memory { SlotIsInfallible T.is_infallible other.now → IsOk result }
+    {
+        self.put_clones(other)?;
+        self.copy_free_keys(other);
+        Ok(())
+    }
+
+    /// Does what [`MetaSlotTable::fill_with_clones`] does, but for the order of the free keys.
+    fn put_clones<R: Table<T>, M: Table<Link>>(
+        &mut self,
+        other: &MetaSlotTable<T, R, M>,
+    ) -> Result<(), AllocError>
+    where
+        T: Clone,
+        requires { self.old.values ≡ replicate (length other.now.values) None }
+        ensures capacity { length self.new.values ≡ length other.now.values }
+        ensures values { OnOk result
+            ((key : ℕ) → IsCloneAt T.is_clone (value_at other.now key) (value_at self.new key)) }
+        ensures memory { SlotIsInfallible T.is_infallible other.now → IsOk result }
+    {
+        for number in 0..other.capacity() {
+            let key = SlotTableKey::new(number);
+            let Some(value) = other.get(key) else {
+                continue;
+            };
+            let copy = value.clone()?;
+            self.insert_at_unchecked(key, copy);
+        }
+        Ok(())
+    }
+
+    /// Takes over the order of the free keys of `other`, which are the same.
+    fn copy_free_keys<R: Table<T>, M: Table<Link>>(&mut self, other: &MetaSlotTable<T, R, M>)
+        requires capacity { length self.old.values ≡ length other.now.values }
+        requires keys { (key : ℕ) → IsHeld self.old key ↔ IsHeld other.now key }
+        ensures values { self.new.values ≡ self.old.values }
+        ensures free { self.new.free ≡ other.now.free }
+    {
+        copy_links(&mut self.links, &other.links);
+        self.first = other.first;
+        self.len = other.len;
+    }
+}
+
+impl<T: Drop, const CAPACITY: usize> FixedSizeSlotTable<T, CAPACITY> {
+    /// Returns the capacity, which is that of the type.
+    #[inline]
+    pub(crate) fn fixed_capacity(&self) -> usize
+        ensures value { result ≡ CAPACITY }
+        ensures capacity { length self.now.values ≡ CAPACITY }
+    {
+        self.values.inline_len()
+    }
+}
+
+impl<T: Clone, const CAPACITY: usize> Clone for FixedSizeSlotTable<T, CAPACITY> {
+    ghost is_clone = { SlotIsClone T.is_clone };
+
+    ghost is_infallible = { SlotIsInfallible T.is_infallible };
+
+    /// Creates a map that holds clones of the values at the same keys, and has the same free keys in the same order.
+    /// O(`CAPACITY`).
+    ///
+    /// Returns the error of the first clone that fails, and drops those already made.
+    fn clone(&self) -> Result<Self, AllocError> {
+        // Names the capacity, by which the check knows that the copy has the same.
+        let _capacity = self.fixed_capacity();
+        let mut copy = FixedSizeSlotTable::<T, CAPACITY>::default();
+        copy.fill_with_clones(self)?;
+        Ok(copy)
+    }
+}
+
+impl<T: Clone, A: Allocator + Copy> SlotTable<T, A> {
+    /// Creates a map of the same capacity that holds clones of the values at the same keys, and has the same free keys in the
+    /// same order, in memory of `alloc`.
+    ///
+    /// O(`capacity`), with at most four allocations and `len` clones. Returns `AllocError` if an allocation or a clone fails;
+    /// nothing stays allocated then.
+    ///
+    /// ```text
+    /// map.insert('a');                          // Some: the key 0
+    /// let mut copy = map.try_clone_in(alloc)?;
+    /// copy.remove(SlotTableKey::new(0));        // Some('a')
+    /// map.contains(SlotTableKey::new(0));       // true
+    /// ```
+    pub fn try_clone_in<B: Allocator + Copy>(&self, alloc: B) -> Result<SlotTable<T, B>, AllocError>
+        requires { AreEqualClones T.is_clone }
+        ensures value { IfOk result (λ map. map ≡ self.now) }
+        ensures memory { length self.now.values ≡ 0 → IsOk result }
+    {
+        let mut copy = SlotTable::new(alloc, self.capacity())?;
+        copy.fill_with_clones(self)?;
+        Ok(copy)
+    }
+}

@@ -1,0 +1,115 @@
+//! The iterator that drains a slot table.
+ghost use Rattle.std.specs.Prelude.{◌≡◌, length, drop, Some, IfSome};
+ghost use Rattle.std.specs.Iterator.{UpTo, at_most, item_count};
+ghost use Rattle.std.specs.Iterator.SizeHint.{IsWithinCount};
+ghost use Rattle.ix_maps.specs.SlotState.{held_count, entries, entries_from};
+ghost use Rattle.ix_maps.specs.SlotSteps.{slot_clear};
+
+use crate::slottable::{Link, MetaSlotTable, SlotTableKey};
+use ix_cells::Table;
+use std::fmt::{self, Debug, Formatter, Write};
+use std::iter::FusedIterator;
+
+/// An iterator that removes the values of a slot table, each with its key, in rising order of the keys, as
+/// [`MetaSlotTable::drain`] returns it.
+///
+/// The values that are still to come when it is dropped are dropped with it, that of the least key first, and the table is
+/// empty then.
+pub struct Drain<'a, T, S: Table<T>, L: Table<Link>> {
+    map: &'a mut MetaSlotTable<T, S, L>,
+    /// No key below this one has a value.
+    key: usize,
+    ghost counted: { held_count map.now ≡ length (entries_from key (drop key map.now.values)) },
+}
+
+impl<T, S: Table<T>, L: Table<Link>> MetaSlotTable<T, S, L> {
+    ghost use Rattle.ix_maps.specs.Draining.{DrainingKeepsAlong};
+    ghost use Rattle.ix_maps.specs.SlotDrain.{drain_items, drain_left, drain_lender};
+
+    /// Returns an iterator that removes all values, each with its key, in rising order of the keys. What is not taken is
+    /// dropped with it, and the table is as [`MetaSlotTable::clear`] leaves it then. O(1), and O(capacity) for all of its items
+    /// together.
+    ///
+    /// ```text
+    /// for (key, value) in map.drain() {
+    ///     send(key.value(), value);
+    /// }
+    /// map.is_empty();                       // true
+    /// ```
+    #[inline]
+    pub fn drain(&mut self) -> Drain<'_, T, S, L>
+    where
+        T: Drop,
+        ensures items { drain_items result ≡ entries self.old }
+        ensures left { drain_left result ≡ slot_clear self.old }
+        // With these two a caller knows what the map is once the iterator is dropped.
+        ensures same_reference { drain_lender result ≡ self.entry.ghost_name }
+        ensures stays { DrainingKeepsAlong drain_items drain_lender drain_left result }
+    {
+        Drain { map: self, key: 0 }
+    }
+}
+
+/// Drops the values that are still to come, that of the least key first. The table is empty then. O(capacity).
+impl<T: Drop, S: Table<T>, L: Table<Link>> Drop for Drain<'_, T, S, L> {
+    ghost use Rattle.ix_maps.specs.SlotDrain.{drain_left};
+
+    fn drop(self)
+        ensures { self.exit.0.now ≡ drain_left self.entry }
+    {
+        let Drain { map, key: _ } = self;
+        map.clear();
+    }
+}
+
+impl<T: Drop, S: Table<T>, L: Table<Link>> Iterator for Drain<'_, T, S, L> {
+    type Item = (SlotTableKey, T);
+
+    ghost use Rattle.ix_maps.specs.Draining.{DrainingSteps};
+    ghost use Rattle.ix_maps.specs.SlotDrain.{drain_items, drain_left, drain_lender};
+
+    ghost next_gives = { DrainingSteps drain_items drain_lender drain_left };
+
+    ghost remaining = { item_count drain_items };
+
+    /// Removes the value of the next held key and returns both, or `None` after the last one. O(the number of free keys before
+    /// it).
+    #[inline]
+    fn next(&mut self) -> Option<(SlotTableKey, T)> {
+        if self.map.is_empty() {
+            return None;
+        }
+        let number = self.map.held_from(self.key);
+        self.key = number + 1;
+        let key = SlotTableKey::new(number);
+        Some((key, self.map.remove_unchecked(key)))
+    }
+
+    /// Returns the number of items that are still to come, as both bounds. O(1).
+    #[inline]
+    fn size_hint(&self) -> (usize, Option<usize>)
+        ensures value { result ≡ (length (drain_items self.now), Some (length (drain_items self.now))) }
+        ensures lower { IsWithinCount result.0 (at_most (length (drain_items self.now))) }
+        ensures upper { IfSome result.1 (UpTo (at_most (length (drain_items self.now)))) }
+    {
+        let len = self.map.len();
+        (len, Some(len))
+    }
+}
+
+impl<T: Drop, S: Table<T>, L: Table<Link>> ExactSizeIterator for Drain<'_, T, S, L> {
+    /// Returns the number of items that are still to come. O(1).
+    #[inline]
+    fn len(&self) -> usize {
+        self.map.len()
+    }
+}
+
+impl<T: Drop, S: Table<T>, L: Table<Link>> FusedIterator for Drain<'_, T, S, L> {}
+
+/// Prints a list of the items that are still to come, each the number of its key and its value. O(capacity).
+impl<T: Debug, S: Table<T>, L: Table<Link>> Debug for Drain<'_, T, S, L> {
+    fn fmt<W: Write>(&self, f: &mut Formatter<W>) -> fmt::Result {
+        self.map.iter().fmt(f)
+    }
+}

@@ -1,0 +1,21 @@
+//! Values of a slot table by their keys.
+ghost use Rattle.std.specs.Prelude.{◌≡◌, Some};
+ghost use Rattle.ix_maps.specs.SlotState.{IsHeld, value_at};
+
+use crate::slottable::{Link, MetaSlotTable, SlotTableKey};
+use ix_cells::Table;
+use std::ops::Index;
+
+/// `table[key]` is the value at `key`, which has one; [`MetaSlotTable::get`] asks for nothing. O(1).
+impl<T, S: Table<T>, L: Table<Link>> Index<SlotTableKey> for MetaSlotTable<T, S, L> {
+    type Output = T;
+
+    ghost can_index = { λ table key. IsHeld table key };
+
+    ghost index_gives = { λ table key value. value_at table key ≡ Some value };
+
+    #[inline]
+    fn index(&self, key: SlotTableKey) -> &T {
+        self.get_unchecked(key)
+    }
+}
