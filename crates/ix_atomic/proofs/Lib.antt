@@ -19,6 +19,7 @@ pub mod StageBytes
 pub mod DataWords
 pub mod Encodes
 pub mod Triples
+pub mod ArrayEncodings
 pub mod OwnPlaces
 pub mod Owners
 pub mod EveryValue

@@ -1,2 +1,4 @@
 -- Laws of definitions that contracts cite.
+pub mod NumberLaws
 pub mod EncodingLaws
+pub mod ArrayLaws

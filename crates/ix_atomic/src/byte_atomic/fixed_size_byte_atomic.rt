@@ -2,9 +2,9 @@
 ghost use Rattle.std.specs.Prelude.{◌≡◌, length};
 
 use crate::byte_atomic::{AtomicCopy, MaybeTorn};
-use std::array;
 use std::marker::PhantomData;
 use std::sync::atomic::{AtomicU8, Ordering};
+use std::{array, fmt};
 
 /// A cell that is stored inline and holds the encoding of a `T` in `SIZE` atomic bytes. `SIZE` is the size of `T`.
 ///
@@ -54,5 +54,13 @@ impl<T: AtomicCopy, const SIZE: usize> FixedSizeByteAtomic<T, SIZE> {
         for (cell, byte) in self.bytes.iter().zip(&encoding) {
             cell.store(*byte, Ordering::Relaxed);
         }
+    }
+}
+
+/// Prints the type's name. The bytes may be those of a write in progress.
+impl<T, const SIZE: usize> fmt::Debug for FixedSizeByteAtomic<T, SIZE> {
+    fn fmt<W: fmt::Write>(&self, f: &mut fmt::Formatter<W>) -> fmt::Result {
+        f.debug_struct("FixedSizeByteAtomic")
+            .finish_non_exhaustive()
     }
 }

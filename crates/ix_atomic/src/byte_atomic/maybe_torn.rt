@@ -2,6 +2,7 @@
 ghost use Rattle.std.specs.Prelude.{◌≡◌, ◌↔◌, Some};
 
 use crate::byte_atomic::AtomicCopy;
+use std::fmt;
 use std::marker::{Model, PhantomData};
 
 /// The `SIZE` bytes that were read from a byte-wise atomic cell of `T`, one after the other. Contracts see it as these
@@ -57,5 +58,14 @@ impl<T: AtomicCopy, const SIZE: usize> MaybeTorn<T, SIZE> {
     {
         let MaybeTorn { bytes, of: _ } = self;
         T::decode(&bytes)
+    }
+}
+
+/// Prints the bytes, as `MaybeTorn { bytes: [1, 2] }`.
+impl<T, const SIZE: usize> fmt::Debug for MaybeTorn<T, SIZE> {
+    fn fmt<W: fmt::Write>(&self, f: &mut fmt::Formatter<W>) -> fmt::Result {
+        f.debug_struct("MaybeTorn")
+            .field("bytes", &self.bytes)
+            .finish()
     }
 }

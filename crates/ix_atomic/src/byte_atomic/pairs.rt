@@ -1,6 +1,8 @@
-//! The encodings of two and of three values, one after another, for structs of such fields.
-ghost use Rattle.std.specs.Prelude.{◌≡◌, ◌↔◌, ◌+◌, ◌++◌, length, Some};
+//! The encodings of two and of three values, one after another, for tuples and for structs of such fields.
+ghost use Rattle.std.specs.Prelude.{◌≡◌, ◌↔◌, ◌+◌, ◌<◌, ◌^◌, ◌++◌, length, Some};
+ghost use Rattle.ix_atomic.specs.Encoding.{joint_size};
 ghost use Rattle.ix_atomic.specs.inner.Decoding.{triple_of};
+ghost use Rattle.ix_atomic.specs.laws.EncodingLaws.{pair_encoding-len, pair_encoding-one_value, triple_encoding-len, triple_encoding-one_value};
 
 use crate::byte_atomic::AtomicCopy;
 
@@ -73,4 +75,72 @@ fn with_first<A: Copy, B: Copy, C: Copy>(
         (Some(first), Some((second, third))) => Some((first, second, third)),
         _ => None,
     }
+}
+
+/// The encodings of both values, one behind the other.
+///
+/// Their size is `usize::MAX` if it is more than that: no slice has as many bytes.
+impl<A: AtomicCopy, B: AtomicCopy> AtomicCopy for (A, B) {
+    const SIZE: usize = usize::saturating_add(A::SIZE, B::SIZE);
+
+    ghost SIZE = { joint_size A.SIZE B.SIZE };
+
+    ghost is_value = { λ pair. (A.is_value pair.0 × B.is_value pair.1)
+        × (A.SIZE + B.SIZE < 2 ^ 64) };
+
+    ghost encoding = { λ pair. A.encoding pair.0 ++ B.encoding pair.1 };
+
+    #[inline]
+    fn encode(&self, out: &mut [u8]) {
+        encode_pair(&self.0, &self.1, out);
+    }
+
+    #[inline]
+    fn decode(bytes: &[u8]) -> Option<(A, B)> {
+        decode_pair(bytes)
+    }
+
+    ghost encoding_len = { λ pair is.
+        pair_encoding-len (A.encoding pair.0) (B.encoding pair.1)
+        (A.encoding_len pair.0 is.0.0) (B.encoding_len pair.1 is.0.1) is.1 };
+
+    ghost one_value = { λ v w v_is w_is same.
+        pair_encoding-one_value A.is_value B.is_value A.encoding B.encoding A.SIZE A.encoding_len
+        A.one_value B.one_value v w v_is.0 w_is.0 same };
+}
+
+/// The encodings of the three values, one behind the other.
+///
+/// Their size is `usize::MAX` if it is more than that: no slice has as many bytes.
+impl<A: AtomicCopy, B: AtomicCopy, C: AtomicCopy> AtomicCopy for (A, B, C) {
+    const SIZE: usize = usize::saturating_add(A::SIZE, usize::saturating_add(B::SIZE, C::SIZE));
+
+    ghost SIZE = { joint_size A.SIZE (joint_size B.SIZE C.SIZE) };
+
+    ghost is_value = { λ triple.
+        (A.is_value triple.0 × B.is_value triple.1 × C.is_value triple.2)
+        × (A.SIZE + (B.SIZE + C.SIZE) < 2 ^ 64) };
+
+    ghost encoding = { λ triple.
+        A.encoding triple.0 ++ (B.encoding triple.1 ++ C.encoding triple.2) };
+
+    #[inline]
+    fn encode(&self, out: &mut [u8]) {
+        encode_triple(&self.0, &self.1, &self.2, out);
+    }
+
+    #[inline]
+    fn decode(bytes: &[u8]) -> Option<(A, B, C)> {
+        decode_triple(bytes)
+    }
+
+    ghost encoding_len = { λ triple is.
+        triple_encoding-len (A.encoding triple.0) (B.encoding triple.1) (C.encoding triple.2)
+        (A.encoding_len triple.0 is.0.0) (B.encoding_len triple.1 is.0.1)
+        (C.encoding_len triple.2 is.0.2) is.1 };
+
+    ghost one_value = { λ v w v_is w_is same.
+        triple_encoding-one_value A.is_value B.is_value C.is_value A.encoding B.encoding C.encoding
+        A.SIZE B.SIZE A.encoding_len B.encoding_len A.one_value B.one_value C.one_value
+        v w v_is.0 w_is.0 same };
 }

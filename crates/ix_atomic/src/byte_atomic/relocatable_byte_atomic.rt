@@ -5,6 +5,7 @@ ghost use Rattle.ix_atomic.specs.declared.byte_atomic.relocatable_byte_atomic.Th
 use crate::byte_atomic::{AtomicCopy, FixedSizeByteAtomic, MaybeTorn};
 use ix_cells::InitError;
 use std::alloc::{Allocator, Global};
+use std::fmt;
 use std::marker::PhantomData;
 use std::sync::atomic::AtomicU8;
 
@@ -93,5 +94,13 @@ impl<T: AtomicCopy, const SIZE: usize> UninitByteAtomic<T, SIZE> {
             Ok(cell) => Ok(RelocatableByteAtomic { cell }),
             Err(_) => Err(InitError::new(self)),
         }
+    }
+}
+
+/// Prints the type's name. The bytes may be those of a write in progress.
+impl<T, const SIZE: usize, A: Allocator> fmt::Debug for RelocatableByteAtomic<T, SIZE, A> {
+    fn fmt<W: fmt::Write>(&self, f: &mut fmt::Formatter<W>) -> fmt::Result {
+        f.debug_struct("RelocatableByteAtomic")
+            .finish_non_exhaustive()
     }
 }

@@ -1,6 +1,7 @@
 //! The seats of a cell: who may write to it, and who may read from it.
 use crate::sequenced::rule::SeatView;
 use atomic_table::Seat;
+use std::fmt;
 use std::marker::Model;
 
 /// Lets its holder read from one cell. It borrows nothing, and can be dropped.
@@ -50,4 +51,18 @@ impl<T> Model for WriterSeat<T> {
 
     ghost invariant = { λ writer. (writer.seat.me.1 ≡ []) × (parity writer.seat.me.0.stage ≡ 0)
         × (0 < length writer.seat.me.0.share) };
+}
+
+/// Prints the type's name.
+impl<T> fmt::Debug for ReaderSeat<T> {
+    fn fmt<W: fmt::Write>(&self, f: &mut fmt::Formatter<W>) -> fmt::Result {
+        f.debug_struct("ReaderSeat").finish_non_exhaustive()
+    }
+}
+
+/// Prints the type's name.
+impl<T> fmt::Debug for WriterSeat<T> {
+    fn fmt<W: fmt::Write>(&self, f: &mut fmt::Formatter<W>) -> fmt::Result {
+        f.debug_struct("WriterSeat").finish_non_exhaustive()
+    }
 }

@@ -18,6 +18,7 @@ use crate::sequenced::rule::{
 use crate::sequenced::seats::{ReaderSeat, WriterSeat};
 use atomic_table::{Seat, Table};
 use std::alloc::{AllocError, Allocator, Global};
+use std::fmt;
 use std::marker::Model;
 
 /// No allocation has more bytes than `isize::MAX`. One word is the version, each other one has eight bytes.
@@ -405,5 +406,13 @@ fn decoded<T: AtomicCopy>(bytes: &[u8]) -> T
     match T::decode(bytes) {
         Some(value) => value,
         None => unreachable!(),
+    }
+}
+
+/// Prints the type's name. A value is read with a seat.
+impl<T: AtomicCopy, const SIZE: usize> fmt::Debug for SequencedByteAtomic<T, SIZE> {
+    fn fmt<W: fmt::Write>(&self, f: &mut fmt::Formatter<W>) -> fmt::Result {
+        f.debug_struct("SequencedByteAtomic")
+            .finish_non_exhaustive()
     }
 }

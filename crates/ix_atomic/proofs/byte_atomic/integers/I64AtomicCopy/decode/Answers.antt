@@ -1,11 +1,11 @@
 use Rattle.std.proofs.Common.{ap, ◌∙◌, rules}
 use Rattle.std.specs.Int.{w64, cast_signed, from_le_bytes}
 use Rattle.std.proofs.lemmas.Int.{to_z-of_z}
-use Rattle.ix_atomic.proofs.LittleEndian.{i64_decoding}
+use Rattle.ix_atomic.proofs.LittleEndian.{signed_decoding}
 use Rattle.ix_atomic.proofs.byte_atomic.integers.I64AtomicCopy.decode.Goals as goal
 
 pub returns : goal.returns
 returns c =
     rw (to_z-of_z w64 c.from_le_bytes.result (search rules))
-    (i64_decoding c.args.bytes.now c.from_le_bytes.result c.requires (λ i. (c.type_inv.bytes i).fits)
+    (signed_decoding w64 c.args.bytes.now c.from_le_bytes.result c.requires (λ i. (c.type_inv.bytes i).fits)
     (c.from_le_bytes.ensures ∙ ap (λ bytes. cast_signed w64 (from_le_bytes w64 bytes)) c.to_array.ensures) (search rules))
