@@ -8,7 +8,6 @@ use Rattle.serde_json.specs.Data.{Data}
 use Rattle.serde_json.specs.Find.{as_array}
 use Rattle.serde_json.specs.View.{view, items_of, items_view}
 use Rattle.serde_json.specs.declared.value.Value.{Value}
-use Rattle.ix_cells.specs.declared.cells.table.TheConstants.{MAX_FIXED_CAPACITY}
 use Rattle.ix_names.specs.JsonTree.{with_first, entries_read, list_read}
 use Rattle.ix_names.specs.declared.json.json_fault.JsonFault.{JsonFault}
 use Rattle.ix_names.specs.declared.json.json_fault.JsonFault.TheVariants.{TooLong}
@@ -52,8 +51,8 @@ module _ {T : Type 0} where
         rw (map-append view front (value ∷ back)) (rw (entries_read-append (map view front) (view value ∷ map view back)) (rw so_far (rw (← this) refl)))
 
     -- a list of no more values than fit is read value by value
-    pub list_read-entries : (capacity : ℕ) (tree : Data) (values : List Value) → Some (items_view values) ≡ as_array tree → capacity ≤ MAX_FIXED_CAPACITY → length values ≤ capacity → entries_read read (items_view values) ≡ list_read capacity read tree
-    list_read-entries capacity tree values same fixed fits =
+    pub list_read-entries : (capacity : ℕ) (tree : Data) (values : List Value) → Some (items_view values) ≡ as_array tree → length values ≤ capacity → entries_read read (items_view values) ≡ list_read capacity read tree
+    list_read-entries capacity tree values same fits =
         let as_many = items_len-items_view values in
         rw (← same) (grind (arith, common_steps))
 
@@ -75,7 +74,7 @@ module _ {T : Type 0} where
       }
 
       -- the list of the forms of no more items than fit is read as these
-      pub list_read-AreForms : (capacity : ℕ) (tree : Data) (values : List Value) (items : List T) → Some (items_view values) ≡ as_array tree → AreForms values items → capacity ≤ MAX_FIXED_CAPACITY → length items ≤ capacity → list_read capacity read tree ≡ Ok items
-      list_read-AreForms capacity tree values items same forms fixed fits =
+      pub list_read-AreForms : (capacity : ℕ) (tree : Data) (values : List Value) (items : List T) → Some (items_view values) ≡ as_array tree → AreForms values items → length items ≤ capacity → list_read capacity read tree ≡ Ok items
+      list_read-AreForms capacity tree values items same forms fits =
           let as_many : length values ≡ length items = sym (length-map values view) ∙ ap length forms.trees ∙ length-map items tree_of in
-          sym (list_read-entries capacity tree values same fixed (omega arith)) ∙ forms.read_back
+          sym (list_read-entries capacity tree values same (omega arith)) ∙ forms.read_back

@@ -1,12 +1,20 @@
 -- The JSON tree of a value, and how a tree is read: as a value, or as the fault for which it is none.
-use Rattle.std.specs.Prelude.{ℕ, ℤ, pos, negsuc, ◌^◌, ◌&&◌, ◌||◌, nat_le, nat_lt, List, ◌∷◌, [], length, map, Bool, is_some, ok_or, option_and_then, if◌then◌else◌, Result, Ok, Err}
+use Rattle.std.specs.Prelude.{◌≡◌, ℕ, ℤ, pos, negsuc, ◌-◌, ◌^◌, ◌||◌, ◌==◌, nat_le, nat_lt, List, ◌∷◌, [], ◌++◌, length, map, Bool, is_some, ok_or, option_and_then, if◌then◌else◌, Result, Ok, Err}
+use Rattle.std.specs.BTreeMap.{insert_entry}
+use Rattle.std.specs.Cmp.Lexicographic.{pointwise, slice_cmp}
+use Rattle.std.specs.List.{fold}
 use Rattle.std.specs.Option.{option_map_or}
+use Rattle.std.specs.Ordering.{nat_cmp}
 use Rattle.std.specs.Result.{result_map_both}
-use Rattle.serde_json.specs.Data.{Data, null, number, array, unsigned, Items, no_items, item}
-use Rattle.serde_json.specs.Events.{items_len}
-use Rattle.serde_json.specs.Find.{as_null, as_bool, as_number, as_str, as_array, as_u64, as_i64, of_integer}
+use Rattle.serde_json.specs.Data.{Data, null, number, array, object, unsigned, Items, no_items, item, Members, no_members, member, put}
+use Rattle.serde_json.specs.Events.{items_len, members_len}
+use Rattle.serde_json.specs.Find.{as_null, as_bool, as_number, as_str, as_array, as_object, as_u64, as_i64, of_integer}
 use Rattle.serde_json.specs.View.{items_of}
-use Rattle.ix_cells.specs.declared.cells.table.TheConstants.{MAX_FIXED_CAPACITY}
+use Rattle.ix_cells.specs.Bounded.{Bounded, with_items}
+use Rattle.ix_maps.specs.FlatState.{flat_entry}
+use Rattle.ix_maps.specs.FlatSteps.{flat_insert, flat_remove}
+use Rattle.ix_maps.specs.SlotState.{SlotState}
+use Rattle.ix_maps.specs.declared.flatmap.pair.Pair.{Pair}
 use Rattle.ix_string.specs.Text.{is_text}
 use Rattle.ix_names.specs.Rules.{TextRules}
 use Rattle.ix_names.specs.declared.relocatable_option.RelocatableOption.{RelocatableOption}
@@ -68,10 +76,6 @@ accepted_read rules (Err fault) = Err fault
 abbrev pub semantic_read : ℕ → TextRules → Data → Result (List ℕ) JsonFault
 semantic_read capacity rules tree = accepted_read rules (text_read capacity tree)
 
--- a fixed vector may have this capacity, and there are no more entries
-abbrev pub fits_fixed : ℕ → Items → Bool
-fits_fixed capacity entries = nat_le capacity MAX_FIXED_CAPACITY && nat_le (items_len entries) capacity
-
 module _ {T : Type 0} where
   -- a list of the trees of the items, in order
   abbrev pub list_tree : (T → Data) → List T → Data
@@ -91,11 +95,16 @@ module _ {T : Type 0} where
   -- the items, if there is room for them: a lack of room is found before a fault of an entry
   abbrev pub items_read : ℕ → (Data → Result T JsonFault) → Items → Result (List T) JsonFault
   items_read capacity read entries =
-      if fits_fixed capacity entries then entries_read read entries else Err TooLong
+      if nat_le (items_len entries) capacity then entries_read read entries else Err TooLong
 
   -- the items of a list
   abbrev pub list_read : ℕ → (Data → Result T JsonFault) → Data → Result (List T) JsonFault
   list_read capacity read tree = option_map_or (items_read capacity read) (as_array tree) (Err WrongKind)
+
+  -- the items of a list behind those of a bounded list, if there is room for them
+  abbrev pub list_filled : (Data → Result T JsonFault) → Bounded T → Data → Result (Bounded T) JsonFault
+  list_filled read b tree =
+      result_map_both (λ items. with_items b (b.items ++ items)) (λ fault. fault) (list_read (b.capacity - length b.items) read tree)
 
   -- null, or the tree of the value
   abbrev pub option_tree : (T → Data) → RelocatableOption T → Data
@@ -107,3 +116,55 @@ module _ {T : Type 0} where
   option_read read tree =
       if is_some (as_null tree) then Ok relocatable.None
       else result_map_both relocatable.Some (λ fault. fault) (read tree)
+
+-- a flat map from texts to values
+abbrev pub TextMap : Type 0 → Type 0
+TextMap V = SlotState (Pair (List ℕ) V)
+
+module _ {V : Type 0} where
+  -- the members that these items are, each put at its key
+  abbrev pub item_members : (V → Data) → List (List ℕ × V) → Members
+  item_members tree_of items = fold (λ members entry. put entry.0 (tree_of entry.1) members) no_members items
+
+  -- an object with the tree of each value at its key
+  abbrev pub object_tree : (V → Data) → List (List ℕ × V) → Data
+  object_tree tree_of items = object (item_members tree_of items)
+
+  -- a key with its value, or the fault of the key, or else that of the value
+  abbrev pub with_key : Result (List ℕ) JsonFault → Result V JsonFault → Result (List ℕ × V) JsonFault
+  with_key (Ok key) (Ok value) = Ok (key, value)
+  with_key (Ok key) (Err fault) = Err fault
+  with_key (Err fault) value = Err fault
+
+  -- the items that the members are read as, or the fault of the first member that has one
+  abbrev pub members_read : (List ℕ → Result (List ℕ) JsonFault) → (Data → Result V JsonFault) → Members → Result (List (List ℕ × V)) JsonFault
+  members_read read_key read no_members = Ok []
+  members_read read_key read (member key value members) = with_first (with_key (read_key key) (read value)) (members_read read_key read members)
+
+  -- the items, if there is room for them: a lack of room is found before a fault of a member
+  abbrev pub object_read : ℕ → (List ℕ → Result (List ℕ) JsonFault) → (Data → Result V JsonFault) → Data → Result (List (List ℕ × V)) JsonFault
+  object_read room read_key read tree =
+      option_map_or (λ members. if nat_le (members_len members) room then members_read read_key read members else Err TooLong) (as_object tree) (Err WrongKind)
+
+  -- the key that was read, if the map has no equal one
+  abbrev pub new_key : TextMap V → Result (List ℕ) JsonFault → Result (List ℕ) JsonFault
+  new_key s (Ok key) = if is_some (flat_entry (pointwise ◌==◌) s key) then Err InvalidContent else Ok key
+  new_key s (Err fault) = Err fault
+
+  -- the map with these items too, inserted in turn
+  abbrev pub map_with : TextMap V → List (List ℕ × V) → TextMap V
+  map_with s items = fold (λ s entry. flat_insert (pointwise ◌==◌) s entry.0 entry.1) s items
+
+  -- the map with the items of an object too, if there is room for them and it has none of their keys
+  abbrev pub object_filled : ℕ → (Data → Result V JsonFault) → TextMap V → Data → Result (TextMap V) JsonFault
+  object_filled key_capacity read s tree =
+      result_map_both (map_with s) (λ fault. fault) (object_read (length s.free) (λ key. new_key s (bytes_read key_capacity key)) read tree)
+
+  -- the items in the order of their keys
+  abbrev pub by_key : List (List ℕ × V) → List (List ℕ × V)
+  by_key items = fold (λ sorted entry. insert_entry (slice_cmp nat_cmp) sorted entry.0 entry.1) [] items
+
+  -- the map without the keys of these items, of which the last is removed first
+  abbrev pub map_without : TextMap V → List (List ℕ × V) → TextMap V
+  map_without s [] = s
+  map_without s (entry ∷ items) = flat_remove (pointwise ◌==◌) (map_without s items) entry.0

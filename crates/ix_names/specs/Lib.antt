@@ -4,4 +4,5 @@ pub mod Optional
 pub mod Rules
 pub mod SampleRules
 pub mod SemanticSteps
+pub mod inner
 pub mod laws

@@ -8,12 +8,17 @@
 //! StaticString::<3>::from_value(&value);                               // Err(JsonFault::WrongKind)
 //! ```
 
+mod allocated_vectors;
 mod fixed_vectors;
 mod json_fault;
+mod json_fill;
 mod json_form;
+mod lists;
+mod maps;
 mod options;
 mod other_signed;
 mod other_unsigned;
+mod queues;
 mod semantic_strings;
 mod signed;
 mod texts;
@@ -21,4 +26,5 @@ mod truth;
 mod unsigned;
 
 pub use json_fault::JsonFault;
+pub use json_fill::JsonFill;
 pub use json_form::{JsonForm, JsonItem};

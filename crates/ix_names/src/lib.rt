@@ -6,8 +6,9 @@ pub mod json;
 pub mod relocatable_option;
 pub mod semantic_string;
 
-pub use json::{JsonFault, JsonForm, JsonItem};
+pub use json::{JsonFault, JsonFill, JsonForm, JsonItem};
 pub use relocatable_option::RelocatableOption;
 pub use semantic_string::{
-    GroupName, GroupNameRules, Rules, Semantic, SemanticStringError, TrailingSlashRules,
+    DefaultText, GroupName, GroupNameRules, Rules, Semantic, SemanticStringError,
+    TrailingSlashRules,
 };

@@ -5,12 +5,14 @@
 //! GroupName::new(b"1a");      // Err(SemanticStringError::InvalidContent)
 //! ```
 
+mod default_text;
 mod group_name;
 mod rules;
 mod semantic;
 mod semantic_string_error;
 mod trailing_slash;
 
+pub use default_text::DefaultText;
 pub use group_name::{GroupName, GroupNameRules};
 pub use rules::Rules;
 pub use semantic::Semantic;

@@ -1,16 +1,51 @@
 //! Fixed strings in JSON.
+ghost use Rattle.std.specs.Prelude.{◌≡◌, [], Ok, IfOk, IfErr, IsOk, string_bytes};
+ghost use Rattle.ix_names.specs.JsonTree.{bytes_read};
+ghost use Rattle.ix_names.specs.declared.json.json_fault.JsonFault.TheVariants.{OutOfMemory};
 
 use crate::json::{JsonFault, JsonForm, JsonItem};
 use ix_string::{StaticString, String, StringModificationError};
 use serde_json::Value;
 use std::alloc::Global;
 
+/// Returns the string that a text is read as, or the fault.
+pub(super) fn string_from_text<const CAPACITY: usize>(
+    text: &str,
+) -> Result<StaticString<CAPACITY>, JsonFault>
+    ensures { result ≡ bytes_read CAPACITY text.now }
+{
+    match StaticString::from_bytes(text.as_bytes()) {
+        Ok(string) => Ok(string),
+        Err(StringModificationError::InsertWouldExceedCapacity) => Err(JsonFault::TooLong),
+        Err(StringModificationError::InvalidCharacter) => Err(JsonFault::BadByte),
+    }
+}
+
+/// Returns the text of a string. Allocates from `alloc`.
+pub(super) fn text_from_string<const CAPACITY: usize>(
+    string: &StaticString<CAPACITY>,
+    alloc: Global,
+) -> Result<std::string::String, JsonFault>
+    ensures text { IfOk result (λ text. string_bytes text ≡ string.now) }
+    ensures read_back { IsOk result → bytes_read CAPACITY string.now ≡ Ok string.now }
+    ensures fault { IfErr result (λ fault. fault ≡ OutOfMemory) }
+    ensures memory { string.now ≡ [] → IsOk result }
+{
+    let Ok(mut bytes) = Vec::with_capacity(alloc, string.len()) else {
+        return Err(JsonFault::OutOfMemory);
+    };
+    let Ok(()) = bytes.extend_from_slice(string.as_bytes()) else {
+        return Err(JsonFault::OutOfMemory);
+    };
+    // SAFETY: bytes from 1 to 127 are UTF-8.
+    Ok(unsafe { std::string::String::from_utf8_unchecked(bytes) })
+}
+
 /// A text.
 ///
 /// Reading returns [`JsonFault::WrongKind`] if the value is no text, otherwise [`JsonFault::TooLong`] if it has more
 /// than `CAPACITY` bytes, and otherwise [`JsonFault::BadByte`] if one of them is 0 or above 127. O(`len`).
 impl<const CAPACITY: usize> JsonForm for StaticString<CAPACITY> {
-    ghost use Rattle.std.specs.Prelude.{◌≡◌, []};
     ghost use Rattle.serde_json.specs.Data.{string};
     ghost use Rattle.ix_names.specs.JsonTree.{text_read};
 
@@ -21,26 +56,14 @@ impl<const CAPACITY: usize> JsonForm for StaticString<CAPACITY> {
     ghost is_infallible = { λ bytes. bytes ≡ [] };
 
     fn to_value(&self, alloc: Global) -> Result<Value, JsonFault> {
-        let Ok(mut bytes) = Vec::with_capacity(alloc, self.len()) else {
-            return Err(JsonFault::OutOfMemory);
-        };
-        let Ok(()) = bytes.extend_from_slice(self.as_bytes()) else {
-            return Err(JsonFault::OutOfMemory);
-        };
-        // SAFETY: bytes from 1 to 127 are UTF-8.
-        let text = unsafe { std::string::String::from_utf8_unchecked(bytes) };
-        Ok(Value::String(text))
+        Ok(Value::String(text_from_string(self, alloc)?))
     }
 
     fn from_value(value: &Value) -> Result<Self, JsonFault> {
         let Some(text) = value.as_str() else {
             return Err(JsonFault::WrongKind);
         };
-        match StaticString::from_bytes(text.as_bytes()) {
-            Ok(string) => Ok(string),
-            Err(StringModificationError::InsertWouldExceedCapacity) => Err(JsonFault::TooLong),
-            Err(StringModificationError::InvalidCharacter) => Err(JsonFault::BadByte),
-        }
+        string_from_text(text)
     }
 }
 

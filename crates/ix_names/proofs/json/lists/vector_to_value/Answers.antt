@@ -5,7 +5,7 @@ use Rattle.serde_json.specs.Data.{array}
 use Rattle.serde_json.specs.Find.{as_array}
 use Rattle.serde_json.specs.View.{items_of}
 use Rattle.ix_names.proofs.Entries.{AreForms-push, list_read-AreForms}
-use Rattle.ix_names.proofs.json.fixed_vectors.StaticVecJsonForm.to_value.Goals as goal
+use Rattle.ix_names.proofs.json.lists.vector_to_value.Goals as goal
 
 pub loop-item-preserved : goal.loop-item-preserved
 loop-item-preserved g c =
@@ -23,12 +23,12 @@ pub returns-clause-value : goal.returns-clause-value
 returns-clause-value g c =
     let same = c.as_slice-item-items.ensures in
     let done = c.loop-item-test.false in
-    let all : take c.loop-item.item-index c.as_slice-item-items.result.now ≡ c.args.self.now = grind (arith, common_steps) in
+    let all : take c.loop-item.item-index c.as_slice-item-items.result.now ≡ (g.V.Vector.bounded c.args.vector.now).items = grind (arith, common_steps) in
     view-Array c.loop-item.entries ∙ ap (λ trees. array (items_of trees)) (rw all at c.loop-item.invariant.trees)
 
 pub returns-clause-read_back : goal.returns-clause-read_back
-returns-clause-read_back g c fixed =
+returns-clause-read_back g c =
     let same = c.as_slice-item-items.ensures in
     let done = c.loop-item-test.false in
-    let all : take c.loop-item.item-index c.as_slice-item-items.result.now ≡ c.args.self.now = grind (arith, common_steps) in
-    list_read-AreForms g.T.JsonForm.read g.T.JsonForm.tree g.row.CAPACITY _ _ _ (sym (ap as_array (view-Array c.loop-item.entries))) (rw all at c.loop-item.invariant) fixed c.len.ensures.within
+    let all : take c.loop-item.item-index c.as_slice-item-items.result.now ≡ (g.V.Vector.bounded c.args.vector.now).items = grind (arith, common_steps) in
+    list_read-AreForms g.T.JsonForm.read g.T.JsonForm.tree (g.V.Vector.bounded c.args.vector.now).capacity _ _ _ (sym (ap as_array (view-Array c.loop-item.entries))) (rw all at c.loop-item.invariant) c.len.ensures.within

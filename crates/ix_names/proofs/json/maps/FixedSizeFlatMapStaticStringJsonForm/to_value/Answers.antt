@@ -1,0 +1,14 @@
+use Rattle.ix_maps.specs.FlatState.{flat_items}
+use Rattle.ix_maps.specs.SlotState.{slot_new}
+use Rattle.ix_names.specs.JsonTree.{object_tree, object_filled}
+use Rattle.ix_names.proofs.Objects.{object_filled-slot_new, read_back-IfOk}
+use Rattle.ix_names.proofs.json.maps.FixedSizeFlatMapStaticStringJsonForm.to_value.Goals as goal
+
+pub returns-clause-read_back : goal.returns-clause-read_back
+returns-clause-read_back g c is =
+    let map = c.args.self.now in
+    let written = c.map_to_value.ensures in
+    let tree_of = g.V.JsonForm.tree in
+    let read = g.V.JsonForm.read in
+    read_back-IfOk (object_filled g.row.N read (slot_new g.row.CAPACITY)) (object_tree tree_of (flat_items map)) map c.map_to_value.result written.value
+    (λ ok. object_filled-slot_new tree_of g.row.N read map (written.read_back ok) g.row.CAPACITY is)

@@ -1,0 +1,63 @@
+use Rattle.std.proofs.Common.{◌≡◌, ◌<◌, ◌≤◌, ◌+◌, ◌-◌, ◌∷◌, [], ◌++◌, length, take, drop, arith, true}
+use Rattle.std.proofs.lemmas.Grind.{common_steps}
+use Rattle.ix_cells.specs.Bounded.{has_room, with_items}
+use Rattle.ix_names.proofs.Filling.{IsFilledWith-push, IsFilledWith-all, list_filled-fault, list_filled-too_long}
+use Rattle.ix_names.proofs.json.queues.push_items.Goals as goal
+
+pub returns-then-len-capacity-clause-fault : goal.returns-then-len-capacity-clause-fault
+returns-then-len-capacity-clause-fault g c =
+    let found = rw c.in-Some.is at c.as_array.ensures in
+    let old = c.args.queue.now in
+    let more = c.if-len-capacity.true in
+    let room = c.capacity.ensures in let count = c.len-len.ensures.value in
+    let longer : old.capacity - length old.items < length c.in-Some.entries.now.items = grind (arith, common_steps, c.len.ensures, c.in-Some.entries.now.ok) in
+    list_filled-too_long g.T.JsonForm.read old _ c.in-Some.entries.now.items found longer
+
+pub returns-in-Err-clause-fault : goal.returns-in-Err-clause-fault
+returns-in-Err-clause-fault g c =
+    let values = c.in-Some.entries.now.items in
+    let i = c.loop-entry.entry-index in
+    let value = c.entry-item.result in
+    let below = c.loop-entry-test.true in
+    let same = c.deref-entry-items.ensures.value in
+    let so_far = rw same at c.loop-entry.invariant in
+    let parts : values ≡ take i values ++ value ∷ drop (i + 1) values = grind (arith, common_steps, c.entry-item.is) in
+    let found = rw c.in-Some.is at c.as_array.ensures in
+    let old = c.args.queue.now in
+    let room = c.capacity.ensures in let count = c.len-len.ensures.value in
+    let within = c.if-len-capacity.false in
+    let fits : length values ≤ old.capacity - length old.items = grind (arith, common_steps, c.len.ensures, c.in-Some.entries.now.ok) in
+    list_filled-fault g.T.JsonForm.read old _ values (take i values) (drop (i + 1) values) value c.loop-entry.queue c.in-Err.fault found fits parts so_far c.in-Err.ensures.value
+
+pub loop-entry-preserved : goal.loop-entry-preserved
+loop-entry-preserved g c =
+    let values = c.deref-entry-items.result.now in
+    let i = c.loop-entry.entry-index in
+    let value = c.entry-item.result in
+    let below = c.loop-entry-test.true in
+    let next : take (i + 1) values ≡ take i values ++ value ∷ [] = grind (arith, common_steps, c.entry-item.is) in
+    let filled = c.loop-entry.invariant in
+    let item = c.in-Ok.item in
+    let same = c.deref-entry-items.ensures.value in
+    let so_far : length (take i values) ≡ i = grind (arith, common_steps) in
+    let counted = c.len-len.ensures.value in
+    let room = c.capacity.ensures in
+    let fits = c.if-len-capacity.false in
+    let entries : c.len.result ≡ length values = grind (arith, common_steps, c.len.ensures, c.in-Some.entries.now.ok) in
+    let place : length c.loop-entry.queue.items < c.loop-entry.queue.capacity = omega (arith, filled.as_many, filled.capacity) in
+    let yes : has_room c.loop-entry.queue ≡ true = grind (arith, common_steps) in
+    let pushed : c.push.new.self ≡ with_items c.loop-entry.queue (c.loop-entry.queue.items ++ item ∷ []) = rw yes at c.push.ensures.queue in
+    rw next (IsFilledWith-push g.T.JsonForm.read c.args.queue.now (take i values) value c.loop-entry.queue c.push.new.self item filled c.in-Ok.ensures.value pushed)
+
+pub returns-clause-filled : goal.returns-clause-filled
+returns-clause-filled g c =
+    let values = c.in-Some.entries.now.items in
+    let done = c.loop-entry-test.false in
+    let same = c.deref-entry-items.ensures.value in
+    let all : take c.loop-entry.entry-index c.deref-entry-items.result.now ≡ values = grind (arith, common_steps) in
+    let found = rw c.in-Some.is at c.as_array.ensures in
+    let old = c.args.queue.now in
+    let room = c.capacity.ensures in let count = c.len-len.ensures.value in
+    let within = c.if-len-capacity.false in
+    let fits : length values ≤ old.capacity - length old.items = grind (arith, common_steps, c.len.ensures, c.in-Some.entries.now.ok) in
+    IsFilledWith-all g.T.JsonForm.read old _ values _ found fits (rw all at c.loop-entry.invariant)

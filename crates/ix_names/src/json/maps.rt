@@ -1,0 +1,187 @@
+//! Flat maps from strings in JSON.
+ghost use Rattle.std.specs.Prelude.{◌≡◌, ◌≢◌, ◌==◌, [], Ok, Err, IfOk, IfErr, IsOk, OnOk};
+ghost use Rattle.std.specs.Cmp.Lexicographic.{pointwise};
+ghost use Rattle.std.specs.List.{AllByRecursion};
+ghost use Rattle.std.specs.Result.{result_map_both};
+ghost use Rattle.serde_json.specs.View.{view, members_view};
+ghost use Rattle.ix_maps.specs.FlatState.{HasDistinctKeys, flat_items};
+ghost use Rattle.ix_names.specs.JsonTree.{bytes_read, object_tree, members_read, new_key, map_with};
+ghost use Rattle.ix_names.specs.inner.Objects.{IsItemReadBack};
+ghost use Rattle.ix_names.specs.declared.json.json_fault.JsonFault.TheVariants.{OutOfMemory};
+
+use crate::json::texts::{string_from_text, text_from_string};
+use crate::json::{JsonFault, JsonFill, JsonForm, JsonItem};
+use ix_cells::Table;
+use ix_maps::{FixedSizeFlatMap, FlatMap, Link, MetaFlatMap, Pair};
+use ix_string::StaticString;
+use serde_json::{Map, Value};
+use std::alloc::{Allocator, Global};
+
+/// Returns the object of the forms of the values, each at its key.
+fn map_to_value<
+    V: JsonItem + Drop,
+    S: Table<Pair<StaticString<N>, V>>,
+    L: Table<Link>,
+    const N: usize,
+>(map: &MetaFlatMap<Pair<StaticString<N>, V>, S, L>, alloc: Global) -> Result<Value, JsonFault>
+    ensures value { IfOk result (λ value. view value ≡ object_tree V.tree (flat_items map.now)) }
+    ensures read_back { IsOk result
+        → AllByRecursion (IsItemReadBack N V.tree V.read) (flat_items map.now) }
+    ensures distinct { HasDistinctKeys (pointwise ◌==◌) map.now }
+    ensures fault { IfErr result (λ fault. fault ≡ OutOfMemory) }
+    ensures memory { flat_items map.now ≡ [] → IsOk result }
+{
+    // Names the number of keys, by which the check knows that no two of them are equal.
+    let _len = map.len();
+    let mut members = Map::new(alloc);
+    for (key, value) in map.iter() {
+        let name = text_from_string(key, alloc)?;
+        let member = value.to_value(alloc)?;
+        let Ok(previous) = members.insert(name, member) else {
+            return Err(JsonFault::OutOfMemory);
+        };
+        drop(previous);
+    }
+    Ok(Value::Object(members))
+}
+
+/// Returns the fault of the first member that has one. A key that the map has is a fault too.
+fn check_members<
+    V: JsonForm + Drop,
+    S: Table<Pair<StaticString<N>, V>>,
+    L: Table<Link>,
+    const N: usize,
+>(
+    map: &MetaFlatMap<Pair<StaticString<N>, V>, S, L>,
+    members: &Map<std::string::String, Value>,
+) -> Result<(), JsonFault>
+    ensures value { result ≡ result_map_both (λ _. tt) (λ fault. fault)
+        (members_read (λ key. new_key map.now (bytes_read N key)) V.read
+        (members_view members.now.entries)) }
+    ensures memory { result ≢ Err OutOfMemory }
+{
+    for (name, member) in members.iter() {
+        let key = string_from_text(name.as_str())?;
+        if map.contains(&key) {
+            return Err(JsonFault::InvalidContent);
+        }
+        drop(V::from_value(member)?);
+    }
+    Ok(())
+}
+
+/// Inserts the items that the members are read as, up to the first member that has a fault.
+fn insert_members<
+    V: JsonForm + Drop,
+    S: Table<Pair<StaticString<N>, V>>,
+    L: Table<Link>,
+    const N: usize,
+>(
+    map: &mut MetaFlatMap<Pair<StaticString<N>, V>, S, L>,
+    members: &Map<std::string::String, Value>,
+) -> Result<(), JsonFault>
+    ensures map { OnOk result (result_map_both (map_with map.old) (λ fault. fault)
+        (members_read (bytes_read N) V.read (members_view members.now.entries)) ≡ Ok map.new) }
+    ensures fault { IfErr result (λ fault. result_map_both (map_with map.old) (λ fault. fault)
+        (members_read (bytes_read N) V.read (members_view members.now.entries)) ≡ Err fault) }
+    ensures memory { result ≢ Err OutOfMemory }
+{
+    for (name, member) in members.iter() {
+        let key = string_from_text(name.as_str())?;
+        let value = V::from_value(member)?;
+        drop(map.insert(key, value));
+    }
+    Ok(())
+}
+
+/// An object with a member for each key: the key's text, and the form of the value. Members are in the order of their keys.
+///
+/// Reading inserts the members in that order. It returns [`JsonFault::WrongKind`] if the value is no object, otherwise
+/// [`JsonFault::TooLong`] if it has more than `CAPACITY` members, and otherwise the fault of the first member that has one: that
+/// of its key, as of a [`StaticString`], or else that of its value. Members after that one are not read.
+///
+/// The slot order of the map that is read is that of the keys. So a map is read back as it was if it is the one that inserting its
+/// keys in their order makes of a new map.
+///
+/// O(`CAPACITY`) for each member, with as many calls of the values' conversion as there are keys.
+///
+/// ```text
+/// let mut ports = FixedSizeFlatMap::<StaticString<5>, u64, 3>::new();
+/// ports.insert(StaticString::try_from("https")?, 443);   // Ok(())
+/// ports.insert(StaticString::try_from("http")?, 80);     // Ok(())
+/// ports.to_value(alloc)?;                                // {"http":80,"https":443}
+/// ```
+impl<V: JsonItem + Drop, const N: usize, const CAPACITY: usize> JsonForm
+    for FixedSizeFlatMap<StaticString<N>, V, CAPACITY> {
+    ghost use Rattle.ix_maps.specs.SlotState.{slot_new};
+    ghost use Rattle.ix_names.specs.JsonTree.{object_filled, by_key};
+
+    ghost tree = { λ map. object_tree V.tree (flat_items map) };
+
+    ghost read = { object_filled N V.read (slot_new CAPACITY) };
+
+    ghost is_read_back = { λ map. map_with (slot_new CAPACITY) (by_key (flat_items map)) ≡ map };
+
+    ghost is_infallible = { λ map. flat_items map ≡ [] };
+
+    fn to_value(&self, alloc: Global) -> Result<Value, JsonFault> {
+        map_to_value(self, alloc)
+    }
+
+    fn from_value(value: &Value) -> Result<Self, JsonFault> {
+        let Some(members) = value.as_object() else {
+            return Err(JsonFault::WrongKind);
+        };
+        if members.len() > CAPACITY {
+            return Err(JsonFault::TooLong);
+        }
+        let mut map = FixedSizeFlatMap::default();
+        insert_members(&mut map, members)?;
+        Ok(map)
+    }
+}
+
+/// An object with a member for each key: the key's text, and the form of the value. Members are in the order of their keys.
+///
+/// Reading inserts the members in that order. It returns [`JsonFault::WrongKind`] if the value is no object, otherwise
+/// [`JsonFault::TooLong`] if it has more members than there is room for, and otherwise the fault of the first member that has one:
+/// that of its key, as of a [`StaticString`], or [`JsonFault::InvalidContent`] if the map has the key, or else that of its value.
+/// Members after that one are not read.
+///
+/// A map that is written and emptied takes the same keys and values in again. Each is at the place that it had if the keys were
+/// removed in the opposite of their order.
+///
+/// O(capacity) for each member. Writing calls the values' conversion once for each key, and reading twice for each member, since
+/// all are tried before the first is inserted.
+///
+/// ```text
+/// let mut ports = FlatMap::<StaticString<5>, u64>::new(alloc, 3)?;
+/// ports.fill_from_value(&value)?;     // of {"http":80,"https":443}
+/// ports.fill_from_value(&value);      // Err(JsonFault::TooLong)
+/// ```
+impl<V: JsonItem + Drop, A: Allocator, const N: usize> JsonFill for FlatMap<StaticString<N>, V, A> {
+    ghost use Rattle.ix_names.specs.JsonTree.{object_filled, by_key, map_without};
+
+    ghost tree = { λ map. object_tree V.tree (flat_items map) };
+
+    ghost filled = { object_filled N V.read };
+
+    ghost emptied = { λ map. map_without map (by_key (flat_items map)) };
+
+    ghost is_infallible = { λ map. flat_items map ≡ [] };
+
+    fn to_value(&self, alloc: Global) -> Result<Value, JsonFault> {
+        map_to_value(self, alloc)
+    }
+
+    fn fill_from_value(&mut self, value: &Value) -> Result<(), JsonFault> {
+        let Some(members) = value.as_object() else {
+            return Err(JsonFault::WrongKind);
+        };
+        if members.len() > self.capacity() - self.len() {
+            return Err(JsonFault::TooLong);
+        }
+        check_members(self, members)?;
+        insert_members(self, members)
+    }
+}

@@ -1,0 +1,50 @@
+//! Rules that name a text which they accept.
+ghost use Rattle.std.specs.Prelude.{◌≡◌, ℕ, List, [], refl};
+ghost use Rattle.ix_names.specs.Rules.{IsAccepted};
+
+use crate::semantic_string::{Rules, Semantic, TrailingSlashRules};
+
+/// Rules that name a text which they accept: [`Semantic`] strings of such rules have a default, and can be the items of a
+/// fixed vector.
+///
+/// ```text
+/// impl DefaultText<31> for ZoneNameRules {
+///     fn default_text() -> &'static str {
+///         "local"
+///     }
+/// }
+/// ```
+pub trait DefaultText<const CAPACITY: usize>: Rules<CAPACITY> {
+    /// The text that is named.
+    ghost default_text: { List ℕ };
+
+    /// Returns the text that is named. O(1).
+    fn default_text() -> &'static str
+        ensures { result.now ≡ default_text };
+
+    /// It is accepted.
+    ghost default_accepted: { IsAccepted CAPACITY Self.rules default_text };
+}
+
+/// The text that the rules name. O(`CAPACITY`).
+impl<R: DefaultText<CAPACITY>, const CAPACITY: usize> Default for Semantic<R, CAPACITY> {
+    ghost is_default = { λ string. string ≡ R.default_text };
+
+    fn default() -> Self {
+        Semantic::new_unchecked(R::default_text().as_bytes())
+    }
+}
+
+/// The empty text.
+impl DefaultText<255> for TrailingSlashRules {
+    ghost use Rattle.std.proofs.Common.{rules};
+
+    ghost default_text = { [] };
+
+    #[inline]
+    fn default_text() -> &'static str {
+        ""
+    }
+
+    ghost default_accepted = { Prim.search rules };
+}
