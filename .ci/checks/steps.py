@@ -17,6 +17,8 @@ byte_atomic/fixed_size_byte_atomic.rt write: for (cell, byte) in self.bytes.iter
 byte_atomic/fixed_size_byte_atomic.rt write: cell.store(*byte, Ordering::Relaxed)
 byte_atomic/relocatable_byte_atomic.rt MAX_SIZE: isize::MAX as usize / size_of::<AtomicU8>()
 byte_atomic/relocatable_byte_atomic.rt init: Box::new(alloc, FixedSizeByteAtomic::new(value))
+byte_atomic/value_arrays.rt encode_array: for value in values
+byte_atomic/value_arrays.rt decode_array: for i in 1..N
 sequenced/data_words.rt new_words: Vec::new(alloc)
 sequenced/data_words.rt new_words: words.push(0)
 sequenced/data_words.rt new_words: for i in 0..bytes.len().div_ceil(8)

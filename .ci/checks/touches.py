@@ -14,7 +14,9 @@ FILES = [path for path in paths("ix_maps", "src/slot*/*.rt") if not path.endswit
 # By file, the functions that go through places, as their documentation says: those that make, end, walk or print a container.
 WALKS = {
     "compared": ("eq",),
-    "free_list": ("link_all",),
+    "copies": ("fill_with_clones", "put_clones", "copy_free_keys", "clone", "try_clone_in"),
+    "drain": ("drop", "next", "fmt"),
+    "free_list": ("link_all", "copy_links"),
     "into_iter": ("next",),
     "iter": ("next", "fmt"),
     "keys": ("fmt",),
@@ -23,10 +25,10 @@ WALKS = {
     "values": ("fmt",),
     "whole": ("clear", "for_each_mut", "retain"),
     "meta_slot_map": ("held_from", "fmt"),
-    "word_table": ("new", "drop", "fill", "empty"),
+    "word_table": ("new", "copy_of", "drop", "fill", "copy_words", "empty"),
 }
 # Calls of a single step: those of counted tables, of new values, and of std.
-CALLS = {".put", ".take", ".get", ".get_mut", ".len", ".as_ref", ".is_some", "Touches::new", "SlotTableKey::new", "SlotMapKey::new",
+CALLS = {"item", "item_mut", ".put", ".take", ".get", ".get_mut", ".len", ".inline_len", ".as_ref", ".is_some", "Touches::new", "SlotTableKey::new", "SlotMapKey::new",
          "Link::held", "Iter::new", "Keys::new", "Values::new", "mem::replace", "write!", "Some", "Ok", "Err"}
 FUNCTION = re.compile(r"( *)(?:pub(?:\(crate\))? )?fn (\w+)")
 LOOP = re.compile(r"\b(?:for|while|loop)\b")

@@ -4,6 +4,7 @@
 
 mod flat_maps;
 mod generator;
+mod hash_maps;
 mod queues;
 mod semantic_strings;
 mod sequenced_cells;
@@ -13,6 +14,7 @@ mod strings;
 mod vectors;
 
 use flat_maps::Layout;
+use hash_maps::Room;
 use std::alloc::Global;
 
 /// Push and pop on a fixed queue of 64 that holds 20.
@@ -157,6 +159,48 @@ pub extern "C" fn ix_bench_flat_get__half(alloc: Global, rounds: u64, param: u64
 #[unsafe(no_mangle)]
 pub extern "C" fn ix_bench_flat_miss__half(alloc: Global, rounds: u64, param: u64) -> u64 {
     flat_maps::misses(alloc, rounds, param, Layout::Half)
+}
+
+/// Removes a key of a full allocated flat map of `param`, and inserts another one.
+#[unsafe(no_mangle)]
+pub extern "C" fn ix_bench_flat_exchange(alloc: Global, rounds: u64, param: u64) -> u64 {
+    hash_maps::flat_exchanges(alloc, rounds, param)
+}
+
+/// Looks up a key of a full allocated hash map of `param`.
+#[unsafe(no_mangle)]
+pub extern "C" fn ix_bench_hash_get(alloc: Global, rounds: u64, param: u64) -> u64 {
+    hash_maps::hits(alloc, rounds, param, Room::Full)
+}
+
+/// Looks up a key of an allocated hash map of twice `param`, which is half full.
+#[unsafe(no_mangle)]
+pub extern "C" fn ix_bench_hash_get__half(alloc: Global, rounds: u64, param: u64) -> u64 {
+    hash_maps::hits(alloc, rounds, param, Room::Half)
+}
+
+/// Looks up a key that a full allocated hash map of `param` does not have.
+#[unsafe(no_mangle)]
+pub extern "C" fn ix_bench_hash_miss(alloc: Global, rounds: u64, param: u64) -> u64 {
+    hash_maps::misses(alloc, rounds, param, Room::Full)
+}
+
+/// Looks up a key that an allocated hash map of twice `param`, which is half full, does not have.
+#[unsafe(no_mangle)]
+pub extern "C" fn ix_bench_hash_miss__half(alloc: Global, rounds: u64, param: u64) -> u64 {
+    hash_maps::misses(alloc, rounds, param, Room::Half)
+}
+
+/// Removes a key of a full allocated hash map of `param`, and inserts another one.
+#[unsafe(no_mangle)]
+pub extern "C" fn ix_bench_hash_exchange(alloc: Global, rounds: u64, param: u64) -> u64 {
+    hash_maps::exchanges(alloc, rounds, param, Room::Full)
+}
+
+/// Removes a key of an allocated hash map of twice `param`, which is half full, and inserts another one.
+#[unsafe(no_mangle)]
+pub extern "C" fn ix_bench_hash_exchange__half(alloc: Global, rounds: u64, param: u64) -> u64 {
+    hash_maps::exchanges(alloc, rounds, param, Room::Half)
 }
 
 /// Two pushes and a pop on a fixed vector of 64.

@@ -91,3 +91,40 @@ pub fn check_makings<F: Fn(&LocalHeap, usize) -> Option<usize>>(
         },
     );
 }
+
+/// Calls `make` with a heap that has just `bytes` free, which are whole blocks, and with one that has a block less. It makes
+/// something of this capacity and returns how many bytes of the heap are in use with it, or `None` if the making was refused.
+///
+/// Notes the capacity where the making is refused with room, succeeds without, or takes less.
+///
+/// ```text
+/// check_room(&findings, alloc, 1600, 100, |heap: &LocalHeap| {
+///     match PolymorphicVec::<u128, _>::new(heap, 100) {
+///         Ok(_vector) => Some(heap.used()),
+///         Err(AllocError) => None,
+///     }
+/// });
+/// ```
+pub fn check_room<F: Fn(&LocalHeap) -> Option<usize>>(
+    findings: &Findings,
+    alloc: Global,
+    bytes: usize,
+    capacity: usize,
+    make: F,
+)
+    requires { F.IsAlwaysCallable make }
+{
+    for (more, is_enough) in [(BLOCK, true), (0, bytes == 0)] {
+        let Ok(heap) = LocalHeap::new(alloc, bytes.saturating_add(more).max(BLOCK)) else {
+            return findings.miss("a heap");
+        };
+        let held = Box::new(&heap, 0u64);
+        findings.expect_at(held.is_ok(), capacity, "a block");
+        let all = if is_enough {
+            Some(bytes.saturating_add(BLOCK))
+        } else {
+            None
+        };
+        findings.expect_same_at(make(&heap), all, capacity, "the bytes in use");
+    }
+}

@@ -25,7 +25,7 @@ mod rows;
 mod slow_table;
 mod walks;
 
-pub use blocks::{check_makings, check_sizes};
+pub use blocks::{check_makings, check_room, check_sizes};
 pub use by_traits::{check_display, check_printed, check_text, hash_of, order_of};
 pub use drawn_sizes::check_drawn_sizes;
 pub use findings::Findings;

@@ -117,6 +117,33 @@ fn cells_of_each_type(rt: HostRuntime) -> Result<(), Fail> {
     check_cells::<u64, 8>(&findings, alloc, 0, u64::MAX, 2, "u64");
     check_cells::<u64, 8>(&findings, alloc, u64::MAX, 1, 2, "u64");
     check_cells::<i64, 8>(&findings, alloc, i64::MIN, -1, 2, "i64");
+    check_cells::<i8, 1>(&findings, alloc, -128, 127, 2, "i8");
+    check_cells::<u128, 16>(&findings, alloc, 1, u128::MAX, 3, "u128");
+    check_cells::<(u8, i32), 5>(&findings, alloc, (1, -1), (255, i32::MIN), 2, "a pair");
+    check_cells::<(bool, u64, u8), 10>(
+        &findings,
+        alloc,
+        (true, 2, 3),
+        (false, 1 << 63, 0),
+        3,
+        "a triple",
+    );
+    check_cells::<[u16; 3], 6>(
+        &findings,
+        alloc,
+        [1, 256, 65_535],
+        [0, 2, 1 << 15],
+        2,
+        "numbers",
+    );
+    check_cells::<[i64; 2], 16>(
+        &findings,
+        alloc,
+        [-1, i64::MIN],
+        [i64::MAX, 7],
+        3,
+        "numbers",
+    );
     let none = StaticString::new();
     let text = StaticString::try_from("ab").expect(&rt, "a text of two bytes");
     let other = StaticString::try_from("c").expect(&rt, "a text of one byte");

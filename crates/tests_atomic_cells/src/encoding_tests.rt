@@ -9,7 +9,7 @@ use std::test::Fail;
 use test_support::Findings;
 
 /// Checks that `value` is encoded as `bytes`, and decoded from them.
-fn check<T: AtomicCopy + PartialEq + Debug, const SIZE: usize>(
+pub fn check<T: AtomicCopy + PartialEq + Debug, const SIZE: usize>(
     findings: &Findings,
     value: T,
     bytes: [u8; SIZE],
@@ -27,7 +27,7 @@ fn check<T: AtomicCopy + PartialEq + Debug, const SIZE: usize>(
 }
 
 /// Checks that no value is decoded from `bytes`.
-fn check_none<T: AtomicCopy + PartialEq + Debug, const SIZE: usize>(
+pub fn check_none<T: AtomicCopy + PartialEq + Debug, const SIZE: usize>(
     findings: &Findings,
     bytes: [u8; SIZE],
     place: &str,
@@ -57,6 +57,53 @@ fn integers() -> Result<(), Fail> {
     check(&findings, i64::MIN, [0, 0, 0, 0, 0, 0, 0, 128], "i64");
     let bytes = [255, 255, 255, 255, 255, 255, 255, 127];
     check(&findings, i64::MAX, bytes, "i64");
+    findings.verdict()
+}
+
+/// The least and the greatest number of each type, and numbers between.
+#[test]
+fn signed_integers() -> Result<(), Fail> {
+    let findings = Findings::new();
+    check(&findings, 0i8, [0], "i8");
+    check(&findings, 127i8, [127], "i8");
+    check(&findings, -1i8, [255], "i8");
+    check(&findings, -128i8, [128], "i8");
+    check(&findings, 258i16, [2, 1], "i16");
+    check(&findings, -2i16, [254, 255], "i16");
+    check(&findings, -32_768i16, [0, 128], "i16");
+    check(&findings, 32_767i16, [255, 127], "i16");
+    check(&findings, 0x0102_0304i32, [4, 3, 2, 1], "i32");
+    check(&findings, -256i32, [0, 255, 255, 255], "i32");
+    check(&findings, i32::MIN, [0, 0, 0, 128], "i32");
+    check(&findings, i32::MAX, [255, 255, 255, 127], "i32");
+    check(&findings, 258isize, [2, 1, 0, 0, 0, 0, 0, 0], "isize");
+    check(&findings, -1isize, [255; 8], "isize");
+    check(&findings, isize::MIN, [0, 0, 0, 0, 0, 0, 0, 128], "isize");
+    let bytes = [255, 255, 255, 255, 255, 255, 255, 127];
+    check(&findings, isize::MAX, bytes, "isize");
+    findings.verdict()
+}
+
+#[test]
+fn integers_of_sixteen_bytes() -> Result<(), Fail> {
+    let findings = Findings::new();
+    let rising = 0x0102_0304_0506_0708_090a_0b0c_0d0e_0f10u128;
+    let bytes = [16, 15, 14, 13, 12, 11, 10, 9, 8, 7, 6, 5, 4, 3, 2, 1];
+    check(&findings, rising, bytes, "u128");
+    check(&findings, rising as i128, bytes, "i128");
+    let one = [1, 0, 0, 0, 0, 0, 0, 0, 0, 0, 0, 0, 0, 0, 0, 0];
+    check(&findings, 1u128, one, "u128");
+    check(&findings, 1i128, one, "i128");
+    check(&findings, u128::MAX, [255; 16], "u128");
+    check(&findings, -1i128, [255; 16], "i128");
+    let least = [0, 0, 0, 0, 0, 0, 0, 0, 0, 0, 0, 0, 0, 0, 0, 128];
+    check(&findings, i128::MIN, least, "i128");
+    check(&findings, 1u128 << 127, least, "u128");
+    let mut greatest = [255; 16];
+    greatest[15] = 127;
+    check(&findings, i128::MAX, greatest, "i128");
+    check(&findings, usize::MAX, [255; 8], "usize");
+    check(&findings, 258usize, [2, 1, 0, 0, 0, 0, 0, 0], "usize");
     findings.verdict()
 }
 

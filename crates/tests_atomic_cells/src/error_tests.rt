@@ -1,6 +1,9 @@
 //! The errors of sequenced cells: their texts, and which of them are equal.
 use ix_atomic::TryWriteError::{Busy, VersionsUsedUp};
-use ix_atomic::{Interfered, TryWriteError, Unfinished};
+use ix_atomic::{
+    FixedSizeByteAtomic, Interfered, RelocatableByteAtomic, SequencedByteAtomic, TryWriteError,
+    Unfinished,
+};
 use std::fmt::InlineText;
 use std::test::Fail;
 use test_support::{Findings, check_printed};
@@ -60,5 +63,37 @@ fn equal_errors() -> Result<(), Fail> {
     findings.expect_same(Unfinished, Unfinished, "the error of a cell that is closed");
     let converted = TryWriteError::from(ix_atomic::VersionsUsedUp);
     findings.expect_same(converted, VersionsUsedUp, "the error of the versions");
+    findings.verdict()
+}
+
+/// A cell prints its type's name, since its bytes may be those of a write in progress.
+#[test]
+fn printed_cells(rt: HostRuntime) -> Result<(), Fail> {
+    let (cell, writer, reader) = SequencedByteAtomic::<u8, 1>::new(rt.alloc(), 7)?;
+    let findings = Findings::new();
+    let printed = InlineText::<40>::of(format_args!("{cell:?}"));
+    findings.expect_same(printed.as_str(), "SequencedByteAtomic { .. }", "a cell");
+    let printed = InlineText::<40>::of(format_args!("{writer:?}"));
+    findings.expect_same(printed.as_str(), "WriterSeat { .. }", "a writer's seat");
+    let printed = InlineText::<40>::of(format_args!("{reader:?}"));
+    findings.expect_same(printed.as_str(), "ReaderSeat { .. }", "a reader's seat");
+    let fixed = FixedSizeByteAtomic::<u16, 2>::new(258);
+    let printed = InlineText::<40>::of(format_args!("{fixed:?}"));
+    findings.expect_same(
+        printed.as_str(),
+        "FixedSizeByteAtomic { .. }",
+        "a fixed cell",
+    );
+    let torn = fixed.read();
+    let printed = InlineText::<40>::of(format_args!("{torn:?}"));
+    findings.expect_same(printed.as_str(), "MaybeTorn { bytes: [2, 1] }", "bytes");
+    match RelocatableByteAtomic::<u8, 1>::new_uninit().init(rt.alloc(), 7) {
+        Ok(made) => {
+            let printed = InlineText::<40>::of(format_args!("{made:?}"));
+            findings.expect_same(printed.as_str(), "RelocatableByteAtomic { .. }", "made");
+        }
+        Err(_) => findings.miss("a relocatable cell"),
+    }
+    findings.expect_same(cell.close(writer), Ok(7), "the last value");
     findings.verdict()
 }

@@ -8,6 +8,8 @@ mod cell_tests;
 #[cfg(test)]
 mod encoding_tests;
 #[cfg(test)]
+mod encodings_of_parts;
+#[cfg(test)]
 mod error_tests;
 #[cfg(test)]
 mod foo;

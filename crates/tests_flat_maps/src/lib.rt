@@ -24,8 +24,12 @@ mod row_tests;
 #[cfg(test)]
 mod rows;
 #[cfg(test)]
+mod size_tests;
+#[cfg(test)]
 mod slow_map;
 #[cfg(test)]
 mod small_key_tests;
 #[cfg(test)]
 mod walk_tests;
+#[cfg(test)]
+mod whole_tests;

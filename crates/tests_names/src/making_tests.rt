@@ -228,3 +228,11 @@ fn predicates_of_the_sample_rules() -> Result<(), Fail> {
     }
     findings.verdict()
 }
+
+#[test]
+fn defaults() -> Result<(), Fail> {
+    let findings = Findings::new();
+    let path = Semantic::<TrailingSlashRules, 255>::default();
+    findings.expect_same(path.as_bytes(), b"".as_slice(), "of the sample rules");
+    findings.verdict()
+}

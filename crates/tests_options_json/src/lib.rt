@@ -9,6 +9,10 @@ mod drop_tests;
 #[cfg(test)]
 mod forms;
 #[cfg(test)]
+mod list_tests;
+#[cfg(test)]
+mod map_tests;
+#[cfg(test)]
 mod option_tests;
 #[cfg(test)]
 mod reading_tests;

@@ -314,17 +314,6 @@ fn lists(rt: HostRuntime) -> Result<(), Fail> {
     findings.verdict()
 }
 
-/// One more than the greatest capacity of a vector that is stored inline.
-const TOO_MANY: usize = 4_294_967_296;
-
-#[test]
-fn past_the_greatest_fixed_capacity(rt: HostRuntime) -> Result<(), Fail> {
-    let findings = Findings::new();
-    let rows = [("[]", TooLong), ("[5]", TooLong), ("5", WrongKind)];
-    check_faults::<StaticVec<Empty, TOO_MANY>>(&findings, rt.alloc(), &rows);
-    findings.verdict()
-}
-
 const OPTIONS: &[Row<RelocatableOption<u64>>] = &[
     ("null", Ok(RelocatableOption::None)),
     ("5", Ok(RelocatableOption::Some(5))),

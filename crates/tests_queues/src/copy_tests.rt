@@ -75,7 +75,9 @@ fn fixed_numbers() -> Result<(), Fail> {
     }
     let copy: Result<_, AllocError> = queue.clone();
     check_text(&findings, &copy, "Ok([2, 3])");
-    let none = FixedSizeQueue::<u64, 0>::new();
+    let empty = FixedSizeQueue::<u64, 2>::default();
+    findings.expect_same((empty.len(), empty.capacity()), (0, 2), "the default queue");
+    let none = FixedSizeQueue::<u64, 0>::default();
     let copy: Result<_, AllocError> = none.clone();
     check_text(&findings, &copy, "Ok([])");
     findings.verdict()

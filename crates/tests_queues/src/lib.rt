@@ -31,4 +31,6 @@ mod ring_tests;
 #[cfg(test)]
 mod rows;
 #[cfg(test)]
+mod size_tests;
+#[cfg(test)]
 mod turning;

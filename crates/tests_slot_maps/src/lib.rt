@@ -15,7 +15,11 @@ mod row_tests;
 #[cfg(test)]
 mod rows;
 #[cfg(test)]
+mod size_tests;
+#[cfg(test)]
 mod slow_map;
+#[cfg(test)]
+mod taking_tests;
 #[cfg(test)]
 mod walk_tests;
 #[cfg(test)]

@@ -18,6 +18,10 @@ mod row_tests;
 #[cfg(test)]
 mod rows;
 #[cfg(test)]
+mod size_tests;
+#[cfg(test)]
+mod taking_tests;
+#[cfg(test)]
 mod walk_tests;
 #[cfg(test)]
 mod whole_tests;

@@ -212,3 +212,26 @@ fn makings_of_refused_bytes(rt: HostRuntime) -> Result<(), Fail> {
     findings.expect_same(heap.used(), 0, "bytes in use at the end");
     findings.verdict()
 }
+
+#[test]
+fn memory_sizes(rt: HostRuntime) -> Result<(), Fail> {
+    let findings = Findings::new();
+    for capacity in [0usize, 1, 7, 64, 1000, usize::MAX] {
+        let size = PolymorphicString::<Global>::memory_size(capacity);
+        findings.expect_same_at(size.bytes, capacity, capacity, "bytes");
+        findings.expect_same_at(size.blocks, usize::from(capacity > 0), capacity, "blocks");
+        let in_two_steps = RelocatableString::<Global>::memory_size(capacity);
+        findings.expect_same_at(in_two_steps, size, capacity, "in two steps");
+    }
+    // A heap gives out blocks of 16 bytes.
+    for (room, is_enough) in [(64usize, true), (48, false)] {
+        match LocalHeap::new(rt.alloc(), room) {
+            Ok(heap) => {
+                let made = PolymorphicString::new(&heap, 64).is_ok();
+                findings.expect_same_at(made, is_enough, room, "a string of 64 bytes");
+            }
+            Err(_) => findings.miss("a heap"),
+        }
+    }
+    findings.verdict()
+}

@@ -30,5 +30,6 @@ mod rows;
 mod shift_tests;
 #[cfg(test)]
 mod size_tests;
+mod slice_tests;
 #[cfg(test)]
 mod table_tests;

@@ -62,3 +62,21 @@ fn vectors_of_vectors() -> Result<(), Fail> {
     findings.expect(StaticVec::<u8, 1>::try_from(&[7, 8]).is_err(), "too many");
     findings.verdict()
 }
+
+#[test]
+fn owned_arrays() -> Result<(), Fail> {
+    let findings = Findings::new();
+    let vector = StaticVec::<u32, 4>::try_from([1, 2]);
+    findings.expect_same(
+        vector.map(|v| v.as_slice() == [1, 2].as_slice()),
+        Ok(true),
+        "two of four",
+    );
+    let full = StaticVec::<u32, 2>::try_from([3, 4]);
+    findings.expect_same(full.map(|v| v.len()), Ok(2), "two of two");
+    let refused = StaticVec::<u32, 1>::try_from([5, 6]);
+    findings.expect_same(refused.map(|v| v.len()), Err([5, 6]), "two of one");
+    let empty = StaticVec::<u32, 0>::try_from([]);
+    findings.expect_same(empty.map(|v| v.len()), Ok(0), "none of none");
+    findings.verdict()
+}

@@ -5,16 +5,13 @@ use ix_cells::{
 use linked_list_allocator::LocalHeap;
 use std::alloc::{AllocError, Global};
 use std::test::Fail;
-use test_support::{Findings, check_text};
+use test_support::{Findings, check_room, check_text};
 
 /// Numbers of items.
 const NUMBERS: &[usize] = &[0, 1, 7, 64, 1000];
 
 /// Numbers of items that fill whole blocks of 16 bytes, whatever the size of one is.
 const WHOLE: &[usize] = &[0, 16, 64, 1008];
-
-/// The bytes of a block of a heap.
-const BLOCK: usize = 16;
 
 const NONE: MemorySize = MemorySize {
     bytes: 0,
@@ -76,41 +73,20 @@ fn used_by_table<T: Drop>(heap: &LocalHeap, n: usize) -> Option<usize> {
     }
 }
 
-/// Makes a vector, or a table, in a heap with just as many free bytes, and in one with a block less.
-fn check_limit<T: Drop>(findings: &Findings, alloc: Global, n: usize, is_table: bool) {
-    let size = if is_table {
-        HeapTable::<T, &LocalHeap>::memory_size(n)
-    } else {
-        PolymorphicVec::<T, &LocalHeap>::memory_size(n)
-    };
-    for (more, is_enough) in [(BLOCK, true), (0, size.bytes == 0)] {
-        let Ok(heap) = LocalHeap::new(alloc, size.bytes.saturating_add(more).max(BLOCK)) else {
-            return findings.miss("a heap");
-        };
-        let held = Box::new(&heap, 0u64);
-        findings.expect_at(held.is_ok(), n, "a block");
-        let used = if is_table {
-            used_by_table::<T>(&heap, n)
-        } else {
-            used_by_vector::<T>(&heap, n)
-        };
-        let all = if is_enough {
-            Some(size.bytes.saturating_add(BLOCK))
-        } else {
-            None
-        };
-        findings.expect_same_at(used, all, n, "the bytes in use");
-    }
-}
-
 fn check_item<T: Drop>(findings: &Findings, alloc: Global, size: usize) {
     check_numbers::<T>(findings, size);
     for n in WHOLE {
         // A heap takes a whole block for one of no bytes.
         if size > 0 {
-            check_limit::<T>(findings, alloc, *n, false);
+            let bytes = PolymorphicVec::<T, &LocalHeap>::memory_size(*n).bytes;
+            check_room(findings, alloc, bytes, *n, |heap: &LocalHeap| {
+                used_by_vector::<T>(heap, *n)
+            });
         }
-        check_limit::<T>(findings, alloc, *n, true);
+        let bytes = HeapTable::<T, &LocalHeap>::memory_size(*n).bytes;
+        check_room(findings, alloc, bytes, *n, |heap: &LocalHeap| {
+            used_by_table::<T>(heap, *n)
+        });
     }
 }
 
