@@ -50,6 +50,9 @@ operations! {
     flat_miss_8 = ix_bench_flat_miss, 8, "Vec of pairs", plain::flat_miss;
     flat_miss_64 = ix_bench_flat_miss, 64, "Vec of pairs", plain::flat_miss;
     flat_miss_512 = ix_bench_flat_miss, 512, "Vec of pairs", plain::flat_miss;
+    hash_get = ix_bench_hash_get, 512, "HashMap", plain::hash_get;
+    hash_miss = ix_bench_hash_miss, 512, "HashMap", plain::hash_miss;
+    hash_exchange = ix_bench_hash_exchange, 512, "HashMap", plain::hash_exchange;
     vec_push_pop = ix_bench_vec_push_pop, 64, "Vec", plain::vec_push_pop;
     vec_ins_rem = ix_bench_vec_ins_rem, 64, "Vec", plain::vec_ins_rem;
     vec_extend = ix_bench_vec_extend, 64, "Vec", plain::vec_extend;
@@ -94,6 +97,9 @@ pub const OF_ANY_CAPACITY: &[(&str, Kernel)] = &[
     ("slot map: iterate", kernel!(ix_bench_slot_map_iter)),
     ("flat map: get a held key", kernel!(ix_bench_flat_get)),
     ("flat map: get an absent key", kernel!(ix_bench_flat_miss)),
+    ("hash map: get a held key", kernel!(ix_bench_hash_get)),
+    ("hash map: get an absent key", kernel!(ix_bench_hash_miss)),
+    ("hash map: remove, insert", kernel!(ix_bench_hash_exchange)),
     ("vector: push, pop", kernel!(ix_bench_vec_push_pop_heap)),
     ("vector: insert and remove at 0", kernel!(ix_bench_vec_ins_rem_heap)),
     ("string: push, pop", kernel!(ix_bench_str_push_pop_heap)),

@@ -229,15 +229,19 @@ impl Pairs {
     }
 }
 
-fn flat_look_up(rounds: u64, capacity: u64, more: u64) -> u64 {
-    let map = Pairs::full(capacity);
+/// A round looks up a multiple of 3 below `3 * count`, plus `more`.
+fn look_up(rounds: u64, count: u64, more: u64, get: impl Fn(u64) -> Option<u64>) -> u64 {
     let (mut x, mut sum) = (1u64, 0u64);
     for _ in 0..rounds {
         x = step(x);
-        let key = (x >> 33) % capacity * 3 + more;
-        sum = sum.wrapping_add(map.get(key).unwrap_or(1));
+        sum = sum.wrapping_add(get((x >> 33) % count * 3 + more).unwrap_or(1));
     }
     sum
+}
+
+fn flat_look_up(rounds: u64, capacity: u64, more: u64) -> u64 {
+    let map = Pairs::full(capacity);
+    look_up(rounds, capacity, more, |key| map.get(key))
 }
 
 pub fn flat_get(rounds: u64, capacity: u64) -> u64 {
@@ -246,6 +250,36 @@ pub fn flat_get(rounds: u64, capacity: u64) -> u64 {
 
 pub fn flat_miss(rounds: u64, capacity: u64) -> u64 {
     flat_look_up(rounds, capacity, 0)
+}
+
+/// A map of the keys 1, 4, 7 and so on.
+fn hash_map_of(count: u64) -> HashMap<u64, u64> {
+    let mut map = HashMap::with_capacity(count as usize);
+    map.extend((0..count).map(|i| (3 * i + 1, i)));
+    map
+}
+
+fn hash_look_up(rounds: u64, count: u64, more: u64) -> u64 {
+    let map = hash_map_of(count);
+    look_up(rounds, count, more, |key| map.get(&key).copied())
+}
+
+pub fn hash_get(rounds: u64, count: u64) -> u64 {
+    hash_look_up(rounds, count, 1)
+}
+
+pub fn hash_miss(rounds: u64, count: u64) -> u64 {
+    hash_look_up(rounds, count, 0)
+}
+
+pub fn hash_exchange(rounds: u64, count: u64) -> u64 {
+    let mut map = hash_map_of(count);
+    let mut sum = 0u64;
+    for i in 0..rounds {
+        sum = sum.wrapping_add(map.remove(&(3 * i + 1)).unwrap_or(0));
+        map.insert(3 * (count + i) + 1, i);
+    }
+    sum
 }
 
 fn vec_push(vec: &mut Vec<u64>, capacity: usize, item: u64) -> bool {
