@@ -18,6 +18,7 @@ pub mod rolling_window;
 pub mod scripts;
 pub mod service_sessions;
 pub mod session_table;
+pub mod sessions_by_name;
 pub mod shared_range;
 pub mod station;
 pub mod strings;

@@ -1,0 +1,78 @@
+//! Sessions by the name of their peer, in a map of either kind: a few in a flat map, thousands in a hash map.
+ghost use Rattle.std.specs.Prelude.{◌≡◌, ◌↔◌, ℕ, [], Some, None, Err, IsTrue, IsSome, IsOk, OnErr, IfSome, option_map, false};
+ghost use Rattle.examples.specs.declared.sessions_by_name.Seen.{Seen};
+ghost use Rattle.ix_maps.specs.FlatState.{flat_value};
+ghost use Rattle.ix_maps.specs.declared.flatmap.flat_map_error.FlatMapError.TheVariants.{KeyAlreadyExists, IsFull};
+
+use ix_maps::{BoundedMap, FixedSizeFlatMap, FixedSizeHashMap, FlatMapError};
+
+/// What is known of a session.
+#[derive(Clone, Copy, PartialEq, Eq, Debug)]
+pub struct Seen {
+    pub opened: u64,
+    pub last_heard: u64,
+}
+
+/// At most 16 sessions. A look-up compares the name with each of them.
+pub type FewSessions<N> = FixedSizeFlatMap<N, Seen, 16>;
+
+/// At most 4,096 sessions. A look-up compares the name with those whose hashes lie near its own.
+pub type ManySessions<N> = FixedSizeHashMap<N, Seen, 4096>;
+
+/// Opens the session of a peer at `time`. Returns an error if the peer has one, or if there is no room.
+pub fn open<N: Eq, M: BoundedMap<N, Seen>>(
+    sessions: &mut M,
+    peer: N,
+    time: u64,
+) -> Result<(), FlatMapError>
+    ensures opened { IsOk result → flat_value N.eq (M.state sessions.new) peer
+        ≡ Some (record { opened = time; last_heard = time }) }
+    ensures taken { result ≡ Err KeyAlreadyExists
+        ↔ IsSome (flat_value N.eq (M.state sessions.old) peer) }
+    ensures full { result ≡ Err IsFull → (M.state sessions.old).free ≡ [] }
+    ensures refused { OnErr result (M.state sessions.new ≡ M.state sessions.old) }
+    ensures kept { (other : N) → N.eq other peer ≡ false
+        → flat_value N.eq (M.state sessions.new) other
+        ≡ flat_value N.eq (M.state sessions.old) other }
+{
+    sessions.insert(
+        peer,
+        Seen {
+            opened: time,
+            last_heard: time,
+        },
+    )
+}
+
+/// Notes that a peer was heard at `time`. Returns `false` if it has no session.
+pub fn note_heard<N: Eq, M: BoundedMap<N, Seen>>(sessions: &mut M, peer: &N, time: u64) -> bool
+    ensures value { IsTrue result ↔ IsSome (flat_value N.eq (M.state sessions.old) peer.now) }
+    ensures heard { IfSome (flat_value N.eq (M.state sessions.new) peer.now)
+        (λ seen. seen.last_heard ≡ time) }
+    ensures opened { option_map (λ (seen : Seen). seen.opened)
+        (flat_value N.eq (M.state sessions.new) peer.now)
+        ≡ option_map (λ (seen : Seen). seen.opened)
+        (flat_value N.eq (M.state sessions.old) peer.now) }
+    ensures kept { (other : N) → N.eq other peer.now ≡ false
+        → flat_value N.eq (M.state sessions.new) other
+        ≡ flat_value N.eq (M.state sessions.old) other }
+{
+    match sessions.get_mut_ref(peer) {
+        Some(seen) => {
+            seen.last_heard = time;
+            true
+        }
+        None => false,
+    }
+}
+
+/// Closes the session of a peer and returns what was known of it, or `None` if it has none.
+pub fn close<N: Eq, M: BoundedMap<N, Seen>>(sessions: &mut M, peer: &N) -> Option<Seen>
+    ensures value { result ≡ flat_value N.eq (M.state sessions.old) peer.now }
+    ensures closed { flat_value N.eq (M.state sessions.new) peer.now ≡ None }
+    ensures kept { (other : N) → N.eq other peer.now ≡ false
+        → flat_value N.eq (M.state sessions.new) other
+        ≡ flat_value N.eq (M.state sessions.old) other }
+{
+    sessions.remove(peer)
+}
