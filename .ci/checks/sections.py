@@ -51,7 +51,7 @@ def prose(docs, owner=""):
 
 
 def sentences(text):
-    return re.split(r"(?<=[.:]) (?=[A-Z\0`])", text)
+    return re.split(r"(?<=\.) (?=[A-Z\0`])", text)
 
 
 def first_sentence(docs):
