@@ -20,7 +20,7 @@ from checks.pages import DOCUMENTS, FILES, headings, is_file, is_path, paragraph
 # Words that the code does not have: of Rust, its std and its crates, of the kit, and what stands for a name of the reader's.
 WORDS = set("""
     AtomicCell Deref MaybeUninit Mutex SecondaryMap SendError memmove no_std python3 replace_with rustc scope slab xmllint
-    allow dac8208d650f15bf holes lemma trusted
+    Handles Wait allow dac8208d650f15bf holes lemma trusted
     CRATE FILE FUNCTION MODULE SUBJECT WHAT_IS_WRONG my_program
 """.split())
 # Words of upstream that this library does not have, and of the harness that measures both.
@@ -38,7 +38,7 @@ PLANTS = (
     ("`value`, `full`, `fits`, `refused`", "`value`, `full`, `fits`, `whole`"),
     ("`Table::end`", "`Table::clear`"),
     ("`MetaQueue::push`", "`MetaSlotMap::push`"),
-    ("EXAMPLES.md#errors-of-three-containers-as-one", "EXAMPLES.md#errors-of-four-containers-as-one"),
+    ("EXAMPLES.md#where-the-proofs-stand", "EXAMPLES.md#where-the-proofs-lie"),
     ("(docs/api/README.md)", "(docs/reference/README.md)"),
     ("wrong bodies", "437 wrong bodies"),
 )
