@@ -31,8 +31,8 @@ const MAX_SIZE: usize = (isize::MAX as usize / size_of::<u64>() - 1) * 8;
 ///
 /// ```text
 /// let (cell, mut writer, mut reader) = SequencedByteAtomic::<u64, 8>::new(alloc, 7)?;
-/// let mut second = cell.writer(alloc, &mut writer)?;      // for another thread
-/// cell.try_write(&mut writer, 9)?;
+/// let second = cell.writer(alloc, &mut writer).unwrap();     // for another thread; it never fails
+/// cell.try_write(&mut writer, 9);     // Ok(()), unless another thread writes
 /// cell.try_read(&mut reader);         // Ok(9), unless another thread writes
 /// cell.merge(&mut writer, second);
 /// cell.close(writer);                 // Ok(9)
