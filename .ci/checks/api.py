@@ -14,10 +14,10 @@ import os
 import re
 
 from crates import ROOT, write_text
-from checks.examples import examples
-from checks.items import base_of, exported_names, is_own, items_of, paths, text_of, trait_of, LIBRARY
-from checks.sections import MARK, Library, Source, anchor_of, block, file_of, first_sentence, heading_of, is_bare, prose
-from checks.sections import shown_members, title_of, wrapped
+from checks.examples import assigned
+from checks.items import LIBRARY, base_of, exported_names, is_own, items_of, paths, text_of, trait_of
+from checks.sections import MARK, Library, Source, anchor_of, block, derived, file_of, first_sentence, heading_of, is_bare
+from checks.sections import prose, shown_members, title_of, unheaded, wrapped
 
 PAGES = os.path.join(ROOT, "docs", "api")
 INDEX = "README.md"
@@ -25,9 +25,6 @@ MAIN_CALLS = 6
 # What proofs and containers of one's own need, and no other caller.
 LATER = re.compile(r"\w+_law|\w+Family|\w*Link|Content|Hashed|HeapStringKind|Keyed|Pair|Polymorphic|RawSlots|Relocatable")
 LATER_HEADING = "## For proofs, and for containers of your own"
-# The calls of a trait that is derived.
-DERIVED = {"Clone": ("clone",), "PartialEq": ("eq",), "PartialOrd": ("partial_cmp",), "Ord": ("cmp",), "Hash": ("hash",),
-           "Debug": ("fmt",), "Display": ("fmt",), "Default": ("default",)}
 TRAITS = ("Copy", "Clone", "PartialEq", "Eq", "PartialOrd", "Ord", "Hash", "Debug", "Display", "Error", "Default")
 # Traits of an impl that say nothing to a caller.
 HIDDEN = {"Model", "Move", "Owns"}
@@ -108,12 +105,6 @@ def imports(module, items):
     return block("", use_lines(module.crate, passed_on) + use_lines(title_of(module), names - passed_on))
 
 
-def derived(item):
-    """Returns the traits that a type derives."""
-    match = re.match(r"#\[derive\(([^)]*)\)\]", item.head[0]) if item.kind in ("struct", "enum") else None
-    return match.group(1).split(", ") if match else []
-
-
 def traits_of(items):
     """Returns the traits of each type of a page by its name."""
     types = [it for it in items if it.kind in ("struct", "enum", "type") and not is_later(it)]
@@ -153,14 +144,12 @@ def others(items, library):
     """Returns the lines of impls of which there is little to say. `items` has each with its source."""
     if not items:
         return []
-    bare, words, shown = [], [], []
+    bare, words = [], []
     for source, item in items:
         lines = library.impl_lines(item)
         bare += ["", *lines] if bare and len(lines) > 1 else lines
         words += [it for it in source.word_links(lines) if it]
-    for name in dict.fromkeys(base_of(item.name) for _, item in items):
-        for call in dict.fromkeys(call for _, item in items if base_of(item.name) == name for call in calls_in(item)):
-            shown += library.shown(name, call)
+    shown = library.shown(items[0][0].page, [name for _, item in items for name in unheaded(item)])
     return ["## Other implementations", "", *block("", bare), *joined(words), *shown]
 
 
@@ -173,7 +162,7 @@ def joined(lines):
 def page(module, library):
     """Returns the text of a module's page, with marks in place of the links of names."""
     ordered = in_order(module)
-    pairs = [(Source(path, library), item, items) for path, items in ordered for item in items]
+    pairs = [(Source(path, module, library), item, items) for path, items in ordered for item in items]
     pairs = [it for it in pairs if not is_later(it[1])] + [it for it in pairs if is_later(it[1])]
     everything = [item for _, item, _ in pairs]
     heading = dict(zip(map(id, everything), headings(everything)))
@@ -188,13 +177,6 @@ def page(module, library):
     bare = [(source, item) for source, item, _ in pairs if is_bare(item)]
     lines += [*sections[0], *others(bare, library), *([LATER_HEADING, ""] if sections[1] else []), *sections[1]]
     return "\n".join(lines).rstrip("\n") + "\n"
-
-
-def calls_in(item):
-    """Returns the calls of an impl or of derived traits."""
-    if item.kind == "impl":
-        return [it.name for it in item.members if it.kind == "fn"]
-    return [call for trait in derived(item) for call in DERIVED.get(trait, ())]
 
 
 def calls_on(text, file):
@@ -217,33 +199,32 @@ def calls_on(text, file):
             yield words.group(2), owner, link
 
 
-def calls_without_heading(module, text):
-    """Yields each call of an impl or of a derived trait that has no heading, with its type and a link to its place."""
-    file = file_of(module)
-    headed = {(call, owner) for call, owner, _ in calls_on(text, file)}
-    for item in (item for _, items in module.items for item in items):
-        name = base_of(item.name) if item.kind == "impl" else item.name
-        place = "other-implementations" if is_bare(item) else anchor_of(heading_of(item))
-        for call in () if item.kind == "impl" and is_own(item) else calls_in(item):
-            if (call, name) not in headed:
-                yield call, name, f"{file}#{place}"
-
-
 class Places:
     """Where each item and each call stands: for the links of names in docs, for the index and for examples."""
 
     def __init__(self, modules, texts):
         self.calls, self.items = collections.defaultdict(list), collections.defaultdict(list)
+        # By page: what examples can name, and its types.
+        self.names, self.types = {}, {}
         for module in modules:
-            file = file_of(module)
-            found = [*calls_on(texts[file], file), *calls_without_heading(module, texts[file])]
-            for call, owner, link in dict.fromkeys(found):
-                self.calls[owner, call].append(link)
-            self.items[module.name.rpartition("::")[2]].append(file)
-            for _, items in module.items:
-                for item in items:
-                    if item.kind != "impl":
-                        self.items[item.name].append(f"{file}#{anchor_of(heading_of(item))}")
+            self.note(module, texts[file_of(module)])
+
+    def note(self, module, text):
+        file, items = file_of(module), [item for _, items in module.items for item in items]
+        self.items[module.name.rpartition("::")[2]].append(file)
+        headed = list(calls_on(text, file))
+        for call, owner, link in headed:
+            self.calls[owner, call].append(link)
+        self.names[file] = {f"{owner or title_of(module)}::{call}" for call, owner, _ in headed}
+        self.names[file].update(name for item in items for name in unheaded(item))
+        self.types[file] = {item.name for item in items if item.kind not in ("impl", "fn", "const")}
+        for item in items:
+            place = f"{file}#" + ("other-implementations" if is_bare(item) else anchor_of(heading_of(item)))
+            for owner, call in (name.split("::", 1) for name in unheaded(item) if re.fullmatch(r"\w+::\w+", name)):
+                if place not in self.calls[owner, call]:
+                    self.calls[owner, call].append(place)
+            if item.kind != "impl":
+                self.items[item.name].append(place)
 
     def place(self, target, file):
         """Returns where a name in the docs of a page leads to, if that is one place."""
@@ -282,15 +263,43 @@ class Places:
         return "\n".join(lines) + "\n"
 
 
+def first_pass():
+    """Returns the library and the places of all that its pages have."""
+    library = Library()
+    return library, Places(library.modules, {file_of(module): page(module, library) for module in library.modules})
+
+
+def known_names(places):
+    """Returns the pages of each name that an example can show, and the types that only one page has, by page."""
+    known = collections.defaultdict(list)
+    for file, names in places.names.items():
+        for name in names:
+            known[name].append(file)
+    pages = collections.Counter(name for names in places.types.values() for name in names)
+    return known, {file: {name for name in names if pages[name] == 1} for file, names in places.types.items()}
+
+
+def named_calls(module):
+    """Yields the names of each call that has a heading: its own, and that of the trait of an impl which shows it too."""
+    for item in (item for _, items in module.items for item in items):
+        owner = base_of(item.name) if item.kind == "impl" else item.name
+        if item.kind == "fn":
+            yield [f"{title_of(module)}::{item.name}"]
+        for member in shown_members(item):
+            yield [f"{owner}::{member.name}", *(unheaded(item)[:1] if item.kind == "impl" else [])]
+
+
+def pages_with_names():
+    """Returns what examples can name, and the names of each call that has a heading behind its page."""
+    library, places = first_pass()
+    return *known_names(places), [(file_of(module), names) for module in library.modules for names in named_calls(module)]
+
+
 def made():
     """Returns the text of each page by its file, and what is wrong with the examples."""
-    shown, faults = examples()
-    library = Library(shown)
-    marked = {file_of(module): page(module, library) for module in library.modules}
-    places = Places(library.modules, marked)
-    calls = {f"{owner}::{call}" if owner else call for owner, call in places.calls}
-    faults += [f"`// Shows: {name}`: there is no public call {name}" for name in sorted(set(shown) - calls)]
-    texts = {file: places.linked(text, file) for file, text in marked.items()}
+    library, places = first_pass()
+    library.examples, faults = assigned(*known_names(places))
+    texts = {file_of(module): places.linked(page(module, library), file_of(module)) for module in library.modules}
     return texts | {INDEX: places.index(library.modules)}, faults
 
 

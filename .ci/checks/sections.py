@@ -18,6 +18,10 @@ MARK = re.compile("\0([^\0]*)\0([^\0]*)\0")
 # What a call returns of which a sentence of its docs says when.
 ERROR_TYPE = re.compile(r"\b\w*(?:Error|Fault)\b|\bInterfered\b|\bUnfinished\b|\bVersionsUsedUp\b|\bfirst reason\b")
 CLAUSE = re.compile(r"\s*(requires|ensures)\b")
+PARAMETERS = re.compile(r"<(?:[^<>]|<(?:[^<>]|<[^<>]*>)*>)*>$")
+# The calls of a trait that is derived.
+DERIVED = {"Clone": "clone", "PartialEq": "eq", "PartialOrd": "partial_cmp", "Ord": "cmp", "Hash": "hash", "Debug": "fmt",
+           "Display": "fmt", "Default": "default"}
 
 
 def title_of(module):
@@ -94,7 +98,7 @@ def parted(lines):
 def contract(head):
     """Returns the lines of a function's head in three parts: its signature, what it requires and what it ensures."""
     parts, kind, held = {"": [], "requires": [], "ensures": []}, "", []
-    for line in head:
+    for line in (line for line in head if line != "{}"):
         match = CLAUSE.match(line)
         if match:
             kind = match.group(1)
@@ -120,12 +124,36 @@ def is_bare(item):
     return item.kind == "impl" and not item.docs and not shown_members(item)
 
 
+def derived(item):
+    """Returns the traits that a type derives."""
+    match = re.match(r"#\[derive\(([^)]*)\)\]", item.head[0]) if item.kind in ("struct", "enum") else None
+    return match.group(1).split(", ") if match else []
+
+
+def calls_in(item):
+    """Returns the calls of an impl or of derived traits."""
+    if item.kind == "impl":
+        return [it.name for it in item.members if it.kind == "fn"]
+    return [DERIVED[trait] for trait in derived(item) if trait in DERIVED]
+
+
+def unheaded(item):
+    """Returns the names of what an item has and no heading: the trait of an impl, derived traits, and their calls."""
+    if item.kind == "impl" and is_own(item):
+        return []
+    name = base_of(item.name) if item.kind == "impl" else item.name
+    trait, of, whole = item.name.partition(" for ")
+    traits = [f"{trait} for {PARAMETERS.sub('', whole)}"] if of else [f"{it} for {name}" for it in derived(item)]
+    headed = {it.name for it in shown_members(item)}
+    return [*traits, *(f"{name}::{call}" for call in calls_in(item) if call not in headed)]
+
+
 class Library:
     """All modules, and what the sections of one page need of other pages."""
 
-    def __init__(self, examples):
+    def __init__(self):
         self.modules = [module for crate in LIBRARY for module in public_modules(crate)]
-        self.examples = examples
+        self.examples = {}
         self.links, self.aliases, self.cited, self.crates = {}, {}, {}, {}
         self.traits = collections.defaultdict(list)
         for module in self.modules:
@@ -171,18 +199,18 @@ class Library:
             return item.head
         return [*item.head[:-1], item.head[-1] + " {", *(line for lines in ghosts for line in lines), "}"]
 
-    def shown(self, owner, call):
-        """Returns the examples of a call."""
-        name = f"{owner}::{call}" if owner else call
-        return [line for body in self.examples.get(name, ()) for line in block("Example", body)]
+    def shown(self, page, names):
+        """Returns the examples of what these names stand for on a page, each once."""
+        bodies = [body for name in names for body in self.examples.get((page, name), ())]
+        return [line for i, body in enumerate(bodies) if body not in bodies[:i] for line in block("Example", body)]
 
 
 class Source:
-    """What the sections of one source file need: where its words are defined."""
+    """What the sections of one source file need: where its words are defined, and the module that has it."""
 
-    def __init__(self, path, library):
+    def __init__(self, path, module, library):
         self.path, self.lines = path, text_of(path).splitlines()
-        self.library = library
+        self.module, self.page, self.library = title_of(module), file_of(module), library
         self.words = words_of(text_of(path))
 
     def word_links(self, lines):
@@ -226,7 +254,7 @@ class Source:
             *docs,
             *errors,
             *block("Conditions", conditions),
-            *self.library.shown(owner, item.name),
+            *self.library.shown(self.page, [f"{owner or self.module}::{item.name}"]),
             *block("Promises", promises),
             *self.word_links(item.head),
         ]
@@ -239,10 +267,11 @@ class Source:
             return lines + self.function(item, owner)
         if item.kind == "impl":
             shown = self.library.impl_lines(item)
-            lines += [*block("", shown), *prose(item.docs, name), *self.word_links(shown)]
+            lines += [*block("", shown), *prose(item.docs, name), *self.library.shown(self.page, unheaded(item))]
+            lines += self.word_links(shown)
         else:
             lines += [*block("", item.head), *prose(item.docs, name), *self.printed(item, items), *self.calls(item)]
-            lines += [*self.variants(item), *self.word_links(item.head)]
+            lines += [*self.variants(item), *self.library.shown(self.page, unheaded(item)), *self.word_links(item.head)]
         for member in shown_members(item):
             lines += self.section(member, level + "#", f"`{heading_of(member)}`", [], name)
         return lines
