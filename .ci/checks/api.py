@@ -230,8 +230,8 @@ class Places:
         """Returns where a name in the docs of a page leads to, if that is one place."""
         owner, _, name = ("::" + target).rpartition("::")
         owner = owner.rpartition("::")[2]
-        found = (self.calls.get((owner, name)), self.items.get(owner if owner[:1].isupper() else name), self.calls.get((None, name)))
-        for links in found:
+        item = owner if owner[:1].isupper() else name
+        for links in (self.calls.get((owner, name)), self.items.get(item), self.calls.get((None, name))):
             near = [it for it in links or () if it.startswith(file + "#")]
             if near or links and len(links) == 1:
                 return (near or links)[0].removeprefix(file if near else "")

@@ -16,7 +16,7 @@ NAME = re.compile(r"\[(`[^`]*`|\w+)\](?:\(([\w:]+)\))?")
 # Such a name between the passes that make a page and its links.
 MARK = re.compile("\0([^\0]*)\0([^\0]*)\0")
 # What a call returns of which a sentence of its docs says when.
-ERROR_TYPE = re.compile(r"\b\w*(?:Error|Fault)\b|\bInterfered\b|\bUnfinished\b|\bVersionsUsedUp\b|\bfirst reason\b")
+ERROR = re.compile(r"\b\w*(?:Error|Fault)\b|\b(?:Interfered|Unfinished|VersionsUsedUp)\b|`Err` with|\b(?:as the error|the errors? of|first reason)\b")
 CLAUSE = re.compile(r"\s*(requires|ensures)\b")
 PARAMETERS = re.compile(r"<(?:[^<>]|<(?:[^<>]|<[^<>]*>)*>)*>$")
 # The calls of a trait that is derived.
@@ -86,7 +86,7 @@ def parted(lines):
     kept, errors = [], []
     for paragraph in paragraphs(lines):
         parts = [] if paragraph[0].startswith("```") else sentences(" ".join(paragraph))
-        first = next((i for i, it in enumerate(parts) if it.startswith("Returns ") and ERROR_TYPE.search(it)), None)
+        first = next((i for i, it in enumerate(parts) if it.startswith("Returns ") and ERROR.search(it)), None)
         if first is None:
             kept += [*paragraph, ""]
             continue
@@ -107,7 +107,8 @@ def contract(head):
             continue
         parts[kind] += [*held, line]
         held = []
-    return [textwrap.dedent("\n".join(lines)).split("\n") if lines else [] for lines in parts.values()]
+    signature, *clauses = ["\n".join(lines) for lines in parts.values()]
+    return [it.splitlines() for it in (signature, *(textwrap.dedent(it).removesuffix(";") for it in clauses))]
 
 
 def block(title, lines, language="rust"):

@@ -187,7 +187,7 @@ impl<T: AtomicCopy, const SIZE: usize> SequencedByteAtomic<T, SIZE> {
     }
 
     /// Returns a new reader's seat, whose holder knows what the holder of `seat` knows. Takes no memory, and loads the version
-    /// once, by `seat`. O(1).
+    /// once, by `seat`. Never fails. O(1).
     #[inline]
     pub fn reader(
         &self,
@@ -206,7 +206,8 @@ impl<T: AtomicCopy, const SIZE: usize> SequencedByteAtomic<T, SIZE> {
     }
 
     /// Returns a new writer's seat, whose holder knows what the holder of `seat` knows, and has written nothing. It takes half of
-    /// that seat's share of the right to write. Takes no memory, and loads the version once, by `seat`. O(1).
+    /// that seat's share of the right to write. Takes no memory, and loads the version once, by `seat`. Never
+    /// fails. O(1).
     #[inline]
     pub fn writer(
         &self,

@@ -232,8 +232,8 @@ impl<T: Drop, A: Allocator + Copy> RelocatableContainer<A> for UninitSlotMap<T> 
 
     /// Allocates from `alloc` and returns the empty map.
     ///
-    /// O(capacity), with at most six allocations. If one fails, and if the values would take more than `isize::MAX` bytes,
-    /// nothing stays allocated and the error holds `self`. A capacity of 0 needs no memory.
+    /// O(capacity), with at most six allocations. Returns `self` in an [`InitError`] if one fails, and if the values would
+    /// take more than `isize::MAX` bytes; nothing stays allocated then. A capacity of 0 needs no memory.
     fn init(self, alloc: A) -> Result<RelocatableSlotMap<T, A>, InitError<Self>>
         ensures value { IfOk result (λ map. map ≡ map_new self.capacity self.generation) }
         ensures refused { IfErr result (λ error. error ≡ self) }
