@@ -264,15 +264,17 @@ class Source:
         """Returns the lines of an item, and of the functions in it, under a heading of this level."""
         lines = [f"{level} {heading}", ""]
         name = base_of(item.name) if item.kind == "impl" else item.name
+        source = [f"[Source](../../{self.path})", ""] if level == "##" else []
         if item.kind == "fn":
-            return lines + self.function(item, owner)
+            return lines + self.function(item, owner) + source
         if item.kind == "impl":
             shown = self.library.impl_lines(item)
             lines += [*block("", shown), *prose(item.docs, name), *self.library.shown(self.page, unheaded(item))]
-            lines += self.word_links(shown)
+            lines += [*self.word_links(shown), *source]
         else:
             lines += [*block("", item.head), *prose(item.docs, name), *self.printed(item, items), *self.calls(item)]
             lines += [*self.variants(item), *self.library.shown(self.page, unheaded(item)), *self.word_links(item.head)]
+            lines += source
         for member in shown_members(item):
             lines += self.section(member, level + "#", f"`{heading_of(member)}`", [], name)
         return lines
