@@ -154,8 +154,8 @@ impl<T: Drop, A: Allocator + Copy> SlotMap<T, A> {
 pub type RelocatableSlotMap<T, A = Global> = SlotMap<T, A>;
 
 impl<T: Drop, A: Allocator + Copy> RelocatableSlotMap<T, A> {
-    /// Creates an uninitialised map with `capacity` places, which will have generation 0. Does not allocate. O(1). The
-    /// allocator is that which `init` gets, whatever `A` is here.
+    /// Creates an uninitialised map with `capacity` places, which will have generation 0. Does not allocate. O(1).
+    /// The allocator is that which `init` gets, whatever `A` is here.
     #[inline]
     pub fn new_uninit(capacity: usize) -> UninitSlotMap<T>
         ensures { result ≡ record { capacity = capacity; generation = 0 } }
