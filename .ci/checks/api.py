@@ -159,6 +159,10 @@ def joined(lines):
     return ["Words: " + ", ".join(dict.fromkeys(links)) + ".", ""] if links else []
 
 
+def module_docs(module):
+    return [line[4:] for line in text_of(module.path).splitlines() if line.startswith("//!")]
+
+
 def page(module, library):
     """Returns the text of a module's page, with marks in place of the links of names."""
     ordered = in_order(module)
@@ -166,8 +170,7 @@ def page(module, library):
     pairs = [it for it in pairs if not is_later(it[1])] + [it for it in pairs if is_later(it[1])]
     everything = [item for _, item, _ in pairs]
     heading = dict(zip(map(id, everything), headings(everything)))
-    docs = prose([line[4:] for line in text_of(module.path).splitlines() if line.startswith("//!")])
-    lines = [f"# {title_of(module)}", "", *docs, *imports(module, everything)]
+    lines = [f"# {title_of(module)}", "", *prose(module_docs(module)), *imports(module, everything)]
     lines += [*item_table(everything, heading), *trait_table(everything)]
     sections = [
         [line for source, item, items in pairs if is_later(item) == later and not is_bare(item)
@@ -248,11 +251,11 @@ class Places:
 
     def index(self, modules):
         """Returns the text of the first page: all modules with their items, and all calls."""
-        lines = [INTRODUCTION, "| module | items |", "|---|---|"]
+        lines = [INTRODUCTION, "| module | | items |", "|---|---|---|"]
         for module in modules:
             items = [item for _, items in module.items for item in items if item.kind != "impl" and not is_later(item)]
             names = ", ".join(f"`{item.name}`" for item in items)
-            lines.append(f"| [`{title_of(module)}`]({file_of(module)}) | {names} |")
+            lines.append(f"| [`{title_of(module)}`]({file_of(module)}) | {first_sentence(module_docs(module))} | {names} |")
         found = collections.defaultdict(list)
         for (owner, call), links in self.calls.items():
             for link in links:
@@ -260,7 +263,7 @@ class Places:
                 found[call].append(f"[`{name}`]({link})")
         lines += ["", "## Calls", "", "Each call, and whose it is: calls of traits of std too.", "", "| call | of |", "|---|---|"]
         lines += [f"| `{call}` | {', '.join(dict.fromkeys(links))} |" for call, links in sorted(found.items())]
-        return "\n".join(lines) + "\n"
+        return self.linked("\n".join(lines) + "\n", INDEX)
 
 
 def first_pass():
