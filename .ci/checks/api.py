@@ -1,202 +1,48 @@
 """The reference in docs/api/: a page for each public module, from the sources of the library's crates.
 
-A page has the lines that import its items, and then each item with its signature and contract, its docs, the files that define
-the words of its contract, and the wrong bodies that are refused. The type or trait with the most calls comes first, iterators
-last. docs/api/README.md lists all pages and items, and the page of each call.
+A page has the lines that import its items, a line on each item, the traits of its types, and then each item with its signature,
+docs, errors, conditions, examples and promises, and the files that define the words of its contract. The type or trait with the
+most calls comes first, iterators last, and behind them what proofs and containers of one's own need. docs/api/README.md lists
+all pages and items, and the page of each call.
+
+It fails if a page is another than the sources make, if docs would be lost, or if an example names a call that is not there.
 """
 
 import collections
 import glob
 import os
 import re
-import textwrap
 
 from crates import ROOT, write_text
-from checks.items import ALIAS, LIBRARY, base_of, exported_names, is_own, is_shown, paths, printed_texts, public_modules
-from checks.items import text_of, trait_of, words_of
+from checks.examples import assigned
+from checks.items import LIBRARY, base_of, exported_names, is_own, items_of, paths, text_of, trait_of
+from checks.sections import MARK, Library, Source, anchor_of, block, derived, file_of, first_sentence, heading_of, is_bare
+from checks.sections import prose, shown_members, title_of, unheaded, wrapped
 
 PAGES = os.path.join(ROOT, "docs", "api")
 INDEX = "README.md"
-WORD = re.compile(r"[^\W\d][\w-]*")
-# What an impl of a trait of std says of it. What it says of a trait of the library is what the contracts of that trait cite.
-PINNED = re.compile(r"\w+_gives|output|debug_output|eq|cmp|hash_input|is_default|is_clone|is_infallible|Item|IntoIter")
-VARIANT = re.compile(r"    (\w+)(?:,| \{|\()")
-DERIVED_TEXT = re.compile(r"#\[error\(\"([^\"]*)\"\)\]")
 MAIN_CALLS = 6
+# What proofs and containers of one's own need, and no other caller.
+LATER = re.compile(r"\w+_law|\w+Family|\w*Link|Content|Hashed|HeapStringKind|Keyed|Pair|Polymorphic|RawSlots|Relocatable")
+LATER_HEADING = "## For proofs, and for containers of your own"
+TRAITS = ("Copy", "Clone", "PartialEq", "Eq", "PartialOrd", "Ord", "Hash", "Debug", "Display", "Error", "Default")
+# Traits of an impl that say nothing to a caller.
+HIDDEN = {"Model", "Move", "Owns"}
 INTRODUCTION = """# Reference
 
-Made from the sources by `.ci/check --write`: the public items of each module, each with its contract, where the words of the contract are
-defined, and the wrong bodies that are refused (`crates/CRATE/must-fail`). The README explains how to read a contract;
-[CHOOSING.md](../CHOOSING.md) says which container to take, and which call.
+Made from the sources by `.ci/check --write`: the public items of each module, each with its contract. The
+[README](../../README.md#how-to-read-a-contract) explains how to read a contract; [CHOOSING.md](../CHOOSING.md) says which
+container to take, and which call.
 
-The examples are sketches: a comment behind a call is what it returns. In a program a `Result` has to be used, by `?`, `match` or
-`let _ = ..`. `alloc` is an allocator, as `rt.alloc()` in `main`, and `report` stands for a function of yours.
+A call has its signature and its docs first. "Errors" says when it returns one, "Conditions" what its caller owes, "Promises" what
+it ensures, and "Words" where the words of these are defined. What stands under "Example" is the body of a proved test. A block
+without a title is a sketch: a comment behind a call is what it returns, and in a program a `Result` has to be used, by `?`,
+`match` or `let _ = ..`. `alloc` is an allocator, as `rt.alloc()` in `main`, and `report` stands for a function of yours.
 
 A line `impl<..>` shows the bounds of the calls below it. `T: Drop` says that a value of `T` may be let go: a type is so if it is
-`Copy`, or by `#[derive(Drop)]`. The `ghost` members of an impl are what contracts know of it.
+`Copy`, or by `#[derive(Drop)]`. The `ghost` members of an impl are what contracts know of it. A type is `Send` if all that it
+is made of is, and so `Sync`: its items, its allocator, its closures.
 """
-
-
-def title_of(module):
-    return f"{module.crate}::{module.name}" if module.name else module.crate
-
-
-def file_of(module):
-    return title_of(module).replace("::", "-") + ".md"
-
-
-def heading_of(item):
-    return item.name if item.kind == "impl" else f"{item.kind} {item.name}"
-
-
-def anchor_of(heading):
-    """Returns what a link to a heading names, if it stands once on its page."""
-    return re.sub(r"[^\w\- ]", "", heading.lower()).replace(" ", "-")
-
-
-def wrong_bodies(crate):
-    """Returns the names of the wrong bodies, and the text that each changes, by source file."""
-    found = collections.defaultdict(list)
-    for path in paths(crate, "must-fail/*.edit"):
-        lines = text_of(path).splitlines()
-        file, old = lines[0].partition(": ")[2], lines[1].partition(": ")[2]
-        found[f"crates/{crate}/{file}"].append((old, os.path.basename(path).removesuffix(".edit")))
-    return found
-
-
-def prose(docs):
-    """Returns docs as lines of a page, in which links to items are names. Sketches of code stay as they are."""
-    lines, is_code = [], False
-    for line in docs:
-        is_code ^= line.startswith("```")
-        lines.append(line if is_code else re.sub(r"\[(`[^`]*`|\w+)\](?:\([\w:]+\))?", r"\1", line))
-    return [*lines, ""] if docs else []
-
-
-def module_docs(path):
-    """Returns the docs at the head of a source file."""
-    return prose([line[4:] for line in text_of(path).splitlines() if line.startswith("//!")])
-
-
-def shown_members(item):
-    return [it for it in item.members if it.kind == "fn" and is_shown(item, it)]
-
-
-def is_bare(item):
-    """Says whether there is nothing to say of an impl but that it is there, and what it pins."""
-    return item.kind == "impl" and not item.docs and not shown_members(item)
-
-
-class Library:
-    """All modules with their wrong bodies, and what the sections of one page need of other pages."""
-
-    def __init__(self):
-        self.modules = [(module, wrong_bodies(crate)) for crate in LIBRARY for module in public_modules(crate)]
-        self.links, self.aliases, self.cited, self.crates = {}, {}, {}, {}
-        self.traits = collections.defaultdict(list)
-        for module, _ in self.modules:
-            for path, items in module.items:
-                for item in items:
-                    self.note(module, text_of(path).splitlines(), item)
-
-    def note(self, module, lines, item):
-        """Takes in what other sections say of an item: its place, what it is a name of, the traits that it meets."""
-        if item.kind == "impl":
-            if trait_of(item.name):
-                self.traits[base_of(item.name)].append(trait_of(item.name))
-            return
-        self.links.setdefault(item.name, f"{file_of(module)}#{anchor_of(heading_of(item))}")
-        self.crates.setdefault(item.name, module.crate)
-        if item.kind == "trait":
-            self.cited[item.name] = set(WORD.findall(" ".join(line for it in item.members for line in it.head)))
-        alias = ALIAS.match(lines[item.first])
-        if alias:
-            self.aliases[item.name] = alias.group(2)
-
-    def calls_of(self, name):
-        """Returns links to the type that a name stands for, and to the traits of its crate that it meets."""
-        target = name
-        while self.aliases.get(target) in self.links:
-            target = self.aliases[target]
-        types = [target] if target != name else []
-        crate = self.crates[target]
-        traits = [it for it in dict.fromkeys(self.traits[target]) if it in self.cited and self.crates[it] == crate]
-        return [self.link(it) for it in types], [self.link(it) for it in traits]
-
-    def link(self, name):
-        return f"[`{name}`]({self.links[name]})"
-
-    def is_pinned(self, trait, name):
-        """Says whether contracts know of an impl of a trait by a ghost member."""
-        return name in self.cited[trait] if trait in self.cited else bool(PINNED.fullmatch(name))
-
-    def impl_lines(self, item):
-        """Returns the line of an impl with its bounds, and what it pins."""
-        ghosts = [it for name, it in item.ghosts.items() if self.is_pinned(trait_of(item.name), name)]
-        if not ghosts:
-            return item.head
-        return [*item.head[:-1], item.head[-1] + " {", *(line for lines in ghosts for line in lines), "}"]
-
-
-class Source:
-    """What the sections of one source file need: where its words are defined, and which lines wrong bodies change."""
-
-    def __init__(self, path, edits, library):
-        self.path, self.lines = path, text_of(path).splitlines()
-        self.library = library
-        self.words = words_of(text_of(path))
-        self.refused = [(next((i for i, line in enumerate(self.lines) if old in line), -1), name) for old, name in edits[path]]
-
-    def word_links(self, lines):
-        """Returns the line that names the files of the words in some lines."""
-        used = [it for it in dict.fromkeys(WORD.findall(" ".join(lines))) if it in self.words]
-        return ["Words: " + ", ".join(f"[`{it}`](../../{self.words[it]})" for it in used) + ".", ""] if used else []
-
-    def notes(self, item):
-        """Returns the lines that name the files of a contract's words, and the wrong bodies of the item."""
-        bodies = [name for line, name in self.refused if item.first <= line <= item.last]
-        refused = ["Refused: " + ", ".join(f"`{name}`" for name in bodies) + ".", ""] if bodies and not item.members else []
-        return self.word_links(item.head) + refused
-
-    def calls(self, item):
-        """Returns the line that says where the calls of a type stand."""
-        if item.kind not in ("struct", "enum", "type"):
-            return []
-        types, traits = self.library.calls_of(item.name)
-        parts = [*types, *(["the " + ("trait " if len(traits) == 1 else "traits ") + ", ".join(traits)] if traits else [])]
-        return ["It has the calls of " + " and of ".join(parts) + ".", ""] if parts else []
-
-    def printed(self, item, items):
-        """Returns the line that says what an error prints."""
-        impls = [it for it in items if trait_of(it.name) == "Display" and base_of(it.name) == item.name and not it.docs]
-        texts = [text for impl in impls for text in printed_texts(self.lines, impl)]
-        texts += DERIVED_TEXT.findall("\n".join(item.head))
-        if not texts:
-            return []
-        quoted = [f"`{it}`" for it in texts]
-        return ["`Display` prints " + ", ".join(quoted[:-1]) + (" or " if quoted[1:] else "") + quoted[-1] + ".", ""]
-
-    def variants(self, item):
-        """Returns the lines that say how a contract imports the variants of an error."""
-        if item.kind != "enum" or not item.name.endswith(("Error", "Fault")):
-            return []
-        names = [it.group(1) for it in map(VARIANT.match, item.head) if it]
-        crate, _, file = self.path.removeprefix("crates/").removesuffix(".rt").partition("/src/")
-        place = f"Rattle.{crate}.specs.declared.{file.replace('/', '.')}.{item.name}.TheVariants"
-        return ["A contract names its variants by:", "", "```text", f"ghost use {place}.{{{', '.join(names)}}};", "```", ""]
-
-    def section(self, item, level, heading, items):
-        """Returns the lines of an item, and of the functions in it, under a heading of this level."""
-        lines = [f"{level} {heading}", ""]
-        if item.kind == "impl":
-            shown = self.library.impl_lines(item)
-            lines += ["```rust", *shown, "```", "", *prose(item.docs), *self.word_links(shown)]
-        else:
-            lines += ["```rust", *item.head, "```", "", *prose(item.docs)]
-            lines += [*self.printed(item, items), *self.calls(item), *self.variants(item), *self.notes(item)]
-        for member in shown_members(item):
-            lines += self.section(member, level + "#", f"`{heading_of(member)}`", [])
-        return lines
 
 
 def main_type(items):
@@ -223,6 +69,12 @@ def in_order(module):
     return sorted(module.items, key=rank)
 
 
+def is_later(item):
+    """Says whether an item stands behind the others."""
+    names = (base_of(item.name), trait_of(item.name)) if item.kind == "impl" else (item.name,)
+    return any(LATER.fullmatch(name) for name in names)
+
+
 def headings(items):
     """Returns the heading of each item of a page. Impls of one name are told apart by their calls."""
     names = collections.Counter(heading_of(item) for item in items if not is_bare(item))
@@ -243,43 +95,91 @@ def use_lines(path, names):
     line = f"use {path}::{{{', '.join(sorted(names))}}};" if len(names) > 1 else f"use {path}::{next(iter(names))};"
     if len(line) <= 100:
         return [line]
-    inner = textwrap.wrap(", ".join(sorted(names)) + ",", width=96)
-    return [f"use {path}::{{", *(f"    {it}" for it in inner), "};"]
+    return [f"use {path}::{{", *(f"    {it}" for it in wrapped(", ".join(sorted(names)) + ",")), "};"]
 
 
 def imports(module, items):
     """Returns the lines that import the items of a module: from the crate where it passes them on."""
     names = {item.name for item in items if item.kind != "impl"}
     passed_on = names & exported_names(text_of(f"crates/{module.crate}/src/lib.rt")) if module.name else names
-    lines = use_lines(module.crate, passed_on) + use_lines(title_of(module), names - passed_on)
-    return ["```rust", *lines, "```", ""]
+    return block("", use_lines(module.crate, passed_on) + use_lines(title_of(module), names - passed_on))
 
 
-def page(module, edits, library):
-    """Returns the text of a module's page."""
-    ordered = in_order(module)
-    everything = [item for _, items in ordered for item in items]
-    heading = dict(zip(map(id, everything), headings(everything)))
-    lines = [f"# {title_of(module)}", "", *module_docs(module.path), *imports(module, everything)]
+def traits_of(items):
+    """Returns the traits of each type of a page by its name."""
+    types = [it for it in items if it.kind in ("struct", "enum", "type") and not is_later(it)]
+    found = {it.name: dict.fromkeys(derived(it)) for it in types}
+    for item in items:
+        name, trait = base_of(item.name), trait_of(item.name)
+        if item.kind == "impl" and trait and name in found and trait not in HIDDEN and not LATER.fullmatch(trait):
+            reference = re.search(r" for (&(?:'\w+ )?(?:mut )?)", item.name)
+            by = re.sub(r"'\w+ ", "", reference.group(1)).strip() if reference else ""
+            found[name][f"{trait} of `{by}`" if by else trait] = None
+    return {name: list(traits) for name, traits in found.items() if traits}
+
+
+def trait_table(items):
+    """Returns the lines of the table of traits."""
+    found = traits_of(items)
+    if not found:
+        return []
+    lines = ["## Traits", "", "A type that is a name of another one has its traits too.", "", "| type | traits |", "|---|---|"]
+    for name, traits in found.items():
+        ordered = sorted(traits, key=lambda it: (TRAITS.index(it) if it in TRAITS else len(TRAITS), it))
+        cells = [f"`{it}`" if "`" not in it else "`" + it.replace(" of", "` of", 1) for it in ordered]
+        lines.append(f"| `{name}` | {', '.join(cells)} |")
+    return [*lines, ""]
+
+
+def item_table(items, heading):
+    """Returns the lines of the table of items."""
+    lines = ["| item | |", "|---|---|"]
+    for item in items:
+        if item.kind != "impl":
+            lines.append(f"| [`{item.name}`](#{anchor_of(heading[id(item)])}) | {first_sentence(item.docs)} |")
+    return [*lines, ""]
+
+
+def others(items, library):
+    """Returns the lines of impls of which there is little to say. `items` has each with its source."""
+    if not items:
+        return []
     bare, words = [], []
-    for path, items in ordered:
-        source = Source(path, edits, library)
-        for item in items:
-            if is_bare(item):
-                shown = library.impl_lines(item)
-                bare += ["", *shown] if bare and len(shown) > 1 else shown
-                words += [it for it in source.word_links(shown) if it]
-            else:
-                lines += source.section(item, "##", heading[id(item)], items)
-    if bare:
-        lines += ["## Other implementations", "", "```rust", *bare, "```", "", *joined(words)]
-    return "\n".join(lines).rstrip("\n") + "\n"
+    for source, item in items:
+        lines = library.impl_lines(item)
+        bare += ["", *lines] if bare and len(lines) > 1 else lines
+        words += [it for it in source.word_links(lines) if it]
+    shown = library.shown(items[0][0].page, [name for _, item in items for name in unheaded(item)])
+    return ["## Other implementations", "", *block("", bare), *joined(words), *shown]
 
 
 def joined(lines):
     """Returns several lines of words as one."""
     links = [link for line in lines for link in line.removeprefix("Words: ").removesuffix(".").split(", ")]
     return ["Words: " + ", ".join(dict.fromkeys(links)) + ".", ""] if links else []
+
+
+def module_docs(module):
+    return [line[4:] for line in text_of(module.path).splitlines() if line.startswith("//!")]
+
+
+def page(module, library):
+    """Returns the text of a module's page, with marks in place of the links of names."""
+    ordered = in_order(module)
+    pairs = [(Source(path, module, library), item, items) for path, items in ordered for item in items]
+    pairs = [it for it in pairs if not is_later(it[1])] + [it for it in pairs if is_later(it[1])]
+    everything = [item for _, item, _ in pairs]
+    heading = dict(zip(map(id, everything), headings(everything)))
+    lines = [f"# {title_of(module)}", "", *prose(module_docs(module)), *imports(module, everything)]
+    lines += [*item_table(everything, heading), *trait_table(everything)]
+    sections = [
+        [line for source, item, items in pairs if is_later(item) == later and not is_bare(item)
+         for line in source.section(item, "##", heading[id(item)], items)]
+        for later in (False, True)
+    ]
+    bare = [(source, item) for source, item, _ in pairs if is_bare(item)]
+    lines += [*sections[0], *others(bare, library), *([LATER_HEADING, ""] if sections[1] else []), *sections[1]]
+    return "\n".join(lines).rstrip("\n") + "\n"
 
 
 def calls_on(text, file):
@@ -295,34 +195,124 @@ def calls_on(text, file):
         seen[anchor] += 1
         words = re.match(r"`(fn |trait )?(\w+)", match.group(2))
         if match.group(1) == "##":
-            is_other = " for " in match.group(2) or not words
-            owner = None if is_other else words.group(2)
+            owner = words and (base_of(match.group(2).strip("`")) if " for " in match.group(2) else words.group(2))
             if words and words.group(1) == "fn ":
                 yield words.group(2), None, link
         elif match.group(1) == "###" and owner:
             yield words.group(2), owner, link
 
 
-def index(modules, texts):
-    """Returns the text of the first page: all modules with their items, and all calls."""
-    lines = [INTRODUCTION, "| module | items |", "|---|---|"]
-    for module in modules:
-        names = [f"`{item.name}`" for _, items in module.items for item in items if item.kind != "impl"]
-        lines.append(f"| [`{title_of(module)}`]({file_of(module)}) | {', '.join(names)} |")
-    found = collections.defaultdict(list)
-    for module in modules:
-        for call, owner, link in calls_on(texts[file_of(module)], file_of(module)):
-            found[call].append(f"[`{owner or title_of(module)}`]({link})")
-    lines += ["", "## Calls", "", "Each call, and whose it is.", "", "| call | of |", "|---|---|"]
-    lines += [f"| `{call}` | {', '.join(links)} |" for call, links in sorted(found.items())]
-    return "\n".join(lines) + "\n"
+class Places:
+    """Where each item and each call stands: for the links of names in docs, for the index and for examples."""
+
+    def __init__(self, modules, texts):
+        self.calls, self.items = collections.defaultdict(list), collections.defaultdict(list)
+        # By page: what examples can name, and its types.
+        self.names, self.types = {}, {}
+        for module in modules:
+            self.note(module, texts[file_of(module)])
+
+    def note(self, module, text):
+        file, items = file_of(module), [item for _, items in module.items for item in items]
+        self.items[module.name.rpartition("::")[2]].append(file)
+        headed = list(calls_on(text, file))
+        for call, owner, link in headed:
+            self.calls[owner, call].append(link)
+        self.names[file] = {f"{owner or title_of(module)}::{call}" for call, owner, _ in headed}
+        self.names[file].update(name for item in items for name in unheaded(item))
+        self.types[file] = {item.name for item in items if item.kind not in ("impl", "fn", "const")}
+        for item in items:
+            place = f"{file}#" + ("other-implementations" if is_bare(item) else anchor_of(heading_of(item)))
+            for owner, call in (name.split("::", 1) for name in unheaded(item) if re.fullmatch(r"\w+::\w+", name)):
+                if place not in self.calls[owner, call]:
+                    self.calls[owner, call].append(place)
+            if item.kind != "impl":
+                self.items[item.name].append(place)
+
+    def place(self, target, file):
+        """Returns where a name in the docs of a page leads to, if that is one place."""
+        owner, _, name = ("::" + target).rpartition("::")
+        owner = owner.rpartition("::")[2]
+        item = owner if owner[:1].isupper() else name
+        for links in (self.calls.get((owner, name)), self.items.get(item), self.calls.get((None, name))):
+            near = [it for it in links or () if it.startswith(file + "#")]
+            if near or links and len(links) == 1:
+                return (near or links)[0].removeprefix(file if near else "")
+        return ""
+
+    def linked(self, text, file):
+        """Returns a page's text with each mark as a link, or as the name alone."""
+        def link(match):
+            name, place = match.group(1), self.place(match.group(2), file)
+            name = name if "`" in name else f"`{name}`"
+            return f"[{name}]({place})" if place else name
+
+        return MARK.sub(link, text)
+
+    def index(self, modules):
+        """Returns the text of the first page: all modules with their items, and all calls."""
+        lines = [INTRODUCTION, "| module | | items |", "|---|---|---|"]
+        for module in modules:
+            items = [item for _, items in module.items for item in items if item.kind != "impl" and not is_later(item)]
+            names = ", ".join(f"`{item.name}`" for item in items)
+            lines.append(f"| [`{title_of(module)}`]({file_of(module)}) | {first_sentence(module_docs(module))} | {names} |")
+        found = collections.defaultdict(list)
+        for (owner, call), links in self.calls.items():
+            for link in links:
+                name = owner or link.partition(".md")[0].replace("-", "::")
+                found[call].append(f"[`{name}`]({link})")
+        lines += ["", "## Calls", "", "Each call, and whose it is: calls of traits of std too.", "", "| call | of |", "|---|---|"]
+        lines += [f"| `{call}` | {', '.join(dict.fromkeys(links))} |" for call, links in sorted(found.items())]
+        return self.linked("\n".join(lines) + "\n", INDEX)
 
 
-def pages():
-    """Returns the text of each page by its file."""
+def first_pass():
+    """Returns the library and the places of all that its pages have."""
     library = Library()
-    texts = {file_of(module): page(module, edits, library) for module, edits in library.modules}
-    return texts | {INDEX: index([module for module, _ in library.modules], texts)}
+    return library, Places(library.modules, {file_of(module): page(module, library) for module in library.modules})
+
+
+def known_names(places):
+    """Returns the pages of each name that an example can show, and the types that only one page has, by page."""
+    known = collections.defaultdict(list)
+    for file, names in places.names.items():
+        for name in names:
+            known[name].append(file)
+    pages = collections.Counter(name for names in places.types.values() for name in names)
+    return known, {file: {name for name in names if pages[name] == 1} for file, names in places.types.items()}
+
+
+def named_calls(module):
+    """Yields the names of each call that has a heading: its own, and that of the trait of an impl which shows it too."""
+    for item in (item for _, items in module.items for item in items):
+        owner = base_of(item.name) if item.kind == "impl" else item.name
+        if item.kind == "fn":
+            yield [f"{title_of(module)}::{item.name}"]
+        for member in shown_members(item):
+            yield [f"{owner}::{member.name}", *(unheaded(item)[:1] if item.kind == "impl" else [])]
+
+
+def pages_with_names():
+    """Returns what examples can name, and the names of each call that has a heading behind its page."""
+    library, places = first_pass()
+    return *known_names(places), [(file_of(module), names) for module in library.modules for names in named_calls(module)]
+
+
+def made():
+    """Returns the text of each page by its file, and what is wrong with the examples."""
+    library, places = first_pass()
+    library.examples, faults = assigned(*known_names(places))
+    texts = {file_of(module): places.linked(page(module, library), file_of(module)) for module in library.modules}
+    return texts | {INDEX: places.index(library.modules)}, faults
+
+
+def lost_docs():
+    """Yields each place where docs stand above a line that is no item."""
+    for crate in LIBRARY:
+        for path in paths(crate, "src/**/*.rt"):
+            lost = []
+            items_of(text_of(path).splitlines(), lost=lost)
+            yield from (f"{path}:{line}: the docs above this line are of no item" for line in lost)
 
 
 def old_pages():
@@ -331,13 +321,13 @@ def old_pages():
 
 def check():
     """Returns what is wrong."""
-    texts, old = pages(), old_pages()
+    (texts, faults), old = made(), old_pages()
     differing = (old ^ set(texts)) | {name for name in old & set(texts) if text_of(f"docs/api/{name}") != texts[name]}
-    return [f"docs/api/{name}: it is another than the sources make" for name in sorted(differing)]
+    return [*faults, *lost_docs(), *(f"docs/api/{name}: it is another than the sources make" for name in sorted(differing))]
 
 
 def write():
-    texts, old = pages(), old_pages()
+    (texts, _), old = made(), old_pages()
     os.makedirs(PAGES, exist_ok=True)
     for name in old - set(texts):
         os.remove(os.path.join(PAGES, name))

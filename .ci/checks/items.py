@@ -51,8 +51,11 @@ def name_of(kind, rest, head):
     return GENERICS.sub("", whole).strip().removesuffix("{}").removesuffix("{").strip()
 
 
-def items_of(lines, indent="", first=0, end=None):
-    """Returns the items between two lines that stand at this indent, each with the items in it if it is a trait or an impl."""
+def items_of(lines, indent="", first=0, end=None, lost=None):
+    """Returns the items between two lines that stand at this indent, each with the items in it if it is a trait or an impl.
+
+    Adds to `lost` the number of each line that parts docs from the item below.
+    """
     items, docs, i = [], [], first
     end = len(lines) if end is None else end
     while i < end:
@@ -68,11 +71,15 @@ def items_of(lines, indent="", first=0, end=None):
                 head = [*derives(lines, i), *visible(lines[i : last + 1])]
             if kind == "trait":
                 head += ghost_members(lines[after:last])
-            members = items_of(lines, indent + "    ", after, last) if kind in ("trait", "impl") else []
+            members = items_of(lines, indent + "    ", after, last, lost) if kind in ("trait", "impl") else []
             ghosts = pinned(lines[after:last]) if kind == "impl" else {}
             items.append(Item(kind, name_of(kind, rest, head), bool(is_public), docs, head, i, last, members, ghosts))
             docs, i = [], last
-        elif line.strip() and not line.strip().startswith("#["):
+        elif line.strip() and not line.strip().startswith(("#[", "//", "pub mod ", "mod ", "ghost ")):
+            if docs and lost is not None:
+                lost.append(i + 1)
+            docs = []
+        elif line.strip() and not line.strip().startswith(("#[", "//")):
             docs = []
         i += 1
     return items
@@ -226,7 +233,7 @@ def is_listed(item, exported):
         return False
     if is_own(item):
         return base_of(item.name) in exported and any(it.is_public for it in item.members)
-    return base_of(item.name) in exported or trait_of(item.name) in exported
+    return bool(exported & set(re.findall(r"\w+", item.name)))
 
 
 def public_modules(crate):

@@ -5,6 +5,7 @@
 - A clause behind its calls, as in `push` (`full`), or before them, as in `full` of `push`, is one of theirs. In a section about a
   crate, each word in the last column of a table is a clause there, a call or a definition.
 - No page states how many wrong bodies, tests or scripts there are: scripts count them.
+- docs/EXAMPLES.md names each file of the crate of examples.
 
 Then each word in backticks is misspelt in turn in a copy of its paragraph, and PLANTS are put into it: all have to be refused.
 """
@@ -14,13 +15,13 @@ import re
 
 from checks.clauses import Contracts
 from crates import ROOT, libraries_of_crates
-from checks.items import text_of
+from checks.items import paths, text_of
 from checks.pages import DOCUMENTS, FILES, headings, is_file, is_path, paragraphs
 
 # Words that the code does not have: of Rust, its std and its crates, of the kit, and what stands for a name of the reader's.
 WORDS = set("""
     AtomicCell Deref MaybeUninit Mutex SecondaryMap SendError memmove no_std python3 replace_with rustc scope slab xmllint
-    allow dac8208d650f15bf holes lemma trusted
+    Handles Wait allow dac8208d650f15bf holes lemma trusted
     CRATE FILE FUNCTION MODULE SUBJECT WHAT_IS_WRONG my_program
 """.split())
 # Words of upstream that this library does not have, and of the harness that measures both.
@@ -38,7 +39,7 @@ PLANTS = (
     ("`value`, `full`, `fits`, `refused`", "`value`, `full`, `fits`, `whole`"),
     ("`Table::end`", "`Table::clear`"),
     ("`MetaQueue::push`", "`MetaSlotMap::push`"),
-    ("EXAMPLES.md#errors-of-three-containers-as-one", "EXAMPLES.md#errors-of-four-containers-as-one"),
+    ("EXAMPLES.md#where-the-proofs-stand", "EXAMPLES.md#where-the-proofs-lie"),
     ("(docs/api/README.md)", "(docs/reference/README.md)"),
     ("wrong bodies", "437 wrong bodies"),
 )
@@ -162,6 +163,14 @@ def missed(text, room, folder):
             yield right, f"nothing is said of {wrong}"
 
 
+def unlisted():
+    """Yields each example that the list of examples does not have."""
+    listed = set(SPAN.findall(text_of("docs/EXAMPLES.md")))
+    for path in paths("examples", "src/*.rt"):
+        if not path.endswith("/lib.rt") and os.path.basename(path) not in listed:
+            yield f"docs/EXAMPLES.md: it does not have {path}"
+
+
 def check():
     """Returns what is wrong."""
     pages = [(path, *place) for path in DOCUMENTS for place in places(path)]
@@ -169,4 +178,4 @@ def check():
     for path, line, text, room in pages:
         wrong = list(faults(text, room, os.path.dirname(path))) or missed(text, room, os.path.dirname(path))
         found += [f"{path}:{line + text[: text.find(word)].count(chr(10))}: {it}" for word, it in wrong]
-    return found
+    return [*found, *unlisted()]

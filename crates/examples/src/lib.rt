@@ -1,4 +1,4 @@
-//! Examples of the library, each in a file of its own, which README.md and docs/ quote.
+//! Examples of the library, each in a file of its own, which docs/EXAMPLES.md lists.
 #![tactic(auto)]
 
 pub mod arena;

@@ -13,8 +13,8 @@ use std::ops::{AsDeref, DerefMut};
 
 /// An optional value: `Some` with a value, or `None`.
 ///
-/// It has the calls of [`Option`], and is made by its variants, or by [`From`] of an [`Option`]. Every call is O(1), if
-/// nothing else is said, and does not allocate.
+/// It has the most used calls of [`Option`], and [`RelocatableOption::to_option`] leads to the others. It is made by its
+/// variants, or by [`From`] of an [`Option`]. Every call is O(1), if nothing else is said, and does not allocate.
 ///
 /// ```text
 /// let mut port = RelocatableOption::Some(80);

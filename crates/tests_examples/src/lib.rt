@@ -1,4 +1,4 @@
-//! Tests of the examples that the README quotes.
+//! Tests of the crate of examples.
 #![tactic(auto)]
 
 #[cfg(test)]

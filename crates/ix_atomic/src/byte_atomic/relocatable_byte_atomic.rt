@@ -77,7 +77,7 @@ impl<T, const SIZE: usize> UninitByteAtomic<T, SIZE> {
 impl<T: AtomicCopy, const SIZE: usize> UninitByteAtomic<T, SIZE> {
     /// Allocates from `alloc` once and returns a cell that holds `value`. O(`SIZE`).
     ///
-    /// If the allocation fails, nothing stays allocated and the error holds `self`. No allocation has more than
+    /// Returns `self` in an [`InitError`] if the allocation fails; nothing stays allocated then. No allocation has more than
     /// `isize::MAX` bytes.
     pub fn init<A: Allocator>(
         self,

@@ -31,8 +31,8 @@ const MAX_SIZE: usize = (isize::MAX as usize / size_of::<u64>() - 1) * 8;
 ///
 /// ```text
 /// let (cell, mut writer, mut reader) = SequencedByteAtomic::<u64, 8>::new(alloc, 7)?;
-/// let mut second = cell.writer(alloc, &mut writer)?;      // for another thread
-/// cell.try_write(&mut writer, 9)?;
+/// let second = cell.writer(alloc, &mut writer).unwrap();     // for another thread; it never fails
+/// cell.try_write(&mut writer, 9);     // Ok(()), unless another thread writes
 /// cell.try_read(&mut reader);         // Ok(9), unless another thread writes
 /// cell.merge(&mut writer, second);
 /// cell.close(writer);                 // Ok(9)
@@ -187,7 +187,7 @@ impl<T: AtomicCopy, const SIZE: usize> SequencedByteAtomic<T, SIZE> {
     }
 
     /// Returns a new reader's seat, whose holder knows what the holder of `seat` knows. Takes no memory, and loads the version
-    /// once, by `seat`. O(1).
+    /// once, by `seat`. Never fails. O(1).
     #[inline]
     pub fn reader(
         &self,
@@ -206,7 +206,8 @@ impl<T: AtomicCopy, const SIZE: usize> SequencedByteAtomic<T, SIZE> {
     }
 
     /// Returns a new writer's seat, whose holder knows what the holder of `seat` knows, and has written nothing. It takes half of
-    /// that seat's share of the right to write. Takes no memory, and loads the version once, by `seat`. O(1).
+    /// that seat's share of the right to write. Takes no memory, and loads the version once, by `seat`. Never
+    /// fails. O(1).
     #[inline]
     pub fn writer(
         &self,

@@ -13,6 +13,8 @@ use std::marker::Model;
 /// ```text
 /// let mut table = HeapTable::new(alloc, 3)?;
 /// table.put(0, 'a');
+/// table.take(0);              // 'a'
+/// table.end();
 /// ```
 pub struct HeapTable<T, A: Allocator = Global> {
     slots: RawSlots<T, A>,

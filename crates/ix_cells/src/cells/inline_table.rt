@@ -14,6 +14,8 @@ use std::marker::Model;
 /// ```text
 /// let mut table = InlineTable::<char, 3>::new();
 /// table.put(0, 'a');
+/// table.take(0);              // 'a'
+/// table.end();
 /// ```
 // The places are an `ArrayVec` that is always full: it is made of an array in one fill, and lends slices of its places.
 pub struct InlineTable<T, const CAP: usize> {

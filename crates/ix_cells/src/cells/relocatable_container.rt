@@ -87,7 +87,7 @@ pub trait RelocatableContainer<A>: Sized {
 
     /// Allocates from `alloc` and returns the empty container.
     ///
-    /// If an allocation fails, nothing stays allocated and the error holds `self`.
+    /// Returns `self` in an [`InitError`] if an allocation fails; nothing stays allocated then.
     fn init(self, alloc: A) -> Result<Self::Ready, InitError<Self>>
         ensures value { IfOk result (is_empty_with (capacity_of self)) }
         ensures refused { IfErr result (λ error. error ≡ self) };

@@ -20,6 +20,7 @@ pub type RelocatableVec<T, A = Global> = PolymorphicVec<T, A>;
 
 impl<T, A: Allocator> RelocatableVec<T, A> {
     /// Creates an uninitialised vector for `capacity` items. Does not allocate. O(1).
+    /// The allocator is that which `init` gets, whatever `A` is here.
     #[inline]
     pub fn new_uninit(capacity: usize) -> UninitVec<T>
         ensures { result ≡ capacity }

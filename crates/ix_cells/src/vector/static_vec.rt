@@ -351,7 +351,7 @@ impl<T: Default + Drop, const CAPACITY: usize, const N: usize> TryFrom<[T; N]>
 
     /// Creates a vector that holds the items of the array. O(`CAPACITY`).
     ///
-    /// Returns the array if it has more items than `CAPACITY`.
+    /// Returns the array as the error if it has more items than `CAPACITY`.
     fn try_from(mut items: [T; N]) -> Result<Self, [T; N]> {
         if N > CAPACITY {
             return Err(items);
@@ -369,8 +369,9 @@ impl<T: Default + Clone, const CAPACITY: usize> Clone for StaticVec<T, CAPACITY>
 
     ghost is_infallible = { AreInfallible T.is_infallible };
 
-    /// Creates a vector that holds clones of the items, or returns the error of the first clone that fails.
-    /// O(`CAPACITY`).
+    /// Creates a vector that holds clones of the items. O(`CAPACITY`).
+    ///
+    /// Returns the error of the first clone that fails.
     fn clone(&self) -> Result<Self, AllocError> {
         let mut vector = StaticVec::empty();
         vector.append_clones(self.items())?;

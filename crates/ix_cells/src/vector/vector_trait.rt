@@ -133,7 +133,7 @@ pub trait Vector<T: Drop> {
         Err(VectorModificationError::InsertWouldExceedCapacity)
     }
 
-    /// Appends `item`. Returns `Err` with `item`, and leaves the vector unchanged, if the vector is full. O(1).
+    /// Appends `item`. O(1). Returns `Err` with `item`, and leaves the vector unchanged, if the vector is full.
     ///
     /// ```text
     /// let mut vector = StaticVec::<u64, 1>::new();
@@ -169,8 +169,9 @@ pub trait Vector<T: Drop> {
         }
     }
 
-    /// Inserts `item` at `index` as [`Vector::insert`] does, and returns its error together with `item`.
-    /// O(`len - index`).
+    /// Inserts `item` at `index` as [`Vector::insert`] does. O(`len - index`).
+    ///
+    /// Returns the errors of that call, each together with `item`.
     ///
     /// ```text
     /// let mut vector = StaticVec::<u64, 1>::new();

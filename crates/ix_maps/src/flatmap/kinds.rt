@@ -114,6 +114,7 @@ pub type RelocatableFlatMap<K, V, A = Global> = FlatMap<K, V, A>;
 
 impl<K: Eq + Drop, V: Drop, A: Allocator + Copy> RelocatableFlatMap<K, V, A> {
     /// Creates an uninitialised map with room for `capacity` keys. Does not allocate. O(1).
+    /// The allocator is that which `init` gets, whatever `A` is here.
     #[inline]
     pub fn new_uninit(capacity: usize) -> UninitFlatMap<K, V>
         ensures { result ≡ capacity }

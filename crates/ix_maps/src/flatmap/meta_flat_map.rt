@@ -26,8 +26,8 @@ use std::marker::Model;
 /// compares eight at a time, and so up to seven after that one, or 32 at a time if there are 128 keys or more; in any case it
 /// compares no key twice.
 ///
-/// Each call that looks for a key takes O(capacity) time, any other O(1), if nothing else is said. No call allocates.
-/// A map that is dropped drops its pairs in slot order, in O(capacity) time.
+/// Each call that looks for a key takes O(capacity) time, any other O(1), if nothing else is said. No call allocates but those
+/// that make a map, and clones of a value. A map that is dropped drops its pairs in slot order, in O(capacity) time.
 ///
 /// ```text
 /// let mut map = FixedSizeFlatMap::<u16, char, 2>::new();

@@ -113,6 +113,7 @@ impl<T: Drop, A: Allocator> Queue<T, A> {
 
 impl<T: Drop, A: Allocator> RelocatableQueue<T, A> {
     /// Creates an uninitialised queue for `capacity` items. Does not allocate. O(1).
+    /// The allocator is that which `init` gets, whatever `A` is here.
     #[inline]
     pub fn new_uninit(capacity: usize) -> UninitQueue<T>
         ensures { result ≡ capacity }

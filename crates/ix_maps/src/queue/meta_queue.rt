@@ -20,8 +20,8 @@ use std::marker::{Model, PhantomData};
 /// A queue whose items lie in a table `S`. Contracts see it as a bounded list, with the front item, which is the
 /// oldest, first.
 ///
-/// The items lie in a ring of the table's places. Each call takes O(1) time if nothing else is said, and no call
-/// allocates. A queue that is dropped drops its items, the front item first, in O(capacity) time.
+/// The items lie in a ring of the table's places. Each call takes O(1) time if nothing else is said. No call allocates but
+/// those that make a queue. A queue that is dropped drops its items, the front item first, in O(capacity) time.
 ///
 /// ```text
 /// let mut queue = FixedSizeQueue::<u64, 2>::new();

@@ -38,10 +38,10 @@ impl<T: Clone, A: Allocator + Copy> SlotMap<T, A> {
     /// nothing stays allocated then.
     ///
     /// ```text
-    /// let key = map.insert('a')?;               // index 0, generation 0
+    /// map.insert('a');                          // Some: index 0, generation 0
     /// let mut copy = map.try_clone_in(alloc)?;
-    /// copy.remove(key);                         // Some('a')
-    /// map.contains(key);                        // true
+    /// copy.remove(SlotMapKey::new(0, 0));       // Some('a')
+    /// map.contains(SlotMapKey::new(0, 0));      // true
     /// ```
     pub fn try_clone_in<B: Allocator + Copy>(&self, alloc: B) -> Result<SlotMap<T, B>, AllocError>
         requires { AreEqualClones T.is_clone }

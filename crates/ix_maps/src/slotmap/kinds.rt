@@ -155,6 +155,7 @@ pub type RelocatableSlotMap<T, A = Global> = SlotMap<T, A>;
 
 impl<T: Drop, A: Allocator + Copy> RelocatableSlotMap<T, A> {
     /// Creates an uninitialised map with `capacity` places, which will have generation 0. Does not allocate. O(1).
+    /// The allocator is that which `init` gets, whatever `A` is here.
     #[inline]
     pub fn new_uninit(capacity: usize) -> UninitSlotMap<T>
         ensures { result ≡ record { capacity = capacity; generation = 0 } }
@@ -231,8 +232,8 @@ impl<T: Drop, A: Allocator + Copy> RelocatableContainer<A> for UninitSlotMap<T> 
 
     /// Allocates from `alloc` and returns the empty map.
     ///
-    /// O(capacity), with at most six allocations. If one fails, and if the values would take more than `isize::MAX` bytes,
-    /// nothing stays allocated and the error holds `self`. A capacity of 0 needs no memory.
+    /// O(capacity), with at most six allocations. Returns `self` in an [`InitError`] if one fails, and if the values would
+    /// take more than `isize::MAX` bytes; nothing stays allocated then. A capacity of 0 needs no memory.
     fn init(self, alloc: A) -> Result<RelocatableSlotMap<T, A>, InitError<Self>>
         ensures value { IfOk result (λ map. map ≡ map_new self.capacity self.generation) }
         ensures refused { IfErr result (λ error. error ≡ self) }

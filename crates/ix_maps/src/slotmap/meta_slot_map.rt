@@ -29,8 +29,8 @@ use std::marker::Model;
 /// [`MetaSlotMap::remove`] makes a place the first. A key or an index out of range, up to the greatest numbers, is an
 /// ordinary case, for which calls return `false` or `None`.
 ///
-/// Each call takes O(1) time if nothing else is said, and no call allocates. A map that is dropped drops its values,
-/// that of the least index first, in O(capacity) time.
+/// Each call takes O(1) time if nothing else is said. No call allocates but those that make a map. A map that is dropped
+/// drops its values, that of the least index first, in O(capacity) time.
 ///
 /// ```text
 /// let mut map = FixedSizeSlotMap::<char, 2>::new();

@@ -10,8 +10,9 @@ use ix_cells::{Table, Touches};
 use std::mem;
 
 impl<T, S: Table<Option<T>>, L: Table<Link>, G: Table<u64>> MetaSlotMap<Option<T>, S, L, G> {
-    /// Inserts `value` in the first free place and returns the key of that place; or returns `value` as the error if no
-    /// place is free. Drops nothing.
+    /// Inserts `value` in the first free place and returns the key of that place. Drops nothing.
+    ///
+    /// Returns `value` as the error if no place is free.
     ///
     /// ```text
     /// let mut map = FixedSizeSlotMap::<char, 1>::new();

@@ -117,6 +117,7 @@ pub type RelocatableSlotTable<T, A = Global> = SlotTable<T, A>;
 
 impl<T: Drop, A: Allocator + Copy> RelocatableSlotTable<T, A> {
     /// Creates an uninitialised map with `capacity` keys. Does not allocate. O(1).
+    /// The allocator is that which `init` gets, whatever `A` is here.
     #[inline]
     pub fn new_uninit(capacity: usize) -> UninitSlotTable<T>
         ensures { result ≡ capacity }

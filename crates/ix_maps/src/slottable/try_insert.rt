@@ -10,8 +10,9 @@ use ix_cells::{Table, Touches};
 use std::mem;
 
 impl<T, S: Table<T>, L: Table<Link>> MetaSlotTable<T, S, L> {
-    /// Inserts `value` at the first free key and returns that key; or returns `value` as the error if the map is full. Drops
-    /// nothing.
+    /// Inserts `value` at the first free key and returns that key. Drops nothing.
+    ///
+    /// Returns `value` as the error if the map is full.
     ///
     /// ```text
     /// let mut map = FixedSizeSlotTable::<char, 1>::new();

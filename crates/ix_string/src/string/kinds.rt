@@ -99,6 +99,7 @@ pub type RelocatableString<A = Global> = HeapString<Relocatable, A>;
 
 impl<A: Allocator> RelocatableString<A> {
     /// Creates an uninitialised string for `capacity` bytes. Does not allocate. O(1).
+    /// The allocator is that which `init` gets, whatever `A` is here.
     #[inline]
     pub fn new_uninit(capacity: usize) -> UninitString
         ensures { result ≡ capacity }
