@@ -1,4 +1,4 @@
-use Rattle.std.proofs.Common.{List, ℕ, sym, ap, ◌∙◌, subst}
+use Rattle.std.proofs.Common.{List, ℕ, sym, ap, subst}
 use Rattle.ix_maps.specs.SlotCopies.{SlotIsInfallible}
 use Rattle.ix_maps.specs.FlatCopies.{PairIsClone, PairIsInfallible}
 use Rattle.ix_maps.specs.inner.HashChains.{hash_of, IsHashed}

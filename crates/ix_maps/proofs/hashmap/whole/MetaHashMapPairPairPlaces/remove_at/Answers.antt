@@ -1,6 +1,5 @@
-use Rattle.std.proofs.Common.{◌≡◌, ℕ, List, ◌<◌, length, Some, sym, ap, ◌∙◌, subst, arith}
+use Rattle.std.proofs.Common.{◌≡◌, ℕ, length, Some, sym, ap, ◌∙◌, subst, arith}
 use Rattle.ix_cells.proofs.Places.{place_at_within}
-use Rattle.ix_maps.specs.SlotState.{value_at}
 use Rattle.ix_maps.specs.inner.HashChains.{bucket_of, hash_of, head_at, IsOnChain, IsUnlinked}
 use Rattle.ix_maps.proofs.FlatSteps.{HasDistinctKeys-vacated}
 use Rattle.ix_maps.proofs.HashSteps.{bucket_of-counted, on_chain-held, IsHashed-removed}
