@@ -9,8 +9,7 @@ use ix_cells::Table;
 use std::hash::{BuildHasher, Hash};
 use std::ops::Index;
 
-/// `map[&key]` is the value of `key`, which the map has; [`MetaHashMap::get_ref`] asks for nothing. O(1) on
-/// average.
+/// `map[&key]` is the value of `key`, which the map has; [`MetaHashMap::get_ref`] asks for nothing. O(1) on average.
 impl<
     'q,
     K: Eq + Hash + Drop,
