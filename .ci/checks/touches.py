@@ -25,7 +25,7 @@ WALKS = {
     "values": ("fmt",),
     "whole": ("clear", "for_each_mut", "retain"),
     "meta_slot_map": ("held_from", "fmt"),
-    "word_table": ("new", "copy_of", "drop", "fill", "copy_words", "empty"),
+    "word_table": ("new", "copy_of", "drop", "fill", "copy_items", "empty"),
 }
 # Calls of a single step: those of counted tables, of new values, and of std.
 CALLS = {"item", "item_mut", ".put", ".take", ".get", ".get_mut", ".len", ".inline_len", ".as_ref", ".is_some", "Touches::new", "SlotTableKey::new", "SlotMapKey::new",

@@ -1,4 +1,4 @@
-//! Sessions by the name of their peer, in a map of either kind: a few in a flat map, thousands in a hash map.
+//! Sessions by the name of their peer, in a map of either kind: a few in a flat map, a thousand in a hash map.
 ghost use Rattle.std.specs.Prelude.{◌≡◌, ◌↔◌, ℕ, [], Some, None, Err, IsTrue, IsSome, IsOk, OnErr, IfSome, option_map, false};
 ghost use Rattle.examples.specs.declared.sessions_by_name.Seen.{Seen};
 ghost use Rattle.ix_maps.specs.FlatState.{flat_value};
@@ -16,8 +16,8 @@ pub struct Seen {
 /// At most 16 sessions. A look-up compares the name with each of them.
 pub type FewSessions<N> = FixedSizeFlatMap<N, Seen, 16>;
 
-/// At most 4,096 sessions. A look-up compares the name with those whose hashes lie near its own.
-pub type ManySessions<N> = FixedSizeHashMap<N, Seen, 4096>;
+/// At most 1,024 sessions. A look-up compares the name with those whose hashes lie near its own.
+pub type ManySessions<N> = FixedSizeHashMap<N, Seen, 1024>;
 
 /// Opens the session of a peer at `time`. Returns an error if the peer has one, or if there is no room.
 pub fn open<N: Eq, M: BoundedMap<N, Seen>>(

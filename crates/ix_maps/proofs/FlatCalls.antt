@@ -12,9 +12,10 @@ use Rattle.ix_cells.specs.Places.{place_at}
 use Rattle.ix_cells.proofs.Places.{place_at_within}
 use Rattle.ix_maps.specs.SlotState.{SlotState, value_at, entries, entries_from}
 use Rattle.ix_maps.specs.SlotSteps.{slot_set, slot_vacate, slot_remove, SlotRemove}
-use Rattle.ix_maps.specs.SlotCalls.{SomeCallOn, IsCallableOnEach}
+use Rattle.ix_maps.specs.SlotCalls.{CalledOn, SomeCallOn, IsCallableOnEach}
 use Rattle.ix_maps.specs.FlatState.{HasDistinctKeys, flat_entry, flat_value, flat_keys, flat_item, flat_items}
 use Rattle.ix_maps.specs.FlatSteps.{ListsUntilStop, flat_set, flat_remove}
+use Rattle.ix_maps.specs.FlatCalls.{CallAtKey}
 use Rattle.ix_maps.specs.declared.flatmap.pair.Pair.{Pair}
 use Rattle.ix_maps.specs.declared.flatmap.callback_progression.CallbackProgression.{CallbackProgression}
 use Rattle.ix_maps.specs.declared.flatmap.callback_progression.CallbackProgression.TheVariants.{Continue, Stop}
@@ -52,6 +53,25 @@ module _ {K V : Type 0} where
   -- each place has the key that it had
   abbrev pub SameKeys : SlotState (Pair K V) → SlotState (Pair K V) → Type 0
   SameKeys s new = (place : ℕ) → option_map (λ pair. pair.key) (value_at new place) ≡ option_map (λ pair. pair.key) (value_at s place)
+
+  -- the pair at a place was lent to a call, which left another value there
+  pub called_at_place : {F R : Type 0} (step : F → Bor K → MutBor V → R → MutBor V → F → Type 0) (s inside : SlotState (Pair K V)) (place : ℕ) (pair here : Pair K V) (f : F) (lent : Bor K) (shown : MutBor V) (r : R) (after : MutBor V) (next : F)
+      → inside ≡ s → value_at s place ≡ Some pair → value_at inside place ≡ Some here → lent.now ≡ here.key → shown.now ≡ here.value → step f lent shown r after next
+      → (left : V) × CalledOn (CallAtKey step) f pair.key pair.value r left next × (slot_set inside place (record here { value = after.now }) ≡ slot_set s place (record pair { value = left }))
+  called_at_place step s inside place pair here f lent shown r after next same at found key value called =
+      let both : Some pair ≡ Some here = sym at ∙ ap (λ (t : SlotState (Pair K V)). value_at t place) (sym same) ∙ found in
+      let is : pair ≡ here = cc in (
+        after.now,
+        record {
+          shown = shown;
+          shows = value ∙ ap (λ (p : Pair K V). p.value) (sym is);
+          after = after;
+          called = (lent, key ∙ ap (λ (p : Pair K V). p.key) (sym is), called);
+          leaves = refl;
+        },
+        ap (λ (t : SlotState (Pair K V)). slot_set t place (record here { value = after.now })) same
+            ∙ ap (λ (p : Pair K V). slot_set s place (record p { value = after.now })) (sym is),
+      )
 
   -- each key that is there was there
   abbrev pub KeysWere : SlotState (Pair K V) → SlotState (Pair K V) → Type 0

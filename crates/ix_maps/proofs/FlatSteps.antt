@@ -17,6 +17,10 @@ pub first_free : (free : List ℕ) → (free ≡ [] → ⊥) → IsSome (slice_g
 first_free [] some = absurd (some refl)
 first_free (place ∷ free) some = refl
 
+-- a new key is inserted whatever the others are
+pub flat_insert-fresh : {K V : Type 0} (eq : K → K → Bool) (s : SlotState (Pair K V)) (key : K) (value : V) → flat_entry eq s key ≡ None → flat_insert eq s key value ≡ slot_insert s (record { key = key; value = value })
+flat_insert-fresh eq s key value fresh = ap (λ found. if is_some found then s else slot_insert s (record { key = key; value = value })) fresh
+
 module _ {K V : Type 0} (eq : K → K → Bool) (laws : IsEquivalence eq) where
   -- a pair with a new key is inserted
   module _ (old new : SlotState (Pair K V)) (x : Pair K V) (result : Option ℕ) (step : SlotInsert old x new result) (distinct : HasDistinctKeys eq old) (fresh : flat_entry eq old x.key ≡ None) where
@@ -73,6 +77,16 @@ module _ {K V : Type 0} (eq : K → K → Bool) (laws : IsEquivalence eq) where
           | inr there ↦ record { at = there; equal = is.equal }
         ]))
 
+  -- the pair at a place is removed
+  module _ (old new : SlotState (Pair K V)) (place : ℕ) (pair : Pair K V) (step : SlotRemove old place new (Some pair)) where
+    value_at-removed : (i : ℕ) (a : Pair K V) → value_at new i ≡ Some a → (i ≢ place) × (value_at old i ≡ Some a)
+    value_at-removed i a at =
+        let other : i ≢ place = λ same. let none : Some a ≡ None = sym at ∙ (ap (value_at new) same ∙ step.gone) in absurd (cc) in
+        (other, sym (step.kept i other) ∙ at)
+
+    pub HasDistinctKeys-vacated : HasDistinctKeys eq old → HasDistinctKeys eq new
+    HasDistinctKeys-vacated distinct i j a b at_i at_j equal = distinct i j a b (value_at-removed i a at_i).1 (value_at-removed j b at_j).1 equal
+
   -- the pair of a key is removed
   module _ (old new : SlotState (Pair K V)) (key : K) (place : ℕ) (pair : Pair K V) (has : Some place ≡ option_map (λ e. e.0) (flat_entry eq old key)) (step : SlotRemove old place new (Some pair)) (distinct : HasDistinctKeys eq old) where
     pub removed_entry : IsEntry eq old key place pair
@@ -82,13 +96,8 @@ module _ {K V : Type 0} (eq : K → K → Bool) (laws : IsEquivalence eq) where
         let is : found.0 ≡ pair = cc in
         record { at = sym step.value; equal = ap (λ (p : Pair K V). eq p.key key) (sym is) ∙ found.2.equal }
 
-    value_at-removed : (i : ℕ) (a : Pair K V) → value_at new i ≡ Some a → (i ≢ place) × (value_at old i ≡ Some a)
-    value_at-removed i a at =
-        let other : i ≢ place = λ same. let none : Some a ≡ None = sym at ∙ (ap (value_at new) same ∙ step.gone) in absurd (cc) in
-        (other, sym (step.kept i other) ∙ at)
-
     pub HasDistinctKeys-removed : HasDistinctKeys eq new
-    HasDistinctKeys-removed i j a b at_i at_j equal = distinct i j a b (value_at-removed i a at_i).1 (value_at-removed j b at_j).1 equal
+    HasDistinctKeys-removed = HasDistinctKeys-vacated old new place pair step distinct
 
     pub flat_value-removed : flat_value eq new key ≡ None
     flat_value-removed = go (flat_entry eq new key) refl
@@ -97,7 +106,7 @@ module _ {K V : Type 0} (eq : K → K → Bool) (laws : IsEquivalence eq) where
         go None none = ap (option_map (λ (e : ℕ × Pair K V). e.1.value)) none
         go (Some entry) some =
             let left = IsEntry-flat_entry eq new key entry some in
-            let was = value_at-removed entry.0 entry.1 left.at in
+            let was = value_at-removed old new place pair step entry.0 entry.1 left.at in
             absurd (was.0 (distinct entry.0 place entry.1 pair was.1 removed_entry.at (equal_keys laws entry.1.key pair.key key left.equal removed_entry.equal)))
 
     pub flat_value-removed_other : (other : K) → eq other key ≡ false → flat_value eq new other ≡ flat_value eq old other
@@ -105,7 +114,7 @@ module _ {K V : Type 0} (eq : K → K → Bool) (laws : IsEquivalence eq) where
         ap (option_map (λ (e : ℕ × Pair K V). e.1.value))
         (flat_entry_same eq laws old new other HasDistinctKeys-removed
         (λ i a was. record { at = step.kept i (elsewhere i a was) ∙ was.at; equal = was.equal })
-        (λ i a left. record { at = (value_at-removed i a left.at).1; equal = left.equal }))
+        (λ i a left. record { at = (value_at-removed old new place pair step i a left.at).1; equal = left.equal }))
       where
         elsewhere : (i : ℕ) (a : Pair K V) → IsEntry eq old other i a → i ≢ place
         elsewhere i a was same =
@@ -208,7 +217,7 @@ module _ {K V : Type 0} (eq : K → K → Bool) (laws : IsEquivalence eq) where
       filled : new ≡ slot_fill s place (record { key = key; value = value })
       filled =
           is
-          ∙ ap (λ found. if is_some found then s else slot_insert s (record { key = key; value = value })) none
+          ∙ flat_insert-fresh eq s key value none
           ∙ ap (λ first. option_map_or (λ place. slot_fill s place (record { key = key; value = value })) first s) first
 
       pub value_at-new : value_at new place ≡ Some (record { key = key; value = value })

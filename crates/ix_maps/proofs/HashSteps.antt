@@ -6,6 +6,7 @@ use Rattle.std.proofs.lemmas.Bool.{cases_eq, cases_lt, both_ways}
 use Rattle.std.proofs.lemmas.List.{get_or-set_other, get_or-replicate, get_or_past, length-set, length-replicate}
 use Rattle.ix_maps.specs.SlotState.{SlotState, value_at, IsHeld}
 use Rattle.ix_maps.specs.SlotSteps.{slot_fill, SlotInsert, SlotRemove}
+use Rattle.ix_maps.specs.SlotCopies.{IsCloneAt, SlotIsClone}
 use Rattle.ix_maps.specs.FlatState.{flat_entry}
 use Rattle.ix_maps.specs.declared.flatmap.pair.Pair.{Pair}
 use Rattle.ix_maps.specs.declared.hashmap.chain_link.ChainLink.{ChainLink}
@@ -51,6 +52,31 @@ module _ {T : Type 0} (hash : T → ℕ) where
         fits = omega arith;
       })
       (λ place. (λ on. (buckets place).0 ((was.exactly place).0 on), λ is. (was.exactly place).1 ((buckets place).1 is)))
+
+  -- values with the buckets of others at their places have the chains of those
+  pub IsHashed-same : (s t : SlotState T) (links : List ChainLink) → length t.values ≡ length s.values
+      → ((place : ℕ) → option_map (λ value. bucket_of (hash value) (length links)) (value_at t place) ≡ option_map (λ value. bucket_of (hash value) (length links)) (value_at s place))
+      → IsHashed hash s links → IsHashed hash t links
+  IsHashed-same s t links as_many same hashed = record {
+    lengths = hashed.lengths ∙ sym as_many;
+    fits = hashed.fits;
+    each = λ bucket. HasChain-kept s t links links bucket refl (hashed.each bucket) refl (λ place on. refl)
+        (λ place. (λ is. same place ∙ is, λ is. sym (same place) ∙ is));
+  }
+
+  pub IsHashed-equal : (s t : SlotState T) (links others : List ChainLink) → t ≡ s → others ≡ links → IsHashed hash s links → IsHashed hash t others
+  IsHashed-equal s t links others same same_links hashed = subst (λ ls. IsHashed hash t ls) (sym same_links) (subst (λ u. IsHashed hash u links) (sym same) hashed)
+
+  -- clones with the hashes of their values have the chains of those
+  pub IsHashed-clone : (is_clone : T → T → Type 0) (s copy : SlotState T) (links : List ChainLink) → ((x y : T) → is_clone x y → hash y ≡ hash x) → SlotIsClone is_clone s copy → IsHashed hash s links → IsHashed hash copy links
+  IsHashed-clone is_clone s copy links alike is hashed =
+      IsHashed-same s copy links is.capacity (λ place. same (value_at s place) (value_at copy place) (is.values place)) hashed
+    where
+      same : (value other : Option T) → IsCloneAt is_clone value other → option_map (λ v. bucket_of (hash v) (length links)) other ≡ option_map (λ v. bucket_of (hash v) (length links)) value
+      same None None here = refl
+      same None (Some y) here = absurd here
+      same (Some x) None here = absurd here
+      same (Some x) (Some y) here = ap (λ h. Some (bucket_of h (length links))) (alike x y here)
 
   -- no value, and no chain
   pub IsHashed-empty : (s : SlotState T) (links : List ChainLink) (buckets : ℕ) → links ≡ replicate buckets no_link → buckets ≡ length s.values → buckets ≤ no_place → ((place : ℕ) → value_at s place ≡ None) → IsHashed hash s links

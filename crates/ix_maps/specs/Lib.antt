@@ -20,6 +20,7 @@ pub mod FlatCompared
 pub mod Draining
 pub mod SlotDrain
 pub mod FlatDrain
+pub mod HashDrain
 pub mod MapDrain
 pub mod laws
 pub mod inner

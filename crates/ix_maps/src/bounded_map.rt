@@ -1,16 +1,20 @@
 //! The calls that flat maps and hash maps share.
 ghost use Rattle.std.specs.Prelude.{◌≡◌, ◌↔◌, ◌+◌, ℕ, [], length, Some, None, IsSome, IsTrue, IsNone, IsOk, IsErr, IfOk, OnErr, option_copied, option_map, replicate, slice_get, false, true, refl};
 ghost use Rattle.std.specs.Borrow.{sem};
+ghost use Rattle.std.specs.List.{FoldsTo, list_any};
 ghost use Rattle.std.specs.Option.{option_copied_mut};
 ghost use Rattle.std.specs.Result.{IfErr};
 ghost use Rattle.ix_maps.specs.SlotState.{SlotState, IsWellFormed, value_at, held_count};
 ghost use Rattle.ix_maps.specs.SlotSteps.{slot_clear};
-ghost use Rattle.ix_maps.specs.FlatState.{HasDistinctKeys, flat_entry, flat_value, flat_keys, flat_item};
+ghost use Rattle.ix_maps.specs.FlatState.{HasDistinctKeys, flat_entry, flat_value, flat_keys, flat_item, flat_items};
+ghost use Rattle.ix_maps.specs.FlatCompared.{is_same_item, has_each};
+ghost use Rattle.ix_maps.specs.FlatCalls.{CallAtKey, TakesKey};
+ghost use Rattle.ix_maps.specs.SlotCalls.{IsCallableOnEach, ChangesItem, RetainsItem};
 ghost use Rattle.ix_maps.specs.FlatSteps.{flat_insert_result, flat_insert, flat_replace, flat_set, flat_remove};
 ghost use Rattle.ix_maps.specs.BoundedMap.{map_lends};
 ghost use Rattle.ix_maps.specs.declared.flatmap.pair.Pair.{Pair};
 
-use crate::flatmap::{FlatMapError, MetaFlatMap, Pair};
+use crate::flatmap::{FlatMapError, Iter, MetaFlatMap, Pair};
 use crate::hashmap::{ChainLink, MetaHashMap};
 use crate::slottable::Link;
 use ix_cells::Table;
@@ -135,6 +139,30 @@ pub trait BoundedMap<K: Eq, V>: Sized {
         ensures map { state self.new ≡ slot_clear (state self.old) }
         ensures values { (state self.new).values ≡ replicate (length (state self.old).values) None };
 
+    /// Calls `f` with each key in slot order and a mutable reference to its value, with one call for each key.
+    fn for_each_mut<F: FnMut(&K, &mut V)>(&mut self, f: F)
+        requires { IsCallableOnEach (CallAtKey F.step) (TakesKey F.pre) f (flat_items (state self.old)) }
+        ensures calls { (last : F) × FoldsTo (ChangesItem (flat_set K.eq) (CallAtKey F.step))
+            (f, state self.old) (flat_items (state self.old)) (last, state self.new) }
+        ensures keys { flat_keys (state self.new) ≡ flat_keys (state self.old) }
+        ensures free { (state self.new).free ≡ (state self.old).free }
+        ensures distinct { HasDistinctKeys K.eq (state self.new) }
+        ensures capacity { length (state self.new).values ≡ length (state self.old).values };
+
+    /// Calls `f` with each key in slot order and a mutable reference to its value. Removes each key for which `f` returns
+    /// `false`, as [`BoundedMap::remove`] does, and drops the key and its value, right after the call. There is one call for
+    /// each key.
+    fn retain<F: FnMut(&K, &mut V) -> bool>(&mut self, f: F)
+        requires { IsCallableOnEach (CallAtKey F.step) (TakesKey F.pre) f (flat_items (state self.old)) }
+        ensures calls { (last : F)
+            × FoldsTo (RetainsItem (flat_set K.eq) (flat_remove K.eq) (CallAtKey F.step))
+            (f, state self.old) (flat_items (state self.old)) (last, state self.new) }
+        // A key that the map has was there before.
+        ensures keys { (key : K) → IsSome (flat_value K.eq (state self.new) key)
+            → IsSome (flat_value K.eq (state self.old) key) }
+        ensures distinct { HasDistinctKeys K.eq (state self.new) }
+        ensures capacity { length (state self.new).values ≡ length (state self.old).values };
+
     /// Returns the maximum number of keys.
     fn capacity(&self) -> usize
         ensures { result ≡ length (state self.now).values };
@@ -222,6 +250,16 @@ impl<K: Eq + Drop, V: Drop, S: Table<Pair<K, V>>, L: Table<Link>> BoundedMap<K, 
     #[inline]
     fn clear(&mut self) {
         MetaFlatMap::clear(self);
+    }
+
+    #[inline]
+    fn for_each_mut<F: FnMut(&K, &mut V)>(&mut self, f: F) {
+        MetaFlatMap::for_each_mut(self, f);
+    }
+
+    #[inline]
+    fn retain<F: FnMut(&K, &mut V) -> bool>(&mut self, f: F) {
+        MetaFlatMap::retain(self, f);
     }
 
     #[inline]
@@ -315,6 +353,16 @@ impl<
     }
 
     #[inline]
+    fn for_each_mut<F: FnMut(&K, &mut V)>(&mut self, f: F) {
+        MetaHashMap::for_each_mut(self, f);
+    }
+
+    #[inline]
+    fn retain<F: FnMut(&K, &mut V) -> bool>(&mut self, f: F) {
+        MetaHashMap::retain(self, f);
+    }
+
+    #[inline]
     fn capacity(&self) -> usize {
         MetaHashMap::capacity(self)
     }
@@ -342,5 +390,37 @@ impl<
     #[inline]
     fn nth_key(&self, n: usize) -> Option<&K> {
         MetaHashMap::nth_key(self, n)
+    }
+}
+
+/// Returns `true` if `map` has each of these keys, with an equal value.
+pub(crate) fn has_each_of<
+    K: Eq,
+    V: PartialEq,
+    M: BoundedMap<K, V>,
+    S: Table<Pair<K, V>>,
+    L: Table<Link>,
+>(map: &M, items: Iter<'_, K, V, S, L>) -> bool
+    ensures { result ≡ has_each (is_same_item K.eq V.eq) (flat_items (M.state map.now)) items.entry }
+{
+    for (key, value) in items {
+        if !has_equal(map, key, value) {
+            return false;
+        }
+    }
+    true
+}
+
+/// Returns `true` if `map` has an equal key, with an equal value.
+#[inline]
+fn has_equal<K: Eq, V: PartialEq, M: BoundedMap<K, V>>(map: &M, key: &K, value: &V) -> bool
+    ensures { result ≡ list_any (λ item. is_same_item K.eq V.eq item (key.now, value.now))
+        (flat_items (M.state map.now)) }
+{
+    // Names the number of keys, by which the check knows that no two keys are equal.
+    let _len = map.len();
+    match map.get_ref(key) {
+        Some(own) => *own == *value,
+        None => false,
     }
 }

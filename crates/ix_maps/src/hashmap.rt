@@ -13,14 +13,20 @@
 
 mod chain_link;
 mod chain_table;
+mod compared;
+mod copies;
+mod drain;
 mod hashed;
+mod index;
 mod insertions;
 mod iter;
 mod kinds;
 mod meta_hash_map;
 mod search;
+mod whole;
 
 pub use chain_link::ChainLink;
+pub use drain::Drain;
 pub use hashed::Hashed;
 pub use kinds::{
     DefaultHashBuilder, FixedSizeHashMap, HashMap, HashMapFamily, RelocatableHashMap, UninitHashMap,

@@ -20,6 +20,7 @@
 pub mod bounded_map;
 pub mod flatmap;
 pub mod hashmap;
+mod pair_places;
 pub mod queue;
 pub mod slotmap;
 pub mod slottable;

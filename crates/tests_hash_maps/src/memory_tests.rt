@@ -60,7 +60,7 @@ fn read_made<A: Allocator + Copy, F: Fn() -> usize>(
 
 /// The capacity of a map, and the number of blocks of 16 bytes that it takes: 16 bytes for each pair and for each link, 24 for each
 /// link of a chain, and one for the mark of each. An allocation takes whole blocks, so a seventh one would take one more.
-const SIZES: &[(usize, u16)] = &[
+pub(crate) const SIZES: &[(usize, u16)] = &[
     (0, 0),
     (1, 2 * (1 + 1) + 2 + 1),
     (3, 2 * (3 + 1) + 5 + 1),

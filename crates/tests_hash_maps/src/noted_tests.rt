@@ -16,8 +16,8 @@ use test_support::{Findings, Noted, Notes, made};
 
 /// A key that notes its drop. Keys are equal if their numbers are.
 #[derive(Drop)]
-struct NotedKey<'a> {
-    number: u64,
+pub(crate) struct NotedKey<'a> {
+    pub(crate) number: u64,
     noted: Noted<'a>,
 }
 
@@ -47,13 +47,13 @@ impl Hash for NotedKey<'_> {
 
 /// The notes of the keys, and those of the values.
 #[derive(Drop)]
-struct AllNotes {
+pub(crate) struct AllNotes {
     keys: Notes,
     values: Notes,
 }
 
 impl AllNotes {
-    fn new() -> AllNotes {
+    pub(crate) fn new() -> AllNotes {
         AllNotes {
             keys: Notes::new(0),
             values: Notes::new(0),
@@ -61,13 +61,13 @@ impl AllNotes {
     }
 
     /// Returns a key and a value of this name.
-    fn named<'a>(&'a self, number: u64, name: u64) -> (NotedKey<'a>, Noted<'a>) {
+    pub(crate) fn named<'a>(&'a self, number: u64, name: u64) -> (NotedKey<'a>, Noted<'a>) {
         let noted = Noted::new(name, &self.keys);
         (NotedKey { number, noted }, Noted::new(name, &self.values))
     }
 
     /// Returns a key that notes no drop, to look for an equal one.
-    fn to_find<'a>(&'a self, number: u64) -> NotedKey<'a> {
+    pub(crate) fn to_find<'a>(&'a self, number: u64) -> NotedKey<'a> {
         NotedKey {
             number,
             noted: Noted::default(),
@@ -75,7 +75,7 @@ impl AllNotes {
     }
 
     /// Returns the names of the dropped keys and those of the dropped values, and forgets them.
-    fn take_drops(&self) -> (u64, u64) {
+    pub(crate) fn take_drops(&self) -> (u64, u64) {
         (self.keys.take_drops(), self.values.take_drops())
     }
 }

@@ -88,4 +88,23 @@ impl SlowMap {
         let (_, value) = self.pairs.remove(place)?;
         Some(value)
     }
+
+    /// Raises each value by one, and removes each key of which [`is_divided`] is true then, in slot order.
+    pub fn raise_and_retain(&mut self, divisor: u64) {
+        for number in 0..self.pairs.capacity() {
+            let Some((key, value)) = self.pairs.get(number) else {
+                continue;
+            };
+            let raised = value.wrapping_add(1);
+            self.pairs.set(number, (key, raised));
+            if is_divided(key, raised, divisor) && self.pairs.has_room() {
+                let _ = self.pairs.remove(number);
+            }
+        }
+    }
+}
+
+/// Returns `true` if the sum of a key and its value is divided by `divisor`.
+pub fn is_divided(key: u64, value: u64, divisor: u64) -> bool {
+    key.wrapping_add(value) % divisor.max(1) == 0
 }

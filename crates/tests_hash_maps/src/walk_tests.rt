@@ -1,7 +1,7 @@
 //! Random calls on hash maps and on the plain slow map: what each call returns, and the whole content after it. Most of the time
 //! the maps are nearly full. Keys are spread over all buckets, or all have one.
 use crate::hashers::{HASHES, OneHash};
-use crate::slow_map::SlowMap;
+use crate::slow_map::{SlowMap, is_divided};
 use ix_maps::{BoundedMap, FixedSizeHashMap, HashMap};
 use std::alloc::{AllocError, Global};
 use std::test::Fail;
@@ -20,7 +20,26 @@ fn call_both<M: BoundedMap<u64, u64>>(
 ) {
     let key = numbers.next() as u64 % keys.max(1);
     let value = numbers.next() as u64;
-    match numbers.next() % 8 {
+    match numbers.next() % 64 {
+        63 => {
+            map.for_each_mut(|_, value| *value = value.wrapping_add(1));
+            map.retain(|key, value| !is_divided(*key, *value, 3));
+            slow.raise_and_retain(3);
+        }
+        number => call_with_key(findings, map, slow, number, key, value),
+    }
+}
+
+/// Makes a call with a key on both maps, and compares what it returns.
+fn call_with_key<M: BoundedMap<u64, u64>>(
+    findings: &Findings,
+    map: &mut M,
+    slow: &mut SlowMap,
+    number: usize,
+    key: u64,
+    value: u64,
+) {
+    match number % 8 {
         0..4 => findings.expect_same(map.insert(key, value), slow.insert(key, value), "insert"),
         4 => {
             let found = map

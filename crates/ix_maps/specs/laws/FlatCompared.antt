@@ -1,11 +1,15 @@
 -- The laws of equality of flat maps.
 use Rattle.std.proofs.Common.{◌≡◌, ◌&&◌, List, [], ◌∷◌, Bool, true, false, inl, inr, refl, sym, ap, ◌∙◌}
 use Rattle.std.specs.Prelude.{◌||◌}
-use Rattle.std.specs.Cmp.{IsPartialEquivalence, IsEquivalence, partial_equiv_from_equiv, equiv}
+use Rattle.std.specs.Cmp.{IsPartialEquivalence, IsEquivalence, partial_equiv_from_equiv, equiv, and_per, on_per, on_equiv}
 use Rattle.std.specs.List.{list_any}
 use Rattle.std.proofs.Math.Bool.{and_comm}
 use Rattle.std.proofs.lemmas.Bool.{cases_Bool}
-use Rattle.ix_maps.specs.FlatCompared.{has_each, has_same}
+use Rattle.std.proofs.lemmas.Cmp.{and_equiv}
+use Rattle.ix_maps.specs.SlotState.{SlotState}
+use Rattle.ix_maps.specs.FlatState.{flat_items}
+use Rattle.ix_maps.specs.declared.flatmap.pair.Pair.{Pair}
+use Rattle.ix_maps.specs.FlatCompared.{is_same_item, has_each, has_same}
 
 and_left : (a b : Bool) → (a && b) ≡ true → a ≡ true
 and_left true b both = refl
@@ -66,3 +70,16 @@ module _ {X : Type 0} (same : X → X → Bool) where
   pub has_same_equiv : IsEquivalence same → IsEquivalence (has_same same)
   has_same_equiv laws =
       equiv (has_same_per (partial_equiv_from_equiv laws)) (λ xs. and_both _ _ (each_refl laws.refl xs) (each_refl laws.refl xs))
+
+module _ {K V : Type 0} (key_eq : K → K → Bool) (value_eq : V → V → Bool) where
+  -- two maps have the same keys, with equal values
+  abbrev have_same_items : SlotState (Pair K V) → SlotState (Pair K V) → Bool
+  have_same_items s t = has_same (is_same_item key_eq value_eq) (flat_items s) (flat_items t)
+
+  pub same_items_per : IsEquivalence key_eq → IsPartialEquivalence value_eq → IsPartialEquivalence have_same_items
+  same_items_per keys values =
+      on_per flat_items (has_same_per (is_same_item key_eq value_eq) (and_per (on_per (λ p. p.0) (partial_equiv_from_equiv keys)) (on_per (λ p. p.1) values)))
+
+  pub same_items_equiv : IsEquivalence key_eq → IsEquivalence value_eq → IsEquivalence have_same_items
+  same_items_equiv keys values =
+      on_equiv flat_items (has_same_equiv (is_same_item key_eq value_eq) (and_equiv (on_equiv (λ p. p.0) keys) (on_equiv (λ p. p.1) values)))

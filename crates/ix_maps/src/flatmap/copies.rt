@@ -61,10 +61,10 @@ impl<K: Eq + Clone, V: Clone, A: Allocator + Copy> FlatMap<K, V, A> {
     /// copy.remove(&80);                         // Some('a')
     /// map.contains(&80);                        // true
     /// ```
-    pub fn try_clone_in<B: Allocator + Copy>(
+    pub fn try_clone_in<D: Allocator + Copy>(
         &self,
-        alloc: B,
-    ) -> Result<FlatMap<K, V, B>, AllocError>
+        alloc: D,
+    ) -> Result<FlatMap<K, V, D>, AllocError>
         requires keys { AreEqualClones K.is_clone }
         requires values { AreEqualClones V.is_clone }
         ensures value { IfOk result (λ map. map ≡ self.now) }

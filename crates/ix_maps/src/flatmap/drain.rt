@@ -7,6 +7,7 @@ ghost use Rattle.ix_maps.specs.SlotSteps.{slot_clear};
 ghost use Rattle.ix_maps.specs.FlatState.{flat_items};
 
 use crate::flatmap::{MetaFlatMap, Pair};
+use crate::pair_places::PairPlaces;
 use crate::slottable::{Link, SlotTableKey};
 use ix_cells::Table;
 use std::fmt::{self, Debug, Formatter, Write};

@@ -11,6 +11,7 @@ ghost use Rattle.ix_maps.specs.FlatSteps.{flat_insert_result, flat_insert, pair_
 ghost use Rattle.ix_maps.specs.inner.FlatSearch.{bound_without};
 
 use crate::flatmap::{CallbackProgression, FlatMapError, Iter, Keyed, Keys, Pair, Values};
+use crate::pair_places::PairPlaces;
 use crate::slottable::{Link, MetaSlotTable, SlotTableKey};
 use ix_cells::Table;
 use std::alloc::AllocError;

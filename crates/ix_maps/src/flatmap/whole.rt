@@ -1,16 +1,14 @@
 //! The calls of a flat map that go through all of its pairs.
-ghost use Rattle.std.specs.Prelude.{◌≡◌, ◌↔◌, ◌+◌, ◌<◌, ◌≤◌, length, drop, IsTrue, IsSome, Some};
-ghost use Rattle.std.specs.Borrow.{MutBor};
+ghost use Rattle.std.specs.Prelude.{◌≡◌, length, IsSome};
 ghost use Rattle.std.specs.List.{FoldsTo};
-ghost use Rattle.ix_maps.specs.SlotState.{value_at, IsHeld, entries_from};
-ghost use Rattle.ix_maps.specs.SlotSteps.{slot_set, SlotRemove};
-ghost use Rattle.ix_maps.specs.SlotCalls.{CalledOn, IsCallableOnEach, ChangesItem, RetainsItem};
+ghost use Rattle.ix_maps.specs.SlotCalls.{IsCallableOnEach, ChangesItem, RetainsItem};
 ghost use Rattle.ix_maps.specs.FlatState.{HasDistinctKeys, flat_value, flat_keys, flat_items};
 ghost use Rattle.ix_maps.specs.FlatSteps.{flat_set, flat_remove};
 ghost use Rattle.ix_maps.specs.FlatCalls.{CallAtKey, TakesKey};
 
 use crate::flatmap::meta_flat_map::bound_without;
 use crate::flatmap::{MetaFlatMap, Pair};
+use crate::pair_places::{PairPlaces, change_each, retain_each};
 use crate::slottable::{Link, SlotTableKey};
 use ix_cells::Table;
 
@@ -20,7 +18,7 @@ impl<K: Eq + Drop, V: Drop, S: Table<Pair<K, V>>, L: Table<Link>> MetaFlatMap<Pa
     /// ```text
     /// map.for_each_mut(|_, value| *value += 1);
     /// ```
-    pub fn for_each_mut<F: FnMut(&K, &mut V)>(&mut self, mut f: F)
+    pub fn for_each_mut<F: FnMut(&K, &mut V)>(&mut self, f: F)
         requires { IsCallableOnEach (CallAtKey F.step) (TakesKey F.pre) f (flat_items self.old) }
         ensures calls { (last : F) × FoldsTo (ChangesItem (flat_set K.eq) (CallAtKey F.step))
             (f, self.old) (flat_items self.old) (last, self.new) }
@@ -29,13 +27,7 @@ impl<K: Eq + Drop, V: Drop, S: Table<Pair<K, V>>, L: Table<Link>> MetaFlatMap<Pa
         ensures distinct { HasDistinctKeys K.eq self.new }
         ensures capacity { length self.new.values ≡ length self.old.values }
     {
-        for number in 0..self.bound {
-            let place = SlotTableKey::new(number);
-            if !self.has_pair(place) {
-                continue;
-            }
-            self.call_at(place, &mut f);
-        }
+        change_each(self, f);
     }
 
     /// Calls `f` with each key in slot order and a mutable reference to its value. Removes each key for which `f` returns
@@ -45,7 +37,7 @@ impl<K: Eq + Drop, V: Drop, S: Table<Pair<K, V>>, L: Table<Link>> MetaFlatMap<Pa
     /// ```text
     /// map.retain(|_, value| *value > 3);
     /// ```
-    pub fn retain<F: FnMut(&K, &mut V) -> bool>(&mut self, mut f: F)
+    pub fn retain<F: FnMut(&K, &mut V) -> bool>(&mut self, f: F)
         requires { IsCallableOnEach (CallAtKey F.step) (TakesKey F.pre) f (flat_items self.old) }
         ensures calls { (last : F) × FoldsTo (RetainsItem (flat_set K.eq) (flat_remove K.eq) (CallAtKey F.step))
             (f, self.old) (flat_items self.old) (last, self.new) }
@@ -55,60 +47,37 @@ impl<K: Eq + Drop, V: Drop, S: Table<Pair<K, V>>, L: Table<Link>> MetaFlatMap<Pa
         ensures distinct { HasDistinctKeys K.eq self.new }
         ensures capacity { length self.new.values ≡ length self.old.values }
     {
-        for number in 0..self.bound {
-            let place = SlotTableKey::new(number);
-            if !self.has_pair(place) {
-                continue;
-            }
-            if !self.call_at(place, &mut f) {
-                drop(self.remove_at(place));
-            }
-        }
+        retain_each(self, f);
+    }
+}
+
+impl<K: Eq + Drop, V: Drop, S: Table<Pair<K, V>>, L: Table<Link>> PairPlaces<K, V>
+    for MetaFlatMap<Pair<K, V>, S, L> {
+    ghost state = { λ map. map };
+
+    #[inline]
+    fn bound(&self) -> usize {
+        self.bound
     }
 
-    /// Calls `f` with the key at a place that has a pair, and a mutable reference to its value.
     #[inline]
-    fn call_at<R, F: FnMut(&K, &mut V) -> R>(&mut self, place: SlotTableKey, f: &mut F) -> R
-        requires held { IsHeld self.old place }
-        requires callable { (pair : Pair K V) (shown : MutBor V) → value_at self.old place ≡ Some pair
-            → shown.now ≡ pair.value → TakesKey F.pre f.old pair.key shown }
-        ensures called { (pair : Pair K V) → value_at self.old place ≡ Some pair
-            → (left : V) × CalledOn (CallAtKey F.step) f.old pair.key pair.value result left f.new
-            × (self.new ≡ slot_set self.old place (record pair { value = left })) }
-        ensures distinct { HasDistinctKeys K.eq self.new }
-    {
+    fn has_pair(&self, place: SlotTableKey) -> bool {
+        self.pairs.contains(place)
+    }
+
+    #[inline]
+    fn held_from(&self, start: usize) -> usize {
+        self.pairs.held_from(start)
+    }
+
+    #[inline]
+    fn call_at<R, F: FnMut(&K, &mut V) -> R>(&mut self, place: SlotTableKey, f: &mut F) -> R {
         let pair = self.pairs.get_unchecked_mut(place);
         f(&pair.key, &mut pair.value)
     }
 
-    /// Returns `true` if a place has a pair.
     #[inline]
-    pub(crate) fn has_pair(&self, place: SlotTableKey) -> bool
-        ensures value { IsTrue result ↔ IsHeld self.now place }
-        ensures distinct { HasDistinctKeys K.eq self.now }
-    {
-        self.pairs.contains(place)
-    }
-
-    /// Returns the least place from `start` on that has a pair; there is one.
-    #[inline]
-    pub(crate) fn held_from(&self, start: usize) -> usize
-        requires { 0 < length (entries_from start (drop start self.now.values)) }
-        ensures held { IsHeld self.now result }
-        ensures below { result + 1 ≤ 18446744073709551615 }
-        ensures entries { entries_from result (drop result self.now.values)
-            ≡ entries_from start (drop start self.now.values) }
-    {
-        self.pairs.held_from(start)
-    }
-
-    /// Removes the pair at a place that has one, and returns it.
-    #[inline]
-    pub(crate) fn remove_at(&mut self, place: SlotTableKey) -> Pair<K, V>
-        requires { IsHeld self.old place }
-        ensures step { SlotRemove self.old place self.new (Some result) }
-        ensures distinct { HasDistinctKeys K.eq self.new }
-    {
+    fn remove_at(&mut self, place: SlotTableKey) -> Pair<K, V> {
         let pair = self.pairs.remove_unchecked(place);
         self.bound = bound_without(self.bound, place.value());
         pair

@@ -5,7 +5,7 @@ ghost use Rattle.ix_maps.specs.inner.HashChains.{no_link, head_at, next_at, link
 
 use crate::hashmap::ChainLink;
 use crate::hashmap::chain_link::NO_LINK;
-use crate::slotmap::{empty, fill};
+use crate::slotmap::{copy_items, empty, fill};
 use ix_cells::{Counted, Table, Touches};
 use std::marker::Model;
 
@@ -35,6 +35,17 @@ impl<C: Table<ChainLink>> ChainTable<C> {
     {
         let mut links = Counted::new(table);
         fill(&mut links, NO_LINK);
+        ChainTable { links }
+    }
+
+    /// Makes the chains of `other` in an empty table of as many places. O(the number of places).
+    pub(crate) fn copy_of<D: Table<ChainLink>>(table: C, other: &ChainTable<D>) -> Self
+        requires vacant { IsVacant (C.places table) }
+        requires len { length (C.places table) ≡ length other.now }
+        ensures { result ≡ other.now }
+    {
+        let mut links = Counted::new(table);
+        copy_items(&mut links, &other.links);
         ChainTable { links }
     }
 

@@ -1,17 +1,18 @@
 //! The calls of a hash map that insert a key.
-ghost use Rattle.std.specs.Prelude.{◌≡◌, ◌↔◌, ◌*◌, ◌<◌, [], length, slice_get, Some, None, IsOk, IsErr, IfOk, OnErr, false};
+ghost use Rattle.std.specs.Prelude.{◌≡◌, ◌≢◌, ◌↔◌, ◌*◌, ◌<◌, [], length, slice_get, Some, None, IsOk, IsErr, IfOk, OnErr, false};
+ghost use Rattle.std.specs.Borrow.{sem, LendsIfOk};
 ghost use Rattle.std.specs.Result.{IfErr};
-ghost use Rattle.std.specs.Option.{option_map_or};
+ghost use Rattle.std.specs.Option.{option_map_or, UnwrapsOrElse};
 ghost use Rattle.ix_maps.specs.SlotSteps.{SlotInsert};
 ghost use Rattle.ix_maps.specs.FlatState.{HasDistinctKeys, flat_value};
 ghost use Rattle.ix_maps.specs.FlatSteps.{flat_insert_result, flat_insert, flat_replace};
 ghost use Rattle.ix_maps.specs.inner.HashChains.{links_insert_first};
 
-use crate::flatmap::{FlatMapError, Pair};
+use crate::flatmap::{FlatMapError, Keyed, Pair};
 use crate::hashmap::chain_table::ChainTable;
 use crate::hashmap::hashed::bucket_of;
 use crate::hashmap::search::place_from;
-use crate::hashmap::{ChainLink, MetaHashMap};
+use crate::hashmap::{ChainLink, Hashed, MetaHashMap};
 use crate::slottable::{Link, MetaSlotTable};
 use ix_cells::Table;
 use std::hash::{BuildHasher, Hash};
@@ -25,6 +26,9 @@ impl<
     C: Table<ChainLink>,
     B: BuildHasher,
 > MetaHashMap<Pair<K, V>, S, L, C, B> {
+    ghost use Rattle.ix_maps.specs.contracts.hashmap.meta_hash_map.MetaHashMap.{the_row};
+    ghost use Rattle.ix_maps.specs.contracts.flatmap.pair.Pair as pair;
+
     /// Inserts `key` with `value`. What is refused is handed back.
     ///
     /// Returns [`FlatMapError::KeyAlreadyExists`] if the map has an equal key, and otherwise [`FlatMapError::IsFull`] if
@@ -110,6 +114,55 @@ impl<
         ) {
             Ok(()) => Ok(None),
             Err(pair) => Err((pair.key, pair.value)),
+        }
+    }
+
+    /// Returns a mutable reference to the value of `key`. If the map has no equal key, it first inserts `key` with the value that
+    /// `f` returns; if it has one, `key` is dropped, and `f` is not called.
+    ///
+    /// Returns `key` as the error if the map is full and has no equal key. `f` is not called then.
+    ///
+    /// ```text
+    /// let mut map = FixedSizeHashMap::<u16, u32, 1>::new();
+    /// if let Ok(count) = map.get_or_insert_with(80, || 0) {
+    ///     *count += 1;
+    /// }
+    /// map.get_or_insert_with(80, || 7);     // Ok: 1
+    /// map.get_or_insert_with(443, || 7);    // Err(443)
+    /// ```
+    pub fn get_or_insert_with<F: FnOnce() -> V>(&mut self, key: K, f: F) -> Result<&mut V, K>
+        requires { flat_value K.eq self.old key ≡ None → self.old.free ≢ [] → F.pre f }
+        ensures* writes_back { sem 𝓛
+            (LendsIfOk (the_row (pair.the_row K.row V.row) S.row L.row C.row B.row B.Hasher.row ⟦<Pair<K, V> as Keyed>⟧ ⟦<Pair<K, V> as Hashed>⟧ S.Table L.Table C.Table B.BuildHasher B.Hasher.Hasher)
+            V.row self.entry result (flat_replace K.eq self.old key) self.old) }
+        ensures value { IfOk result (λ value. UnwrapsOrElse (flat_value K.eq self.old key) (F.post f) value.now) }
+        ensures full { IsErr result ↔ ((flat_value K.eq self.old key ≡ None) × (self.old.free ≡ [])) }
+        ensures returned { IfErr result (λ refused. refused ≡ key) }
+        // Whatever value is written, the key has it, and any other key keeps its own.
+        ensures holds { (written : V) → IsOk result
+            → flat_value K.eq (flat_replace K.eq self.old key written) key ≡ Some written }
+        ensures kept { (written : V) (other : K) → K.eq other key ≡ false
+            → flat_value K.eq (flat_replace K.eq self.old key written) other
+            ≡ flat_value K.eq self.old other }
+    {
+        let places = self.chains.len();
+        // Names the number of keys, by which the check knows that a map without places has no free one.
+        let _len = self.pairs.len();
+        if places == 0 {
+            return Err(key);
+        }
+        let bucket = bucket_of(&self.hasher, &key, places);
+        let found = place_from(&self.pairs, &self.chains, self.chains.head(bucket), &key);
+        if let Some(place) = found {
+            return Ok(self.value_mut(place));
+        }
+        let Some(place) = self.pairs.next_free_key() else {
+            return Err(key);
+        };
+        let pair = Pair { key, value: f() };
+        match insert_new(&mut self.pairs, &mut self.chains, bucket, pair) {
+            Ok(()) => Ok(self.value_mut(place)),
+            Err(_) => unreachable!(),
         }
     }
 }

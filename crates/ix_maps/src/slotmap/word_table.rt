@@ -47,7 +47,7 @@ impl<G: Table<u64>> WordTable<G> {
         ensures { result ≡ other.now }
     {
         let mut words = Counted::new(table);
-        copy_words(&mut words, &other.words);
+        copy_items(&mut words, &other.words);
         WordTable { words }
     }
 
@@ -96,17 +96,20 @@ pub(crate) fn fill<T: Copy, G: Table<T>>(table: &mut Counted<G>, item: T)
     }
 }
 
-/// Puts the words of `others` into the places of an empty table, of which there are as many.
-fn copy_words<G: Table<u64>, H: Table<u64>>(words: &mut Counted<G>, others: &Counted<H>)
-    requires vacant { IsVacant (G.places words.old) }
-    requires len { length (G.places words.old) ≡ length (H.places others.now) }
+/// Puts the items of `others` into the places of an empty table, of which there are as many.
+pub(crate) fn copy_items<T: Copy, G: Table<T>, H: Table<T>>(
+    table: &mut Counted<G>,
+    others: &Counted<H>,
+)
+    requires vacant { IsVacant (G.places table.old) }
+    requires len { length (G.places table.old) ≡ length (H.places others.now) }
     requires each { HasEachPlace (H.places others.now) }
-    ensures { G.places words.new ≡ H.places others.now }
+    ensures { G.places table.new ≡ H.places others.now }
 {
     let mut touches = Touches::new();
-    for place in 0..words.len() {
-        let word = *others.get(place, &mut touches);
-        words.put(place, word, &mut touches);
+    for place in 0..table.len() {
+        let item = *others.get(place, &mut touches);
+        table.put(place, item, &mut touches);
     }
 }
 

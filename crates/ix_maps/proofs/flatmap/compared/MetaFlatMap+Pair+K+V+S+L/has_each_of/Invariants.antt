@@ -1,9 +1,0 @@
-use Rattle.std.proofs.Common.{◌≡◌}
-use Rattle.ix_maps.specs.FlatState.{flat_items}
-use Rattle.ix_maps.specs.FlatCompared.{is_same_item, has_each}
-use Rattle.ix_maps.proofs.flatmap.compared.MetaFlatMap+Pair+K+V+S+L.has_each_of.Given as goal
-
--- all keys are had if those that are left are
-abbrev pub invariant-loop-key : goal.invariant-loop-key
-invariant-loop-key g l =
-    has_each (is_same_item g.K.PartialEq.eq g.V.PartialEq.eq) (flat_items l.self) l.key-iterator ≡ has_each (is_same_item g.K.PartialEq.eq g.V.PartialEq.eq) (flat_items l.self) (flat_items l.other)

@@ -1,0 +1,14 @@
+use Rattle.std.proofs.Common.{sym, subst}
+use Rattle.ix_maps.specs.FlatState.{HasDistinctKeys}
+use Rattle.ix_maps.proofs.FlatCopies.{AreEqualClones-pair}
+use Rattle.ix_maps.proofs.HashSteps.{IsHashed-equal}
+use Rattle.ix_maps.proofs.hashmap.copies.HashMap+K+V+A+B.try_clone_in.Goals as goal
+
+pub try_clone_in-requires : goal.try_clone_in-requires
+try_clone_in-requires g c = AreEqualClones-pair g.K.PartialEq.eq g.K.Clone.is_clone g.V.Clone.is_clone c.requires.keys c.requires.values
+
+pub invariant_of-result : goal.invariant_of-result
+invariant_of-result g c = (
+  subst (HasDistinctKeys g.K.PartialEq.eq) (sym c.in_ok-pairs.ensures.value) c.self.invariant.0,
+  IsHashed-equal _ c.self.inside.pairs c.in_ok-pairs.pairs c.self.inside.chains _ c.in_ok-pairs.ensures.value c.copy_of.ensures c.self.invariant.1,
+)

@@ -1,0 +1,10 @@
+use Rattle.ix_maps.specs.HashDrain.{drain_items, drain_left, drain_lender}
+use Rattle.ix_maps.proofs.Entries.{count_by-is_some}
+use Rattle.ix_maps.proofs.Draining.{Draining-keeps_along}
+use Rattle.ix_maps.proofs.hashmap.drain.MetaHashMap+Pair+K+V+S+L+C+B.drain.Goals as goal
+
+pub invariant_of-result : goal.invariant_of-result
+invariant_of-result g c = record { counted = count_by-is_some 0 c.args.self.now.values }
+
+pub returns-clause-stays : goal.returns-clause-stays
+returns-clause-stays g c = Draining-keeps_along drain_items drain_lender drain_left _

@@ -1,0 +1,13 @@
+use Rattle.std.proofs.Common.{ap₂, ◌∙◌}
+use Rattle.ix_cells.specs.Memory.{memory_plus}
+use Rattle.ix_maps.proofs.Memory.{memory_plus-none, slot_map_memory-rises}
+use Rattle.ix_maps.proofs.hashmap.kinds.HashMap+K+V+A+B.memory_size.Goals as goal
+
+pub returns-clause-value : goal.returns-clause-value
+returns-clause-value g c = c.saturating_add.ensures ∙ ap₂ memory_plus c.memory_size-pairs.ensures.value c.memory_size-chains.ensures.value
+
+pub returns-clause-monotone : goal.returns-clause-monotone
+returns-clause-monotone g c greater le = slot_map_memory-rises _ _ _ _ c.args.capacity greater (returns-clause-value g c) le
+
+pub returns-clause-none : goal.returns-clause-none
+returns-clause-none g c none = c.saturating_add.ensures ∙ memory_plus-none _ _ (c.memory_size-pairs.ensures.none none) (c.memory_size-chains.ensures.none none)

@@ -1,0 +1,16 @@
+use Rattle.std.proofs.Common.{◌≡◌}
+use Rattle.ix_maps.specs.FlatState.{HasDistinctKeys}
+use Rattle.ix_maps.specs.FlatSteps.{flat_set}
+use Rattle.ix_maps.specs.FlatCalls.{CallAtKey}
+use Rattle.ix_maps.specs.SlotCalls.{ChangesItem}
+use Rattle.ix_maps.proofs.SlotCalls.{Visited}
+use Rattle.ix_maps.proofs.FlatCalls.{AtPlace, SameKeys}
+use Rattle.ix_maps.proofs.pair_places.change_each.Given as goal
+
+abbrev pub invariant-loop-number : goal.invariant-loop-number
+invariant-loop-number g l = record {
+  visited : Visited (AtPlace (ChangesItem (flat_set g.K.PartialEq.eq) (CallAtKey (goal.F-step g)))) l.fn.f (g.M.PairPlaces.state l.fn.map) l.number l.f (g.M.PairPlaces.state l.map);
+  keys : SameKeys (g.M.PairPlaces.state l.fn.map) (g.M.PairPlaces.state l.map);
+  free : (g.M.PairPlaces.state l.map).free ≡ (g.M.PairPlaces.state l.fn.map).free;
+  distinct : HasDistinctKeys g.K.PartialEq.eq (g.M.PairPlaces.state l.map);
+}

@@ -1,0 +1,41 @@
+//! Equality of hash maps.
+ghost use Rattle.ix_maps.specs.FlatState.{flat_items};
+ghost use Rattle.ix_maps.specs.FlatCompared.{is_same_item, has_same};
+ghost use Rattle.ix_maps.specs.laws.FlatCompared.{same_items_per, same_items_equiv};
+
+use crate::bounded_map::has_each_of;
+use crate::flatmap::Pair;
+use crate::hashmap::{ChainLink, MetaHashMap};
+use crate::slottable::Link;
+use ix_cells::Table;
+use std::hash::{BuildHasher, Hash};
+
+/// Maps are equal if each has the keys of the other, with equal values. Places, capacities and hashers do not matter.
+impl<
+    K: Eq + Hash + Drop,
+    V: PartialEq + Drop,
+    S: Table<Pair<K, V>>,
+    L: Table<Link>,
+    C: Table<ChainLink>,
+    B: BuildHasher,
+> PartialEq for MetaHashMap<Pair<K, V>, S, L, C, B> {
+    ghost eq = { λ map other. has_same (is_same_item K.eq V.eq) (flat_items map) (flat_items other) };
+
+    ghost laws = { same_items_per K.eq V.eq K.Eq.laws V.laws };
+
+    /// Returns `true` if the maps are equal. O(`capacity`) on average.
+    fn eq(&self, other: &Self) -> bool {
+        has_each_of(self, other.iter()) && has_each_of(other, self.iter())
+    }
+}
+
+impl<
+    K: Eq + Hash + Drop,
+    V: Eq + Drop,
+    S: Table<Pair<K, V>>,
+    L: Table<Link>,
+    C: Table<ChainLink>,
+    B: BuildHasher,
+> Eq for MetaHashMap<Pair<K, V>, S, L, C, B> {
+    ghost laws = { same_items_equiv K.eq V.eq K.Eq.laws V.Eq.laws };
+}

@@ -1,0 +1,169 @@
+//! The iterator that drains a hash map.
+ghost use Rattle.std.specs.Prelude.{◌≡◌, length, drop, Some, IfSome};
+ghost use Rattle.std.specs.Iterator.{UpTo, at_most, item_count};
+ghost use Rattle.std.specs.Iterator.SizeHint.{IsWithinCount};
+ghost use Rattle.ix_maps.specs.SlotState.{held_count, entries_from};
+ghost use Rattle.ix_maps.specs.SlotSteps.{slot_clear};
+ghost use Rattle.ix_maps.specs.FlatState.{flat_items};
+
+use crate::flatmap::Pair;
+use crate::hashmap::{ChainLink, MetaHashMap};
+use crate::pair_places::PairPlaces;
+use crate::slottable::{Link, SlotTableKey};
+use ix_cells::Table;
+use std::fmt::{self, Debug, Formatter, Write};
+use std::hash::{BuildHasher, Hash};
+use std::iter::FusedIterator;
+
+/// An iterator that removes the keys of a hash map, each with its value, in slot order, as [`MetaHashMap::drain`] returns it.
+///
+/// The keys and values that are still to come when it is dropped are dropped with it, the next ones first, and the map is empty
+/// then.
+pub struct Drain<
+    'a,
+    K: Eq + Hash,
+    V,
+    S: Table<Pair<K, V>>,
+    L: Table<Link>,
+    C: Table<ChainLink>,
+    B: BuildHasher,
+> {
+    map: &'a mut MetaHashMap<Pair<K, V>, S, L, C, B>,
+    /// No place before this one has a pair.
+    place: usize,
+    ghost counted: { held_count map.now ≡ length (entries_from place (drop place map.now.values)) },
+}
+
+impl<
+    K: Eq + Hash + Drop,
+    V: Drop,
+    S: Table<Pair<K, V>>,
+    L: Table<Link>,
+    C: Table<ChainLink>,
+    B: BuildHasher,
+> MetaHashMap<Pair<K, V>, S, L, C, B> {
+    ghost use Rattle.ix_maps.specs.Draining.{DrainingKeepsAlong};
+    ghost use Rattle.ix_maps.specs.HashDrain.{drain_items, drain_left, drain_lender};
+
+    /// Returns an iterator that removes all keys, each with its value, in slot order. What is not taken is dropped with it, and
+    /// the map is as [`MetaHashMap::clear`] leaves it then. O(1), and O(capacity) on average for all of its items together.
+    ///
+    /// ```text
+    /// for (key, value) in map.drain() {
+    ///     send(key, value);
+    /// }
+    /// map.is_empty();                       // true
+    /// ```
+    #[inline]
+    pub fn drain(&mut self) -> Drain<'_, K, V, S, L, C, B>
+        ensures items { drain_items result ≡ flat_items self.old }
+        ensures left { drain_left result ≡ slot_clear self.old }
+        // With these two a caller knows what the map is once the iterator is dropped.
+        ensures same_reference { drain_lender result ≡ self.entry.ghost_name }
+        ensures stays { DrainingKeepsAlong drain_items drain_lender drain_left result }
+    {
+        Drain {
+            map: self,
+            place: 0,
+        }
+    }
+}
+
+/// Drops the keys and values that are still to come, the next ones first. The map is empty then. O(capacity).
+impl<
+    K: Eq + Hash + Drop,
+    V: Drop,
+    S: Table<Pair<K, V>>,
+    L: Table<Link>,
+    C: Table<ChainLink>,
+    B: BuildHasher,
+> Drop for Drain<'_, K, V, S, L, C, B> {
+    ghost use Rattle.ix_maps.specs.HashDrain.{drain_left};
+
+    fn drop(self)
+        ensures { self.exit.0.now ≡ drain_left self.entry }
+    {
+        let Drain { map, place: _ } = self;
+        map.clear();
+    }
+}
+
+impl<
+    K: Eq + Hash + Drop,
+    V: Drop,
+    S: Table<Pair<K, V>>,
+    L: Table<Link>,
+    C: Table<ChainLink>,
+    B: BuildHasher,
+> Iterator for Drain<'_, K, V, S, L, C, B> {
+    type Item = (K, V);
+
+    ghost use Rattle.ix_maps.specs.Draining.{DrainingSteps};
+    ghost use Rattle.ix_maps.specs.HashDrain.{drain_items, drain_left, drain_lender};
+
+    ghost next_gives = { DrainingSteps drain_items drain_lender drain_left };
+
+    ghost remaining = { item_count drain_items };
+
+    /// Removes the next key and returns it with its value, or `None` after the last one. O(the number of free places before
+    /// it) on average.
+    #[inline]
+    fn next(&mut self) -> Option<(K, V)> {
+        if self.map.is_empty() {
+            return None;
+        }
+        let number = self.map.held_from(self.place);
+        self.place = number + 1;
+        let pair = self.map.remove_at(SlotTableKey::new(number));
+        Some((pair.key, pair.value))
+    }
+
+    /// Returns the number of items that are still to come, as both bounds. O(1).
+    #[inline]
+    fn size_hint(&self) -> (usize, Option<usize>)
+        ensures value { result ≡ (length (drain_items self.now), Some (length (drain_items self.now))) }
+        ensures lower { IsWithinCount result.0 (at_most (length (drain_items self.now))) }
+        ensures upper { IfSome result.1 (UpTo (at_most (length (drain_items self.now)))) }
+    {
+        let len = self.map.len();
+        (len, Some(len))
+    }
+}
+
+impl<
+    K: Eq + Hash + Drop,
+    V: Drop,
+    S: Table<Pair<K, V>>,
+    L: Table<Link>,
+    C: Table<ChainLink>,
+    B: BuildHasher,
+> ExactSizeIterator for Drain<'_, K, V, S, L, C, B> {
+    /// Returns the number of items that are still to come. O(1).
+    #[inline]
+    fn len(&self) -> usize {
+        self.map.len()
+    }
+}
+
+impl<
+    K: Eq + Hash + Drop,
+    V: Drop,
+    S: Table<Pair<K, V>>,
+    L: Table<Link>,
+    C: Table<ChainLink>,
+    B: BuildHasher,
+> FusedIterator for Drain<'_, K, V, S, L, C, B> {}
+
+/// Prints a list of the items that are still to come, each a key and its value. O(capacity).
+impl<
+    K: Eq + Hash + Debug + Drop,
+    V: Debug + Drop,
+    S: Table<Pair<K, V>>,
+    L: Table<Link>,
+    C: Table<ChainLink>,
+    B: BuildHasher,
+> Debug for Drain<'_, K, V, S, L, C, B> {
+    fn fmt<W: Write>(&self, f: &mut Formatter<W>) -> fmt::Result {
+        self.map.iter().fmt(f)
+    }
+}

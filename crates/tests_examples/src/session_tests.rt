@@ -1,0 +1,39 @@
+//! Sessions by name, in a map of either kind.
+use examples::sessions_by_name::{FewSessions, ManySessions, Seen, close, note_heard, open};
+use ix_maps::{BoundedMap, FlatMapError};
+use ix_string::StaticString;
+
+type Name = StaticString<16>;
+
+/// Opens the session of `peer` at 1, hears of it at 5, and returns what its closing returns; `None` if a step goes wrong.
+fn closed_after_a_visit<M: BoundedMap<Name, Seen>>(
+    sessions: &mut M,
+    peer: Name,
+    stranger: Name,
+) -> Option<Seen> {
+    if open(sessions, peer, 1) != Ok(())
+        || open(sessions, peer, 2) != Err(FlatMapError::KeyAlreadyExists)
+        || !note_heard(sessions, &peer, 5)
+        || note_heard(sessions, &stranger, 6)
+        || close(sessions, &stranger).is_some()
+    {
+        return None;
+    }
+    close(sessions, &peer)
+}
+
+#[test]
+fn a_session_is_opened_heard_and_closed_in_either_map(rt: HostRuntime) {
+    let camera = Name::from_bytes(b"camera").expect(&rt, "it fits");
+    let radar = Name::from_bytes(b"radar").expect(&rt, "it fits");
+    let wanted = Some(Seen {
+        opened: 1,
+        last_heard: 5,
+    });
+    let mut few = FewSessions::new();
+    assert_eq!(rt; closed_after_a_visit(&mut few, camera, radar), wanted);
+    assert_eq!(rt; close(&mut few, &camera), None);
+    let mut many = ManySessions::new();
+    assert_eq!(rt; closed_after_a_visit(&mut many, camera, radar), wanted);
+    assert_eq!(rt; close(&mut many, &camera), None);
+}

@@ -1,0 +1,217 @@
+//! Calls that go through all keys, and drains: which keys they meet, what they write, what they drop and when, and which keys are
+//! found after them.
+use crate::hashers::{HASHES, OneHash};
+use crate::noted_tests::{AllNotes, NotedKey};
+use crate::whole_tests::Call::{Drain, Insert, Raise, Retain};
+use ix_cells::{RelocatableContainer, Table};
+use ix_maps::{ChainLink, FixedSizeHashMap, HashMap, Link, MetaHashMap, Pair, UninitHashMap};
+use std::alloc::Global;
+use std::hash::BuildHasher;
+use std::test::Fail;
+use test_support::{Findings, Noted, made};
+
+type NotedMap<'a, S, L, C, B> = MetaHashMap<Pair<NotedKey<'a>, Noted<'a>>, S, L, C, B>;
+
+/// A call. Keys are digits, and several keys a number of these.
+#[derive(Clone, Copy)]
+enum Call {
+    /// Inserts a key, whose value has the same name.
+    Insert(u64),
+    /// Raises the name of each value by one.
+    Raise,
+    /// Retains these keys.
+    Retain(u64),
+    /// Drains the map, and takes so many items.
+    Drain(u64),
+}
+
+/// A call on a map of 4; the keys that it meets; the names of the keys and those of the values that are dropped then; and the keys
+/// that are left, in slot order.
+const ROWS: &[(Call, u64, (u64, u64), u64)] = &[
+    (Raise, 0, (0, 0), 0),
+    (Insert(3), 0, (0, 0), 3),
+    (Insert(1), 0, (0, 0), 31),
+    (Insert(4), 0, (0, 0), 314),
+    (Insert(5), 0, (0, 0), 3145),
+    (Raise, 3145, (0, 0), 3145),
+    (Retain(345), 3145, (1, 2), 345),
+    (Insert(2), 0, (0, 0), 3245),
+    (Retain(3), 3245, (245, 256), 3),
+    (Insert(6), 0, (0, 0), 36),
+    (Insert(7), 0, (0, 0), 376),
+    (Insert(8), 0, (0, 0), 3876),
+    (Retain(3876), 3876, (0, 0), 3876),
+    (Drain(0), 0, (3876, 4876), 0),
+    (Insert(9), 0, (0, 0), 9),
+    (Insert(1), 0, (0, 0), 19),
+    (Drain(1), 1, (19, 19), 0),
+    (Insert(2), 0, (0, 0), 2),
+    (Insert(3), 0, (0, 0), 32),
+    (Insert(4), 0, (0, 0), 432),
+    (Insert(5), 0, (0, 0), 5432),
+    (Drain(9), 5432, (5432, 5432), 0),
+    (Insert(6), 0, (0, 0), 6),
+    (Retain(0), 6, (6, 6), 0),
+    (Drain(9), 0, (0, 0), 0),
+];
+
+/// Returns the number with one more digit.
+fn with_digit(digits: u64, digit: u64) -> u64 {
+    digits.wrapping_mul(10).wrapping_add(digit)
+}
+
+/// Returns `true` if the number has this digit, which is not 0.
+fn has_digit(digits: u64, digit: u64) -> bool {
+    let mut rest = digits;
+    while rest > 0 {
+        if rest % 10 == digit {
+            return true;
+        }
+        rest /= 10;
+    }
+    false
+}
+
+/// Makes the call, and returns the keys that it meets.
+fn run<'a, S, L, C, B>(map: &mut NotedMap<'a, S, L, C, B>, call: Call, notes: &'a AllNotes) -> u64
+where
+    S: Table<Pair<NotedKey<'a>, Noted<'a>>>,
+    L: Table<Link>,
+    C: Table<ChainLink>,
+    B: BuildHasher,
+{
+    let mut met = 0u64;
+    match call {
+        Insert(number) => {
+            let (key, value) = notes.named(number, number);
+            let _ = map.insert(key, value);
+        }
+        Raise => map.for_each_mut(|key, value| {
+            met = with_digit(met, key.number);
+            value.name = value.name.wrapping_add(1);
+        }),
+        Retain(kept) => map.retain(|key, _| {
+            met = with_digit(met, key.number);
+            has_digit(kept, key.number)
+        }),
+        Drain(taken) => {
+            let mut drain = map.drain();
+            for _ in 0..taken {
+                if let Some((key, _)) = drain.next() {
+                    met = with_digit(met, key.number);
+                }
+            }
+        }
+    }
+    met
+}
+
+/// Checks that the map has these keys, in this order, and no other digit.
+fn check_keys<'a, S, L, C, B>(
+    findings: &Findings,
+    map: &NotedMap<'a, S, L, C, B>,
+    left: u64,
+    notes: &'a AllNotes,
+    row: usize,
+)
+where
+    S: Table<Pair<NotedKey<'a>, Noted<'a>>>,
+    L: Table<Link>,
+    C: Table<ChainLink>,
+    B: BuildHasher,
+{
+    let mut keys = 0u64;
+    for key in map.keys() {
+        keys = with_digit(keys, key.number);
+    }
+    findings.expect_same_at(keys, left, row, "the keys that are left");
+    for number in 1..10 {
+        let found = map.contains(&notes.to_find(number));
+        findings.expect_same_at(found, has_digit(left, number), row, "a key");
+    }
+}
+
+/// Runs the rows on an empty map of 4 whose making did not fail.
+fn check_made<'a, S, L, C, B, E>(
+    findings: &Findings,
+    made: Result<NotedMap<'a, S, L, C, B>, E>,
+    notes: &'a AllNotes,
+)
+where
+    S: Table<Pair<NotedKey<'a>, Noted<'a>>>,
+    L: Table<Link>,
+    C: Table<ChainLink>,
+    B: BuildHasher + Drop,
+    E: Drop,
+{
+    let Ok(mut map) = made else {
+        return findings.miss("there is memory");
+    };
+    for (row, (call, met, dropped, left)) in ROWS.iter().enumerate() {
+        let found = run(&mut map, *call, notes);
+        findings.expect_same_at(found, *met, row, "the keys that are met");
+        findings.expect_same_at(notes.take_drops(), *dropped, row, "what is dropped");
+        check_keys(findings, &map, *left, notes, row);
+    }
+}
+
+#[test]
+fn each_kind(rt: HostRuntime) -> Result<(), Fail> {
+    let findings = Findings::new();
+    let notes = AllNotes::new();
+    let fixed = made(FixedSizeHashMap::<NotedKey, Noted, 4>::new());
+    check_made(&findings, fixed, &notes);
+    let allocated = HashMap::<NotedKey, Noted, Global>::new(rt.alloc(), 4);
+    check_made(&findings, allocated, &notes);
+    let relocatable = UninitHashMap::<NotedKey, Noted>::new_uninit(4).init(rt.alloc());
+    check_made(&findings, relocatable, &notes);
+    for hash in HASHES {
+        let hasher = OneHash { hash };
+        let fixed = made(FixedSizeHashMap::<NotedKey, Noted, 4, OneHash>::with_hasher(hasher));
+        check_made(&findings, fixed, &notes);
+        let allocated = HashMap::<NotedKey, Noted, Global, OneHash>::with_hasher(
+            rt.alloc(),
+            4,
+            hasher,
+        );
+        check_made(&findings, allocated, &notes);
+    }
+    findings.verdict()
+}
+
+#[test]
+fn no_place_and_no_bytes() -> Result<(), Fail> {
+    let findings = Findings::new();
+    let mut none = FixedSizeHashMap::<u64, u64, 0>::default();
+    let mut calls = 0u64;
+    none.for_each_mut(|_, _| calls = calls.wrapping_add(1));
+    none.retain(|_, _| {
+        calls = calls.wrapping_add(1);
+        true
+    });
+    findings.expect_same((calls, none.drain().len()), (0, 0), "no key, no call");
+    let mut units = FixedSizeHashMap::<u8, (), 2>::new();
+    let _ = (units.insert(1, ()), units.insert(2, ()));
+    units.retain(|key, ()| *key == 2);
+    findings.expect_same(units.drain().next(), Some((2, ())), "of size zero");
+    findings.expect(units.is_empty(), "of size zero");
+    findings.verdict()
+}
+
+#[test]
+fn a_drain_counts_and_prints_what_is_left() -> Result<(), Fail> {
+    let findings = Findings::new();
+    let mut map = FixedSizeHashMap::<u64, u64, 3>::new();
+    let _ = (map.insert(30, 1), map.insert(10, 5), map.insert(20, 3));
+    let mut drain = map.drain();
+    findings.expect_same(drain.next(), Some((30, 1)), "the first place");
+    findings.expect_same(
+        (drain.len(), drain.size_hint()),
+        (2, (2, Some(2))),
+        "two more",
+    );
+    test_support::check_text(&findings, &drain, "[(10, 5), (20, 3)]");
+    drop(drain);
+    findings.expect(map.is_empty(), "the rest is dropped");
+    findings.verdict()
+}
