@@ -7,3 +7,5 @@ mod cell_tests;
 mod example_tests;
 #[cfg(test)]
 mod own_type_tests;
+#[cfg(test)]
+mod session_tests;
