@@ -25,7 +25,8 @@ fn a_cell_that_is_stored_inline(rt: HostRuntime) {
     assert_eq!(rt; cell.read().assume_consistent(), Some(2));
 }
 
-// Shows: RelocatableByteAtomic::new_uninit, RelocatableByteAtomic::write, RelocatableByteAtomic::read
+// Shows: RelocatableByteAtomic::new_uninit, RelocatableByteAtomic::write
+// Shows: RelocatableByteAtomic::read
 #[test]
 fn a_cell_in_memory_of_an_allocator(rt: HostRuntime) -> Result<(), Fail> {
     let uninit = RelocatableByteAtomic::<u64, 8>::new_uninit();

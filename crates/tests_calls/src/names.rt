@@ -44,7 +44,8 @@ fn the_bytes_of_a_name(rt: HostRuntime) -> Result<(), Fail> {
     Ok(())
 }
 
-// Shows: Semantic::len, Semantic::capacity, Semantic::max_len, Semantic::is_empty, Semantic::is_full
+// Shows: Semantic::len, Semantic::capacity, Semantic::max_len, Semantic::is_empty
+// Shows: Semantic::is_full
 #[test]
 fn how_long_a_name_is_and_may_be(rt: HostRuntime) -> Result<(), Fail> {
     let name = GroupName::new(b"staff")?;

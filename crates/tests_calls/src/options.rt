@@ -61,7 +61,8 @@ fn the_value_is_known_to_be_there(rt: HostRuntime) {
     assert_eq!(rt; port.unwrap_unchecked(), 80);
 }
 
-// Shows: RelocatableOption::unwrap_or, RelocatableOption::unwrap_or_default, RelocatableOption::unwrap_or_else
+// Shows: RelocatableOption::unwrap_or, RelocatableOption::unwrap_or_default
+// Shows: RelocatableOption::unwrap_or_else
 #[test]
 fn another_value_in_place_of_none(rt: HostRuntime) {
     let port = RelocatableOption::Some(80);

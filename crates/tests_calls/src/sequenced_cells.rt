@@ -2,7 +2,8 @@
 use ix_atomic::SequencedByteAtomic;
 use std::test::Fail;
 
-// Shows: SequencedByteAtomic::new, SequencedByteAtomic::try_write, SequencedByteAtomic::try_read, SequencedByteAtomic::close
+// Shows: SequencedByteAtomic::new, SequencedByteAtomic::try_write, SequencedByteAtomic::try_read
+// Shows: SequencedByteAtomic::close
 #[test]
 fn a_value_is_written_and_read(rt: HostRuntime) -> Result<(), Fail> {
     let (cell, mut writer, mut reader) = SequencedByteAtomic::<u64, 8>::new(rt.alloc(), 7)?;

@@ -63,7 +63,8 @@ fn how_much_memory_two_blocks_take(rt: HostRuntime) {
     );
 }
 
-// Shows: RawSlots::new, RawSlots::len, RawSlots::put, RawSlots::get, RawSlots::get_mut, RawSlots::take, RawSlots::end
+// Shows: RawSlots::new, RawSlots::len, RawSlots::put, RawSlots::get, RawSlots::get_mut
+// Shows: RawSlots::take, RawSlots::end
 #[test]
 fn a_row_of_places(rt: HostRuntime) -> Result<(), Fail> {
     let mut slots = RawSlots::<u64>::new(rt.alloc(), 3)?;
@@ -89,7 +90,8 @@ fn how_much_memory_a_row_of_places_takes(rt: HostRuntime) {
     );
 }
 
-// Shows: Touches::new, Counted::new, Counted::len, Counted::put, Counted::get, Counted::get_mut, Counted::take, Counted::end
+// Shows: Touches::new, Counted::new, Counted::len, Counted::put, Counted::get, Counted::get_mut
+// Shows: Counted::take, Counted::end
 #[test]
 fn a_table_whose_calls_are_counted(rt: HostRuntime) {
     let mut touches = Touches::new();
