@@ -2,6 +2,7 @@
 use ix_names::SemanticStringError::InvalidContent;
 use ix_names::{DefaultText, GroupName, GroupNameRules, Rules, Semantic, TrailingSlashRules};
 use ix_string::{StaticString, String};
+use std::cmp::Ordering::Equal;
 use std::fmt::InlineText;
 use std::hash::{DefaultHasher, Hash, Hasher};
 use std::str::FromStr;
@@ -33,6 +34,7 @@ fn paths_are_compared_by_what_they_mean(rt: HostRuntime) -> Result<(), Fail> {
     let path = Path::new(b"/tmp//")?;
     assert!(rt; path == Path::new(b"/tmp")?);
     assert!(rt; path < Path::new(b"/tmp/x")?);
+    assert_eq!(rt; path.cmp(&Path::new(b"/tmp/")?), Equal);
     Ok(())
 }
 

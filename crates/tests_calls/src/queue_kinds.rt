@@ -1,6 +1,7 @@
 //! Examples of making queues of each kind, and of copying, comparing and printing them.
 use ix_cells::{InlineTable, MemorySize, RelocatableContainer};
 use ix_maps::{FixedSizeQueue, MetaQueue, Queue, RelocatableQueue};
+use std::cmp::Ordering::Greater;
 use std::fmt::InlineText;
 use std::hash::{DefaultHasher, Hash, Hasher};
 use std::test::Fail;
@@ -87,6 +88,7 @@ fn queues_are_compared_by_their_items(rt: HostRuntime) {
     other.push(2);
     assert!(rt; queue != other);
     assert!(rt; queue < other);
+    assert_eq!(rt; other.cmp(&queue), Greater);
 }
 
 // Shows: Hash for MetaQueue

@@ -6,6 +6,7 @@ use ix_string::{
     StringCreationError, as_escaped_string, escape_byte, strnlen,
 };
 use std::alloc::Global;
+use std::cmp::Ordering::Greater;
 use std::convert;
 use std::fmt::{InlineText, Write};
 use std::hash::{DefaultHasher, Hash, Hasher};
@@ -167,6 +168,7 @@ fn allocated_strings_are_compared(rt: HostRuntime) -> Result<(), Fail> {
     let longer = PolymorphicString::try_from_str(rt.alloc(), "abcd")?;
     assert!(rt; string != longer);
     assert!(rt; string < longer);
+    assert_eq!(rt; longer.cmp(&string), Greater);
     Ok(())
 }
 

@@ -3,6 +3,7 @@ use ix_cells::VectorModificationError::{InsertWouldExceedCapacity, OutOfBounds};
 use ix_cells::{
     MemorySize, PolymorphicVec, RelocatableContainer, RelocatableVec, StaticVec, Vector,
 };
+use std::cmp::Ordering::Greater;
 use std::convert;
 use std::hash::{DefaultHasher, Hash, Hasher};
 use std::test::Fail;
@@ -138,7 +139,7 @@ fn inline_vectors_are_compared(rt: HostRuntime) -> Result<(), Fail> {
     let greater = StaticVec::<u64, 3>::try_from_iter([1, 3])?;
     assert!(rt; vector != longer);
     assert!(rt; vector < longer);
-    assert!(rt; longer < greater);
+    assert_eq!(rt; greater.cmp(&longer), Greater);
     Ok(())
 }
 
@@ -152,6 +153,7 @@ fn capacities_do_not_matter_where_vectors_are_compared(rt: HostRuntime) -> Resul
     assert!(rt; vector == other);
     other.push(2)?;
     assert!(rt; vector < other);
+    assert_eq!(rt; other.cmp(&vector), Greater);
     Ok(())
 }
 
