@@ -1,0 +1,154 @@
+//! An example of each call of a table, a counted table, a row of places, and of what is made in two steps.
+use ix_cells::{
+    ContainerFamily, Counted, HeapTable, InitError, InlineTable, MemorySize, PolymorphicVec,
+    RawSlots, RelocatableContainer, Table, Touches, Uninit, UninitVec, VecFamily, Vector,
+};
+use ix_maps::UninitQueue;
+use std::alloc::Global;
+use std::test::Fail;
+
+// Shows: InlineTable::new, Table::put, Table::get, Table::take, Table::end
+#[test]
+fn an_item_is_put_into_a_place_and_taken_out(rt: HostRuntime) {
+    let mut table = InlineTable::<char, 2>::new();
+    table.put(1, 'a');
+    assert_eq!(rt; *table.get(1), 'a');
+    assert_eq!(rt; table.take(1), 'a');
+    table.end();
+}
+
+// Shows: HeapTable::new, Table::len, Table::get_mut
+#[test]
+fn a_table_in_memory_of_an_allocator(rt: HostRuntime) -> Result<(), Fail> {
+    let mut table = HeapTable::<u64>::new(rt.alloc(), 3)?;
+    assert_eq!(rt; table.len(), 3);
+    table.put(0, 7);
+    *table.get_mut(0) = 8;
+    assert_eq!(rt; table.take(0), 8);
+    table.end();
+    Ok(())
+}
+
+// Shows: HeapTable::memory_size
+#[test]
+fn how_much_memory_a_table_takes(rt: HostRuntime) {
+    let size = HeapTable::<u64>::memory_size(100);
+    assert_eq!(rt;
+        size,
+        MemorySize {
+            bytes: 900,
+            blocks: 2
+        }
+    );
+}
+
+// Shows: MemorySize::of_items, MemorySize::saturating_add
+#[test]
+fn how_much_memory_two_blocks_take(rt: HostRuntime) {
+    let size = MemorySize::of_items::<u64>(3);
+    assert_eq!(rt;
+        size,
+        MemorySize {
+            bytes: 24,
+            blocks: 1
+        }
+    );
+    let both = size.saturating_add(MemorySize::of_items::<u8>(5));
+    assert_eq!(rt;
+        both,
+        MemorySize {
+            bytes: 29,
+            blocks: 2
+        }
+    );
+}
+
+// Shows: RawSlots::new, RawSlots::len, RawSlots::put, RawSlots::get, RawSlots::get_mut
+// Shows: RawSlots::take, RawSlots::end
+#[test]
+fn a_row_of_places(rt: HostRuntime) -> Result<(), Fail> {
+    let mut slots = RawSlots::<u64>::new(rt.alloc(), 3)?;
+    assert_eq!(rt; slots.len(), 3);
+    slots.put(0, 7);
+    *slots.get_mut(0) = 8;
+    assert_eq!(rt; *slots.get(0), 8);
+    assert_eq!(rt; slots.take(0), 8);
+    slots.end();
+    Ok(())
+}
+
+// Shows: RawSlots::memory_size
+#[test]
+fn how_much_memory_a_row_of_places_takes(rt: HostRuntime) {
+    let size = RawSlots::<u64>::memory_size(100);
+    assert_eq!(rt;
+        size,
+        MemorySize {
+            bytes: 900,
+            blocks: 2
+        }
+    );
+}
+
+// Shows: Touches::new, Counted::new, Counted::len, Counted::put, Counted::get, Counted::get_mut
+// Shows: Counted::take, Counted::end
+#[test]
+fn a_table_whose_calls_are_counted(rt: HostRuntime) {
+    let mut touches = Touches::new();
+    let mut table = Counted::new(InlineTable::<u64, 2>::new());
+    assert_eq!(rt; table.len(), 2);
+    table.put(1, 7, &mut touches);
+    *table.get_mut(1, &mut touches) = 8;
+    assert_eq!(rt; *table.get(1, &mut touches), 8);
+    assert_eq!(rt; table.take(1, &mut touches), 8);
+    table.end();
+}
+
+// Shows: Counted::inline_len
+#[test]
+fn the_number_of_places_is_that_of_the_type(rt: HostRuntime) {
+    let table = Counted::new(InlineTable::<u64, 2>::new());
+    assert_eq!(rt; table.inline_len(), 2);
+    table.end();
+}
+
+/// Returns a container with room for two items, of any kind that is made in two steps.
+fn of_two<U: RelocatableContainer<Global>>(alloc: Global) -> Result<U::Ready, InitError<U>> {
+    U::new_uninit(2).init(alloc)
+}
+
+// Shows: RelocatableContainer::new_uninit, RelocatableContainer::init
+#[test]
+fn a_container_of_any_kind_that_is_made_in_two_steps(rt: HostRuntime) -> Result<(), Fail> {
+    let mut vector = of_two::<UninitVec<u64>>(rt.alloc())?;
+    assert_eq!(rt; vector.push(1), Ok(()));
+    let mut queue = of_two::<UninitQueue<u64>>(rt.alloc())?;
+    assert!(rt; queue.push(1));
+    Ok(())
+}
+
+// Shows: InitError::new, InitError::into_uninit
+#[test]
+fn what_was_not_initialised_is_tried_again(rt: HostRuntime) -> Result<(), Fail> {
+    let error = InitError::new(UninitVec::<u64>::new_uninit(2));
+    let vector = error.into_uninit().init(rt.alloc())?;
+    assert_eq!(rt; vector.capacity(), 2);
+    Ok(())
+}
+
+// Shows: Uninit::new_uninit
+#[test]
+fn a_capacity_without_memory(rt: HostRuntime) -> Result<(), Fail> {
+    let uninit = Uninit::<VecFamily<u64>>::new_uninit(2);
+    let vector = uninit.init(rt.alloc())?;
+    assert_eq!(rt; vector.capacity(), 2);
+    Ok(())
+}
+
+// Shows: ContainerFamily::with_capacity
+#[test]
+fn a_container_of_a_family(rt: HostRuntime) -> Result<(), Fail> {
+    let vector = VecFamily::<u64>::with_capacity(rt.alloc(), 2)?;
+    assert_eq!(rt; vector.capacity(), 2);
+    Ok(())
+}
