@@ -35,9 +35,10 @@ Made from the sources by `.ci/check --write`: the public items of each module, e
 container to take, and which call.
 
 A call has its signature and its docs first. "Errors" says when it returns one, "Conditions" what its caller owes, "Promises" what
-it ensures, and "Words" where the words of these are defined. What stands under "Example" is the body of a proved test. A block
-without a title is a sketch: a comment behind a call is what it returns, and in a program a `Result` has to be used, by `?`,
-`match` or `let _ = ..`. `alloc` is an allocator, as `rt.alloc()` in `main`, and `report` stands for a function of yours.
+it ensures, and "Words" where the words of these are defined. What stands under "Example" is the body of a proved test, which is
+handed the machine, `rt`. A block without a title is a sketch: a comment behind a call is what it returns, and in a program a
+`Result` has to be used, by `?`, `match` or `let _ = ..`. `alloc` is an allocator, as `rt.alloc()` in `main`, and `report` stands
+for a function of yours.
 
 A line `impl<..>` shows the bounds of the calls below it. `T: Drop` says that a value of `T` may be let go: a type is so if it is
 `Copy`, or by `#[derive(Drop)]`. The `ghost` members of an impl are what contracts know of it. A type is `Send` if all that it

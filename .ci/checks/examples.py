@@ -43,7 +43,7 @@ def read():
 
 
 def assigned(known, types):
-    """Returns the lines of the examples by page and by name, and what is wrong with the names.
+    """Returns the lines of the shortest example by page and by name, and what is wrong with the names.
 
     `known` has the pages of each name, `types` the names of the types of each page.
     """
@@ -57,7 +57,7 @@ def assigned(known, types):
                 faults.append(f"`// Shows: {name}`: the reference has no {name}")
             for page in near or pages:
                 found[page, name].append(example.lines)
-    return found, faults
+    return {key: min(bodies, key=len) for key, bodies in found.items()}, faults
 
 
 def main():

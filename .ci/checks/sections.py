@@ -201,9 +201,9 @@ class Library:
         return [*item.head[:-1], item.head[-1] + " {", *(line for lines in ghosts for line in lines), "}"]
 
     def shown(self, page, names):
-        """Returns the examples of what these names stand for on a page, each once."""
-        bodies = [body for name in names for body in self.examples.get((page, name), ())]
-        return [line for i, body in enumerate(bodies) if body not in bodies[:i] for line in block("Example", body)]
+        """Returns the example of what the first of these names stands for that has one on a page."""
+        bodies = [self.examples[page, name] for name in names if (page, name) in self.examples]
+        return block("Example", bodies[0]) if bodies else []
 
 
 class Source:

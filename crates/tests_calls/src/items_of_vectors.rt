@@ -4,7 +4,6 @@ use ix_maps::{FixedSizeQueue, FixedSizeSlotMap, FixedSizeSlotTable, SlotMapKey, 
 use ix_names::GroupName;
 use std::test::Fail;
 
-// Shows: StaticVec::new, Vector::push
 #[test]
 fn a_vector_of_keys(rt: HostRuntime) -> Result<(), Fail> {
     let mut services = FixedSizeSlotMap::<&str, 4>::new();
@@ -17,7 +16,6 @@ fn a_vector_of_keys(rt: HostRuntime) -> Result<(), Fail> {
     Ok(())
 }
 
-// Shows: StaticVec::new, Vector::push
 #[test]
 fn a_vector_of_numbers_of_a_table(rt: HostRuntime) -> Result<(), Fail> {
     let mut sessions = FixedSizeSlotTable::<&str, 4>::new();
@@ -29,7 +27,6 @@ fn a_vector_of_numbers_of_a_table(rt: HostRuntime) -> Result<(), Fail> {
     Ok(())
 }
 
-// Shows: StaticVec::new, Vector::push
 #[test]
 fn a_vector_of_queues(rt: HostRuntime) -> Result<(), Fail> {
     let mut queues = StaticVec::<FixedSizeQueue<u32, 2>, 4>::new();
@@ -42,7 +39,6 @@ fn a_vector_of_queues(rt: HostRuntime) -> Result<(), Fail> {
     Ok(())
 }
 
-// Shows: StaticVec::new, Vector::push, Vector::pop
 #[test]
 fn a_vector_of_names_which_have_no_default(rt: HostRuntime) -> Result<(), Fail> {
     let mut groups = StaticVec::<Option<GroupName>, 4>::new();
@@ -51,7 +47,6 @@ fn a_vector_of_names_which_have_no_default(rt: HostRuntime) -> Result<(), Fail> 
     Ok(())
 }
 
-// Shows: StaticVec::new, Vector::push, Vector::pop
 #[test]
 fn a_vector_of_references_which_have_no_default(rt: HostRuntime) -> Result<(), Fail> {
     let (one, two) = (1, 2);
@@ -62,7 +57,6 @@ fn a_vector_of_references_which_have_no_default(rt: HostRuntime) -> Result<(), F
     Ok(())
 }
 
-// Shows: PolymorphicVec::new, Vector::push, Vector::as_slice
 #[test]
 fn an_allocated_vector_of_references(rt: HostRuntime) -> Result<(), Fail> {
     let (one, two) = (1, 2);
