@@ -2,7 +2,8 @@
 //! of commands and the replies to them, [`walk`], which runs random commands on two containers, [`SlowTable`], of which slow
 //! containers are made, items that note their drops, [`hash_of`], [`order_of`] and [`check_text`], which know a value by a
 //! trait alone, [`fed_by`], which tells what a value feeds to a hasher, [`check_makings`], which has heaps of a few blocks,
-//! [`read_with`], which reads how many bytes are in use with a container, [`check_drawn_sizes`], which has ample memory, and [`devices`] that fail.
+//! [`read_with`], which reads how many bytes are in use with a container, [`check_drawn_sizes`], which has ample memory,
+//! [`check_equality`] and [`check_map_clone`] of maps of any kind, and [`devices`] that fail.
 //!
 //! ```text
 //! let notes = Notes::new(0);
@@ -18,6 +19,7 @@ pub mod devices;
 mod drawn_sizes;
 mod findings;
 mod makings;
+mod maps;
 mod noted;
 mod numbers;
 mod recorder;
@@ -30,6 +32,7 @@ pub use by_traits::{check_display, check_printed, check_text, hash_of, order_of}
 pub use drawn_sizes::check_drawn_sizes;
 pub use findings::Findings;
 pub use makings::{MAKINGS, Making, read_again, read_with};
+pub use maps::{MAP_CLONES, check_equality, check_map_clone, fill_with_hole};
 pub use noted::{Noted, Notes, names_of};
 pub use numbers::Numbers;
 pub use recorder::fed_by;

@@ -5,7 +5,10 @@ use ix_maps::{FixedSizeFlatMap, FlatMap, Link, MetaFlatMap, Pair, UninitFlatMap}
 use linked_list_allocator::LocalHeap;
 use std::alloc::{AllocError, Global};
 use std::test::Fail;
-use test_support::{Findings, Noted, Notes, check_text, made};
+use test_support::{
+    Findings, MAP_CLONES, Noted, Notes, check_equality, check_map_clone, check_text,
+    fill_with_hole, made,
+};
 
 /// Inserts the keys 30, 10 and 20, in this order, with values of these names.
 fn fill<'a, S: Table<Pair<u64, Noted<'a>>>, L: Table<Link>>(
@@ -181,19 +184,7 @@ fn equal_maps(rt: HostRuntime) -> Result<(), Fail> {
         FlatMap::<u64, u64>::new(rt.alloc(), 2),
         FlatMap::<u64, u64>::new(rt.alloc(), 5),
     ) {
-        (Ok(mut small), Ok(mut large)) => {
-            findings.expect(small == large, "empty maps");
-            let _ = small.insert(1, 10);
-            findings.expect(small != large && large != small, "one map is empty");
-            let _ = (large.insert(2, 20), large.insert(1, 10));
-            findings.expect(small != large && large != small, "a key more");
-            let _ = small.insert(2, 20);
-            findings.expect(small == large && large == small, "in other places");
-            let _ = large.replace(2, 21);
-            findings.expect(small != large && large != small, "another value");
-            let _ = (large.remove(&2), large.insert(3, 20));
-            findings.expect(small != large && large != small, "another key");
-        }
+        (Ok(mut small), Ok(mut large)) => check_equality(&findings, &mut small, &mut large),
         _ => findings.miss("there is memory"),
     }
     let empty = FixedSizeFlatMap::<u64, u64, 2>::default();
@@ -201,72 +192,24 @@ fn equal_maps(rt: HostRuntime) -> Result<(), Fail> {
     findings.verdict()
 }
 
-/// The number of clones that succeed, whether the clone of a map with the values 1, 5 and 3 does, and the names that are dropped
-/// once the result is.
-const CLONES: &[(u64, bool, u64)] = &[
-    (0, false, 0),
-    (1, false, 1),
-    (2, false, 15),
-    (3, true, 153),
-    (5, true, 153),
-];
-
-/// Checks a clone of a map with the values 1, 5 and 3 and one more place, the third.
-fn check_clone<'a, S: Table<Pair<u64, Noted<'a>>>, L: Table<Link>>(
-    findings: &Findings,
-    clone: Result<MetaFlatMap<Pair<u64, Noted<'a>>, S, L>, AllocError>,
-    notes: &'a Notes,
-    (allowed, succeeds, drops): &(u64, bool, u64),
-) {
-    let row = *allowed as usize;
-    findings.expect_same_at(clone.is_ok(), *succeeds, row, "cloned");
-    match clone {
-        Ok(mut copy) => {
-            findings.expect_same_at(notes.drops(), 0, row, "dropped while cloning");
-            let left = allowed.saturating_sub(3);
-            findings.expect_same_at(notes.clones_left(), left, row, "one clone for each value");
-            findings.expect_same_at(copy.capacity(), 4, row, "the capacity");
-            let inserted = copy.insert(50, Noted::default()).is_ok();
-            findings.expect_at(inserted, row, "room for a key");
-            findings.expect_same_at(copy.nth_key(2), Some(&50), row, "in the free place");
-        }
-        Err(AllocError) => {}
-    }
-    findings.expect_same_at(notes.take_drops(), *drops, row, "dropped with the clone");
-}
-
-/// Returns the map, which is empty and of capacity 4, with the values 1, 5 and 3, and the third place free.
-fn with_hole<'a, S: Table<Pair<u64, Noted<'a>>>, L: Table<Link>>(
-    findings: &Findings,
-    map: &mut MetaFlatMap<Pair<u64, Noted<'a>>, S, L>,
-    notes: &'a Notes,
-) {
-    let first = map.insert(30, Noted::new(1, notes)).is_ok();
-    let second = map.insert(10, Noted::new(5, notes)).is_ok();
-    let third = map.insert(40, Noted::default()).is_ok();
-    let last = map.insert(20, Noted::new(3, notes)).is_ok();
-    findings.expect(first && second && third && last, "room for four keys");
-    drop(map.remove(&40));
-}
-
 #[test]
 fn clones(rt: HostRuntime) -> Result<(), Fail> {
     let findings = Findings::new();
     let notes = Notes::new(0);
     let mut fixed = FixedSizeFlatMap::<u64, Noted, 4>::new();
-    with_hole(&findings, &mut fixed, &notes);
-    for row in CLONES {
+    fill_with_hole(&findings, &mut fixed, &notes);
+    for row in MAP_CLONES {
         notes.allow_clones(row.0);
-        check_clone(&findings, fixed.clone(), &notes, row);
+        check_map_clone(&findings, fixed.clone(), &notes, row);
     }
     match FlatMap::<u64, Noted, Global>::new(rt.alloc(), 4) {
         Ok(mut map) => {
-            with_hole(&findings, &mut map, &notes);
+            fill_with_hole(&findings, &mut map, &notes);
             match LocalHeap::new(rt.alloc(), 4096) {
                 Ok(heap) => {
-                    for row in CLONES {
+                    for row in MAP_CLONES {
                         notes.allow_clones(row.0);
-                        check_clone(&findings, map.try_clone_in(&heap), &notes, row);
+                        check_map_clone(&findings, map.try_clone_in(&heap), &notes, row);
                         findings.expect_same_at(heap.used(), 0, row.0 as usize, "bytes in use");
                     }
                 }

@@ -63,7 +63,8 @@ fn with_digit(digits: u64, digit: u64) -> u64 {
 /// Returns `true` if the number has this digit, which is not 0.
 fn has_digit(digits: u64, digit: u64) -> bool {
     let mut rest = digits;
-    while rest > 0 {
+    // No number of 64 bits has more digits.
+    for _ in 0..20 {
         if rest % 10 == digit {
             return true;
         }
