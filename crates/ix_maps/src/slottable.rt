@@ -1,12 +1,12 @@
-//! Slot tables: bounded maps that choose the key of each value, by which it is found in constant time.
+//! Slot tables: bounded tables that choose the key of each value, by which it is found in constant time.
 //!
 //! [`FixedSizeSlotTable`] is stored inline, [`SlotTable`] and [`RelocatableSlotTable`] allocate only when they are made.
 //!
 //! ```text
-//! let mut map = FixedSizeSlotTable::<char, 3>::new();
-//! if let Some(key) = map.insert('a') {  // the key 0
-//!     map.get(key);                     // Some(&'a')
-//!     map.remove(key);                  // Some('a')
+//! let mut table = FixedSizeSlotTable::<char, 3>::new();
+//! if let Some(key) = table.insert('a') {  // the key 0
+//!     table.get(key);                   // Some(&'a')
+//!     table.remove(key);                // Some('a')
 //! }
 //! ```
 

@@ -159,6 +159,7 @@ impl<
     B: BuildHasher + Default + Drop,
 > RelocatableHashMap<K, V, A, B> {
     /// Creates an uninitialised map with room for `capacity` keys. Does not allocate. O(1).
+    /// The allocator is that which `init` gets, whatever `A` is here.
     #[inline]
     pub fn new_uninit(capacity: usize) -> UninitHashMap<K, V, B>
         ensures { result ≡ capacity }

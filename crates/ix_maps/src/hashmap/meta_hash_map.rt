@@ -31,7 +31,8 @@ use std::marker::Model;
 /// numbers below 2<sup>64</sup>, a bucket of a full map has half a key on average.
 ///
 /// Each call that looks for a key takes O(1) time on average, and O(capacity) if all keys have one bucket; any other takes O(1),
-/// if nothing else is said. No call allocates. A map that is dropped drops its pairs in slot order, in O(capacity) time.
+/// if nothing else is said. No call allocates but those that make a map, and clones of a value. A map that is dropped drops its
+/// pairs in slot order, in O(capacity) time.
 ///
 /// ```text
 /// let mut map = FixedSizeHashMap::<u16, char, 2>::new();

@@ -17,7 +17,7 @@ impl<T: PartialEq, S: Table<T>, L: Table<Link>> PartialEq for MetaSlotTable<T, S
     ghost laws = { on_per entries (lists_per (and_per
         (on_per (λ p. p.0) (partial_equiv_from_equiv nat_eq_equiv)) (on_per (λ p. p.1) T.laws))) };
 
-    /// Returns `true` if the maps are equal. O(capacity).
+    /// Returns `true` if the tables are equal. O(capacity).
     fn eq(&self, other: &Self) -> bool {
         let mut others = other.iter();
         for (key, value) in self.iter() {

@@ -10,7 +10,7 @@ use ix_cells::Table;
 use std::alloc::{AllocError, Allocator};
 
 impl<T, S: Table<T>, L: Table<Link>> MetaSlotTable<T, S, L> {
-    /// Puts clones of the values of `other` at their keys in an empty map of the same capacity, whose free keys are then those
+    /// Puts clones of the values of `other` at their keys in an empty table of the same capacity, whose free keys are then those
     /// of `other`, in the same order. Returns the error of the first clone that fails, and keeps those already made.
     fn fill_with_clones<R: Table<T>, M: Table<Link>>(
         &mut self,
@@ -80,7 +80,7 @@ impl<T: Clone, const CAPACITY: usize> Clone for FixedSizeSlotTable<T, CAPACITY> 
 
     ghost is_infallible = { SlotIsInfallible T.is_infallible };
 
-    /// Creates a map that holds clones of the values at the same keys, and has the same free keys in the same order.
+    /// Creates a table that holds clones of the values at the same keys, and has the same free keys in the same order.
     /// O(`CAPACITY`).
     ///
     /// Returns the error of the first clone that fails, and drops those already made.
@@ -94,17 +94,17 @@ impl<T: Clone, const CAPACITY: usize> Clone for FixedSizeSlotTable<T, CAPACITY> 
 }
 
 impl<T: Clone, A: Allocator + Copy> SlotTable<T, A> {
-    /// Creates a map of the same capacity that holds clones of the values at the same keys, and has the same free keys in the
+    /// Creates a table of the same capacity that holds clones of the values at the same keys, and has the same free keys in the
     /// same order, in memory of `alloc`.
     ///
     /// O(`capacity`), with at most four allocations and `len` clones. Returns `AllocError` if an allocation or a clone fails;
     /// nothing stays allocated then.
     ///
     /// ```text
-    /// map.insert('a');                          // Some: the key 0
-    /// let mut copy = map.try_clone_in(alloc)?;
+    /// table.insert('a');                        // Some: the key 0
+    /// let mut copy = table.try_clone_in(alloc)?;
     /// copy.remove(SlotTableKey::new(0));        // Some('a')
-    /// map.contains(SlotTableKey::new(0));       // true
+    /// table.contains(SlotTableKey::new(0));     // true
     /// ```
     pub fn try_clone_in<B: Allocator + Copy>(&self, alloc: B) -> Result<SlotTable<T, B>, AllocError>
         requires { AreEqualClones T.is_clone }

@@ -31,10 +31,10 @@ impl<T, S: Table<T>, L: Table<Link>> MetaSlotTable<T, S, L> {
     /// together.
     ///
     /// ```text
-    /// for (key, value) in map.drain() {
+    /// for (key, value) in table.drain() {
     ///     send(key.value(), value);
     /// }
-    /// map.is_empty();                       // true
+    /// table.is_empty();                     // true
     /// ```
     #[inline]
     pub fn drain(&mut self) -> Drain<'_, T, S, L>

@@ -13,11 +13,11 @@ use std::marker::Model;
 /// An iterator that removes the values of a slot table, each with its key, in rising order of the keys, as `into_iter`
 /// returns it. Contracts see the items that are still to come.
 ///
-/// It has the map's memory. The values that are still to come when it is dropped are dropped with it, that of the least key
+/// It has the table's memory. The values that are still to come when it is dropped are dropped with it, that of the least key
 /// first, in O(capacity) time.
 ///
 /// ```text
-/// for (key, value) in map {             // the map is moved
+/// for (key, value) in table {         // the table is moved
 ///     send(key.value(), value);
 /// }
 /// ```

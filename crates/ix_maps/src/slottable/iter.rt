@@ -14,10 +14,10 @@ use std::marker::Model;
 /// it. Contracts see the items that are still to come.
 ///
 /// ```text
-/// let mut map = FixedSizeSlotTable::<char, 3>::new();
-/// map.insert_at(SlotTableKey::new(2), 'c');
-/// map.insert('a');
-/// for (key, value) in map.iter() {      // (0, 'a'), (2, 'c')
+/// let mut table = FixedSizeSlotTable::<char, 3>::new();
+/// table.insert_at(SlotTableKey::new(2), 'c');
+/// table.insert('a');
+/// for (key, value) in table.iter() {    // (0, 'a'), (2, 'c')
 ///     report(key.value(), value);
 /// }
 /// ```

@@ -14,10 +14,10 @@ use std::marker::Model;
 /// [`MetaSlotTable::keys`](crate::MetaSlotTable::keys) returns it. Contracts see the keys that are still to come.
 ///
 /// ```text
-/// let mut map = FixedSizeSlotTable::<char, 3>::new();
-/// map.insert_at(SlotTableKey::new(2), 'c');
-/// map.insert('a');
-/// for key in map.keys() {               // 0, 2
+/// let mut table = FixedSizeSlotTable::<char, 3>::new();
+/// table.insert_at(SlotTableKey::new(2), 'c');
+/// table.insert('a');
+/// for key in table.keys() {             // 0, 2
 ///     report(key.value());
 /// }
 /// ```

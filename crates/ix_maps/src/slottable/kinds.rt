@@ -15,12 +15,12 @@ use std::marker::PhantomData;
 /// A slot table with `CAPACITY` keys that is stored inline and does not allocate.
 ///
 /// ```text
-/// let mut map = FixedSizeSlotTable::<char, 3>::new();
-/// map.insert('a');                          // Some: the key 0
-/// map.insert('b');                          // Some: the key 1
-/// map.remove(SlotTableKey::new(0));           // Some('a')
-/// map.next_free_key();                      // Some: the key 0
-/// map.insert_at(SlotTableKey::new(2), 'c');   // true
+/// let mut table = FixedSizeSlotTable::<char, 3>::new();
+/// table.insert('a');                        // Some: the key 0
+/// table.insert('b');                        // Some: the key 1
+/// table.remove(SlotTableKey::new(0));         // Some('a')
+/// table.next_free_key();                    // Some: the key 0
+/// table.insert_at(SlotTableKey::new(2), 'c');   // true
 /// ```
 ///
 /// This is `FixedSizeSlotMap` of iceoryx2-bb-container, whose keys have no generation.
@@ -31,7 +31,7 @@ pub type FixedSizeSlotTable<T, const CAPACITY: usize> = MetaSlotTable<
 >;
 
 impl<T: Drop, const CAPACITY: usize> FixedSizeSlotTable<T, CAPACITY> {
-    /// Creates an empty map.
+    /// Creates an empty table.
     ///
     /// O(`CAPACITY`). `CAPACITY` is at most [`MAX_FIXED_CAPACITY`].
     pub fn new() -> Self
@@ -42,7 +42,7 @@ impl<T: Drop, const CAPACITY: usize> FixedSizeSlotTable<T, CAPACITY> {
     }
 }
 
-/// Creates an empty map. O(`CAPACITY`).
+/// Creates an empty table. O(`CAPACITY`).
 impl<T: Drop, const CAPACITY: usize> Default for FixedSizeSlotTable<T, CAPACITY> {
     ghost is_default = { λ map. map ≡ slot_new CAPACITY };
 
@@ -54,8 +54,8 @@ impl<T: Drop, const CAPACITY: usize> Default for FixedSizeSlotTable<T, CAPACITY>
 /// A slot table whose memory is allocated from `A` when it is made, and deallocated when it is dropped.
 ///
 /// ```text
-/// let mut map = SlotTable::<char>::new(alloc, 3)?;
-/// map.insert('a');                          // Some: the key 0
+/// let mut table = SlotTable::<char>::new(alloc, 3)?;
+/// table.insert('a');                        // Some: the key 0
 /// ```
 ///
 /// This is `SlotMap` of iceoryx2-bb-container, whose keys have no generation.
@@ -64,7 +64,7 @@ pub type SlotTable<T, A = Global> = MetaSlotTable<T, HeapTable<T, A>, HeapTable<
 impl<T: Drop, A: Allocator + Copy> SlotTable<T, A> {
     ghost use Rattle.ix_maps.specs.contracts.slottable.link.Link as link;
 
-    /// Returns how much memory a map of this capacity takes from its allocator when it is made: that of a table of values and
+    /// Returns how much memory a table of this capacity takes from its allocator when it is made: that of a table of values and
     /// of a table of links. None if the capacity is 0.
     ///
     /// Does not allocate. O(1).
@@ -84,7 +84,7 @@ impl<T: Drop, A: Allocator + Copy> SlotTable<T, A> {
         values.saturating_add(links)
     }
 
-    /// Creates an empty map with `capacity` keys.
+    /// Creates an empty table with `capacity` keys.
     ///
     /// O(`capacity`), with at most four allocations. Returns `AllocError` if one fails, and if the values would take more
     /// than `isize::MAX` bytes; nothing stays allocated then. A capacity of 0 needs no memory.
@@ -108,15 +108,15 @@ impl<T: Drop, A: Allocator + Copy> SlotTable<T, A> {
 ///
 /// ```text
 /// let uninit = RelocatableSlotTable::<char>::new_uninit(3);
-/// let mut map = uninit.init(alloc)?;
-/// map.insert('a');                          // Some: the key 0
+/// let mut table = uninit.init(alloc)?;
+/// table.insert('a');                        // Some: the key 0
 /// ```
 ///
 /// This is `RelocatableSlotMap` of iceoryx2-bb-container, whose keys have no generation.
 pub type RelocatableSlotTable<T, A = Global> = SlotTable<T, A>;
 
 impl<T: Drop, A: Allocator + Copy> RelocatableSlotTable<T, A> {
-    /// Creates an uninitialised map with `capacity` keys. Does not allocate. O(1).
+    /// Creates an uninitialised table with `capacity` keys. Does not allocate. O(1).
     /// The allocator is that which `init` gets, whatever `A` is here.
     #[inline]
     pub fn new_uninit(capacity: usize) -> UninitSlotTable<T>
@@ -131,7 +131,7 @@ impl<T: Drop, A: Allocator + Copy> RelocatableSlotTable<T, A> {
 ///
 /// ```text
 /// match UninitSlotTable::<u64>::new_uninit(3).init(alloc) {
-///     Ok(mut map) => drop(map.insert(1)),
+///     Ok(mut table) => drop(table.insert(1)),
 ///     Err(error) => retry_with(error.into_uninit()),
 /// }
 /// ```
@@ -148,7 +148,7 @@ impl<T: Drop, A: Allocator + Copy> ContainerFamily<A> for SlotTableFamily<T> {
 
     ghost is_empty_with = { λ capacity map. map ≡ slot_new capacity };
 
-    /// Creates an empty map with `capacity` keys. O(`capacity`), with at most four allocations.
+    /// Creates an empty table with `capacity` keys. O(`capacity`), with at most four allocations.
     #[inline]
     fn with_capacity(alloc: A, capacity: usize) -> Result<RelocatableSlotTable<T, A>, AllocError> {
         SlotTable::new(alloc, capacity)

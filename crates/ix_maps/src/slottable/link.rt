@@ -2,7 +2,7 @@
 ghost use Rattle.std.specs.Prelude.{◌≡◌, ◌≢◌, true, false};
 ghost use Rattle.ix_maps.specs.inner.FreeList.{held_link};
 
-/// A key's neighbours in the list of free keys of its map.
+/// A key's neighbours in the list of free keys of its table.
 ///
 /// Links are made by slot tables alone. A user names this type to make a table of links for
 /// [`MetaSlotTable::from_tables`](crate::MetaSlotTable::from_tables).

@@ -18,7 +18,7 @@ use ix_cells::{Counted, Table, Touches};
 use std::fmt::{self, Debug, Formatter, Write};
 use std::marker::{Model, PhantomData};
 
-/// A map from keys that it chooses itself to values, over a table of values `S` and a table of links `L`. Contracts see
+/// A table from keys that it chooses itself to values, over a table of values `S` and a table of links `L`. Contracts see
 /// the value or nothing at each key, and the free keys in their order.
 ///
 /// The keys are the numbers from 0 to one below the capacity. A key that has a value is held, any other is free. The
@@ -26,15 +26,15 @@ use std::marker::{Model, PhantomData};
 /// [`MetaSlotTable::remove`] makes a key the first. A key out of range, up to `usize::MAX`, is an ordinary case, for
 /// which calls return `false` or `None`.
 ///
-/// Each call takes O(1) time if nothing else is said. No call allocates but those that make a map. A map that is dropped
+/// Each call takes O(1) time if nothing else is said. No call allocates but those that make a table. A table that is dropped
 /// drops its values, that of the least key first, in O(capacity) time.
 ///
 /// ```text
-/// let mut map = FixedSizeSlotTable::<char, 2>::new();
-/// if let Some(key) = map.insert('a') {  // the key 0
-///     map.get(key);                     // Some(&'a')
-///     map.remove(key);                  // Some('a')
-///     map.contains(key);                // false
+/// let mut table = FixedSizeSlotTable::<char, 2>::new();
+/// if let Some(key) = table.insert('a') {  // the key 0
+///     table.get(key);                   // Some(&'a')
+///     table.remove(key);                // Some('a')
+///     table.contains(key);              // false
 /// }
 /// ```
 ///
@@ -65,15 +65,15 @@ impl<T, S: Table<T>, L: Table<Link>> Model for MetaSlotTable<T, S, L> {
 impl<T, S: Table<T>, L: Table<Link>> MetaSlotTable<T, S, L> {
     ghost use Rattle.ix_maps.specs.contracts.slottable.meta_slot_table.MetaSlotTable.{the_row};
 
-    /// Creates an empty map over two tables of the same length, which is the capacity. O(capacity).
+    /// Creates an empty table over two tables of the same length, which is the capacity. O(capacity).
     ///
     /// Every place of both tables is empty. A table of any kind will do, one of your own too.
     ///
     /// ```text
     /// let values = InlineTable::<char, 2>::new();
     /// let links = InlineTable::<Link, 2>::new();
-    /// let mut map = MetaSlotTable::from_tables(values, links);
-    /// map.capacity();                       // 2
+    /// let mut table = MetaSlotTable::from_tables(values, links);
+    /// table.capacity();                     // 2
     /// ```
     pub fn from_tables(values: S, links: L) -> Self
         requires values { IsVacant (S.places values) }
@@ -119,7 +119,7 @@ impl<T, S: Table<T>, L: Table<Link>> MetaSlotTable<T, S, L> {
         self.len == 0
     }
 
-    /// Returns `true` if every key has a value. A map of capacity 0 is both empty and full.
+    /// Returns `true` if every key has a value. A table of capacity 0 is both empty and full.
     #[inline]
     pub fn is_full(&self) -> bool
         ensures value { IsTrue result ↔ (held_count self.now ≡ length self.now.values) }
@@ -128,7 +128,7 @@ impl<T, S: Table<T>, L: Table<Link>> MetaSlotTable<T, S, L> {
         self.len == self.values.len()
     }
 
-    /// Returns the key that the next [`MetaSlotTable::insert`] will return, or `None` if the map is full.
+    /// Returns the key that the next [`MetaSlotTable::insert`] will return, or `None` if the table is full.
     #[inline]
     pub fn next_free_key(&self) -> Option<SlotTableKey>
         ensures value { result ≡ slice_get self.now.free 0 }
@@ -161,9 +161,9 @@ impl<T, S: Table<T>, L: Table<Link>> MetaSlotTable<T, S, L> {
     /// Returns the value at `key`, which has one.
     ///
     /// ```text
-    /// let mut map = FixedSizeSlotTable::<char, 1>::new();
-    /// if let Some(key) = map.insert('a') {
-    ///     map.get_unchecked(key);           // 'a'
+    /// let mut table = FixedSizeSlotTable::<char, 1>::new();
+    /// if let Some(key) = table.insert('a') {
+    ///     table.get_unchecked(key);         // 'a'
     /// }
     /// ```
     #[inline]
@@ -211,13 +211,13 @@ impl<T, S: Table<T>, L: Table<Link>> MetaSlotTable<T, S, L> {
         Iter::new(self)
     }
 
-    /// Inserts `value` at the first free key and returns that key; or drops `value` and returns `None` if the map is
+    /// Inserts `value` at the first free key and returns that key; or drops `value` and returns `None` if the table is
     /// full.
     ///
     /// ```text
-    /// let mut map = FixedSizeSlotTable::<char, 1>::new();
-    /// map.insert('a');                      // the key 0
-    /// map.insert('b');                      // None
+    /// let mut table = FixedSizeSlotTable::<char, 1>::new();
+    /// table.insert('a');                    // the key 0
+    /// table.insert('b');                    // None
     /// ```
     #[inline]
     pub fn insert(&mut self, value: T) -> Option<SlotTableKey>
@@ -446,7 +446,7 @@ impl<T: Drop, S: Table<T>, L: Table<Link>> Drop for MetaSlotTable<T, S, L> {
     }
 }
 
-/// Prints a map from the numbers of the held keys to their values, in rising order. O(capacity).
+/// Prints a table from the numbers of the held keys to their values, in rising order. O(capacity).
 impl<T: Debug, S: Table<T>, L: Table<Link>> Debug for MetaSlotTable<T, S, L> {
     fn fmt<W: Write>(&self, f: &mut Formatter<W>) -> fmt::Result {
         let mut map = f.debug_map();

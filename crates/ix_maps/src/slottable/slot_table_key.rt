@@ -10,7 +10,7 @@ use std::marker::Model;
 
 /// A key of a slot table. Contracts see its number.
 ///
-/// A key can have any number. In range of a map are the keys whose number is less than its capacity.
+/// A key can have any number. In range of a table are the keys whose number is less than its capacity.
 ///
 /// ```text
 /// let key = SlotTableKey::new(3);
@@ -51,7 +51,7 @@ impl SlotTableKey {
     }
 }
 
-/// The key with the greatest number, `usize::MAX`: no map has so many keys, as [`default_key_law`] says.
+/// The key with the greatest number, `usize::MAX`: no table has so many keys, as [`default_key_law`] says.
 impl Default for SlotTableKey {
     ghost is_default = { λ key. key ≡ 18446744073709551615 };
 
@@ -70,7 +70,7 @@ impl fmt::Display for SlotTableKey {
     }
 }
 
-/// The default key is out of range, whatever the map: that is the contract of this function, which does nothing. O(1).
+/// The default key is out of range, whatever the table: that is the contract of this function, which does nothing. O(1).
 pub fn default_key_law<T, S: Table<T>, L: Table<Link>>(map: &MetaSlotTable<T, S, L>)
     ensures past { length map.now.values ≤ 18446744073709551615 }
     ensures free { value_at map.now 18446744073709551615 ≡ None }

@@ -12,12 +12,12 @@ use std::mem;
 impl<T, S: Table<T>, L: Table<Link>> MetaSlotTable<T, S, L> {
     /// Inserts `value` at the first free key and returns that key. Drops nothing.
     ///
-    /// Returns `value` as the error if the map is full.
+    /// Returns `value` as the error if the table is full.
     ///
     /// ```text
-    /// let mut map = FixedSizeSlotTable::<char, 1>::new();
-    /// map.try_insert('a');                  // Ok: the key 0
-    /// map.try_insert('b');                  // Err('b')
+    /// let mut table = FixedSizeSlotTable::<char, 1>::new();
+    /// table.try_insert('a');                // Ok: the key 0
+    /// table.try_insert('b');                // Err('b')
     /// ```
     #[inline]
     pub fn try_insert(&mut self, value: T) -> Result<SlotTableKey, T>
@@ -36,10 +36,10 @@ impl<T, S: Table<T>, L: Table<Link>> MetaSlotTable<T, S, L> {
     /// error if `key` is out of range. Drops nothing.
     ///
     /// ```text
-    /// let mut map = FixedSizeSlotTable::<char, 1>::new();
-    /// map.try_insert_at(SlotTableKey::new(0), 'a');   // Ok(None)
-    /// map.try_insert_at(SlotTableKey::new(0), 'b');   // Ok(Some('a'))
-    /// map.try_insert_at(SlotTableKey::new(1), 'c');   // Err('c')
+    /// let mut table = FixedSizeSlotTable::<char, 1>::new();
+    /// table.try_insert_at(SlotTableKey::new(0), 'a');   // Ok(None)
+    /// table.try_insert_at(SlotTableKey::new(0), 'b');   // Ok(Some('a'))
+    /// table.try_insert_at(SlotTableKey::new(1), 'c');   // Err('c')
     /// ```
     #[inline]
     pub fn try_insert_at(&mut self, key: SlotTableKey, value: T) -> Result<Option<T>, T>

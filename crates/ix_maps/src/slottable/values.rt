@@ -13,10 +13,10 @@ use std::marker::Model;
 /// [`MetaSlotTable::values`](crate::MetaSlotTable::values) returns it. Contracts see the values that are still to come.
 ///
 /// ```text
-/// let mut map = FixedSizeSlotTable::<char, 3>::new();
-/// map.insert_at(SlotTableKey::new(2), 'c');
-/// map.insert('a');
-/// for value in map.values() {           // 'a', 'c'
+/// let mut table = FixedSizeSlotTable::<char, 3>::new();
+/// table.insert_at(SlotTableKey::new(2), 'c');
+/// table.insert('a');
+/// for value in table.values() {         // 'a', 'c'
 ///     report(value);
 /// }
 /// ```

@@ -28,7 +28,7 @@ impl<T, S: Table<T>, L: Table<Link>> MetaSlotTable<T, S, L> {
     /// Returns an iterator over the held keys in rising order. O(1), and O(capacity) for all of its items together.
     ///
     /// ```text
-    /// for key in map.keys() {
+    /// for key in table.keys() {
     ///     report(key.value());
     /// }
     /// ```
@@ -51,7 +51,7 @@ impl<T, S: Table<T>, L: Table<Link>> MetaSlotTable<T, S, L> {
     /// value.
     ///
     /// ```text
-    /// map.for_each_mut(|_, value| *value += 1);
+    /// table.for_each_mut(|_, value| *value += 1);
     /// ```
     pub fn for_each_mut<F: FnMut(SlotTableKey, &mut T)>(&mut self, mut f: F)
         requires { IsCallableOnEach F.step F.pre f (entries self.old) }
@@ -74,7 +74,7 @@ impl<T, S: Table<T>, L: Table<Link>> MetaSlotTable<T, S, L> {
     /// which `f` returns `false`, right after the call. O(capacity), with one call for each value.
     ///
     /// ```text
-    /// map.retain(|_, value| *value > 3);
+    /// table.retain(|_, value| *value > 3);
     /// ```
     pub fn retain<F: FnMut(SlotTableKey, &mut T) -> bool>(&mut self, mut f: F)
     where
