@@ -8,155 +8,86 @@ use ix_maps::{
 use std::alloc::Global;
 use std::test::Fail;
 
-// Shows: FixedSizeHashMap::new, MetaHashMap::insert
+// Shows: FixedSizeHashMap::new, MetaHashMap::insert, MetaHashMap::try_insert, MetaHashMap::is_full
 #[test]
-fn insert_refuses_a_key_that_is_there_and_one_without_room(rt: HostRuntime) {
-    let mut map = FixedSizeHashMap::<u16, char, 1>::new();
-    assert_eq!(rt; map.insert(80, 'a'), Ok(()));
-    assert_eq!(rt; map.insert(80, 'b'), Err(KeyAlreadyExists)); // 'b' is dropped
-    assert_eq!(rt; map.insert(443, 'b'), Err(IsFull));
-    assert_eq!(rt; map.get_ref(&80), Some(&'a'));
+fn a_map_has_each_key_once(rt: HostRuntime) {
+    let mut ages = FixedSizeHashMap::<u64, u8, 2>::new();
+    assert_eq!(rt; ages.insert(1001, 30), Ok(()));
+    assert_eq!(rt; ages.insert(1001, 31), Err(KeyAlreadyExists)); // both are dropped
+    assert_eq!(rt; ages.try_insert(1002, 40), Ok(()));
+    assert!(rt; ages.is_full());
+    assert_eq!(rt; ages.try_insert(1003, 50), Err((IsFull, 1003, 50))); // handed back
 }
 
-// Shows: MetaHashMap::try_insert
+// Shows: MetaHashMap::replace, MetaHashMap::get_ref, MetaHashMap::get_mut_ref
 #[test]
-fn try_insert_hands_key_and_value_back(rt: HostRuntime) {
-    let mut map = FixedSizeHashMap::<u16, char, 1>::new();
-    assert_eq!(rt; map.try_insert(80, 'a'), Ok(()));
-    assert_eq!(rt; map.try_insert(80, 'b'), Err((KeyAlreadyExists, 80, 'b')));
-    assert_eq!(rt; map.try_insert(443, 'b'), Err((IsFull, 443, 'b')));
-}
-
-// Shows: MetaHashMap::replace
-#[test]
-fn replace_exchanges_the_value_of_a_key(rt: HostRuntime) {
-    let mut map = FixedSizeHashMap::<u16, char, 1>::new();
-    assert_eq!(rt; map.replace(80, 'a'), Ok(None));
-    assert_eq!(rt; map.replace(80, 'b'), Ok(Some('a')));
-    assert_eq!(rt; map.replace(443, 'c'), Err((443, 'c'))); // no room
-    assert_eq!(rt; map.get_ref(&80), Some(&'b'));
-}
-
-// Shows: MetaHashMap::get_ref, MetaHashMap::contains
-#[test]
-fn a_value_is_found_by_an_equal_key(rt: HostRuntime) -> Result<(), Fail> {
-    let mut map = FixedSizeHashMap::<u16, char, 3>::new();
-    map.insert(80, 'a')?;
-    assert_eq!(rt; map.get_ref(&80), Some(&'a'));
-    assert_eq!(rt; map.get_ref(&443), None);
-    assert!(rt; map.contains(&80) && !map.contains(&443));
-    Ok(())
-}
-
-// Shows: MetaHashMap::get
-#[test]
-fn get_clones_the_value(rt: HostRuntime) -> Result<(), Fail> {
-    let mut map = FixedSizeHashMap::<u16, char, 3>::new();
-    map.insert(80, 'a')?;
-    assert_eq!(rt; map.get(&80), Ok(Some('a')));
-    assert_eq!(rt; map.get(&443), Ok(None));
-    Ok(())
-}
-
-// Shows: MetaHashMap::get_key_value
-#[test]
-fn a_key_is_found_with_its_value(rt: HostRuntime) -> Result<(), Fail> {
-    let mut map = FixedSizeHashMap::<u16, char, 3>::new();
-    map.insert(80, 'a')?;
-    assert_eq!(rt; map.get_key_value(&80), Some((&80, &'a')));
-    assert_eq!(rt; map.get_key_value(&443), None);
-    Ok(())
-}
-
-// Shows: MetaHashMap::get_mut_ref
-#[test]
-fn a_value_is_written_in_its_place(rt: HostRuntime) -> Result<(), Fail> {
-    let mut map = FixedSizeHashMap::<u16, char, 3>::new();
-    map.insert(80, 'a')?;
-    if let Some(value) = map.get_mut_ref(&80) {
-        *value = 'b';
+fn the_value_of_a_key_is_exchanged_or_written(rt: HostRuntime) {
+    let mut ages = FixedSizeHashMap::<u64, u8, 1>::new();
+    assert_eq!(rt; ages.replace(1001, 30), Ok(None));
+    assert_eq!(rt; ages.replace(1001, 31), Ok(Some(30)));
+    assert_eq!(rt; ages.replace(1002, 40), Err((1002, 40))); // there is no room
+    if let Some(age) = ages.get_mut_ref(&1001) {
+        *age = age.saturating_add(1);
     }
-    assert_eq!(rt; map.get_ref(&80), Some(&'b'));
-    assert!(rt; map.get_mut_ref(&443).is_none());
+    assert_eq!(rt; ages.get_ref(&1001), Some(&32));
+}
+
+// Shows: MetaHashMap::get, MetaHashMap::get_key_value, MetaHashMap::contains
+#[test]
+fn look_ups_clone_or_lend(rt: HostRuntime) -> Result<(), Fail> {
+    let mut ages = FixedSizeHashMap::<u64, u8, 3>::new();
+    ages.insert(1001, 30)?;
+    assert_eq!(rt; ages.get(&1001), Ok(Some(30))); // a clone
+    assert_eq!(rt; ages.get_key_value(&1001), Some((&1001, &30)));
+    assert!(rt; ages.contains(&1001) && !ages.contains(&1002));
     Ok(())
 }
 
-// Shows: MetaHashMap::remove, MetaHashMap::remove_entry
+// Shows: MetaHashMap::remove, MetaHashMap::remove_entry, MetaHashMap::clear
+// Shows: MetaHashMap::len, MetaHashMap::capacity, MetaHashMap::is_empty
 #[test]
-fn a_key_is_removed_with_its_value(rt: HostRuntime) -> Result<(), Fail> {
-    let mut map = FixedSizeHashMap::<u16, char, 3>::new();
-    map.insert(80, 'a')?;
-    map.insert(443, 'b')?;
-    assert_eq!(rt; map.remove(&80), Some('a'));
-    assert_eq!(rt; map.remove(&80), None);
-    assert_eq!(rt; map.remove_entry(&443), Some((443, 'b')));
-    assert_eq!(rt; map.remove_entry(&443), None);
+fn keys_are_removed_one_by_one_or_all_together(rt: HostRuntime) -> Result<(), Fail> {
+    let mut ages = FixedSizeHashMap::<u64, u8, 3>::new();
+    ages.insert(1001, 30)?;
+    ages.insert(1002, 40)?;
+    ages.insert(1003, 50)?;
+    assert_eq!(rt; ages.remove(&1001), Some(30));
+    assert_eq!(rt; ages.remove_entry(&1002), Some((1002, 40)));
+    assert_eq!(rt; (ages.len(), ages.capacity()), (1, 3));
+    ages.clear();
+    assert!(rt; ages.is_empty());
     Ok(())
 }
 
-// Shows: MetaHashMap::capacity, MetaHashMap::len, MetaHashMap::is_empty, MetaHashMap::is_full
+// Shows: MetaHashMap::keys, MetaHashMap::values, MetaHashMap::iter, MetaHashMap::nth_key
 #[test]
-fn a_map_knows_how_many_keys_it_has(rt: HostRuntime) -> Result<(), Fail> {
-    let mut map = FixedSizeHashMap::<u16, char, 2>::new();
-    assert!(rt; map.is_empty());
-    map.insert(80, 'a')?;
-    assert_eq!(rt; (map.len(), map.capacity()), (1, 2));
-    map.insert(443, 'b')?;
-    assert!(rt; map.is_full());
+fn slot_order_is_not_the_order_of_the_keys(rt: HostRuntime) -> Result<(), Fail> {
+    let mut ages = FixedSizeHashMap::<u64, u8, 3>::new();
+    ages.insert(1002, 40)?;
+    ages.insert(1001, 30)?;
+    assert_eq!(rt; ages.iter().next(), Some((&1002, &40)));
+    assert_eq!(rt; ages.keys().last(), Some(&1001));
+    assert_eq!(rt; ages.nth_key(1), Some(&1001));
+    assert_eq!(rt; ages.values().len(), 2);
     Ok(())
 }
 
-// Shows: MetaHashMap::clear
+// Shows: MetaHashMap::list_keys, IntoIterator for &'a MetaHashMap
 #[test]
-fn clear_removes_all_keys(rt: HostRuntime) -> Result<(), Fail> {
-    let mut map = FixedSizeHashMap::<u16, char, 3>::new();
-    map.insert(80, 'a')?;
-    map.insert(443, 'b')?;
-    map.clear();
-    assert!(rt; map.is_empty());
-    assert!(rt; !map.contains(&80));
-    Ok(())
-}
-
-// Shows: MetaHashMap::nth_key, MetaHashMap::list_keys
-#[test]
-fn keys_are_listed_in_slot_order_until_the_closure_stops(rt: HostRuntime) -> Result<(), Fail> {
-    let mut map = FixedSizeHashMap::<u16, char, 3>::new();
-    map.insert(80, 'a')?;
-    map.insert(443, 'b')?;
-    assert_eq!(rt; map.nth_key(0), Some(&80));
+fn a_closure_or_a_loop_goes_through_a_map(rt: HostRuntime) -> Result<(), Fail> {
+    let mut ages = FixedSizeHashMap::<u64, u8, 3>::new();
+    ages.insert(1002, 40)?;
+    ages.insert(1001, 30)?;
     let mut first = None;
-    map.list_keys(|key| {
-        first = Some(*key);
+    ages.list_keys(|person| {
+        first = Some(*person);
         CallbackProgression::Stop // or `Continue`
     });
-    assert_eq!(rt; first, Some(80));
-    Ok(())
-}
-
-// Shows: MetaHashMap::iter, MetaHashMap::keys, MetaHashMap::values
-#[test]
-fn keys_and_values_come_in_slot_order(rt: HostRuntime) -> Result<(), Fail> {
-    let mut map = FixedSizeHashMap::<u16, char, 3>::new();
-    map.insert(80, 'a')?;
-    map.insert(22, 'b')?;
-    assert_eq!(rt; map.iter().next(), Some((&80, &'a')));
-    assert_eq!(rt; map.keys().last(), Some(&22));
-    assert_eq!(rt; map.values().len(), 2);
-    Ok(())
-}
-
-// Shows: IntoIterator for &'a MetaHashMap
-#[test]
-fn a_loop_goes_through_a_map(rt: HostRuntime) -> Result<(), Fail> {
-    let mut map = FixedSizeHashMap::<u16, char, 3>::new();
-    map.insert(80, 'a')?;
-    map.insert(22, 'b')?;
-    let mut last = None;
-    for (port, name) in &map {
-        last = Some((*port, *name));
+    let mut youngest = 255;
+    for (_, age) in &ages {
+        youngest = youngest.min(*age);
     }
-    assert_eq!(rt; last, Some((22, 'b')));
+    assert_eq!(rt; (first, youngest), (Some(1002), 30));
     Ok(())
 }
 
@@ -171,38 +102,26 @@ fn a_map_hashes_by_hashers_of_your_own(rt: HostRuntime) -> Result<(), Fail> {
     Ok(())
 }
 
-// Shows: HashMap::new
+// Shows: HashMap::new, RelocatableHashMap::new_uninit, ContainerFamily<A> for HashMapFamily
 #[test]
-fn a_map_is_allocated_in_one_call(rt: HostRuntime) -> Result<(), Fail> {
-    let mut map = HashMap::<u16, char>::new(rt.alloc(), 3)?;
-    assert_eq!(rt; map.insert(80, 'a'), Ok(()));
-    Ok(())
-}
-
-// Shows: RelocatableHashMap::new_uninit
-#[test]
-fn a_map_is_made_in_two_steps(rt: HostRuntime) -> Result<(), Fail> {
-    let uninit = RelocatableHashMap::<u16, char, Global>::new_uninit(3);
-    let mut map = uninit.init(rt.alloc())?;
-    assert_eq!(rt; map.insert(80, 'a'), Ok(()));
-    Ok(())
-}
-
-// Shows: ContainerFamily<A> for HashMapFamily
-#[test]
-fn a_family_makes_maps_for_any_allocator(rt: HostRuntime) -> Result<(), Fail> {
-    let map = HashMapFamily::<u16, char, DefaultHashBuilder>::with_capacity(rt.alloc(), 3)?;
-    assert_eq!(rt; map.capacity(), 3);
+fn a_map_is_allocated_in_one_step_or_two(rt: HostRuntime) -> Result<(), Fail> {
+    let mut at_once = HashMap::<u64, u8>::new(rt.alloc(), 3)?;
+    assert_eq!(rt; at_once.insert(1001, 30), Ok(()));
+    let uninit = RelocatableHashMap::<u64, u8, Global>::new_uninit(3);
+    let in_two = uninit.init(rt.alloc())?;
+    assert_eq!(rt; in_two.capacity(), 3);
+    let of_family = HashMapFamily::<u64, u8, DefaultHashBuilder>::with_capacity(rt.alloc(), 3)?;
+    assert_eq!(rt; of_family.capacity(), 3);
     Ok(())
 }
 
 // Shows: Debug for MetaHashMap
 #[test]
-fn a_map_prints_its_keys_and_values(rt: HostRuntime) -> Result<(), Fail> {
-    let mut map = FixedSizeHashMap::<u16, char, 3>::new();
-    map.insert(80, 'a')?;
-    map.insert(443, 'b')?;
-    let text = format!(in rt.alloc(); "{map:?}")?;
-    assert_eq!(rt; text.as_str(), "{80: 'a', 443: 'b'}");
+fn a_map_prints_in_slot_order(rt: HostRuntime) -> Result<(), Fail> {
+    let mut ages = FixedSizeHashMap::<u64, u8, 3>::new();
+    ages.insert(1002, 40)?;
+    ages.insert(1001, 30)?;
+    let text = format!(in rt.alloc(); "{ages:?}")?;
+    assert_eq!(rt; text.as_str(), "{1002: 40, 1001: 30}");
     Ok(())
 }

@@ -1,5 +1,5 @@
 //! An example of each public call of slot tables, slot maps, flat maps, hash maps and the trait that both have, and of
-//! commands, as a user writes it. A line `Shows` above an example names the calls as the reference does.
+//! commands and scripts, as a user writes it. A line `Shows` above an example names the calls as the reference does.
 #![tactic(auto)]
 
 #[cfg(test)]
@@ -12,6 +12,8 @@ mod flat_map_iterator_tests;
 mod flat_map_tests;
 #[cfg(test)]
 mod hash_map_tests;
+#[cfg(test)]
+mod script_tests;
 #[cfg(test)]
 mod slot_map_iterator_tests;
 #[cfg(test)]
