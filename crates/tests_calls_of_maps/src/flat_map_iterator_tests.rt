@@ -1,0 +1,101 @@
+//! Examples of what goes through a flat map.
+use ix_maps::FixedSizeFlatMap;
+use std::test::Fail;
+
+// Shows: MetaFlatMap::iter, Iterator for Iter, ExactSizeIterator for Iter
+#[test]
+fn iter_yields_keys_with_their_values(rt: HostRuntime) -> Result<(), Fail> {
+    let mut map = FixedSizeFlatMap::<u16, char, 3>::new();
+    map.insert(80, 'a')?;
+    map.insert(22, 'b')?;
+    let mut items = map.iter();
+    assert_eq!(rt; (items.len(), items.size_hint()), (2, (2, Some(2))));
+    assert_eq!(rt; items.next(), Some((&80, &'a')));
+    assert_eq!(rt; items.next(), Some((&22, &'b')));
+    assert_eq!(rt; items.next(), None);
+    Ok(())
+}
+
+// Shows: IntoIterator for &'a MetaFlatMap
+#[test]
+fn a_loop_goes_through_a_map(rt: HostRuntime) -> Result<(), Fail> {
+    let mut map = FixedSizeFlatMap::<u16, char, 3>::new();
+    map.insert(80, 'a')?;
+    map.insert(22, 'b')?;
+    let mut last = None;
+    for (port, name) in &map {
+        last = Some((*port, *name));
+    }
+    assert_eq!(rt; last, Some((22, 'b')));
+    Ok(())
+}
+
+// Shows: MetaFlatMap::drain, Iterator for Drain, ExactSizeIterator for Drain
+// Shows: Drop for Drain
+#[test]
+fn a_drain_takes_keys_and_values_out(rt: HostRuntime) -> Result<(), Fail> {
+    let mut map = FixedSizeFlatMap::<u16, char, 3>::new();
+    map.insert(80, 'a')?;
+    map.insert(22, 'b')?;
+    let mut items = map.drain();
+    assert_eq!(rt; (items.len(), items.size_hint()), (2, (2, Some(2))));
+    assert_eq!(rt; items.next(), Some((80, 'a')));
+    drop(items); // the key 22 and 'b' are dropped
+    assert!(rt; map.is_empty());
+    Ok(())
+}
+
+// Shows: MetaFlatMap::keys, Iterator for Keys, ExactSizeIterator for Keys
+#[test]
+fn keys_come_in_slot_order(rt: HostRuntime) -> Result<(), Fail> {
+    let mut map = FixedSizeFlatMap::<u16, char, 3>::new();
+    map.insert(80, 'a')?;
+    map.insert(22, 'b')?;
+    let mut keys = map.keys();
+    assert_eq!(rt; (keys.len(), keys.size_hint()), (2, (2, Some(2))));
+    assert_eq!(rt; keys.next(), Some(&80));
+    assert_eq!(rt; keys.next(), Some(&22));
+    assert_eq!(rt; keys.next(), None);
+    Ok(())
+}
+
+// Shows: MetaFlatMap::values, Iterator for Values, ExactSizeIterator for Values
+#[test]
+fn values_come_in_slot_order_of_their_keys(rt: HostRuntime) -> Result<(), Fail> {
+    let mut map = FixedSizeFlatMap::<u16, char, 3>::new();
+    map.insert(80, 'a')?;
+    map.insert(22, 'b')?;
+    let mut values = map.values();
+    assert_eq!(rt; (values.len(), values.size_hint()), (2, (2, Some(2))));
+    assert_eq!(rt; values.next(), Some(&'a'));
+    assert_eq!(rt; values.next(), Some(&'b'));
+    assert_eq!(rt; values.next(), None);
+    Ok(())
+}
+
+// Shows: Debug for Iter, Debug for Keys, Debug for Values
+#[test]
+fn iterators_print_what_is_still_to_come(rt: HostRuntime) -> Result<(), Fail> {
+    let mut map = FixedSizeFlatMap::<u16, char, 3>::new();
+    map.insert(80, 'a')?;
+    map.insert(22, 'b')?;
+    let mut items = map.iter();
+    items.next();
+    let (keys, values) = (map.keys(), map.values());
+    let text = format!(in rt.alloc(); "{items:?} {keys:?} {values:?}")?;
+    assert_eq!(rt; text.as_str(), "[(22, 'b')] [80, 22] ['a', 'b']");
+    Ok(())
+}
+
+// Shows: Debug for Drain
+#[test]
+fn a_drain_prints_what_is_still_to_come(rt: HostRuntime) -> Result<(), Fail> {
+    let mut map = FixedSizeFlatMap::<u16, char, 3>::new();
+    map.insert(80, 'a')?;
+    map.insert(22, 'b')?;
+    let mut items = map.drain();
+    items.next();
+    let text = format!(in rt.alloc(); "{items:?}")?;
+    assert_eq!(rt; text.as_str(), "[(22, 'b')]");
+    Ok(())
+}

@@ -1,0 +1,66 @@
+//! Examples of what goes through a slot map.
+use ix_maps::{FixedSizeSlotMap, SlotMapKey};
+use std::test::Fail;
+
+// Shows: MetaSlotMap::iter, Iterator for Iter, ExactSizeIterator for Iter
+// Shows: IntoIterator for &'a MetaSlotMap
+#[test]
+fn a_map_is_gone_through_in_rising_order_of_the_indexes(rt: HostRuntime) {
+    let mut ports = FixedSizeSlotMap::<u16, 3>::new();
+    ports.insert_at(2, 443);
+    ports.insert(80);
+    let mut items = ports.iter();
+    assert_eq!(rt; items.len(), 2);
+    assert_eq!(rt; items.next(), Some((SlotMapKey::new(0, 0), &80)));
+    assert_eq!(rt; items.size_hint(), (1, Some(1)));
+    let mut last = None;
+    for (key, port) in &ports {
+        last = Some((key.index(), *port));
+    }
+    assert_eq!(rt; last, Some((2, 443)));
+}
+
+// Shows: MetaSlotMap::keys, Iterator for Keys, ExactSizeIterator for Keys
+// Shows: MetaSlotMap::values, Iterator for Values, ExactSizeIterator for Values
+#[test]
+fn keys_and_values_come_alone(rt: HostRuntime) {
+    let mut ports = FixedSizeSlotMap::<u16, 3>::new();
+    ports.insert_at(2, 443);
+    ports.insert(80);
+    let mut keys = ports.keys();
+    assert_eq!(rt; keys.next(), Some(SlotMapKey::new(0, 0)));
+    assert_eq!(rt; (keys.len(), keys.next()), (1, Some(SlotMapKey::new(2, 0))));
+    let mut values = ports.values();
+    assert_eq!(rt; values.next(), Some(&80));
+    assert_eq!(rt; (values.len(), values.last().copied()), (1, Some(443)));
+}
+
+// Shows: MetaSlotMap::drain, Iterator for Drain, ExactSizeIterator for Drain, Drop for Drain
+#[test]
+fn a_drain_removes_what_it_does_not_yield_too(rt: HostRuntime) {
+    let mut ports = FixedSizeSlotMap::<u16, 3>::new();
+    let web = ports.insert(80).expect(&rt, "there is room");
+    ports.insert(443);
+    let mut items = ports.drain();
+    assert_eq!(rt; items.next(), Some((web, 80)));
+    assert_eq!(rt; items.len(), 1);
+    drop(items); // 443 is dropped
+    assert!(rt; ports.is_empty());
+    assert_eq!(rt; ports.insert(22), Some(SlotMapKey::new(1, 1)));
+}
+
+// Shows: Debug for Iter, Debug for Keys, Debug for Values, Debug for Drain
+#[test]
+fn iterators_print_what_is_still_to_come(rt: HostRuntime) -> Result<(), Fail> {
+    let mut ports = FixedSizeSlotMap::<u16, 3>::new();
+    ports.insert(80);
+    ports.insert(443);
+    let mut items = ports.iter();
+    items.next();
+    let text = format!(in rt.alloc(); "{items:?} {:?} {:?}", ports.keys(), ports.values())?;
+    assert_eq!(rt; text.as_str(), "[(1, 0, 443)] [(0, 0), (1, 0)] [80, 443]");
+    let items = ports.drain();
+    let text = format!(in rt.alloc(); "{items:?}")?;
+    assert_eq!(rt; text.as_str(), "[(0, 0, 80), (1, 0, 443)]");
+    Ok(())
+}

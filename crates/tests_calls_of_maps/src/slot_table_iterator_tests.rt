@@ -1,0 +1,113 @@
+//! Examples of what goes through a slot table.
+use ix_maps::{FixedSizeSlotTable, SlotTableKey};
+use std::test::Fail;
+
+// Shows: MetaSlotTable::iter, Iterator for Iter, ExactSizeIterator for Iter
+#[test]
+fn iter_yields_keys_in_rising_order_with_their_values(rt: HostRuntime) {
+    let mut table = FixedSizeSlotTable::<char, 3>::new();
+    table.insert_at(SlotTableKey::new(2), 'c');
+    table.insert('a');
+    let mut items = table.iter();
+    assert_eq!(rt; (items.len(), items.size_hint()), (2, (2, Some(2))));
+    assert_eq!(rt; items.next(), Some((SlotTableKey::new(0), &'a')));
+    assert_eq!(rt; items.next(), Some((SlotTableKey::new(2), &'c')));
+    assert_eq!(rt; items.next(), None);
+}
+
+// Shows: IntoIterator for &'a MetaSlotTable
+#[test]
+fn a_loop_goes_through_a_table(rt: HostRuntime) {
+    let mut table = FixedSizeSlotTable::<char, 3>::new();
+    table.insert('a');
+    table.insert('b');
+    let mut last = None;
+    for (key, value) in &table {
+        last = Some((key, *value));
+    }
+    assert_eq!(rt; last, Some((SlotTableKey::new(1), 'b')));
+}
+
+// Shows: IntoIterator for MetaSlotTable, Iterator for IntoIter, ExactSizeIterator for IntoIter
+#[test]
+fn into_iter_yields_the_values_themselves(rt: HostRuntime) {
+    let mut table = FixedSizeSlotTable::<char, 3>::new();
+    table.insert('a');
+    table.insert('b');
+    let mut items = table.into_iter();
+    assert_eq!(rt; (items.len(), items.size_hint()), (2, (2, Some(2))));
+    assert_eq!(rt; items.next(), Some((SlotTableKey::new(0), 'a')));
+    assert_eq!(rt; items.next(), Some((SlotTableKey::new(1), 'b')));
+    assert_eq!(rt; items.next(), None);
+}
+
+// Shows: MetaSlotTable::drain, Iterator for Drain, ExactSizeIterator for Drain
+// Shows: Drop for Drain
+#[test]
+fn a_drain_takes_the_values_out_and_keeps_the_memory(rt: HostRuntime) {
+    let mut table = FixedSizeSlotTable::<char, 3>::new();
+    table.insert('a');
+    table.insert('b');
+    let mut items = table.drain();
+    assert_eq!(rt; (items.len(), items.size_hint()), (2, (2, Some(2))));
+    assert_eq!(rt; items.next(), Some((SlotTableKey::new(0), 'a')));
+    drop(items); // 'b' is dropped
+    assert!(rt; table.is_empty());
+    assert_eq!(rt; table.insert('c'), Some(SlotTableKey::new(1)));
+}
+
+// Shows: MetaSlotTable::keys, Iterator for Keys, ExactSizeIterator for Keys
+#[test]
+fn keys_rise(rt: HostRuntime) {
+    let mut table = FixedSizeSlotTable::<char, 3>::new();
+    table.insert_at(SlotTableKey::new(2), 'c');
+    table.insert('a');
+    let mut keys = table.keys();
+    assert_eq!(rt; (keys.len(), keys.size_hint()), (2, (2, Some(2))));
+    assert_eq!(rt; keys.next(), Some(SlotTableKey::new(0)));
+    assert_eq!(rt; keys.next(), Some(SlotTableKey::new(2)));
+    assert_eq!(rt; keys.next(), None);
+}
+
+// Shows: MetaSlotTable::values, Iterator for Values, ExactSizeIterator for Values
+#[test]
+fn values_come_in_rising_order_of_their_keys(rt: HostRuntime) {
+    let mut table = FixedSizeSlotTable::<char, 3>::new();
+    table.insert_at(SlotTableKey::new(2), 'c');
+    table.insert('a');
+    let mut values = table.values();
+    assert_eq!(rt; (values.len(), values.size_hint()), (2, (2, Some(2))));
+    assert_eq!(rt; values.next(), Some(&'a'));
+    assert_eq!(rt; values.next(), Some(&'c'));
+    assert_eq!(rt; values.next(), None);
+}
+
+// Shows: Debug for Iter, Debug for Keys, Debug for Values
+#[test]
+fn iterators_print_what_is_still_to_come(rt: HostRuntime) -> Result<(), Fail> {
+    let mut table = FixedSizeSlotTable::<char, 3>::new();
+    table.insert('a');
+    table.insert('b');
+    let mut items = table.iter();
+    items.next();
+    let (keys, values) = (table.keys(), table.values());
+    let text = format!(in rt.alloc(); "{items:?} {keys:?} {values:?}")?;
+    assert_eq!(rt; text.as_str(), "[(1, 'b')] [0, 1] ['a', 'b']");
+    Ok(())
+}
+
+// Shows: Debug for Drain, Debug for IntoIter
+#[test]
+fn iterators_that_take_values_print_them(rt: HostRuntime) -> Result<(), Fail> {
+    let mut table = FixedSizeSlotTable::<char, 3>::new();
+    table.insert('a');
+    let items = table.drain();
+    let text = format!(in rt.alloc(); "{items:?}")?;
+    assert_eq!(rt; text.as_str(), "[(0, 'a')]");
+    drop(items);
+    table.insert('b');
+    let items = table.into_iter();
+    let text = format!(in rt.alloc(); "{items:?}")?;
+    assert_eq!(rt; text.as_str(), "[(0, 'b')]");
+    Ok(())
+}
