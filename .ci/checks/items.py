@@ -98,11 +98,13 @@ def visible(lines):
     """Returns a type's lines without its private fields."""
     if not lines[0].startswith("pub struct") or len(lines) == 1:
         return lines
-    public = [it for i, it in enumerate(lines[1:-1], 1) if it.startswith("    pub ") or it.startswith("    ///") and any(
+    # Parameters may have lines of their own.
+    head = next(i for i, it in enumerate(lines) if it.endswith("{")) + 1
+    public = [it for i, it in enumerate(lines[head:-1], head) if it.startswith("    pub ") or it.startswith("    ///") and any(
         re.match(r"    pub ", later) for later in lines[i:] if not later.startswith("    ///"))]
     if not any(it.startswith("    pub ") for it in public):
-        return [lines[0].removesuffix("{") + "{ .. }"]
-    return [lines[0], *public, lines[-1]]
+        return [*lines[:head - 1], lines[head - 1] + " .. }"]
+    return [*lines[:head], *public, lines[-1]]
 
 
 def ghost_members(lines):
