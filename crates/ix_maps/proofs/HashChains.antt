@@ -1,11 +1,12 @@
 -- The chains of a hash map's table of links, and how the write of one link changes them.
 use Rattle.std.proofs.Common.{◌≡◌, ◌≢◌, ℕ, zero, suc, ◌+◌, ◌*◌, ◌/◌, ◌%◌, ◌<◌, ◌≤◌, inl, inr, List, [], ◌∷◌, ◌++◌, length, get_or, set, Bool, true, false, refl, sym, ap, ◌∙◌, subst, arith}
-use Rattle.std.specs.Prelude.{nat_eq, if◌then◌else◌}
+use Rattle.std.specs.Prelude.{nat_eq, nat_lt, if◌then◌else◌}
 use Rattle.std.proofs.lemmas.Bool.{cases_eq, cases_lt}
 use Rattle.std.proofs.lemmas.Bool.Decides.{nat_tests}
 use Rattle.std.proofs.lemmas.List.{get_or-set_same, get_or-set_other, length-set, set_past, length-append}
 use Rattle.ix_maps.specs.declared.hashmap.chain_link.ChainLink.{ChainLink}
-use Rattle.ix_maps.specs.inner.HashChains.{no_place, no_link, link_head, link_set_head, head_at, next_at, links_set_head, links_set_next, places_met, chain_from, chain_at, IsLinked, IsChain, IsChainFrom, IsOnChain, IsBefore, IsUnlinked}
+use Rattle.ix_maps.specs.declared.hashmap.chain_link.Heads.{Heads}
+use Rattle.ix_maps.specs.inner.HashChains.{no_place, no_heads, no_link, heads_get, heads_set, link_head, link_set_head, head_at, next_at, links_set_head, links_set_next, places_met, chain_from, chain_at, IsLinked, IsChain, IsChainFrom, IsOnChain, IsBefore, IsUnlinked}
 use Rattle.ix_maps.proofs.FreeKeys.{key_count, key_count-cons, hit, hit_same, hit_other, key_count-append, split_at_key, first_occurs}
 
 -- a write that keeps a part of the link keeps that part of all links
@@ -18,73 +19,105 @@ part-set part links i link same other = elim (cases_eq other i) [
   | inr there ↦ ap part (get_or-set_other links i other link no_link there)
 ]
 
--- the two heads of a link
-next-set_head : (link : ChainLink) (bucket place : ℕ) → (link_set_head link bucket place).next ≡ link.next
-next-set_head link bucket place = go (nat_eq (bucket % 2) 0)
+-- the heads of two buckets
+heads_get-set : (heads : Heads) (bucket place : ℕ) → heads_get (heads_set heads bucket place) bucket ≡ place
+heads_get-set heads bucket place = go (nat_eq (bucket % 2) 0)
   where
-    go : (is_even : Bool) → (if is_even then record link { even = place } else record link { odd = place }).next ≡ link.next
+    go : (is_even : Bool) → (if is_even then (if is_even then record heads { even = place } else record heads { odd = place }).even else (if is_even then record heads { even = place } else record heads { odd = place }).odd) ≡ place
     go true = refl
     go false = refl
 
-head-set_head : (link : ChainLink) (bucket place : ℕ) → link_head (link_set_head link bucket place) bucket ≡ place
-head-set_head link bucket place = go (nat_eq (bucket % 2) 0)
-  where
-    go : (is_even : Bool) → (if is_even then (if is_even then record link { even = place } else record link { odd = place }).even else (if is_even then record link { even = place } else record link { odd = place }).odd) ≡ place
-    go true = refl
-    go false = refl
-
-head-set_head_other : (link : ChainLink) (bucket place other : ℕ) → other / 2 ≡ bucket / 2 → other ≢ bucket → link_head (link_set_head link bucket place) other ≡ link_head link other
-head-set_head_other link bucket place other same apart = elim (cases_eq (bucket % 2) 0) [
+heads_get-set_other : (heads : Heads) (bucket place other : ℕ) → other / 2 ≡ bucket / 2 → other ≢ bucket → heads_get (heads_set heads bucket place) other ≡ heads_get heads other
+heads_get-set_other heads bucket place other same apart = elim (cases_eq (bucket % 2) 0) [
   | inl even ↦
       let yes : nat_eq (bucket % 2) 0 ≡ true = grind (arith, nat_tests) in
       let is_odd : other % 2 ≢ 0 = λ also. apart (omega (arith, same, even, also)) in
       let no : nat_eq (other % 2) 0 ≡ false = grind (arith, nat_tests) in
-      ap (λ b. link_head (if b then record link { even = place } else record link { odd = place }) other) yes
-      ∙ ap (λ b. if b then place else link.odd) no ∙ ap (λ b. if b then link.even else link.odd) (sym no)
+      ap (λ b. heads_get (if b then record heads { even = place } else record heads { odd = place }) other) yes
+      ∙ ap (λ b. if b then place else heads.odd) no ∙ ap (λ b. if b then heads.even else heads.odd) (sym no)
   | inr odd ↦
       let no : nat_eq (bucket % 2) 0 ≡ false = grind (arith, nat_tests) in
       let is_even : other % 2 ≡ 0 = omega (arith, same, odd, apart) in
       let yes : nat_eq (other % 2) 0 ≡ true = grind (arith, nat_tests) in
-      ap (λ b. link_head (if b then record link { even = place } else record link { odd = place }) other) no
-      ∙ ap (λ b. if b then link.even else place) yes ∙ ap (λ b. if b then link.even else link.odd) (sym yes)
+      ap (λ b. heads_get (if b then record heads { even = place } else record heads { odd = place }) other) no
+      ∙ ap (λ b. if b then heads.even else place) yes ∙ ap (λ b. if b then heads.even else heads.odd) (sym yes)
 ]
 
-pub link_head-none : (bucket : ℕ) → link_head no_link bucket ≡ no_place
-link_head-none bucket = go (nat_eq (bucket % 2) 0)
+heads_get-none : (bucket : ℕ) → heads_get no_heads bucket ≡ no_place
+heads_get-none bucket = go (nat_eq (bucket % 2) 0)
   where
     go : (is_even : Bool) → (if is_even then no_place else no_place) ≡ no_place
     go true = refl
     go false = refl
 
+-- a link with another head: the bucket is one of the first two, or of the last two
+abbrev with_head : ChainLink → ℕ → ℕ → Bool → ChainLink
+with_head link bucket place is_low = if is_low then record link { low = heads_set link.low bucket place } else record link { high = heads_set link.high bucket place }
+
+next-set_head : (link : ChainLink) (bucket place : ℕ) → (link_set_head link bucket place).next ≡ link.next
+next-set_head link bucket place = go (nat_lt (bucket % 4) 2)
+  where
+    go : (is_low : Bool) → (with_head link bucket place is_low).next ≡ link.next
+    go true = refl
+    go false = refl
+
+head-set_head : (link : ChainLink) (bucket place : ℕ) → link_head (link_set_head link bucket place) bucket ≡ place
+head-set_head link bucket place = go (nat_lt (bucket % 4) 2)
+  where
+    go : (is_low : Bool) → (if is_low then heads_get (with_head link bucket place is_low).low bucket else heads_get (with_head link bucket place is_low).high bucket) ≡ place
+    go true = heads_get-set link.low bucket place
+    go false = heads_get-set link.high bucket place
+
+head-set_head_other : (link : ChainLink) (bucket place other : ℕ) → other / 4 ≡ bucket / 4 → other ≢ bucket → link_head (link_set_head link bucket place) other ≡ link_head link other
+head-set_head_other link bucket place other same apart = go (nat_lt (bucket % 4) 2) (nat_lt (other % 4) 2) refl refl
+  where
+    go : (is_low other_low : Bool) → nat_lt (bucket % 4) 2 ≡ is_low → nat_lt (other % 4) 2 ≡ other_low
+      → (if other_low then heads_get (with_head link bucket place is_low).low other else heads_get (with_head link bucket place is_low).high other) ≡ (if other_low then heads_get link.low other else heads_get link.high other)
+    go true true low also =
+        let near : other / 2 ≡ bucket / 2 = (let below : bucket % 4 < 2 = grind (arith, nat_tests) in let other_below : other % 4 < 2 = grind (arith, nat_tests) in omega (arith, same, below, other_below)) in
+        heads_get-set_other link.low bucket place other near apart
+    go true false low also = refl
+    go false true low also = refl
+    go false false low also =
+        let near : other / 2 ≡ bucket / 2 = (let past : 2 ≤ bucket % 4 = grind (arith, nat_tests) in let other_past : 2 ≤ other % 4 = grind (arith, nat_tests) in omega (arith, same, past, other_past)) in
+        heads_get-set_other link.high bucket place other near apart
+
+pub link_head-none : (bucket : ℕ) → link_head no_link bucket ≡ no_place
+link_head-none bucket = go (nat_lt (bucket % 4) 2)
+  where
+    go : (is_low : Bool) → (if is_low then heads_get no_heads bucket else heads_get no_heads bucket) ≡ no_place
+    go true = heads_get-none bucket
+    go false = heads_get-none bucket
+
 pub length-set_head : (links : List ChainLink) (bucket place : ℕ) → length (links_set_head links bucket place) ≡ length links
-length-set_head links bucket place = length-set links (bucket / 2) _
+length-set_head links bucket place = length-set links (bucket / 4) _
 
 pub length-set_next : (links : List ChainLink) (place next : ℕ) → length (links_set_next links place next) ≡ length links
 length-set_next links place next = length-set links place _
 
 pub next_at-set_head : (links : List ChainLink) (bucket place other : ℕ) → next_at (links_set_head links bucket place) other ≡ next_at links other
 next_at-set_head links bucket place other =
-    part-set (λ link. link.next) links (bucket / 2) _ (next-set_head (get_or links (bucket / 2) no_link) bucket place) other
+    part-set (λ link. link.next) links (bucket / 4) _ (next-set_head (get_or links (bucket / 4) no_link) bucket place) other
 
 pub head_at-set_next : (links : List ChainLink) (place next other : ℕ) → head_at (links_set_next links place next) other ≡ head_at links other
-head_at-set_next links place next other = part-set (λ link. link_head link other) links place _ refl (other / 2)
+head_at-set_next links place next other = part-set (λ link. link_head link other) links place _ refl (other / 4)
 
-pub head_at-set_head : (links : List ChainLink) (bucket place : ℕ) → bucket < 2 * length links → head_at (links_set_head links bucket place) bucket ≡ place
+pub head_at-set_head : (links : List ChainLink) (bucket place : ℕ) → bucket < 4 * length links → head_at (links_set_head links bucket place) bucket ≡ place
 head_at-set_head links bucket place below =
-    ap (λ (link : ChainLink). link_head link bucket) (get_or-set_same links (bucket / 2) _ no_link (omega arith))
-    ∙ head-set_head (get_or links (bucket / 2) no_link) bucket place
+    ap (λ (link : ChainLink). link_head link bucket) (get_or-set_same links (bucket / 4) _ no_link (omega arith))
+    ∙ head-set_head (get_or links (bucket / 4) no_link) bucket place
 
 pub head_at-set_head_other : (links : List ChainLink) (bucket place other : ℕ) → other ≢ bucket → head_at (links_set_head links bucket place) other ≡ head_at links other
-head_at-set_head_other links bucket place other apart = elim (cases_eq (other / 2) (bucket / 2)) [
-  | inl same ↦ elim (cases_lt (bucket / 2) (length links)) [
+head_at-set_head_other links bucket place other apart = elim (cases_eq (other / 4) (bucket / 4)) [
+  | inl same ↦ elim (cases_lt (bucket / 4) (length links)) [
     | inl below ↦
         ap (λ i. link_head (get_or (links_set_head links bucket place) i no_link) other) same
-        ∙ ap (λ (link : ChainLink). link_head link other) (get_or-set_same links (bucket / 2) _ no_link below)
-        ∙ head-set_head_other (get_or links (bucket / 2) no_link) bucket place other same apart
+        ∙ ap (λ (link : ChainLink). link_head link other) (get_or-set_same links (bucket / 4) _ no_link below)
+        ∙ head-set_head_other (get_or links (bucket / 4) no_link) bucket place other same apart
         ∙ ap (λ i. link_head (get_or links i no_link) other) (sym same)
-    | inr past ↦ ap (λ ls. head_at ls other) (set_past links (bucket / 2) _ past)
+    | inr past ↦ ap (λ ls. head_at ls other) (set_past links (bucket / 4) _ past)
   ]
-  | inr there ↦ ap (λ (link : ChainLink). link_head link other) (get_or-set_other links (bucket / 2) (other / 2) _ no_link there)
+  | inr there ↦ ap (λ (link : ChainLink). link_head link other) (get_or-set_other links (bucket / 4) (other / 4) _ no_link there)
 ]
 
 pub next_at-set_next : (links : List ChainLink) (place next : ℕ) → place < length links → next_at (links_set_next links place next) place ≡ next
@@ -229,7 +262,7 @@ on_chain-next links first place chain on apart =
     let counts = ap (key_count place) more.is ∙ key_count-cons place first (chain_from links (next_at links first)) in omega arith
 
 -- the first place leaves its chain
-pub IsUnlinked-first : (links : List ChainLink) (bucket place : ℕ) (new : List ChainLink) → bucket < 2 * length links → IsChainFrom links (head_at links bucket) → IsOnChain links (head_at links bucket) place → head_at links bucket ≡ place → new ≡ links_set_head links bucket (next_at links place) → IsUnlinked links bucket place new
+pub IsUnlinked-first : (links : List ChainLink) (bucket place : ℕ) (new : List ChainLink) → bucket < 4 * length links → IsChainFrom links (head_at links bucket) → IsOnChain links (head_at links bucket) place → head_at links bucket ≡ place → new ≡ links_set_head links bucket (next_at links place) → IsUnlinked links bucket place new
 IsUnlinked-first links bucket place new below chain on is made =
     let to = next_at links place in
     let more = HasRest-from links (head_at links bucket) chain (begins_at_place links (head_at links bucket) place chain on) in

@@ -86,7 +86,7 @@ module _ {T : Type 0} (hash : T → ℕ) where
         fits = omega arith;
         each = λ bucket. HasChain-of s links buckets bucket [] (sym len)
             (record {
-              linked = ap (λ ls. head_at ls bucket) is ∙ ap (λ (link : ChainLink). link_head link bucket) (all_same (bucket / 2)) ∙ link_head-none bucket;
+              linked = ap (λ ls. head_at ls bucket) is ∙ ap (λ (link : ChainLink). link_head link bucket) (all_same (bucket / 4)) ∙ link_head-none bucket;
               once = λ place. omega arith;
               within = λ place on. absurd (let none : key_count place [] ≡ 0 = refl in omega arith);
               fits = omega arith;
@@ -104,7 +104,7 @@ module _ {T : Type 0} (hash : T → ℕ) where
       ]
 
   -- a value is inserted, and its place becomes the first of its chain
-  module _ (old new : SlotState T) (x : T) (place bucket : ℕ) (links : List ChainLink) (hashed : IsHashed hash old links) (step : SlotInsert old x new (Some place)) (is : bucket_of (hash x) (length links) ≡ bucket) (below : bucket < 2 * length links) where
+  module _ (old new : SlotState T) (x : T) (place bucket : ℕ) (links : List ChainLink) (hashed : IsHashed hash old links) (step : SlotInsert old x new (Some place)) (is : bucket_of (hash x) (length links) ≡ bucket) (below : bucket < 4 * length links) where
     filled : new ≡ slot_fill old place x
     filled = SlotInsert-fills old x new place step
 
@@ -220,7 +220,7 @@ module _ {T : Type 0} (hash : T → ℕ) where
 
   -- a value is inserted if a place is free
   pub IsHashed-tried : (old new : SlotState T) (x : T) (bucket : ℕ) (links after : List ChainLink) → IsHashed hash old links → SlotInsert old x new (slice_get old.free 0) → after ≡ option_map_or (λ place. links_insert_first links bucket place) (slice_get old.free 0) links
-      → bucket_of (hash x) (length links) ≡ bucket → bucket < 2 * length links → IsHashed hash new after
+      → bucket_of (hash x) (length links) ≡ bucket → bucket < 4 * length links → IsHashed hash new after
   IsHashed-tried old new x bucket links after hashed step made is below = go (slice_get old.free 0) step made
     where
       go : (first : Option ℕ) → SlotInsert old x new first → after ≡ option_map_or (λ place. links_insert_first links bucket place) first links → IsHashed hash new after

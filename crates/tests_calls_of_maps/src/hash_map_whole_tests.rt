@@ -67,5 +67,5 @@ fn memory_is_known_before_a_map_is_made(rt: HostRuntime) {
     let inline = FixedSizeHashMap::<u64, u64, 100>::default();
     assert_eq!(rt; (inline.len(), inline.capacity()), (0, 100));
     let size = HashMap::<u64, u64, Global>::memory_size(100);
-    assert_eq!(rt; (size.bytes, size.blocks), (5900, 6));
+    assert_eq!(rt; (size.bytes, size.blocks), (7500, 6));
 }

@@ -123,9 +123,9 @@ fn one_bucket(rt: HostRuntime) -> Result<(), Fail> {
 /// The number of keys of the maps whose hashes are spread.
 const MANY: u64 = 1000;
 
-/// Fills a map with multiples of `step`, and looks each of them up, and as many that it does not have. A full map has half a key a
-/// bucket on average, so that a key is found by one and a quarter comparisons, and missed by half a one, where hashes are drawn. Those
-/// of multiples of a number are not: the bounds leave room for that.
+/// Fills a map with multiples of `step`, and looks each of them up, and as many that it does not have. A full map has a quarter
+/// of a key a bucket on average, so that a key is found by one and an eighth comparisons, and missed by a quarter of one, where hashes
+/// are drawn. Those of multiples of a number are not: the bounds leave room for that.
 fn check_spread<'a, M: BoundedMap<CountedKey<'a>, u64>>(
     findings: &Findings,
     map: &mut M,

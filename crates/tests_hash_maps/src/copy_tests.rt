@@ -184,7 +184,7 @@ fn memory_sizes(rt: HostRuntime) -> Result<(), Fail> {
     let findings = Findings::new();
     for n in WHOLE {
         let wanted = MemorySize {
-            bytes: n.saturating_mul(59),
+            bytes: n.saturating_mul(75),
             blocks: if *n == 0 { 0 } else { 6 },
         };
         let found = RelocatableHashMap::<u64, u64, &LocalHeap>::memory_size(*n);

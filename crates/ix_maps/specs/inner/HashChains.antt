@@ -1,36 +1,50 @@
 -- How a hash map finds a pair: the places whose keys have one bucket are a chain of links. No clause of a public call cites
 -- this.
-use Rattle.std.specs.Prelude.{◌≡◌, ◌≢◌, ◌↔◌, ℕ, zero, suc, ◌*◌, ◌/◌, ◌%◌, ◌^◌, ◌<◌, ◌≤◌, List, [], ◌∷◌, ◌++◌, length, nat_eq, count_by, if◌then◌else◌, Option, Some, option_map, slice_index_or, slice_set, Bool, true}
+use Rattle.std.specs.Prelude.{◌≡◌, ◌≢◌, ◌↔◌, ℕ, zero, suc, ◌*◌, ◌/◌, ◌%◌, ◌^◌, ◌<◌, ◌≤◌, List, [], ◌∷◌, ◌++◌, length, nat_eq, nat_lt, count_by, if◌then◌else◌, Option, Some, option_map, slice_index_or, slice_set, Bool, true}
 use Rattle.std.specs.List.{fold}
 use Rattle.ix_maps.specs.SlotState.{SlotState, value_at, IsHeld}
 use Rattle.ix_maps.specs.inner.FlatSearch.{is_key_at}
 use Rattle.ix_maps.specs.inner.FullTables.{items_in}
 use Rattle.ix_maps.specs.declared.hashmap.chain_link.ChainLink.{ChainLink}
+use Rattle.ix_maps.specs.declared.hashmap.chain_link.Heads.{Heads}
 use Rattle.ix_maps.specs.declared.flatmap.pair.Pair.{Pair}
 
 -- the number for no place: no table has so many
 abbrev pub no_place : ℕ
 no_place = 18446744073709551615
 
--- the link of two buckets without a place, and of a place without a next one
-abbrev pub no_link : ChainLink
-no_link = record { even = no_place; odd = no_place; next = no_place }
+-- the heads of two buckets without a place
+abbrev pub no_heads : Heads
+no_heads = record { even = no_place; odd = no_place }
 
--- the first place of a bucket, of the two that a link has
+-- the link of four buckets without a place, and of a place without a next one
+abbrev pub no_link : ChainLink
+no_link = record { low = no_heads; high = no_heads; next = no_place }
+
+-- the first place of a bucket, of two
+abbrev pub heads_get : Heads → ℕ → ℕ
+heads_get heads bucket = if nat_eq (bucket % 2) 0 then heads.even else heads.odd
+
+-- the first place of this bucket is another
+abbrev pub heads_set : Heads → ℕ → ℕ → Heads
+heads_set heads bucket place = if nat_eq (bucket % 2) 0 then record heads { even = place } else record heads { odd = place }
+
+-- the first place of a bucket, of the four that a link has
 abbrev pub link_head : ChainLink → ℕ → ℕ
-link_head link bucket = if nat_eq (bucket % 2) 0 then link.even else link.odd
+link_head link bucket = if nat_lt (bucket % 4) 2 then heads_get link.low bucket else heads_get link.high bucket
 
 -- the first place of this bucket is another
 abbrev pub link_set_head : ChainLink → ℕ → ℕ → ChainLink
-link_set_head link bucket place = if nat_eq (bucket % 2) 0 then record link { even = place } else record link { odd = place }
+link_set_head link bucket place =
+    if nat_lt (bucket % 4) 2 then record link { low = heads_set link.low bucket place } else record link { high = heads_set link.high bucket place }
 
 -- the links in the places of a table
 abbrev pub links_in : List (Option ChainLink) → List ChainLink
 links_in places = items_in no_link places
 
--- the bucket of a hash, of two for each place: as far from the first one as the hash is from 0
+-- the bucket of a hash, of four for each place: as far from the first one as the hash is from 0
 abbrev pub bucket_of : ℕ → ℕ → ℕ
-bucket_of hash places = hash * places / 2 ^ 63
+bucket_of hash places = hash * places / 2 ^ 62
 
 -- what a hasher answers that is fed this
 abbrev pub hash_of : {H : Type 0} → (H → ℕ) → (H → List ℕ → H) → H → List (List ℕ) → ℕ
@@ -38,7 +52,7 @@ hash_of finish write hasher input = finish (fold write hasher input)
 
 -- the first place in the chain of a bucket
 abbrev pub head_at : List ChainLink → ℕ → ℕ
-head_at links bucket = link_head (slice_index_or links (bucket / 2) no_link) bucket
+head_at links bucket = link_head (slice_index_or links (bucket / 4) no_link) bucket
 
 -- the next place of a place in its chain
 abbrev pub next_at : List ChainLink → ℕ → ℕ
@@ -46,7 +60,7 @@ next_at links place = (slice_index_or links place no_link).next
 
 -- the chain of this bucket begins at this place
 abbrev pub links_set_head : List ChainLink → ℕ → ℕ → List ChainLink
-links_set_head links bucket place = slice_set links (bucket / 2) (link_set_head (slice_index_or links (bucket / 2) no_link) bucket place)
+links_set_head links bucket place = slice_set links (bucket / 4) (link_set_head (slice_index_or links (bucket / 4) no_link) bucket place)
 
 -- this place is followed by that one
 abbrev pub links_set_next : List ChainLink → ℕ → ℕ → List ChainLink

@@ -49,7 +49,7 @@ impl<C: Table<ChainLink>> ChainTable<C> {
         ChainTable { links }
     }
 
-    /// Returns the number of places, which is half of that of buckets.
+    /// Returns the number of places, which is a quarter of that of buckets.
     #[inline]
     pub(crate) fn len(&self) -> usize
         ensures { result ≡ length self.now }
@@ -60,13 +60,13 @@ impl<C: Table<ChainLink>> ChainTable<C> {
     /// Returns the first place in the chain of a bucket, or the number for no place.
     #[inline]
     pub(crate) fn head(&self, bucket: u128) -> usize
-        requires { bucket < 2 * length self.now }
+        requires { bucket < 4 * length self.now }
         ensures { result ≡ head_at self.now bucket }
     {
-        // Names the number of places, by which the check knows that half of a bucket's fits.
+        // Names the number of places, by which the check knows that a quarter of a bucket's fits.
         let _places = self.len();
         self.links
-            .get((bucket / 2) as usize, &mut Touches::new())
+            .get((bucket / 4) as usize, &mut Touches::new())
             .head(bucket)
     }
 
@@ -82,7 +82,7 @@ impl<C: Table<ChainLink>> ChainTable<C> {
     /// Makes `place` the first in the chain of a bucket, before those that are in it.
     #[inline]
     pub(crate) fn insert_first(&mut self, bucket: u128, place: usize)
-        requires bucket { bucket < 2 * length self.old }
+        requires bucket { bucket < 4 * length self.old }
         requires place { place < length self.old }
         ensures { self.new ≡ links_insert_first self.old bucket place }
     {
@@ -94,7 +94,7 @@ impl<C: Table<ChainLink>> ChainTable<C> {
     /// Takes a place out of the chain of a bucket. O(the number of places before it).
     #[inline]
     pub(crate) fn remove(&mut self, bucket: u128, place: usize)
-        requires bucket { bucket < 2 * length self.old }
+        requires bucket { bucket < 4 * length self.old }
         requires chain { IsChainFrom self.old (head_at self.old bucket) }
         requires has { IsOnChain self.old (head_at self.old bucket) place }
         ensures { IsUnlinked self.old bucket place self.new }
@@ -137,13 +137,13 @@ impl<C: Table<ChainLink>> ChainTable<C> {
 
     #[inline]
     fn set_head(&mut self, bucket: u128, place: usize)
-        requires { bucket < 2 * length self.old }
+        requires { bucket < 4 * length self.old }
         ensures { self.new ≡ links_set_head self.old bucket place }
     {
-        // Names the number of places, by which the check knows that half of a bucket's fits.
+        // Names the number of places, by which the check knows that a quarter of a bucket's fits.
         let _places = self.len();
         self.links
-            .get_mut((bucket / 2) as usize, &mut Touches::new())
+            .get_mut((bucket / 4) as usize, &mut Touches::new())
             .set_head(bucket, place);
     }
 

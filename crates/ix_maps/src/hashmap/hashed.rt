@@ -16,13 +16,13 @@ impl<K: Eq + Hash, V> Hashed for Pair<K, V> {
     ghost key_input = { λ pair. K.hash_input pair.key };
 }
 
-/// Returns the bucket of a key in a map of so many places, of which there is at least one. There are two buckets for each.
+/// Returns the bucket of a key in a map of so many places, of which there is at least one. There are four buckets for each.
 #[inline]
 pub(crate) fn bucket_of<K: Eq + Hash, B: BuildHasher>(hasher: &B, key: &K, places: usize) -> u128
     requires { 0 < places }
     ensures value { result
         ≡ bucket_of (hash_of B.Hasher.finish B.Hasher.write (B.build_hasher hasher.now) (K.hash_input key.now)) places }
-    ensures below { result < 2 * places }
+    ensures below { result < 4 * places }
 {
-    (hasher.hash_one(key) as u128 * places as u128) >> 63
+    (hasher.hash_one(key) as u128 * places as u128) >> 62
 }

@@ -176,7 +176,7 @@ fn insert_new<P, S: Table<P>, L: Table<Link>, C: Table<ChainLink>>(
     bucket: u128,
     pair: P,
 ) -> Result<(), P>
-    requires bucket { bucket < 2 * length chains.old }
+    requires bucket { bucket < 4 * length chains.old }
     requires lengths { length chains.old ≡ length pairs.old.values }
     ensures pairs { SlotInsert pairs.old pair pairs.new (slice_get pairs.old.free 0) }
     ensures chains { chains.new ≡ option_map_or (λ place. links_insert_first chains.old bucket place)

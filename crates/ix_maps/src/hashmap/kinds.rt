@@ -114,7 +114,7 @@ impl<K: Eq + Hash + Drop, V: Drop, A: Allocator + Copy, B: BuildHasher + Drop> H
     /// Does not allocate. O(1).
     ///
     /// ```text
-    /// HashMap::<u64, u64>::memory_size(100);    // 5900 bytes, 6 blocks
+    /// HashMap::<u64, u64>::memory_size(100);    // 7500 bytes, 6 blocks
     /// ```
     #[inline]
     pub fn memory_size(capacity: usize) -> MemorySize

@@ -27,8 +27,8 @@ use std::marker::Model;
 ///
 /// A pair stays at its place until it is removed, and a new one takes the first free place: the one vacated last, or else
 /// the least that was never used. Slot order is that of the places. A call that looks for a key compares it with the keys
-/// of its bucket, up to the equal one. A map has two buckets for each place, and where hashes are spread evenly over the
-/// numbers below 2<sup>64</sup>, a bucket of a full map has half a key on average.
+/// of its bucket, up to the equal one. A map has four buckets for each place, and where hashes are spread evenly over the
+/// numbers below 2<sup>64</sup>, a bucket of a full map has a quarter of a key on average.
 ///
 /// Each call that looks for a key takes O(1) time on average, and O(capacity) if all keys have one bucket; any other takes O(1),
 /// if nothing else is said. No call allocates but those that make a map, and clones of a value. A map that is dropped drops its

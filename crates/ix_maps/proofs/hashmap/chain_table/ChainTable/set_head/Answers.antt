@@ -6,7 +6,7 @@ use Rattle.ix_maps.proofs.hashmap.chain_table.ChainTable.set_head.Goals as goal
 
 pub returns : goal.returns
 returns g c =
-    let number = c.args.bucket / 2 in
+    let number = c.args.bucket / 4 in
     ap links_in (g.met.C.Table.places_with_item c.self.inside.links number c.set_head.new.self)
     ∙ items_in-set no_link _ number c.set_head.new.self
     ∙ ap (λ (links : List ChainLink). set links number c.set_head.new.self) c.self.view_is

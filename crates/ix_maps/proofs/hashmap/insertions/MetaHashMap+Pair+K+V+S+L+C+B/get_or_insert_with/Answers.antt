@@ -46,7 +46,7 @@ invariant_of-self g c =
       HasDistinctKeys-inserted g.K.PartialEq.eq g.met.K.Eq.laws c.self.inside.pairs _ _ _ c.insert_new.ensures.pairs c.self.invariant.0 fresh,
       IsHashed-tried _ c.self.inside.pairs _ _ c.bucket_of-bucket.result c.self.inside.chains _ c.self.invariant.1 c.insert_new.ensures.pairs c.insert_new.ensures.chains
           (bucket_of-counted _ c.bucket_of-bucket.result c.len-places.result _ c.bucket_of-bucket.ensures.value c.len-places.ensures)
-          (subst (λ (n : ℕ). c.bucket_of-bucket.result < 2 * n) c.len-places.ensures c.bucket_of-bucket.ensures.below),
+          (subst (λ (n : ℕ). c.bucket_of-bucket.result < 4 * n) c.len-places.ensures c.bucket_of-bucket.ensures.below),
     )
 
 pub returns : goal.returns
