@@ -1,7 +1,7 @@
 //! A vector of each kind.
 ghost use Rattle.std.specs.Prelude.{◌≡◌, ◌∷◌, ◌*◌, [], map, Ok, IfOk, IfErr};
 ghost use Rattle.std.specs.List.{range_with_len};
-ghost use Rattle.ix_cells.specs.Bounded.{bounded_new};
+ghost use Rattle.ix_cells.specs.Bounded.{bounded_new, bounded_push};
 
 use ix_cells::{
     InitError, PolymorphicVec, RelocatableContainer, RelocatableVec, StaticVec, UninitVec, Vector,
@@ -29,6 +29,15 @@ pub fn allocated<A: Allocator>(alloc: A, n: u32) -> Result<PolymorphicVec<u64, A
         squares.push_unchecked(i as u64 * i as u64);
     }
     Ok(squares)
+}
+
+/// Appends `item` to a vector of any kind if there is room, and drops it otherwise.
+pub fn push_if_room<T: Drop, V: Vector<T>>(vector: &mut V, item: T)
+    ensures { V.bounded vector.new ≡ bounded_push (V.bounded vector.old) item }
+{
+    if !vector.is_full() {
+        vector.push_unchecked(item);
+    }
 }
 
 /// A relocatable vector has a capacity first, and memory later. Returns an empty vector in memory of `first`, or of

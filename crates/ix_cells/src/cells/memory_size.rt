@@ -7,8 +7,10 @@ use std::mem::size_of;
 
 /// How much memory a container takes from its allocator when it is made, as its `memory_size` returns it.
 ///
-/// Numbers past the greatest `usize` count as that one; no allocator has so many bytes. What an allocator takes beside the
-/// blocks, to keep track of them or to align them, is not counted.
+/// The bytes are those that are asked of the allocator. One that rounds each block up takes more, for each of the `blocks`: a
+/// `LocalHeap` of `linked_list_allocator` rounds up to a multiple of 16, and a new one of `bytes + 16 * blocks` bytes has room.
+/// Nor is counted what an allocator takes to keep track of the blocks or to align them. Numbers past the greatest `usize` count
+/// as that one; no allocator has so many bytes.
 ///
 /// ```text
 /// let size = HeapTable::<u64>::memory_size(100);

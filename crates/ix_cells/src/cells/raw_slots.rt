@@ -50,7 +50,8 @@ impl<T, A: Allocator> RawSlots<T, A> {
     ghost use Rattle.ix_cells.specs.Lending.{raw_slots_lends};
 
     /// Returns how much memory a row of `len` places takes from its allocator when it is made: a block of the places, if
-    /// they have bytes, and a block of their marks. None if `len` is 0.
+    /// they have bytes, and a block of their marks. None if `len` is 0. An allocator that rounds each block up takes more than
+    /// these bytes ([`MemorySize`]).
     ///
     /// Does not allocate. O(1).
     #[inline]

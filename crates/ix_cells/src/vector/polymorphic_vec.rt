@@ -67,7 +67,8 @@ impl<T: Drop, A: Allocator> PolymorphicVec<T, A> {
     }
 
     /// Returns how much memory a vector of this capacity takes from its allocator when it is made: one block, and none if the
-    /// capacity is 0. The block of items of size zero has no bytes.
+    /// capacity is 0. The block of items of size zero has no bytes. An allocator that rounds each block up takes more than
+    /// these bytes ([`MemorySize`]).
     ///
     /// Does not allocate. O(1).
     #[inline]

@@ -20,7 +20,8 @@ use std::marker::Model;
 use std::{fmt, mem, slice};
 
 /// A vector of at most `CAPACITY` items that is stored inline and does not allocate. Contracts see it as the list of
-/// its items.
+/// its items: `vector` in a contract is that list, with no field `items`, and `bounded` of [`Vector`] has the items and the
+/// capacity.
 ///
 /// The items are dropped from the last to the first.
 ///

@@ -1,5 +1,6 @@
 //! The trait of all vectors.
 ghost use Rattle.std.specs.Prelude.{◌≡◌, ◌+◌, ◌<◌, ◌≤◌, ◌↔◌, List, [], ◌∷◌, ◌++◌, length, take, Ok, Err, IsTrue, IsErr, IsOk, IsOkUnless, IfErr, IfSome, OnOk, OnErr, slice_get};
+ghost use Rattle.std.specs.Bool.{OnFalse};
 ghost use Rattle.std.specs.Fn.{CalledAt};
 ghost use Rattle.std.specs.List.{AppendsResults, dedup, swap_remove};
 ghost use Rattle.std.specs.List.Retain.{IsFiltered};
@@ -93,7 +94,9 @@ pub trait Vector<T: Drop> {
     /// Returns `true` if there are as many items as the capacity. A vector of capacity 0 is both empty and full. O(1).
     #[inline]
     final fn is_full(&self) -> bool
-        ensures { IsTrue result ↔ IsFull (bounded self.now) }
+        ensures value { IsTrue result ↔ IsFull (bounded self.now) }
+        ensures room { OnFalse result
+            (length (bounded self.now).items < (bounded self.now).capacity) }
     {
         self.len() == self.capacity()
     }

@@ -42,7 +42,7 @@ impl<K: HeapStringKind, A: Allocator> HeapString<K, A> {
     }
 
     /// Returns how much memory a string of this capacity takes from its allocator when it is made: one block of as many bytes,
-    /// and none if the capacity is 0.
+    /// and none if the capacity is 0. An allocator that rounds each block up takes more than these bytes ([`MemorySize`]).
     ///
     /// Does not allocate. O(1).
     ///

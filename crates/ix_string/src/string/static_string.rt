@@ -11,7 +11,8 @@ use crate::string::{String, StringModificationError, strnlen};
 use std::marker::Model;
 
 /// A string of at most `CAPACITY` bytes that is stored inline, can be copied and does not allocate. Contracts see
-/// it as the list of its bytes.
+/// it as the list of its bytes: `string` in a contract is that list, with no field `items`, and `bounded` of [`String`] has
+/// the bytes and the capacity.
 ///
 /// `CAPACITY` can be any number, 0 too. The unused bytes of the value are zeros.
 ///

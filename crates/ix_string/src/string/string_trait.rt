@@ -91,7 +91,9 @@ pub trait String: Debug + Display + Eq + Ord + Hash {
     /// Returns `true` if the length equals the capacity. A string of capacity 0 is both empty and full. O(1).
     #[inline]
     final fn is_full(&self) -> bool
-        ensures { IsTrue result ↔ IsFull (bounded self.now) }
+        ensures value { IsTrue result ↔ IsFull (bounded self.now) }
+        ensures room { OnFalse result
+            (length (bounded self.now).items < (bounded self.now).capacity) }
     {
         self.len() == self.capacity()
     }
