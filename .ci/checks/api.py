@@ -222,6 +222,7 @@ class Places:
         self.names[file] = {f"{owner or title_of(module)}::{call}" for call, owner, _ in headed}
         self.names[file].update(name for item in items for name in unheaded(item))
         self.types[file] = {item.name for item in items if item.kind not in ("impl", "fn", "const")}
+        self.names[file].update(self.types[file])
         for item in items:
             place = f"{file}#" + ("other-implementations" if is_bare(item) else anchor_of(heading_of(item)))
             for owner, call in (name.split("::", 1) for name in unheaded(item) if re.fullmatch(r"\w+::\w+", name)):
@@ -283,20 +284,26 @@ def known_names(places):
     return known, {file: {name for name in names if pages[name] == 1} for file, names in places.types.items()}
 
 
-def named_calls(module):
-    """Yields the names of each call that has a heading: its own, and that of the trait of an impl which shows it too."""
+def wanted_names(module, library):
+    """Yields the names of all that is to have an example: types and traits, and each call that has a heading.
+
+    A call has its own name, and that of the trait of an impl which shows it too.
+    """
     for item in (item for _, items in module.items for item in items):
         owner = base_of(item.name) if item.kind == "impl" else item.name
         if item.kind == "fn":
             yield [f"{title_of(module)}::{item.name}"]
+        if item.kind in ("struct", "trait", "type") and not is_later(item) and "Error" not in library.traits[item.name]:
+            yield [item.name]
         for member in shown_members(item):
             yield [f"{owner}::{member.name}", *(unheaded(item)[:1] if item.kind == "impl" else [])]
 
 
 def pages_with_names():
-    """Returns what examples can name, and the names of each call that has a heading behind its page."""
+    """Returns what examples can name, and the names of all that is to have one, each behind its page."""
     library, places = first_pass()
-    return *known_names(places), [(file_of(module), names) for module in library.modules for names in named_calls(module)]
+    wanted = [(file_of(module), names) for module in library.modules for names in wanted_names(module, library)]
+    return *known_names(places), wanted
 
 
 def made():

@@ -1,10 +1,11 @@
-"""The examples of calls: bodies of tests that name the calls which they show.
+"""The examples of calls and types: bodies of tests that name what they show.
 
-Above a test of a crate `tests_calls..` stand lines `// Shows: MetaQueue::try_push, Clone for FixedSizeQueue`. A name is a type or
-a trait and a call of it, a function behind its module, or a trait and a type that has it. Where several pages have a name, as
-`Iter::next`, the example is shown on those that have a type of its body.
+Above a test of a crate `tests_calls..` stand lines `// Shows: MetaQueue, MetaQueue::try_push, Clone for FixedSizeQueue`. A name is
+a type or a trait, alone or with a call of it, a function behind its module, or a trait and a type that has it. Where several
+pages have a name, as `Iter::next`, the example is shown on those that have a type of its body.
 
-cd .ci && python3 -m checks.examples    prints the calls of the reference that have no example, but for laws
+cd .ci && python3 -m checks.examples    prints the calls of the reference that have no example, but for laws, and the types and
+                                        traits that have none, but for errors, enums and what only proofs need
 """
 
 import collections
@@ -63,9 +64,9 @@ def assigned(known, types):
 def main():
     from checks.api import pages_with_names
 
-    known, types, calls = pages_with_names()
+    known, types, wanted = pages_with_names()
     found, faults = assigned(known, types)
-    lacking = [names[0] for page, names in calls if not any((page, name) in found for name in names)]
+    lacking = [names[0] for page, names in wanted if not any((page, name) in found for name in names)]
     print("\n".join([*faults, *(name for name in lacking if not name.endswith("_law"))]))
 
 

@@ -273,8 +273,8 @@ class Source:
             lines += [*self.word_links(shown), *source]
         else:
             lines += [*block("", item.head), *prose(item.docs, name), *self.printed(item, items), *self.calls(item)]
-            lines += [*self.variants(item), *self.library.shown(self.page, unheaded(item)), *self.word_links(item.head)]
-            lines += source
+            lines += [*self.variants(item), *self.library.shown(self.page, [item.name, *unheaded(item)])]
+            lines += [*self.word_links(item.head), *source]
         for member in shown_members(item):
             lines += self.section(member, level + "#", f"`{heading_of(member)}`", [], name)
         return lines

@@ -4,7 +4,7 @@ use ix_atomic::byte_atomic::steps::{
     Act, Step, VersionedStep, next_versions, replay, replay_versioned,
 };
 
-// Shows: ix_atomic::byte_atomic::steps::replay
+// Shows: Step, Act, ix_atomic::byte_atomic::steps::replay
 #[test]
 fn a_load_has_what_was_stored_before_it(rt: HostRuntime) {
     let store = Step {
@@ -19,7 +19,7 @@ fn a_load_has_what_was_stored_before_it(rt: HostRuntime) {
     assert!(rt; !replay(&[0, 0], &[load, store])); // the first byte is 0
 }
 
-// Shows: ix_atomic::byte_atomic::steps::replay_versioned
+// Shows: VersionedStep, ix_atomic::byte_atomic::steps::replay_versioned
 #[test]
 fn a_version_is_raised_before_and_after_a_write(rt: HostRuntime) {
     let begin = VersionedStep::Begin;

@@ -14,7 +14,7 @@ fn a_vector_is_written_as_a_list(rt: HostRuntime) -> Result<(), Fail> {
     Ok(())
 }
 
-// Shows: JsonForm::from_value
+// Shows: JsonForm, JsonForm::from_value
 #[test]
 fn a_value_is_read_as_what_it_was(rt: HostRuntime) -> Result<(), Fail> {
     let value = 80u64.to_value(rt.alloc())?;
@@ -24,7 +24,7 @@ fn a_value_is_read_as_what_it_was(rt: HostRuntime) -> Result<(), Fail> {
     Ok(())
 }
 
-// Shows: JsonFill::fill_from_value
+// Shows: JsonFill, JsonFill::fill_from_value
 #[test]
 fn entries_are_taken_in_behind_those_that_are_there(rt: HostRuntime) -> Result<(), Fail> {
     let value = StaticVec::<u64, 3>::try_from_iter([80, 443])?.to_value(rt.alloc())?;
@@ -132,7 +132,7 @@ fn an_allocated_flat_map_takes_in_members(rt: HostRuntime) -> Result<(), Fail> {
     Ok(())
 }
 
-// Shows: JsonForm for StaticVec, JsonForm for usize
+// Shows: JsonItem, JsonForm for StaticVec, JsonForm for usize
 #[test]
 fn a_vector_of_vectors_is_written_as_a_list_of_lists(rt: HostRuntime) -> Result<(), Fail> {
     let mut rows = StaticVec::<StaticVec<u32, 2>, 2>::new();

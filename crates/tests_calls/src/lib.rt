@@ -1,5 +1,5 @@
-//! What documents say of the library, tried: how many bytes a place takes, and an example of each call of vectors, strings,
-//! queues, options, names, JSON, cells and tables. A line `Shows` above an example names the calls as the reference does.
+//! What documents say of the library, tried: how many bytes a place takes, and an example of each call and type of vectors,
+//! strings, queues, options, names, JSON, cells and tables. A line `Shows` above an example names them as the reference does.
 #![tactic(auto)]
 
 #[cfg(test)]

@@ -1,6 +1,6 @@
 //! Examples of making queues of each kind, and of copying, comparing and printing them.
 use ix_cells::{InlineTable, MemorySize, RelocatableContainer};
-use ix_maps::{FixedSizeQueue, MetaQueue, Queue, RelocatableQueue};
+use ix_maps::{FixedSizeQueue, MetaQueue, Queue, RelocatableQueue, UninitQueue};
 use std::cmp::Ordering::Greater;
 use std::fmt::InlineText;
 use std::hash::{DefaultHasher, Hash, Hasher};
@@ -15,12 +15,14 @@ fn a_queue_that_is_stored_inline(rt: HostRuntime) {
     assert_eq!(rt; queue.capacity(), 2);
 }
 
-// Shows: Queue::new
+// Shows: Queue, Queue::new
 #[test]
 fn a_queue_in_memory_of_an_allocator(rt: HostRuntime) -> Result<(), Fail> {
     let mut queue = Queue::<u64>::new(rt.alloc(), 2)?;
     assert!(rt; queue.push(1));
     assert_eq!(rt; queue.peek(), Some(&1));
+    queue.clear();
+    assert_eq!(rt; queue.pop(), None);
     Ok(())
 }
 
@@ -48,7 +50,19 @@ fn a_copy_in_memory_of_any_allocator(rt: HostRuntime) -> Result<(), Fail> {
     Ok(())
 }
 
-// Shows: RelocatableQueue::new_uninit
+// Shows: UninitQueue
+#[test]
+fn a_queue_that_got_no_memory_is_tried_again(rt: HostRuntime) -> Result<(), Fail> {
+    let uninit = UninitQueue::<u64>::new_uninit(2);
+    let mut queue = match uninit.init(rt.alloc()) {
+        Ok(queue) => queue,
+        Err(error) => error.into_uninit().init(rt.alloc())?, // once more
+    };
+    assert!(rt; queue.push(1));
+    Ok(())
+}
+
+// Shows: RelocatableQueue, RelocatableQueue::new_uninit
 #[test]
 fn a_queue_that_is_made_in_two_steps(rt: HostRuntime) -> Result<(), Fail> {
     let uninit = RelocatableQueue::<u64>::new_uninit(2);

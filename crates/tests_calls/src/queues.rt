@@ -2,7 +2,7 @@
 use ix_maps::{FixedSizeQueue, Queue};
 use std::test::Fail;
 
-// Shows: MetaQueue::push, MetaQueue::pop
+// Shows: MetaQueue, MetaQueue::push, MetaQueue::pop
 #[test]
 fn the_oldest_item_comes_first(rt: HostRuntime) {
     let mut queue = FixedSizeQueue::<u64, 2>::new();
@@ -22,6 +22,17 @@ fn a_full_queue_hands_the_item_back(rt: HostRuntime) {
     assert!(rt; queue.is_full());
     assert_eq!(rt; queue.try_push(2), Err(2));
     assert_eq!(rt; queue.pop(), Some(1));
+}
+
+// Shows: FixedSizeQueue
+#[test]
+fn a_full_queue_refuses_an_item_or_makes_room(rt: HostRuntime) {
+    let mut queue = FixedSizeQueue::<u64, 2>::new();
+    assert!(rt; queue.push(1));
+    assert!(rt; queue.push(2));
+    assert!(rt; !queue.push(3));
+    assert_eq!(rt; queue.push_with_overflow(3), Some(1));
+    assert_eq!(rt; queue.pop(), Some(2));
 }
 
 // Shows: MetaQueue::push_with_overflow
@@ -184,27 +195,50 @@ fn the_items_from_the_oldest_to_the_newest(rt: HostRuntime) {
     assert_eq!(rt; all, 3);
 }
 
-// Shows: MetaQueue::drain
+// Shows: Iter, Iterator for Iter, DoubleEndedIterator for Iter, ExactSizeIterator for Iter
+// Shows: Clone for Iter
 #[test]
-fn a_drained_queue_is_empty_and_takes_items_again(rt: HostRuntime) {
+fn an_iterator_goes_on_at_either_end(rt: HostRuntime) -> Result<(), Fail> {
     let mut queue = FixedSizeQueue::<u64, 2>::new();
     queue.push(1);
     queue.push(2);
-    let mut items = queue.drain();
-    assert_eq!(rt; items.next(), Some(1));
-    drop(items); // drops the 2
-    assert!(rt; queue.is_empty());
-    assert!(rt; queue.push(3));
+    queue.push_with_overflow(3);
+    let mut items = queue.iter();
+    let copy = items.clone()?;
+    assert_eq!(rt; items.next(), Some(&2));
+    assert_eq!(rt; items.next_back(), Some(&3));
+    assert_eq!(rt; items.next(), None);
+    assert_eq!(rt; (copy.len(), copy.size_hint()), (2, (2, Some(2))));
+    Ok(())
 }
 
-// Shows: IntoIterator for MetaQueue
+// Shows: MetaQueue::drain, Drain, Drop for Drain, Iterator for Drain
+// Shows: DoubleEndedIterator for Drain, ExactSizeIterator for Drain
+#[test]
+fn a_drained_queue_is_empty_and_takes_items_again(rt: HostRuntime) {
+    let mut queue = FixedSizeQueue::<u64, 3>::new();
+    queue.push(1);
+    queue.push(2);
+    queue.push(3);
+    let mut items = queue.drain();
+    assert_eq!(rt; (items.len(), items.size_hint()), (3, (3, Some(3))));
+    assert_eq!(rt; items.next(), Some(1));
+    assert_eq!(rt; items.next_back(), Some(3));
+    drop(items); // drops the 2
+    assert!(rt; queue.is_empty());
+    assert!(rt; queue.push(4));
+}
+
+// Shows: IntoIterator for MetaQueue, IntoIter, Iterator for IntoIter
+// Shows: DoubleEndedIterator for IntoIter, ExactSizeIterator for IntoIter
 #[test]
 fn the_items_are_moved_out(rt: HostRuntime) {
     let mut queue = FixedSizeQueue::<u64, 3>::new();
     queue.push(1);
     queue.push(2);
-    let mut items = queue.into_iter().rev();
-    assert_eq!(rt; items.next(), Some(2));
+    let mut items = queue.into_iter();
+    assert_eq!(rt; (items.len(), items.size_hint()), (2, (2, Some(2))));
+    assert_eq!(rt; items.next_back(), Some(2));
     assert_eq!(rt; items.next(), Some(1));
     assert_eq!(rt; items.next(), None);
 }

@@ -2,8 +2,8 @@
 use ix_atomic::SequencedByteAtomic;
 use std::test::Fail;
 
-// Shows: SequencedByteAtomic::new, SequencedByteAtomic::try_write, SequencedByteAtomic::try_read
-// Shows: SequencedByteAtomic::close
+// Shows: SequencedByteAtomic, SequencedByteAtomic::new, SequencedByteAtomic::try_write
+// Shows: SequencedByteAtomic::try_read, SequencedByteAtomic::close
 #[test]
 fn a_value_is_written_and_read(rt: HostRuntime) -> Result<(), Fail> {
     let (cell, mut writer, mut reader) = SequencedByteAtomic::<u64, 8>::new(rt.alloc(), 7)?;
@@ -35,7 +35,7 @@ fn a_writer_reads_what_it_wrote(rt: HostRuntime) -> Result<(), Fail> {
     Ok(())
 }
 
-// Shows: SequencedByteAtomic::reader, SequencedByteAtomic::merge_reader
+// Shows: ReaderSeat, SequencedByteAtomic::reader, SequencedByteAtomic::merge_reader
 #[test]
 fn a_seat_for_another_reader(rt: HostRuntime) -> Result<(), Fail> {
     let (cell, mut writer, _reader) = SequencedByteAtomic::<u64, 8>::new(rt.alloc(), 7)?;
@@ -46,7 +46,7 @@ fn a_seat_for_another_reader(rt: HostRuntime) -> Result<(), Fail> {
     Ok(())
 }
 
-// Shows: SequencedByteAtomic::writer, SequencedByteAtomic::merge
+// Shows: WriterSeat, SequencedByteAtomic::writer, SequencedByteAtomic::merge
 #[test]
 fn a_seat_for_another_writer(rt: HostRuntime) -> Result<(), Fail> {
     let (cell, mut writer, _reader) = SequencedByteAtomic::<u64, 8>::new(rt.alloc(), 7)?;

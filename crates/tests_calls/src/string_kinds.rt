@@ -3,7 +3,7 @@ use ix_cells::{MemorySize, RelocatableContainer};
 use ix_string::StringModificationError::{InsertWouldExceedCapacity, InvalidCharacter};
 use ix_string::{
     HeapStringKind, Polymorphic, PolymorphicString, RelocatableString, StaticString, String,
-    StringCreationError, as_escaped_string, escape_byte, strnlen,
+    StringCreationError, UninitString, as_escaped_string, escape_byte, strnlen,
 };
 use std::alloc::Global;
 use std::cmp::Ordering::Greater;
@@ -21,6 +21,18 @@ fn a_string_that_is_stored_inline(rt: HostRuntime) {
     assert_eq!(rt; StaticString::<8>::capacity(), 8);
     assert!(rt; string.is_empty());
     assert!(rt; string == StaticString::default());
+}
+
+// Shows: StaticString
+#[test]
+fn an_inline_string_is_changed(rt: HostRuntime) -> Result<(), Fail> {
+    let mut string = StaticString::<8>::from_bytes(b"ho")?;
+    assert_eq!(rt; string.len(), 2);
+    assert_eq!(rt; string.insert_bytes(1, b"ell"), Ok(()));
+    assert_eq!(rt; string.as_str(), "hello");
+    assert_eq!(rt; string.push(0), Err(InvalidCharacter));
+    assert_eq!(rt; string.rfind(b"l"), Some(3));
+    Ok(())
 }
 
 // Shows: StaticString::from_bytes, StaticString::as_bytes_const
@@ -86,7 +98,7 @@ fn a_string_of_a_slice_or_an_array(rt: HostRuntime) -> Result<(), Fail> {
     Ok(())
 }
 
-// Shows: PolymorphicString::new
+// Shows: PolymorphicString, PolymorphicString::new
 #[test]
 fn a_string_in_memory_of_an_allocator(rt: HostRuntime) -> Result<(), Fail> {
     let mut string = PolymorphicString::new(rt.alloc(), 4)?;
@@ -108,7 +120,19 @@ fn a_copy_of_an_allocated_string(rt: HostRuntime) -> Result<(), Fail> {
     Ok(())
 }
 
-// Shows: RelocatableString::new_uninit
+// Shows: UninitString
+#[test]
+fn a_string_that_got_no_memory_is_tried_again(rt: HostRuntime) -> Result<(), Fail> {
+    let uninit = UninitString::new_uninit(5);
+    let mut string = match uninit.init(rt.alloc()) {
+        Ok(string) => string,
+        Err(error) => error.into_uninit().init(rt.alloc())?, // once more
+    };
+    assert_eq!(rt; string.push_bytes(b"later"), Ok(()));
+    Ok(())
+}
+
+// Shows: RelocatableString, RelocatableString::new_uninit
 #[test]
 fn a_string_that_is_made_in_two_steps(rt: HostRuntime) -> Result<(), Fail> {
     let uninit = RelocatableString::<Global>::new_uninit(2);
@@ -211,6 +235,21 @@ fn an_inline_string_is_printed(rt: HostRuntime) -> Result<(), Fail> {
     Ok(())
 }
 
+// Shows: HeapString, fmt::Display for HeapString, fmt::Debug for HeapString
+#[test]
+fn an_allocated_string_is_printed(rt: HostRuntime) -> Result<(), Fail> {
+    let mut string = PolymorphicString::new(rt.alloc(), 4)?;
+    string.push_bytes(b"ab")?;
+    let text = InlineText::<80>::of(format_args!("{string}"));
+    assert_eq!(rt; text.as_str(), "ab");
+    let text = InlineText::<80>::of(format_args!("{string:?}"));
+    assert_eq!(rt;
+        text.as_str(),
+        "PolymorphicString { capacity: 4, len: 2, data: \"ab\" }"
+    );
+    Ok(())
+}
+
 // Shows: DerefStr for StaticString, DerefStr for HeapString
 #[test]
 fn calls_of_texts(rt: HostRuntime) -> Result<(), Fail> {
@@ -238,7 +277,7 @@ fn a_function_over_all_that_is_a_text(rt: HostRuntime) -> Result<(), Fail> {
     Ok(())
 }
 
-// Shows: ix_string::string::escape_byte, EscapedByte::as_str
+// Shows: ix_string::string::escape_byte, EscapedByte, EscapedByte::as_str
 #[test]
 fn how_a_byte_is_printed(rt: HostRuntime) {
     assert_eq!(rt; escape_byte(b'a').as_str(), "a");

@@ -1,8 +1,26 @@
 //! An example of each call of a string, whatever its kind.
 use ix_string::StringModificationError::{InsertWouldExceedCapacity, InvalidCharacter};
-use ix_string::{PolymorphicString, StaticString, String};
+use ix_string::{PolymorphicString, StaticString, String, StringModificationError};
 use std::cmp::Ordering::{Equal, Greater, Less};
 use std::test::Fail;
+
+// Shows: String
+#[test]
+fn a_function_takes_a_string_of_any_kind(rt: HostRuntime) -> Result<(), Fail> {
+    fn push_line<S: String>(string: &mut S, line: &[u8]) -> Result<(), StringModificationError> {
+        string.push_bytes(line)?;
+        string.push(b'\n')
+    }
+    let mut inline = StaticString::<8>::new();
+    assert_eq!(rt; push_line(&mut inline, b"ab"), Ok(()));
+    assert_eq!(rt; inline.as_str(), "ab\n");
+    let mut allocated = PolymorphicString::new(rt.alloc(), 1)?;
+    assert_eq!(rt;
+        push_line(&mut allocated, b"ab"),
+        Err(InsertWouldExceedCapacity)
+    );
+    Ok(())
+}
 
 // Shows: String::as_bytes, String::as_str
 #[test]

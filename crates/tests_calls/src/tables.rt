@@ -3,21 +3,24 @@ use ix_cells::{
     ContainerFamily, Counted, HeapTable, InitError, InlineTable, MemorySize, PolymorphicVec,
     RawSlots, RelocatableContainer, Table, Touches, Uninit, UninitVec, VecFamily, Vector,
 };
-use ix_maps::UninitQueue;
+use ix_maps::{QueueFamily, UninitQueue};
+use ix_string::{String, StringFamily};
 use std::alloc::Global;
 use std::test::Fail;
 
+// Shows: Table, InlineTable, InlineTable::len
 // Shows: InlineTable::new, Table::put, Table::get, Table::take, Table::end
 #[test]
 fn an_item_is_put_into_a_place_and_taken_out(rt: HostRuntime) {
     let mut table = InlineTable::<char, 2>::new();
+    assert_eq!(rt; table.len(), 2);
     table.put(1, 'a');
     assert_eq!(rt; *table.get(1), 'a');
     assert_eq!(rt; table.take(1), 'a');
     table.end();
 }
 
-// Shows: HeapTable::new, Table::len, Table::get_mut
+// Shows: HeapTable, HeapTable::new, Table::len, Table::get_mut
 #[test]
 fn a_table_in_memory_of_an_allocator(rt: HostRuntime) -> Result<(), Fail> {
     let mut table = HeapTable::<u64>::new(rt.alloc(), 3)?;
@@ -29,7 +32,7 @@ fn a_table_in_memory_of_an_allocator(rt: HostRuntime) -> Result<(), Fail> {
     Ok(())
 }
 
-// Shows: HeapTable::memory_size
+// Shows: MemorySize, HeapTable::memory_size
 #[test]
 fn how_much_memory_a_table_takes(rt: HostRuntime) {
     let size = HeapTable::<u64>::memory_size(100);
@@ -63,7 +66,7 @@ fn how_much_memory_two_blocks_take(rt: HostRuntime) {
     );
 }
 
-// Shows: RawSlots::new, RawSlots::len, RawSlots::put, RawSlots::get, RawSlots::get_mut
+// Shows: RawSlots, RawSlots::new, RawSlots::len, RawSlots::put, RawSlots::get, RawSlots::get_mut
 // Shows: RawSlots::take, RawSlots::end
 #[test]
 fn a_row_of_places(rt: HostRuntime) -> Result<(), Fail> {
@@ -90,6 +93,7 @@ fn how_much_memory_a_row_of_places_takes(rt: HostRuntime) {
     );
 }
 
+// Shows: Touches, Counted
 // Shows: Touches::new, Counted::new, Counted::len, Counted::put, Counted::get, Counted::get_mut
 // Shows: Counted::take, Counted::end
 #[test]
@@ -112,14 +116,12 @@ fn the_number_of_places_is_that_of_the_type(rt: HostRuntime) {
     table.end();
 }
 
-/// Returns a container with room for two items, of any kind that is made in two steps.
-fn of_two<U: RelocatableContainer<Global>>(alloc: Global) -> Result<U::Ready, InitError<U>> {
-    U::new_uninit(2).init(alloc)
-}
-
-// Shows: RelocatableContainer::new_uninit, RelocatableContainer::init
+// Shows: RelocatableContainer, RelocatableContainer::new_uninit, RelocatableContainer::init
 #[test]
 fn a_container_of_any_kind_that_is_made_in_two_steps(rt: HostRuntime) -> Result<(), Fail> {
+    fn of_two<U: RelocatableContainer<Global>>(alloc: Global) -> Result<U::Ready, InitError<U>> {
+        U::new_uninit(2).init(alloc)
+    }
     let mut vector = of_two::<UninitVec<u64>>(rt.alloc())?;
     assert_eq!(rt; vector.push(1), Ok(()));
     let mut queue = of_two::<UninitQueue<u64>>(rt.alloc())?;
@@ -127,7 +129,7 @@ fn a_container_of_any_kind_that_is_made_in_two_steps(rt: HostRuntime) -> Result<
     Ok(())
 }
 
-// Shows: InitError::new, InitError::into_uninit
+// Shows: InitError, InitError::new, InitError::into_uninit
 #[test]
 fn what_was_not_initialised_is_tried_again(rt: HostRuntime) -> Result<(), Fail> {
     let error = InitError::new(UninitVec::<u64>::new_uninit(2));
@@ -136,7 +138,7 @@ fn what_was_not_initialised_is_tried_again(rt: HostRuntime) -> Result<(), Fail> 
     Ok(())
 }
 
-// Shows: Uninit::new_uninit
+// Shows: Uninit, Uninit::new_uninit, Uninit::init
 #[test]
 fn a_capacity_without_memory(rt: HostRuntime) -> Result<(), Fail> {
     let uninit = Uninit::<VecFamily<u64>>::new_uninit(2);
@@ -145,10 +147,15 @@ fn a_capacity_without_memory(rt: HostRuntime) -> Result<(), Fail> {
     Ok(())
 }
 
-// Shows: ContainerFamily::with_capacity
+// Shows: ContainerFamily, ContainerFamily::with_capacity, ContainerFamily<A> for VecFamily
+// Shows: ContainerFamily<A> for StringFamily, ContainerFamily<A> for QueueFamily
 #[test]
 fn a_container_of_a_family(rt: HostRuntime) -> Result<(), Fail> {
     let vector = VecFamily::<u64>::with_capacity(rt.alloc(), 2)?;
     assert_eq!(rt; vector.capacity(), 2);
+    let string = StringFamily::with_capacity(rt.alloc(), 3)?;
+    assert_eq!(rt; string.capacity(), 3);
+    let queue = QueueFamily::<u64>::with_capacity(rt.alloc(), 4)?;
+    assert_eq!(rt; queue.capacity(), 4);
     Ok(())
 }

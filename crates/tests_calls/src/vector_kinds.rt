@@ -1,7 +1,7 @@
 //! Examples of making vectors of each kind, of copying and comparing them, and of what they have from slices.
 use ix_cells::VectorModificationError::{InsertWouldExceedCapacity, OutOfBounds};
 use ix_cells::{
-    MemorySize, PolymorphicVec, RelocatableContainer, RelocatableVec, StaticVec, Vector,
+    MemorySize, PolymorphicVec, RelocatableContainer, RelocatableVec, StaticVec, UninitVec, Vector,
 };
 use std::cmp::Ordering::Greater;
 use std::convert;
@@ -17,13 +17,25 @@ fn a_vector_that_is_stored_inline(rt: HostRuntime) {
     assert!(rt; vector == StaticVec::default());
 }
 
-// Shows: PolymorphicVec::new
+// Shows: StaticVec
+#[test]
+fn an_inline_vector_is_filled_and_emptied(rt: HostRuntime) {
+    let mut vector = StaticVec::<u64, 2>::new();
+    assert_eq!(rt; vector.push(1), Ok(()));
+    assert_eq!(rt; vector.insert(0, 2), Ok(()));
+    assert_eq!(rt; vector.push(3), Err(InsertWouldExceedCapacity));
+    assert_eq!(rt; vector.as_slice(), [2, 1].as_slice());
+    assert_eq!(rt; vector.pop(), Some(1));
+}
+
+// Shows: PolymorphicVec, PolymorphicVec::new
 #[test]
 fn a_vector_in_memory_of_an_allocator(rt: HostRuntime) -> Result<(), Fail> {
     let mut squares = PolymorphicVec::<u64>::new(rt.alloc(), 3)?;
     squares.extend_from_slice(&[0, 1, 4])?;
     assert_eq!(rt; squares.push(9), Err(InsertWouldExceedCapacity));
     assert_eq!(rt; squares.as_slice(), [0, 1, 4].as_slice());
+    assert_eq!(rt; squares.pop(), Some(4));
     Ok(())
 }
 
@@ -61,7 +73,19 @@ fn a_copy_in_memory_of_the_same_allocator(rt: HostRuntime) -> Result<(), Fail> {
     Ok(())
 }
 
-// Shows: RelocatableVec::new_uninit
+// Shows: UninitVec
+#[test]
+fn a_vector_that_got_no_memory_is_tried_again(rt: HostRuntime) -> Result<(), Fail> {
+    let uninit = UninitVec::<u64>::new_uninit(3);
+    let mut vector = match uninit.init(rt.alloc()) {
+        Ok(vector) => vector,
+        Err(error) => error.into_uninit().init(rt.alloc())?, // once more
+    };
+    assert_eq!(rt; vector.extend_from_slice(&[1, 2, 3]), Ok(()));
+    Ok(())
+}
+
+// Shows: RelocatableVec, RelocatableVec::new_uninit
 #[test]
 fn a_vector_that_is_made_in_two_steps(rt: HostRuntime) -> Result<(), Fail> {
     let uninit = RelocatableVec::<u64>::new_uninit(2);
@@ -171,7 +195,7 @@ fn equal_items_have_one_hash(rt: HostRuntime) -> Result<(), Fail> {
     Ok(())
 }
 
-// Shows: IntoIterator for StaticVec
+// Shows: IntoIterator for StaticVec, StaticVecIntoIter
 #[test]
 fn the_items_are_moved_out(rt: HostRuntime) -> Result<(), Fail> {
     let vector = StaticVec::<u64, 3>::try_from_iter([1, 2])?;

@@ -1,7 +1,25 @@
 //! An example of each call of a vector, whatever its kind.
 use ix_cells::VectorModificationError::{InsertWouldExceedCapacity, OutOfBounds};
-use ix_cells::{PolymorphicVec, StaticVec, Vector};
+use ix_cells::{PolymorphicVec, StaticVec, Vector, VectorModificationError};
 use std::test::Fail;
+
+// Shows: Vector
+#[test]
+fn a_function_takes_a_vector_of_any_kind(rt: HostRuntime) -> Result<(), Fail> {
+    fn keep_last<V: Vector<u64>>(vector: &mut V, item: u64) -> Result<(), VectorModificationError> {
+        if vector.is_full() {
+            vector.remove(0);
+        }
+        vector.push(item)
+    }
+    let mut inline = StaticVec::<u64, 2>::try_from_iter([1, 2])?;
+    assert_eq!(rt; keep_last(&mut inline, 3), Ok(()));
+    assert_eq!(rt; inline.as_slice(), [2, 3].as_slice());
+    let mut allocated = PolymorphicVec::<u64>::new(rt.alloc(), 2)?;
+    assert_eq!(rt; keep_last(&mut allocated, 1), Ok(()));
+    assert_eq!(rt; allocated.as_slice(), [1].as_slice());
+    Ok(())
+}
 
 // Shows: Vector::push, Vector::is_full
 #[test]
@@ -153,7 +171,7 @@ fn all_items_of_another_vector_are_moved(rt: HostRuntime) -> Result<(), Fail> {
     Ok(())
 }
 
-// Shows: Vector::truncate, Vector::clear
+// Shows: Vector::truncate, Vector::clear, StaticVec::truncate
 #[test]
 fn a_vector_is_shortened(rt: HostRuntime) -> Result<(), Fail> {
     let mut vector = StaticVec::<u64, 4>::new();
@@ -187,13 +205,13 @@ fn of_equal_items_in_a_row_the_first_stays(rt: HostRuntime) -> Result<(), Fail> 
     Ok(())
 }
 
-// Shows: Vector::drain
+// Shows: Vector::drain, Drain, Drop for Drain, Iterator for Drain, ExactSizeIterator for Drain
 #[test]
 fn a_drained_vector_is_empty_and_can_be_filled_again(rt: HostRuntime) -> Result<(), Fail> {
     let mut vector = StaticVec::<u64, 2>::new();
     vector.extend_from_slice(&[1, 2])?;
     let mut items = vector.drain();
-    assert_eq!(rt; items.len(), 2);
+    assert_eq!(rt; (items.len(), items.size_hint()), (2, (2, Some(2))));
     assert_eq!(rt; items.next(), Some(1));
     drop(items); // drops the 2
     assert!(rt; vector.is_empty());
@@ -213,7 +231,7 @@ fn many_items_are_appended_or_none(rt: HostRuntime) {
     assert_eq!(rt; vector.as_slice(), [1, 2].as_slice());
 }
 
-// Shows: Vector::extend_from_slice_unchecked
+// Shows: Vector::extend_from_slice_unchecked, StaticVec::extend_from_slice_unchecked
 #[test]
 fn there_is_room_for_all_items(rt: HostRuntime) {
     let mut vector = StaticVec::<u64, 3>::new();

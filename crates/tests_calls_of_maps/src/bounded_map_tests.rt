@@ -3,7 +3,7 @@ use ix_maps::FlatMapError::{IsFull, KeyAlreadyExists};
 use ix_maps::{BoundedMap, FixedSizeFlatMap, FixedSizeHashMap};
 use std::test::Fail;
 
-// Shows: BoundedMap::get_mut_ref, BoundedMap::insert
+// Shows: BoundedMap, BoundedMap::get_mut_ref, BoundedMap::insert
 #[test]
 fn a_function_takes_a_map_of_any_kind(rt: HostRuntime) {
     fn count<M: BoundedMap<char, u32>>(counts: &mut M, letter: char) -> bool {

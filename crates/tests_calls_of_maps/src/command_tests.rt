@@ -8,7 +8,7 @@ use ix_maps::{FixedSizeFlatMap, FixedSizeQueue, FixedSizeSlotMap, FixedSizeSlotT
 use ix_string::{StaticString, String};
 use std::test::Fail;
 
-// Shows: Runs::run_command
+// Shows: Runs, Reply, Runs::run_command
 #[test]
 fn one_command_has_one_reply(rt: HostRuntime) {
     let mut queue = FixedSizeQueue::<u64, 1>::new();
@@ -21,7 +21,7 @@ fn one_command_has_one_reply(rt: HostRuntime) {
     assert_eq!(rt; queue.run_command(QueueCommand::Pop), Reply::None);
 }
 
-// Shows: ix_commands::run_queue
+// Shows: QueueCommand, ix_commands::run_queue
 #[test]
 fn commands_run_on_a_queue(rt: HostRuntime) -> Result<(), Fail> {
     let mut queue = FixedSizeQueue::<u64, 1>::new();
@@ -37,7 +37,7 @@ fn commands_run_on_a_queue(rt: HostRuntime) -> Result<(), Fail> {
     Ok(())
 }
 
-// Shows: ix_commands::run_vec
+// Shows: VecCommand, ix_commands::run_vec
 #[test]
 fn commands_run_on_a_vector(rt: HostRuntime) -> Result<(), Fail> {
     let mut vector = StaticVec::<u64, 2>::new();
@@ -55,7 +55,7 @@ fn commands_run_on_a_vector(rt: HostRuntime) -> Result<(), Fail> {
     Ok(())
 }
 
-// Shows: ix_commands::run_text
+// Shows: TextCommand, ix_commands::run_text
 #[test]
 fn commands_run_on_a_string(rt: HostRuntime) -> Result<(), Fail> {
     let mut string = StaticString::<8>::new();
@@ -71,7 +71,7 @@ fn commands_run_on_a_string(rt: HostRuntime) -> Result<(), Fail> {
     Ok(())
 }
 
-// Shows: ix_commands::run_table
+// Shows: TableCommand, ix_commands::run_table
 #[test]
 fn commands_run_on_a_slot_table(rt: HostRuntime) -> Result<(), Fail> {
     let mut table = FixedSizeSlotTable::<u64, 3>::new();
@@ -86,7 +86,7 @@ fn commands_run_on_a_slot_table(rt: HostRuntime) -> Result<(), Fail> {
     Ok(())
 }
 
-// Shows: ix_commands::run_slot
+// Shows: SlotCommand, ix_commands::run_slot
 #[test]
 fn commands_run_on_a_slot_map(rt: HostRuntime) -> Result<(), Fail> {
     let mut map = FixedSizeSlotMap::<u64, 3>::new();
@@ -102,7 +102,7 @@ fn commands_run_on_a_slot_map(rt: HostRuntime) -> Result<(), Fail> {
     Ok(())
 }
 
-// Shows: ix_commands::run_flat
+// Shows: FlatCommand, ix_commands::run_flat
 #[test]
 fn commands_run_on_a_flat_map(rt: HostRuntime) -> Result<(), Fail> {
     let mut map = FixedSizeFlatMap::<u16, u64, 3>::new();

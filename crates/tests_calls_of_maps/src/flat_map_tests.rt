@@ -3,11 +3,24 @@ use ix_cells::{ContainerFamily, RelocatableContainer};
 use ix_maps::FlatMapError::{IsFull, KeyAlreadyExists};
 use ix_maps::{
     CallbackProgression, FixedSizeFlatMap, FlatMap, FlatMapFamily, Pair, RelocatableFlatMap,
+    UninitFlatMap,
 };
 use std::alloc::Global;
 use std::test::Fail;
 
-// Shows: FixedSizeFlatMap::new, MetaFlatMap::insert
+// Shows: MetaFlatMap
+#[test]
+fn a_value_is_put_in_and_changed_and_taken_out(rt: HostRuntime) {
+    let mut map = FixedSizeFlatMap::<u16, char, 2>::new();
+    assert_eq!(rt; map.insert(80, 'a'), Ok(()));
+    assert_eq!(rt; map.insert(80, 'b'), Err(KeyAlreadyExists));
+    if let Some(value) = map.get_mut_ref(&80) {
+        *value = 'c';
+    }
+    assert_eq!(rt; map.remove(&80), Some('c'));
+}
+
+// Shows: FixedSizeFlatMap, FixedSizeFlatMap::new, MetaFlatMap::insert
 #[test]
 fn insert_refuses_a_key_that_is_there_and_one_without_room(rt: HostRuntime) {
     let mut map = FixedSizeFlatMap::<u16, char, 1>::new();
@@ -160,7 +173,7 @@ fn a_new_key_takes_the_place_that_was_vacated_last(rt: HostRuntime) -> Result<()
     Ok(())
 }
 
-// Shows: MetaFlatMap::list_keys
+// Shows: MetaFlatMap::list_keys, CallbackProgression
 #[test]
 fn keys_are_listed_until_the_closure_stops(rt: HostRuntime) -> Result<(), Fail> {
     let mut map = FixedSizeFlatMap::<u16, char, 3>::new();
@@ -244,7 +257,7 @@ fn the_default_map_is_empty(rt: HostRuntime) {
     assert_eq!(rt; (map.len(), map.capacity()), (0, 3));
 }
 
-// Shows: FlatMap::new, FlatMap::memory_size
+// Shows: FlatMap, FlatMap::new, FlatMap::memory_size
 #[test]
 fn a_map_is_allocated_in_one_call(rt: HostRuntime) -> Result<(), Fail> {
     let size = FlatMap::<u64, u64, Global>::memory_size(100);
@@ -254,7 +267,19 @@ fn a_map_is_allocated_in_one_call(rt: HostRuntime) -> Result<(), Fail> {
     Ok(())
 }
 
-// Shows: RelocatableFlatMap::new_uninit
+// Shows: UninitFlatMap
+#[test]
+fn a_map_that_got_no_memory_is_tried_again(rt: HostRuntime) -> Result<(), Fail> {
+    let uninit = UninitFlatMap::<u16, char>::new_uninit(3);
+    let mut map = match uninit.init(rt.alloc()) {
+        Ok(map) => map,
+        Err(error) => error.into_uninit().init(rt.alloc())?, // once more
+    };
+    assert_eq!(rt; map.insert(80, 'a'), Ok(()));
+    Ok(())
+}
+
+// Shows: RelocatableFlatMap, RelocatableFlatMap::new_uninit
 #[test]
 fn a_map_is_made_in_two_steps(rt: HostRuntime) -> Result<(), Fail> {
     let uninit = RelocatableFlatMap::<u16, char, Global>::new_uninit(3);

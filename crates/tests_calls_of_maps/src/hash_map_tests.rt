@@ -3,11 +3,12 @@ use ix_cells::{ContainerFamily, RelocatableContainer};
 use ix_maps::FlatMapError::{IsFull, KeyAlreadyExists};
 use ix_maps::{
     CallbackProgression, DefaultHashBuilder, FixedSizeHashMap, HashMap, HashMapFamily,
-    RelocatableHashMap,
+    RelocatableHashMap, UninitHashMap,
 };
 use std::alloc::Global;
 use std::test::Fail;
 
+// Shows: FixedSizeHashMap
 // Shows: FixedSizeHashMap::new, MetaHashMap::insert, MetaHashMap::try_insert, MetaHashMap::is_full
 #[test]
 fn a_map_has_each_key_once(rt: HostRuntime) {
@@ -17,6 +18,18 @@ fn a_map_has_each_key_once(rt: HostRuntime) {
     assert_eq!(rt; ages.try_insert(1002, 40), Ok(()));
     assert!(rt; ages.is_full());
     assert_eq!(rt; ages.try_insert(1003, 50), Err((IsFull, 1003, 50))); // handed back
+}
+
+// Shows: MetaHashMap
+#[test]
+fn a_value_is_put_in_and_changed_and_taken_out(rt: HostRuntime) {
+    let mut ages = FixedSizeHashMap::<u64, u8, 2>::new();
+    assert_eq!(rt; ages.insert(1001, 30), Ok(()));
+    assert_eq!(rt; ages.insert(1001, 40), Err(KeyAlreadyExists));
+    if let Some(age) = ages.get_mut_ref(&1001) {
+        *age = 31;
+    }
+    assert_eq!(rt; ages.remove(&1001), Some(31));
 }
 
 // Shows: MetaHashMap::replace, MetaHashMap::get_ref, MetaHashMap::get_mut_ref
@@ -91,7 +104,7 @@ fn a_closure_or_a_loop_goes_through_a_map(rt: HostRuntime) -> Result<(), Fail> {
     Ok(())
 }
 
-// Shows: FixedSizeHashMap::with_hasher, HashMap::with_hasher
+// Shows: DefaultHashBuilder, FixedSizeHashMap::with_hasher, HashMap::with_hasher
 #[test]
 fn a_map_hashes_by_hashers_of_your_own(rt: HostRuntime) -> Result<(), Fail> {
     let hasher = DefaultHashBuilder::new(); // or a `RandomState`, where strangers choose the keys
@@ -102,7 +115,20 @@ fn a_map_hashes_by_hashers_of_your_own(rt: HostRuntime) -> Result<(), Fail> {
     Ok(())
 }
 
-// Shows: HashMap::new, RelocatableHashMap::new_uninit, ContainerFamily<A> for HashMapFamily
+// Shows: UninitHashMap
+#[test]
+fn a_map_that_got_no_memory_is_tried_again(rt: HostRuntime) -> Result<(), Fail> {
+    let uninit = UninitHashMap::<u64, u8>::new_uninit(3);
+    let mut ages = match uninit.init(rt.alloc()) {
+        Ok(ages) => ages,
+        Err(error) => error.into_uninit().init(rt.alloc())?, // once more
+    };
+    assert_eq!(rt; ages.insert(1001, 30), Ok(()));
+    Ok(())
+}
+
+// Shows: HashMap, HashMap::new, RelocatableHashMap, RelocatableHashMap::new_uninit
+// Shows: ContainerFamily<A> for HashMapFamily
 #[test]
 fn a_map_is_allocated_in_one_step_or_two(rt: HostRuntime) -> Result<(), Fail> {
     let mut at_once = HashMap::<u64, u8>::new(rt.alloc(), 3)?;

@@ -31,15 +31,16 @@ fn all_values_are_changed_or_some_removed(rt: HostRuntime) -> Result<(), Fail> {
     Ok(())
 }
 
-// Shows: MetaHashMap::drain
+// Shows: MetaHashMap::drain, Drain, Iterator for Drain, ExactSizeIterator for Drain
+// Shows: Drop for Drain
 #[test]
 fn a_drain_takes_keys_and_values_out(rt: HostRuntime) -> Result<(), Fail> {
     let mut ages = FixedSizeHashMap::<u64, u8, 3>::new();
     ages.insert(1001, 30)?;
     ages.insert(1002, 40)?;
     let mut items = ages.drain();
+    assert_eq!(rt; (items.len(), items.size_hint()), (2, (2, Some(2))));
     assert_eq!(rt; items.next(), Some((1001, 30)));
-    assert_eq!(rt; items.len(), 1);
     drop(items); // the key 1002 and its value are dropped
     assert!(rt; ages.is_empty());
     Ok(())

@@ -1,5 +1,5 @@
-//! An example of each public call of slot tables, slot maps, flat maps, hash maps and the trait that both have, and of
-//! commands and scripts, as a user writes it. A line `Shows` above an example names the calls as the reference does.
+//! An example of each public call and type of slot tables, slot maps, flat maps, hash maps and the trait that both have, and
+//! of commands and scripts, as a user writes it. A line `Shows` above an example names them as the reference does.
 #![tactic(auto)]
 
 #[cfg(test)]

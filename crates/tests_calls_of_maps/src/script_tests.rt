@@ -40,7 +40,7 @@ fn a_fault_is_printed(rt: HostRuntime) -> Result<(), Fail> {
     Ok(())
 }
 
-// Shows: ix_run::run::read_header
+// Shows: Header, Container, Storage, FixedCapacity, ix_run::run::read_header
 #[test]
 fn a_header_names_a_container_and_its_storage(rt: HostRuntime) {
     let header = Header {

@@ -2,7 +2,7 @@
 use ix_maps::{FixedSizeSlotMap, SlotMapKey};
 use std::test::Fail;
 
-// Shows: MetaSlotMap::iter, Iterator for Iter, ExactSizeIterator for Iter
+// Shows: MetaSlotMap::iter, Iter, Iterator for Iter, ExactSizeIterator for Iter
 // Shows: IntoIterator for &'a MetaSlotMap
 #[test]
 fn a_map_is_gone_through_in_rising_order_of_the_indexes(rt: HostRuntime) {
@@ -20,8 +20,8 @@ fn a_map_is_gone_through_in_rising_order_of_the_indexes(rt: HostRuntime) {
     assert_eq!(rt; last, Some((2, 443)));
 }
 
-// Shows: MetaSlotMap::keys, Iterator for Keys, ExactSizeIterator for Keys
-// Shows: MetaSlotMap::values, Iterator for Values, ExactSizeIterator for Values
+// Shows: MetaSlotMap::keys, Keys, Iterator for Keys, ExactSizeIterator for Keys
+// Shows: MetaSlotMap::values, Values, Iterator for Values, ExactSizeIterator for Values
 #[test]
 fn keys_and_values_come_alone(rt: HostRuntime) {
     let mut ports = FixedSizeSlotMap::<u16, 3>::new();
@@ -35,7 +35,8 @@ fn keys_and_values_come_alone(rt: HostRuntime) {
     assert_eq!(rt; (values.len(), values.last().copied()), (1, Some(443)));
 }
 
-// Shows: MetaSlotMap::drain, Iterator for Drain, ExactSizeIterator for Drain, Drop for Drain
+// Shows: MetaSlotMap::drain, Drain, Iterator for Drain, ExactSizeIterator for Drain
+// Shows: Drop for Drain
 #[test]
 fn a_drain_removes_what_it_does_not_yield_too(rt: HostRuntime) {
     let mut ports = FixedSizeSlotMap::<u16, 3>::new();

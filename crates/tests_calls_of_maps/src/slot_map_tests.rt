@@ -5,6 +5,7 @@ use ix_maps::{FixedSizeSlotMap, RelocatableSlotMap, SlotMap, SlotMapKey, UninitS
 use std::alloc::Global;
 use std::test::Fail;
 
+// Shows: FixedSizeSlotMap
 // Shows: FixedSizeSlotMap::new, MetaSlotMap::insert, MetaSlotMap::try_insert, MetaSlotMap::is_full
 #[test]
 fn a_map_chooses_the_key_of_a_value(rt: HostRuntime) {
@@ -16,7 +17,7 @@ fn a_map_chooses_the_key_of_a_value(rt: HostRuntime) {
     assert_eq!(rt; ports.try_insert(22), Err(22)); // 22 is handed back
 }
 
-// Shows: MetaSlotMap::remove, MetaSlotMap::contains
+// Shows: MetaSlotMap, MetaSlotMap::remove, MetaSlotMap::contains
 #[test]
 fn a_key_that_was_removed_is_dead(rt: HostRuntime) {
     let mut ports = FixedSizeSlotMap::<u16, 1>::new();
@@ -120,6 +121,7 @@ fn a_clone_has_the_same_keys(rt: HostRuntime) -> Result<(), Fail> {
     Ok(())
 }
 
+// Shows: SlotMap
 // Shows: SlotMap::new, SlotMap::starting_at, SlotMap::memory_size, Default for FixedSizeSlotMap
 #[test]
 fn a_map_is_made_in_one_call(rt: HostRuntime) -> Result<(), Fail> {
@@ -133,6 +135,19 @@ fn a_map_is_made_in_one_call(rt: HostRuntime) -> Result<(), Fail> {
     Ok(())
 }
 
+// Shows: UninitSlotMap
+#[test]
+fn a_map_that_got_no_memory_is_tried_again(rt: HostRuntime) -> Result<(), Fail> {
+    let uninit = UninitSlotMap::<u16>::new_uninit(3);
+    let mut ports = match uninit.init(rt.alloc()) {
+        Ok(ports) => ports,
+        Err(error) => error.into_uninit().init(rt.alloc())?, // once more
+    };
+    assert_eq!(rt; ports.insert(80), Some(SlotMapKey::new(0, 0)));
+    Ok(())
+}
+
+// Shows: RelocatableSlotMap
 // Shows: RelocatableSlotMap::new_uninit, UninitSlotMap::new_uninit, UninitSlotMap::starting_at
 // Shows: RelocatableContainer<A> for UninitSlotMap
 #[test]
@@ -147,6 +162,7 @@ fn a_map_is_made_in_two_steps(rt: HostRuntime) -> Result<(), Fail> {
     Ok(())
 }
 
+// Shows: SlotMapKey
 // Shows: SlotMapKey::new, SlotMapKey::index, SlotMapKey::generation, PartialOrd for SlotMapKey
 #[test]
 fn a_key_is_an_index_and_a_generation(rt: HostRuntime) {

@@ -2,7 +2,7 @@
 use ix_maps::{FixedSizeSlotTable, SlotTableKey};
 use std::test::Fail;
 
-// Shows: MetaSlotTable::iter, Iterator for Iter, ExactSizeIterator for Iter
+// Shows: MetaSlotTable::iter, Iter, Iterator for Iter, ExactSizeIterator for Iter
 #[test]
 fn iter_yields_keys_in_rising_order_with_their_values(rt: HostRuntime) {
     let mut table = FixedSizeSlotTable::<char, 3>::new();
@@ -28,7 +28,8 @@ fn a_loop_goes_through_a_table(rt: HostRuntime) {
     assert_eq!(rt; last, Some((SlotTableKey::new(1), 'b')));
 }
 
-// Shows: IntoIterator for MetaSlotTable, Iterator for IntoIter, ExactSizeIterator for IntoIter
+// Shows: IntoIterator for MetaSlotTable, IntoIter, Iterator for IntoIter
+// Shows: ExactSizeIterator for IntoIter
 #[test]
 fn into_iter_yields_the_values_themselves(rt: HostRuntime) {
     let mut table = FixedSizeSlotTable::<char, 3>::new();
@@ -41,7 +42,7 @@ fn into_iter_yields_the_values_themselves(rt: HostRuntime) {
     assert_eq!(rt; items.next(), None);
 }
 
-// Shows: MetaSlotTable::drain, Iterator for Drain, ExactSizeIterator for Drain
+// Shows: MetaSlotTable::drain, Drain, Iterator for Drain, ExactSizeIterator for Drain
 // Shows: Drop for Drain
 #[test]
 fn a_drain_takes_the_values_out_and_keeps_the_memory(rt: HostRuntime) {
@@ -56,7 +57,7 @@ fn a_drain_takes_the_values_out_and_keeps_the_memory(rt: HostRuntime) {
     assert_eq!(rt; table.insert('c'), Some(SlotTableKey::new(1)));
 }
 
-// Shows: MetaSlotTable::keys, Iterator for Keys, ExactSizeIterator for Keys
+// Shows: MetaSlotTable::keys, Keys, Iterator for Keys, ExactSizeIterator for Keys
 #[test]
 fn keys_rise(rt: HostRuntime) {
     let mut table = FixedSizeSlotTable::<char, 3>::new();
@@ -69,7 +70,7 @@ fn keys_rise(rt: HostRuntime) {
     assert_eq!(rt; keys.next(), None);
 }
 
-// Shows: MetaSlotTable::values, Iterator for Values, ExactSizeIterator for Values
+// Shows: MetaSlotTable::values, Values, Iterator for Values, ExactSizeIterator for Values
 #[test]
 fn values_come_in_rising_order_of_their_keys(rt: HostRuntime) {
     let mut table = FixedSizeSlotTable::<char, 3>::new();

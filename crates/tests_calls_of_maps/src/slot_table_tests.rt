@@ -3,12 +3,12 @@ use ix_cells::{ContainerFamily, InlineTable, RelocatableContainer, Touches};
 use ix_maps::slottable::default_key_law;
 use ix_maps::{
     FixedSizeSlotTable, Link, MetaSlotTable, RelocatableSlotTable, SlotTable, SlotTableFamily,
-    SlotTableKey,
+    SlotTableKey, UninitSlotTable,
 };
 use std::alloc::Global;
 use std::test::Fail;
 
-// Shows: FixedSizeSlotTable::new, MetaSlotTable::insert, MetaSlotTable::is_full
+// Shows: FixedSizeSlotTable, FixedSizeSlotTable::new, MetaSlotTable::insert, MetaSlotTable::is_full
 #[test]
 fn a_table_chooses_the_key_of_a_value(rt: HostRuntime) {
     let mut table = FixedSizeSlotTable::<char, 2>::new();
@@ -26,6 +26,7 @@ fn a_full_table_hands_the_value_back(rt: HostRuntime) {
     assert_eq!(rt; table.try_insert('b'), Err('b'));
 }
 
+// Shows: MetaSlotTable
 // Shows: MetaSlotTable::remove, MetaSlotTable::contains, MetaSlotTable::next_free_key
 #[test]
 fn a_key_that_was_removed_is_used_next(rt: HostRuntime) {
@@ -213,7 +214,7 @@ fn the_default_table_is_empty(rt: HostRuntime) {
     assert_eq!(rt; (table.len(), table.capacity()), (0, 3));
 }
 
-// Shows: SlotTable::new, SlotTable::memory_size
+// Shows: SlotTable, SlotTable::new, SlotTable::memory_size
 #[test]
 fn a_table_is_allocated_in_one_call(rt: HostRuntime) -> Result<(), Fail> {
     let size = SlotTable::<u64, Global>::memory_size(100);
@@ -223,7 +224,19 @@ fn a_table_is_allocated_in_one_call(rt: HostRuntime) -> Result<(), Fail> {
     Ok(())
 }
 
-// Shows: RelocatableSlotTable::new_uninit
+// Shows: UninitSlotTable
+#[test]
+fn a_table_that_got_no_memory_is_tried_again(rt: HostRuntime) -> Result<(), Fail> {
+    let uninit = UninitSlotTable::<char>::new_uninit(3);
+    let mut table = match uninit.init(rt.alloc()) {
+        Ok(table) => table,
+        Err(error) => error.into_uninit().init(rt.alloc())?, // once more
+    };
+    assert_eq!(rt; table.insert('a'), Some(SlotTableKey::new(0)));
+    Ok(())
+}
+
+// Shows: RelocatableSlotTable, RelocatableSlotTable::new_uninit
 #[test]
 fn a_table_is_made_in_two_steps(rt: HostRuntime) -> Result<(), Fail> {
     let uninit = RelocatableSlotTable::<char, Global>::new_uninit(3);
@@ -261,7 +274,7 @@ fn a_table_prints_its_keys_and_values(rt: HostRuntime) -> Result<(), Fail> {
     Ok(())
 }
 
-// Shows: SlotTableKey::new, SlotTableKey::value, fmt::Display for SlotTableKey
+// Shows: SlotTableKey, SlotTableKey::new, SlotTableKey::value, fmt::Display for SlotTableKey
 // Shows: PartialOrd for SlotTableKey
 #[test]
 fn a_key_is_a_number(rt: HostRuntime) -> Result<(), Fail> {
