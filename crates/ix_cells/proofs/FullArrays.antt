@@ -1,12 +1,12 @@
 -- Lemmas on the places of a full array, the first of which are items, and part of which is overwritten by way of a slice.
 use Rattle.std.proofs.Common.{◌≡◌, ◌∙◌, ℕ, ◌-◌, ◌≤◌, List, ◌++◌, length, take, drop, refl, sym, ap, arith}
-use Rattle.std.specs.Prelude.{slice_set, Result, OnOk}
+use Rattle.std.specs.Prelude.{slice_range, slice_set, Result, OnOk}
 use Rattle.std.specs.List.{AllZip, AppendsClones, refill, length_refill}
 use Rattle.std.proofs.Math.ListN.{length-set}
 use Rattle.std.proofs.lemmas.Grind.{common_steps}
 use Rattle.std.proofs.lemmas.List.{length-take-le}
 use Rattle.std.proofs.lemmas.Result.{on_ok_weaker}
-use Rattle.std.proofs.lemmas.Slice.{take-put_mid, take-put_mid_below}
+use Rattle.std.proofs.lemmas.Slice.{take-put_mid, take-put_mid_below, drop-put_mid, between-put_mid}
 use borrow.Rule.Slice.PartMut.{put_mid}
 use Rattle.ix_cells.specs.inner.FullArrays.{IsFront}
 use Rattle.ix_cells.proofs.Refilling.{refill-same_length}
@@ -37,6 +37,14 @@ module _ {T : Type 0} where
     pub take-refill-end : take e (refill (length xs) xs (put_mid a (e - a) xs ys)) ≡ take a xs ++ ys
     take-refill-end =
         rw (refill-same_length xs (put_mid a (e - a) xs ys) length-put_mid) (take-put_mid a (e - a) xs ys e (omega (arith, length-overwritten)) (omega arith))
+
+    pub between-refill : slice_range (refill (length xs) xs (put_mid a (e - a) xs ys)) a e ≡ ys
+    between-refill =
+        rw (refill-same_length xs (put_mid a (e - a) xs ys) length-put_mid) (between-put_mid a (e - a) xs ys e (omega (arith, order, bounds)) length-overwritten)
+
+    pub drop-refill : drop e (refill (length xs) xs (put_mid a (e - a) xs ys)) ≡ drop e xs
+    drop-refill =
+        rw (refill-same_length xs (put_mid a (e - a) xs ys) length-put_mid) (drop-put_mid a (e - a) xs ys e (omega (arith, order)) (omega (arith, order, bounds)) length-overwritten)
 
     pub AppendsClones-refill : {E : Type 0} (clones : T → T → Type 0) (items : List T) (r : Result (Unit {0}) E) → OnOk r (AllZip clones items ys)
         → OnOk r (AppendsClones clones (take a xs) (take e (refill (length xs) xs (put_mid a (e - a) xs ys))) items)

@@ -1,6 +1,6 @@
 //! An `ArrayVec` that is always full: it is made of an array, in one fill, and never changes its length. The functions
 //! here read, overwrite and borrow its places.
-ghost use Rattle.std.specs.Prelude.{◌≡◌, ◌+◌, ◌<◌, ◌≤◌, length, take, slice_index_or, slice_set, IsOk, OnOk};
+ghost use Rattle.std.specs.Prelude.{◌≡◌, ◌+◌, ◌<◌, ◌≤◌, All, length, take, drop, slice_index_or, slice_range, slice_set, IsOk, OnOk};
 ghost use Rattle.std.specs.List.{AllZip, AppendsClones};
 ghost use Rattle.std.specs.Borrow.{sem};
 ghost use Rattle.arrayvec.specs.ArrayVec.{array_vec_len};
@@ -50,6 +50,8 @@ pub(crate) fn put_defaults<T: Default + Drop, const CAP: usize>(
     requires bounds { end ≤ array_vec_len array.old }
     ensures len { array_vec_len array.new ≡ array_vec_len array.old }
     ensures front { take start array.new.items ≡ take start array.old.items }
+    ensures defaults { All T.is_default (slice_range array.new.items start end) }
+    ensures behind { drop end array.new.items ≡ drop end array.old.items }
 {
     let places = array.as_mut_slice();
     fill_with_defaults(&mut places[start..end]);
@@ -77,7 +79,8 @@ pub(crate) fn put_clones<T: Default + Clone + Drop, const CAP: usize>(
 /// Overwrites all places with defaults, the last one first.
 #[inline]
 fn fill_with_defaults<T: Default + Drop>(places: &mut [T])
-    ensures { length places.new ≡ length places.old }
+    ensures len { length places.new ≡ length places.old }
+    ensures defaults { All T.is_default places.new }
 {
     for i in (0..places.len()).rev() {
         places[i] = T::default();
