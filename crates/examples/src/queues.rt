@@ -1,6 +1,6 @@
 //! A queue of each kind.
-ghost use Rattle.std.specs.Prelude.{◌≡◌, ◌∷◌, [], length, Some, IfOk, IfErr};
-ghost use Rattle.ix_cells.specs.Bounded.{bounded_new};
+ghost use Rattle.std.specs.Prelude.{◌≡◌, ◌↔◌, ◌<◌, ◌∷◌, [], length, Some, IsTrue, IfOk, IfErr};
+ghost use Rattle.ix_cells.specs.Bounded.{bounded_new, bounded_push};
 
 use ix_cells::{InitError, RelocatableContainer};
 use ix_maps::{FixedSizeQueue, Queue, RelocatableQueue, UninitQueue};
@@ -29,6 +29,19 @@ pub fn allocated<A: Allocator>(alloc: A, items: &[u64]) -> Result<Queue<u64, A>,
         queue.push(*item);
     }
     Ok(queue)
+}
+
+/// A queue that is not full takes one more item. Appends `item` if there is room, and returns whether there was.
+pub fn append_if_room<A: Allocator>(queue: &mut Queue<u64, A>, item: u64) -> bool
+    ensures value { IsTrue result ↔ length queue.old.items < queue.old.capacity }
+    ensures queue { queue.new ≡ bounded_push queue.old item }
+{
+    if queue.is_full() {
+        return false;
+    }
+    let pushed = queue.push(item);
+    prove!(pushed);
+    true
 }
 
 /// A relocatable queue has a capacity first, and memory later. Returns an empty queue in memory of `first`, or of

@@ -1,5 +1,6 @@
 //! Sessions by the name of their peer, in a map of either kind: a few in a flat map, a thousand in a hash map.
 ghost use Rattle.std.specs.Prelude.{◌≡◌, ◌↔◌, ℕ, [], Some, None, Err, IsTrue, IsSome, IsOk, OnErr, IfSome, option_map, false};
+ghost use Rattle.std.specs.Bool.{OnFalse};
 ghost use Rattle.examples.specs.declared.sessions_by_name.Seen.{Seen};
 ghost use Rattle.ix_maps.specs.FlatState.{flat_value};
 ghost use Rattle.ix_maps.specs.declared.flatmap.flat_map_error.FlatMapError.TheVariants.{KeyAlreadyExists, IsFull};
@@ -42,6 +43,21 @@ pub fn open<N: Eq, M: BoundedMap<N, Seen>>(
             last_heard: time,
         },
     )
+}
+
+/// Opens the session of a peer at `time` if it has none and there is room: a map that is not full takes a new key. Returns
+/// `false` otherwise.
+pub fn open_new<N: Eq + Drop, M: BoundedMap<N, Seen>>(sessions: &mut M, peer: N, time: u64) -> bool
+    ensures opened { IsTrue result → flat_value N.eq (M.state sessions.new) peer
+        ≡ Some (record { opened = time; last_heard = time }) }
+    ensures refused { OnFalse result (M.state sessions.new ≡ M.state sessions.old) }
+{
+    if sessions.is_full() || sessions.contains(&peer) {
+        return false;
+    }
+    let opened = open(sessions, peer, time).is_ok();
+    prove!(opened);
+    true
 }
 
 /// Notes that a peer was heard at `time`. Returns `false` if it has no session.

@@ -132,7 +132,8 @@ impl<T, S: Table<T>> MetaQueue<T, S> {
     /// Returns `true` if the number of items is the capacity. A queue of capacity 0 is both empty and full.
     #[inline]
     pub fn is_full(&self) -> bool
-        ensures { IsTrue result ↔ IsFull self.now }
+        ensures value { IsTrue result ↔ IsFull self.now }
+        ensures room { OnFalse result (length self.now.items < self.now.capacity) }
     {
         self.len == self.table.len()
     }
