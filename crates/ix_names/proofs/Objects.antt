@@ -10,7 +10,7 @@ use Rattle.std.specs.List.{AllByRecursion, fold}
 use Rattle.std.specs.Ordering.{nat_cmp, match_ordering}
 use Rattle.std.specs.Prelude.{Result, Ok, Err, IsOk, IfOk, IfErr, OnErr, if◌then◌else◌, is_some, nat_le}
 use Rattle.std.specs.Option.{option_map_or}
-use Rattle.std.specs.Result.{result_map_both}
+use Rattle.std.specs.Result.{IsOkAnd, result_map_both}
 use Rattle.serde_json.specs.Data.{Data, object, Members, no_members, member, put}
 use Rattle.serde_json.specs.Events.{members_len}
 use Rattle.serde_json.specs.Find.{as_object}
@@ -18,10 +18,11 @@ use Rattle.serde_json.specs.View.{view}
 use Rattle.serde_json.specs.declared.value.Value.{Value}
 use Rattle.ix_maps.specs.SlotState.{slot_new}
 use Rattle.ix_maps.specs.FlatState.{HasDistinctKeys, flat_entry, flat_value, flat_items}
-use Rattle.ix_names.specs.JsonTree.{TextMap, bytes_read, with_first, object_tree, with_key, members_read, object_read, new_key, map_with, object_filled, by_key, map_without}
+use Rattle.ix_names.specs.JsonTree.{TextMap, bytes_read, with_first, object_tree, with_key, members_read, object_read, new_key, map_with, object_filled, by_key, map_without, HasSameEntries}
 use Rattle.ix_names.specs.inner.Objects.{IsItemReadBack}
 use Rattle.ix_names.specs.declared.json.json_fault.JsonFault.{JsonFault}
 use Rattle.ix_names.specs.declared.json.json_fault.JsonFault.TheVariants.{WrongKind, InvalidContent, TooLong}
+use Rattle.ix_names.proofs.NewMaps.{HasSameEntries-map_with}
 use Rattle.ix_names.proofs.TextMaps.{same, sorted_with, All-by_key, sorted-by_key, length-by_key, gone-map_without, flat_entry-no_value, map_with-map_without, length-map_without, values-flat_items, flat_entry-slot_new, length-map_with, length-flat_items}
 
 module _ {V : Type 0} (tree_of : V → Data) where
@@ -99,19 +100,35 @@ module _ {V : Type 0} (tree_of : V → Data) where
           ap (result_map_both (map_with empty) (λ fault. fault)) (object_read-tree (λ key. new_key empty (bytes_read key_capacity key)) read (length empty.free) (flat_items s) (length-map_without s distinct items sorted values) new)
           ∙ ap Ok (map_with-map_without s distinct items sorted values)
 
-      -- a map that a new one becomes by its items in the order of their keys is read back
-      pub object_filled-slot_new : (capacity : ℕ) → map_with (slot_new capacity) (by_key (flat_items s)) ≡ s → object_filled key_capacity read (slot_new capacity) (object_tree tree_of (flat_items s)) ≡ Ok s
-      object_filled-slot_new capacity is =
+      -- a new map takes in the items in the order of their keys, if there is room for them
+      object_filled-new : (capacity : ℕ) → length (flat_items s) ≤ capacity → object_filled key_capacity read (slot_new capacity) (object_tree tree_of (flat_items s)) ≡ Ok (map_with (slot_new capacity) (by_key (flat_items s)))
+      object_filled-new capacity fits =
           let items = by_key (flat_items s) in
           let empty : TextMap V = slot_new capacity in
           let new = all_new empty items (All-by_key (IsItemReadBack key_capacity tree_of read) (flat_items s) back) (all_absent-slot_new capacity items) in
-          let places : length s.values ≡ length empty.values = ap (λ (t : TextMap V). length t.values) (sym is) ∙ length-map_with empty items in
-          let all_places : length empty.values ≡ capacity = length-replicate capacity None in
           let free : length empty.free ≡ capacity = length-range_with_len 0 capacity in
-          let few = length-flat_items s in
           let fewer = length-by_key (flat_items s) in
           ap (result_map_both (map_with empty) (λ fault. fault)) (object_read-tree (λ key. new_key empty (bytes_read key_capacity key)) read (length empty.free) (flat_items s) (omega arith) new)
-          ∙ ap Ok is
+
+      -- a map that a new one becomes by its items in the order of their keys is read back
+      pub object_filled-slot_new : (capacity : ℕ) → map_with (slot_new capacity) (by_key (flat_items s)) ≡ s → object_filled key_capacity read (slot_new capacity) (object_tree tree_of (flat_items s)) ≡ Ok s
+      object_filled-slot_new capacity is =
+          let empty : TextMap V = slot_new capacity in
+          let places : length s.values ≡ length empty.values = ap (λ (t : TextMap V). length t.values) (sym is) ∙ length-map_with empty (by_key (flat_items s)) in
+          let all_places : length empty.values ≡ capacity = length-replicate capacity None in
+          let few = length-flat_items s in
+          object_filled-new capacity (omega arith) ∙ ap Ok is
+
+      -- whatever its places are, the new map has the same entries
+      pub object_filled-same_entries : HasDistinctKeys same s → (capacity : ℕ) → length (flat_items s) ≤ capacity
+          → IsOkAnd (object_filled key_capacity read (slot_new capacity) (object_tree tree_of (flat_items s))) (HasSameEntries s)
+      object_filled-same_entries distinct capacity fits =
+          subst (λ r. IsOkAnd r (HasSameEntries s)) (sym (object_filled-new capacity fits)) (HasSameEntries-map_with s distinct capacity fits)
+
+      -- the same where the number of places is that of the new map
+      pub object_filled-same_places : HasDistinctKeys same s → (capacity : ℕ) → length s.values ≡ capacity
+          → IsOkAnd (object_filled key_capacity read (slot_new capacity) (object_tree tree_of (flat_items s))) (HasSameEntries s)
+      object_filled-same_places distinct capacity is = let few = length-flat_items s in object_filled-same_entries distinct capacity (omega arith)
 
 -- ---- members that are read in turn
 

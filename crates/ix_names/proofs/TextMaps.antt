@@ -85,7 +85,7 @@ module _ {K V : Type 0} (eq : K → K → Bool) (laws : IsEquivalence eq) where
 abbrev pub same : List ℕ → List ℕ → Bool
 same = pointwise ◌==◌
 
-tied_is : (k l : List ℕ) → slice_cmp nat_cmp k l ≡ Equal → k ≡ l
+pub tied_is : (k l : List ℕ) → slice_cmp nat_cmp k l ≡ Equal → k ≡ l
 tied_is k l is = (bytes_eq-Decides k l).0 (sym (is_eq-slice_cmp k l) ∙ ap is_eq is)
 
 all_above : (k l : List ℕ) (ys : List (List ℕ)) → slice_cmp nat_cmp k l ≡ Less → AllByRecursion (λ y. slice_cmp nat_cmp l y ≡ Less) ys → AllByRecursion (λ y. slice_cmp nat_cmp k y ≡ Less) ys
@@ -174,7 +174,7 @@ module _ {V : Type 0} where
   HasDistinctKeys-map_without s (item ∷ items) distinct =
       (IsWithout-flat_remove same nat_list_eq_equiv (map_without s items) item.0 (HasDistinctKeys-map_without s items distinct)).distinct
 
-  apart_from_sorted : (key : List ℕ) (items : List (List ℕ × V)) → AllByRecursion (λ y. slice_cmp nat_cmp key y ≡ Less) (keys_of items) → AllByRecursion (λ item. same key item.0 ≡ false) items
+  pub apart_from_sorted : (key : List ℕ) (items : List (List ℕ × V)) → AllByRecursion (λ y. slice_cmp nat_cmp key y ≡ Less) (keys_of items) → AllByRecursion (λ item. same key item.0 ≡ false) items
   apart_from_sorted key [] below = tt
   apart_from_sorted key (item ∷ items) below = (sym (is_eq-slice_cmp key item.0) ∙ ap is_eq below.0, apart_from_sorted key items below.1)
 

@@ -11,7 +11,7 @@ use Rattle.serde_json.specs.Events.{items_len, members_len}
 use Rattle.serde_json.specs.Find.{as_null, as_bool, as_number, as_str, as_array, as_object, as_u64, as_i64, of_integer}
 use Rattle.serde_json.specs.View.{items_of}
 use Rattle.ix_cells.specs.Bounded.{Bounded, with_items}
-use Rattle.ix_maps.specs.FlatState.{flat_entry}
+use Rattle.ix_maps.specs.FlatState.{flat_entry, flat_value}
 use Rattle.ix_maps.specs.FlatSteps.{flat_insert, flat_remove}
 use Rattle.ix_maps.specs.SlotState.{SlotState}
 use Rattle.ix_maps.specs.declared.flatmap.pair.Pair.{Pair}
@@ -168,3 +168,7 @@ module _ {V : Type 0} where
   abbrev pub map_without : TextMap V → List (List ℕ × V) → TextMap V
   map_without s [] = s
   map_without s (entry ∷ items) = flat_remove (pointwise ◌==◌) (map_without s items) entry.0
+
+  -- each key has the same value in both maps, or none in both
+  abbrev pub HasSameEntries : TextMap V → TextMap V → Type 0
+  HasSameEntries s other = (key : List ℕ) → flat_value (pointwise ◌==◌) other key ≡ flat_value (pointwise ◌==◌) s key

@@ -7,6 +7,7 @@ ghost use Rattle.ix_names.specs.Optional.{option_of, relocatable_of, relocatable
 
 mod conversions;
 mod made_of_values;
+mod order;
 
 use std::mem;
 use std::ops::{AsDeref, DerefMut};
@@ -27,7 +28,7 @@ use std::ops::{AsDeref, DerefMut};
 /// Options are ordered by their values, and `None` is less than each `Some`.
 ///
 /// This is `RelocatableOption` of iceoryx2-bb-container.
-#[derive(Clone, Copy, PartialEq, Eq, PartialOrd, Ord, Hash, Debug)]
+#[derive(Clone, Copy, PartialEq, Eq, Hash, Debug)]
 pub enum RelocatableOption<T> {
     /// No value.
     None,

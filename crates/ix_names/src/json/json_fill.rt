@@ -30,6 +30,9 @@ pub trait JsonFill {
     /// The container without its entries.
     ghost emptied: { Self → Self };
 
+    /// What holds of a container and of what others become that are filled with its tree.
+    ghost keeps: { Self → (Self → Result Self JsonFault) → Type 0 } = { λ _ _. Unit {0} };
+
     /// Holds of containers whose conversion to JSON does not allocate.
     ghost is_infallible: { Self → Type 0 } = { λ _. ⊥ };
 
@@ -40,6 +43,7 @@ pub trait JsonFill {
         ensures value { IfOk result (λ value. view value ≡ tree self.now) }
         ensures read_back { IfOk result (λ value.
             filled (emptied self.now) (view value) ≡ Ok self.now) }
+        ensures content { IsOk result → keeps self.now (λ other. filled other (tree self.now)) }
         ensures fault { IfErr result (λ fault. fault ≡ OutOfMemory) }
         ensures memory { is_infallible self.now → IsOk result };
 

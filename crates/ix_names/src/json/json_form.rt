@@ -26,6 +26,9 @@ pub trait JsonForm: Sized {
     /// Holds of values that are read back from their trees.
     ghost is_read_back: { Self → Type 0 } = { λ _. Unit {0} };
 
+    /// What holds of a value and of what its tree is read as.
+    ghost keeps: { Self → Result Self JsonFault → Type 0 } = { λ _ _. Unit {0} };
+
     /// Holds of values whose conversion to JSON does not allocate.
     ghost is_infallible: { Self → Type 0 } = { λ _. ⊥ };
 
@@ -36,6 +39,7 @@ pub trait JsonForm: Sized {
         ensures value { IfOk result (λ value. view value ≡ tree self.now) }
         ensures read_back { is_read_back self.now
             → IfOk result (λ value. read (view value) ≡ Ok self.now) }
+        ensures content { IsOk result → keeps self.now (read (tree self.now)) }
         ensures fault { IfErr result (λ fault. fault ≡ OutOfMemory) }
         ensures memory { is_infallible self.now → IsOk result };
 

@@ -1,8 +1,8 @@
 //! Flat maps from strings in JSON.
-ghost use Rattle.std.specs.Prelude.{◌≡◌, ◌≢◌, ◌==◌, [], Ok, Err, IfOk, IfErr, IsOk, OnOk};
+ghost use Rattle.std.specs.Prelude.{◌≡◌, ◌≢◌, ◌==◌, ◌≤◌, ℕ, [], length, Ok, Err, IfOk, IfErr, IsOk, OnOk};
 ghost use Rattle.std.specs.Cmp.Lexicographic.{pointwise};
 ghost use Rattle.std.specs.List.{AllByRecursion};
-ghost use Rattle.std.specs.Result.{result_map_both};
+ghost use Rattle.std.specs.Result.{IsOkAnd, result_map_both};
 ghost use Rattle.serde_json.specs.View.{view, members_view};
 ghost use Rattle.ix_maps.specs.FlatState.{HasDistinctKeys, flat_items};
 ghost use Rattle.ix_names.specs.JsonTree.{bytes_read, object_tree, members_read, new_key, map_with};
@@ -101,7 +101,7 @@ fn insert_members<
 /// of its key, as of a [`StaticString`], or else that of its value. Members after that one are not read.
 ///
 /// The slot order of the map that is read is that of the keys. So a map is read back as it was if it is the one that inserting its
-/// keys in their order makes of a new map.
+/// keys in their order makes of a new map. Any other is read back with the same keys and values, at other places.
 ///
 /// O(`CAPACITY`) for each member, with as many calls of the values' conversion as there are keys.
 ///
@@ -114,13 +114,15 @@ fn insert_members<
 impl<V: JsonItem + Drop, const N: usize, const CAPACITY: usize> JsonForm
     for FixedSizeFlatMap<StaticString<N>, V, CAPACITY> {
     ghost use Rattle.ix_maps.specs.SlotState.{slot_new};
-    ghost use Rattle.ix_names.specs.JsonTree.{object_filled, by_key};
+    ghost use Rattle.ix_names.specs.JsonTree.{object_filled, by_key, HasSameEntries};
 
     ghost tree = { λ map. object_tree V.tree (flat_items map) };
 
     ghost read = { object_filled N V.read (slot_new CAPACITY) };
 
     ghost is_read_back = { λ map. map_with (slot_new CAPACITY) (by_key (flat_items map)) ≡ map };
+
+    ghost keeps = { λ map again. length map.values ≡ CAPACITY → IsOkAnd again (HasSameEntries map) };
 
     ghost is_infallible = { λ map. flat_items map ≡ [] };
 
@@ -160,13 +162,17 @@ impl<V: JsonItem + Drop, const N: usize, const CAPACITY: usize> JsonForm
 /// ports.fill_from_value(&value);      // Err(JsonFault::TooLong)
 /// ```
 impl<V: JsonItem + Drop, A: Allocator, const N: usize> JsonFill for FlatMap<StaticString<N>, V, A> {
-    ghost use Rattle.ix_names.specs.JsonTree.{object_filled, by_key, map_without};
+    ghost use Rattle.ix_maps.specs.SlotState.{slot_new};
+    ghost use Rattle.ix_names.specs.JsonTree.{object_filled, by_key, map_without, HasSameEntries};
 
     ghost tree = { λ map. object_tree V.tree (flat_items map) };
 
     ghost filled = { object_filled N V.read };
 
     ghost emptied = { λ map. map_without map (by_key (flat_items map)) };
+
+    ghost keeps = { λ map filled_with. (capacity : ℕ) → length (flat_items map) ≤ capacity
+        → IsOkAnd (filled_with (slot_new capacity)) (HasSameEntries map) };
 
     ghost is_infallible = { λ map. flat_items map ≡ [] };
 

@@ -1,5 +1,6 @@
 //! The semantic string: how it is made and read.
 ghost use Rattle.std.specs.Prelude.{◌≡◌, ◌+◌, ◌<◌, ◌≤◌, ◌↔◌, [], ◌∷◌, ◌++◌, length, drop, IsTrue, IsSome, IfSome, IfNone, IfOk, OnSome, string_bytes};
+ghost use Rattle.std.specs.Bool.{OnFalse};
 ghost use Rattle.ix_string.specs.Text.{IsText, IsFirstMatch, IsLastMatch, before_nul};
 ghost use Rattle.ix_names.specs.Rules.{IsAccepted, means_the_same};
 ghost use Rattle.ix_names.specs.SemanticSteps.{SemanticResult};
@@ -183,7 +184,8 @@ impl<R: Rules<CAPACITY>, const CAPACITY: usize> Semantic<R, CAPACITY> {
     /// Returns `true` if the length equals the capacity. O(1).
     #[inline]
     pub fn is_full(&self) -> bool
-        ensures { IsTrue result ↔ (length self.now ≡ CAPACITY) }
+        ensures value { IsTrue result ↔ (length self.now ≡ CAPACITY) }
+        ensures room { OnFalse result (length self.now < CAPACITY) }
     {
         self.text.is_full()
     }

@@ -1,7 +1,7 @@
 use Rattle.ix_maps.specs.FlatState.{flat_items}
 use Rattle.ix_maps.specs.SlotState.{slot_new}
 use Rattle.ix_names.specs.JsonTree.{object_tree, object_filled}
-use Rattle.ix_names.proofs.Objects.{object_filled-slot_new, read_back-IfOk}
+use Rattle.ix_names.proofs.Objects.{object_filled-slot_new, object_filled-same_places, read_back-IfOk}
 use Rattle.ix_names.proofs.json.maps.FixedSizeFlatMapStaticStringJsonForm.to_value.Goals as goal
 
 pub returns-clause-read_back : goal.returns-clause-read_back
@@ -12,3 +12,8 @@ returns-clause-read_back g c is =
     let read = g.V.JsonForm.read in
     read_back-IfOk (object_filled g.row.N read (slot_new g.row.CAPACITY)) (object_tree tree_of (flat_items map)) map c.map_to_value.result written.value
     (λ ok. object_filled-slot_new tree_of g.row.N read map (written.read_back ok) g.row.CAPACITY is)
+
+pub returns-clause-content : goal.returns-clause-content
+returns-clause-content g c ok places =
+    let written = c.map_to_value.ensures in
+    object_filled-same_places g.V.JsonForm.tree g.row.N g.V.JsonForm.read c.args.self.now (written.read_back ok) written.distinct g.row.CAPACITY places

@@ -1,6 +1,6 @@
 use Rattle.ix_maps.specs.FlatState.{flat_items}
 use Rattle.ix_names.specs.JsonTree.{object_tree, object_filled, by_key, map_without}
-use Rattle.ix_names.proofs.Objects.{object_filled-map_without, read_back-IfOk}
+use Rattle.ix_names.proofs.Objects.{object_filled-map_without, object_filled-same_entries, read_back-IfOk}
 use Rattle.ix_names.proofs.json.maps.FlatMapStaticStringJsonFill.to_value.Goals as goal
 
 pub returns-clause-read_back : goal.returns-clause-read_back
@@ -11,3 +11,8 @@ returns-clause-read_back g c =
     let read = g.V.JsonForm.read in
     read_back-IfOk (object_filled g.row.N read (map_without map (by_key (flat_items map)))) (object_tree tree_of (flat_items map)) map c.map_to_value.result written.value
     (λ ok. object_filled-map_without tree_of g.row.N read map (written.read_back ok) written.distinct)
+
+pub returns-clause-content : goal.returns-clause-content
+returns-clause-content g c ok capacity fits =
+    let written = c.map_to_value.ensures in
+    object_filled-same_entries g.V.JsonForm.tree g.row.N g.V.JsonForm.read c.args.self.now (written.read_back ok) written.distinct capacity fits
