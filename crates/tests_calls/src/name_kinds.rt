@@ -73,25 +73,32 @@ fn a_name_is_printed(rt: HostRuntime) -> Result<(), Fail> {
     Ok(())
 }
 
-// Shows: DefaultText::default_text, Default for Semantic
+// Shows: DefaultText, DefaultText::default_text, Default for Semantic
 #[test]
 fn the_text_that_the_rules_name(rt: HostRuntime) {
     assert_eq!(rt; TrailingSlashRules::default_text(), "");
     assert!(rt; Path::default().is_empty());
 }
 
-// Shows: Rules::invalid_content, Rules::invalid_characters
+// Shows: Rules, Rules::invalid_content, Rules::invalid_characters
+// Shows: GroupNameRules, Rules<31> for GroupNameRules
 #[test]
-fn which_texts_the_rules_accept(rt: HostRuntime) {
+fn which_texts_the_rules_accept(rt: HostRuntime) -> Result<(), Fail> {
     assert!(rt; GroupNameRules::invalid_content(b"1a"));
     assert!(rt; !GroupNameRules::invalid_content(b"a1"));
     assert!(rt; GroupNameRules::invalid_characters(b"aB"));
     assert!(rt; !GroupNameRules::invalid_characters(b"ab"));
+    let text = StaticString::<31>::from_bytes(b"a1")?;
+    assert!(rt; GroupNameRules::is_normal_form(&text));
+    assert!(rt; GroupNameRules::normalize(&text) == text);
+    Ok(())
 }
 
-// Shows: Rules::normalize, Rules::is_normal_form
+// Shows: Rules::normalize, Rules::is_normal_form, Rules<255> for TrailingSlashRules
 #[test]
 fn what_the_rules_take_a_text_for(rt: HostRuntime) -> Result<(), Fail> {
+    assert!(rt; !TrailingSlashRules::invalid_content(b"/tmp//"));
+    assert!(rt; !TrailingSlashRules::invalid_characters(b"/tmp//"));
     let text = StaticString::<255>::from_bytes(b"/tmp//")?;
     assert!(rt; !TrailingSlashRules::is_normal_form(&text));
     let normal = TrailingSlashRules::normalize(&text);

@@ -4,13 +4,24 @@ use ix_names::{GroupName, Semantic, TrailingSlashRules};
 use ix_string::String;
 use std::test::Fail;
 
-// Shows: Semantic::new
+// Shows: GroupName, Semantic::new
 #[test]
 fn a_name_that_obeys_the_rules(rt: HostRuntime) -> Result<(), Fail> {
     let name = GroupName::new(b"ab-1")?;
     assert_eq!(rt; name.as_str(), "ab-1");
     assert_eq!(rt; GroupName::new(b"1a"), Err(InvalidContent));
     assert_eq!(rt; GroupName::new(&[b'a'; 32]), Err(ExceedsMaximumLength));
+    Ok(())
+}
+
+// Shows: Semantic
+#[test]
+fn a_change_that_breaks_the_rules_is_refused(rt: HostRuntime) -> Result<(), Fail> {
+    let mut name = GroupName::new(b"staff")?;
+    assert_eq!(rt; name.push_bytes(b"-2"), Ok(()));
+    assert_eq!(rt; name.insert(0, b'1'), Err(InvalidContent)); // no name begins with a digit
+    assert_eq!(rt; name.truncate(0), Err(InvalidContent)); // no name is empty
+    assert_eq!(rt; name.as_str(), "staff-2");
     Ok(())
 }
 
@@ -153,12 +164,13 @@ fn a_name_is_shortened(rt: HostRuntime) -> Result<(), Fail> {
     Ok(())
 }
 
-// Shows: Semantic::normalize
+// Shows: TrailingSlashRules, Semantic::normalize
 #[test]
 fn the_text_that_stands_for_all_that_mean_the_same(rt: HostRuntime) -> Result<(), Fail> {
     let path = Semantic::<TrailingSlashRules, 255>::new(b"/tmp//")?;
     assert_eq!(rt; path.normalize().as_str(), "/tmp");
     assert_eq!(rt; path.as_str(), "/tmp//");
+    assert!(rt; path.eq_str("/tmp"));
     Ok(())
 }
 

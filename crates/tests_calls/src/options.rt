@@ -2,12 +2,14 @@
 use ix_names::RelocatableOption;
 use std::test::Fail;
 
-// Shows: RelocatableOption::to_option, From<Option<T>> for RelocatableOption
+// Shows: RelocatableOption, RelocatableOption::to_option, From<Option<T>> for RelocatableOption
+// Shows: From<RelocatableOption<T>> for Option
 #[test]
 fn an_option_of_std_and_back(rt: HostRuntime) {
     let option = RelocatableOption::from(Some(80));
     assert_eq!(rt; option, RelocatableOption::Some(80));
     assert_eq!(rt; option.to_option(), Some(80));
+    assert_eq!(rt; Option::from(option), Some(80));
     let nothing: RelocatableOption<u64> = RelocatableOption::None;
     assert_eq!(rt; nothing.to_option(), None);
 }
