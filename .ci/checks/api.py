@@ -36,9 +36,7 @@ container to take, and which call.
 
 A call has its signature and its docs first. "Errors" says when it returns one, "Conditions" what its caller owes, "Promises" what
 it ensures, and "Words" where the words of these are defined. What stands under "Example" is the body of a proved test, which is
-handed the machine, `rt`. A block without a title is a sketch: a comment behind a call is what it returns, and in a program a
-`Result` has to be used, by `?`, `match` or `let _ = ..`. `alloc` is an allocator, as `rt.alloc()` in `main`, and `report` stands
-for a function of yours.
+handed the machine, `rt`. In a program a `Result` has to be used, by `?`, `match` or `let _ = ..`.
 
 A line `impl<..>` shows the bounds of the calls below it. `T: Drop` says that a value of `T` may be let go: a type is so if it is
 `Copy`, or by `#[derive(Drop)]`. The `ghost` members of an impl are what contracts know of it. A type is `Send` if all that it
@@ -315,12 +313,14 @@ def made():
 
 
 def lost_docs():
-    """Yields each place where docs stand above a line that is no item."""
+    """Yields each place where docs stand above a line that is no item, or have what a page does not show."""
     for crate in LIBRARY:
         for path in paths(crate, "src/**/*.rt"):
-            lost = []
-            items_of(text_of(path).splitlines(), lost=lost)
+            lost, lines = [], text_of(path).splitlines()
+            items_of(lines, lost=lost)
             yield from (f"{path}:{line}: the docs above this line are of no item" for line in lost)
+            blocks = [i for i, line in enumerate(lines, 1) if line.lstrip().startswith(("/// ```", "//! ```"))]
+            yield from (f"{path}:{line}: nothing checks a block of code in docs: an example is a test, below `// Shows:`" for line in blocks)
 
 
 def old_pages():

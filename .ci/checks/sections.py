@@ -42,16 +42,12 @@ def anchor_of(heading):
 
 
 def prose(docs, owner=""):
-    """Returns docs as lines of a page, in which names are marked. Sketches of code stay as they are."""
+    """Returns docs as lines of a page, in which names are marked."""
     def mark(match):
         name, path = match.groups()
         return f"\0{name}\0{(path or name).strip('`').replace('Self', owner)}\0"
 
-    lines, is_code = [], False
-    for line in docs:
-        is_code ^= line.startswith("```")
-        lines.append(line if is_code else NAME.sub(mark, line))
-    return [*lines, ""] if docs else []
+    return [*(NAME.sub(mark, line) for line in docs), ""] if docs else []
 
 
 def sentences(text):
@@ -66,11 +62,10 @@ def first_sentence(docs):
 
 
 def paragraphs(lines):
-    """Yields the paragraphs of docs, each as its lines. A sketch of code is one."""
-    found, is_code = [], False
+    """Yields the paragraphs of docs, each as its lines."""
+    found = []
     for line in [*lines, ""]:
-        is_code ^= line.startswith("```")
-        if line or is_code:
+        if line:
             found.append(line)
         elif found:
             yield found
@@ -85,7 +80,7 @@ def parted(lines):
     """Returns docs without what they say of errors, and that: from the sentence that names one to the end of its paragraph."""
     kept, errors = [], []
     for paragraph in paragraphs(lines):
-        parts = [] if paragraph[0].startswith("```") else sentences(" ".join(paragraph))
+        parts = sentences(" ".join(paragraph))
         first = next((i for i, it in enumerate(parts) if it.startswith("Returns ") and ERROR.search(it)), None)
         if first is None:
             kept += [*paragraph, ""]

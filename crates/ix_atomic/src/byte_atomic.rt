@@ -2,14 +2,6 @@
 //!
 //! [`FixedSizeByteAtomic`] is stored inline, [`RelocatableByteAtomic`] is made in two steps and allocates once.
 //! [`pack_word`] makes one number of up to eight bytes, and [`unpack_word`] writes its bytes.
-//!
-//! ```text
-//! let mut bytes = [0; 8];
-//! 1u64.encode(&mut bytes);    // [1, 0, 0, 0, 0, 0, 0, 0]
-//! u64::decode(&bytes);        // Some(1)
-//! bool::decode(&[2]);         // None
-//! pack_word(&[4, 6]);         // 1540
-//! ```
 
 mod arrays;
 mod atomic_copy;

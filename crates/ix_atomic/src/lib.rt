@@ -3,12 +3,6 @@
 //! A byte-wise atomic cell ([`byte_atomic`]) stores the encoding of a value, one atomic byte at a time. Threads that read
 //! and write it at once may mix the bytes of several values, so a reader gets a [`MaybeTorn`].
 //!
-//! ```text
-//! let cell = FixedSizeByteAtomic::<u64, 8>::new(1);
-//! cell.write(2);
-//! cell.read().assume_consistent();    // Some(2), unless another thread writes too
-//! ```
-//!
 //! A sequenced cell ([`sequenced`]) has a version beside the bytes, so that its readers can tell whether a value is whole.
 #![tactic(auto)]
 

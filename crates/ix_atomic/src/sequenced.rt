@@ -14,16 +14,6 @@
 //!
 //! The holders of seats write and read; nobody is ever blocked by another. A writer's seat can't be let go, so no `?` stands
 //! where one lives: `writer` and `reader` never fail, and the answer of a write is matched.
-//!
-//! ```text
-//! let (cell, mut writer, mut reader) = SequencedByteAtomic::<u64, 8>::new(alloc, 7)?;
-//! let second = cell.writer(alloc, &mut writer).unwrap();  // for another thread
-//! cell.try_write(&mut writer, 9);                         // Ok(()), or Err(Busy { .. }) beside a write of that thread
-//! cell.try_read(&mut reader);                             // Ok(9), unless another thread writes
-//! cell.version(&mut reader);                              // 2
-//! cell.merge(&mut writer, second);
-//! cell.close(writer);                                     // Ok(9)
-//! ```
 
 mod data_words;
 mod errors;

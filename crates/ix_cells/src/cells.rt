@@ -1,12 +1,4 @@
 //! Tables, tables that count the calls on them, and containers that are made in two steps.
-//!
-//! ```text
-//! let mut table = InlineTable::<char, 2>::new();
-//! table.put(1, 'a');
-//! table.get(1);               // &'a'
-//! table.take(1);              // 'a'
-//! table.end();
-//! ```
 
 mod counted;
 pub(crate) mod full_array;

@@ -5,14 +5,6 @@
 //! empty or holding one item; the queues and maps of the crates above keep their items in tables, so one container
 //! serves every kind of storage.
 //!
-//! ```text
-//! let mut vector = StaticVec::<u64, 2>::new();
-//! vector.push(1);             // Ok(())
-//! vector.push(2);             // Ok(())
-//! vector.push(3);             // Err(VectorModificationError::InsertWouldExceedCapacity)
-//! vector.as_slice();          // [1, 2]
-//! ```
-//!
 //! Contracts see a vector as a bounded list and a table as a list of optional items, whatever memory they lie in.
 #![tactic(auto)]
 

@@ -1,11 +1,4 @@
 //! Vectors: contiguous lists with a capacity that is set when they are made.
-//!
-//! ```text
-//! let mut vector = PolymorphicVec::<u64>::new(alloc, 3)?;
-//! vector.extend_from_slice(&[1, 3])?;
-//! vector.insert(1, 2)?;
-//! vector.as_slice();          // [1, 2, 3]
-//! ```
 
 mod drain;
 mod filters;

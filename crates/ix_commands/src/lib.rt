@@ -2,12 +2,6 @@
 //!
 //! A command says which call of a container to make, a reply what the call returned. A list of commands runs on any kind of
 //! its container, and what is promised of it is the fold of the container's model.
-//!
-//! ```text
-//! let mut queue = FixedSizeQueue::<u64, 1>::new();
-//! queue.run_command(QueueCommand::Push(7));    // Reply::Bool(true)
-//! run_queue(alloc, &mut queue, &[QueueCommand::Pop, QueueCommand::Pop]);    // Ok: Reply::Value(7), Reply::None
-//! ```
 #![tactic(auto)]
 
 mod command;

@@ -72,7 +72,7 @@ head-set_head_other : (link : ChainLink) (bucket place other : ℕ) → other / 
 head-set_head_other link bucket place other same apart = go (nat_lt (bucket % 4) 2) (nat_lt (other % 4) 2) refl refl
   where
     go : (is_low other_low : Bool) → nat_lt (bucket % 4) 2 ≡ is_low → nat_lt (other % 4) 2 ≡ other_low
-      → (if other_low then heads_get (with_head link bucket place is_low).low other else heads_get (with_head link bucket place is_low).high other) ≡ (if other_low then heads_get link.low other else heads_get link.high other)
+        → (if other_low then heads_get (with_head link bucket place is_low).low other else heads_get (with_head link bucket place is_low).high other) ≡ (if other_low then heads_get link.low other else heads_get link.high other)
     go true true low also =
         let near : other / 2 ≡ bucket / 2 = (let below : bucket % 4 < 2 = grind (arith, nat_tests) in let other_below : other % 4 < 2 = grind (arith, nat_tests) in omega (arith, same, below, other_below)) in
         heads_get-set_other link.low bucket place other near apart

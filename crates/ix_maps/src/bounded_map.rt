@@ -23,15 +23,6 @@ use std::hash::{BuildHasher, Hash};
 /// A map with room for a set number of keys, each with a value, as [`MetaFlatMap`](crate::flatmap::MetaFlatMap) and
 /// [`MetaHashMap`](crate::hashmap::MetaHashMap) are. A function over any such map is written over this trait. What a call costs
 /// is said at each map.
-///
-/// ```text
-/// fn count_word<M: BoundedMap<Word, u64>>(counts: &mut M, word: Word) {
-///     match counts.get_mut_ref(&word) {
-///         Some(count) => *count += 1,
-///         None => drop(counts.insert(word, 1)),
-///     }
-/// }
-/// ```
 pub trait BoundedMap<K: Eq, V>: Sized {
     /// The pair or nothing at each place.
     ghost state: { Self → SlotState (Pair K V) };

@@ -1,14 +1,6 @@
 //! Flat maps: bounded maps from keys of your own to values, for keys that can only be compared for equality.
 //!
 //! [`FixedSizeFlatMap`] is stored inline, [`FlatMap`] and [`RelocatableFlatMap`] allocate only when they are made.
-//!
-//! ```text
-//! let mut map = FixedSizeFlatMap::<u16, char, 3>::new();
-//! map.insert(80, 'a');                  // Ok(())
-//! map.insert(80, 'b');                  // Err(KeyAlreadyExists)
-//! map.get_ref(&80);                     // Some(&'a')
-//! map.remove(&80);                      // Some('a')
-//! ```
 
 mod callback_progression;
 mod compared;

@@ -2,14 +2,6 @@
 //!
 //! [`FixedSizeHashMap`] is stored inline, [`HashMap`] and [`RelocatableHashMap`] allocate only when they are made. Their calls
 //! promise what those of [`flatmap`](crate::flatmap) do, and take O(1) time on average.
-//!
-//! ```text
-//! let mut map = FixedSizeHashMap::<u16, char, 3>::new();
-//! map.insert(80, 'a');                  // Ok(())
-//! map.insert(80, 'b');                  // Err(KeyAlreadyExists)
-//! map.get_ref(&80);                     // Some(&'a')
-//! map.remove(&80);                      // Some('a')
-//! ```
 
 mod chain_link;
 mod chain_table;

@@ -1,13 +1,6 @@
 //! Queues: bounded lists, in which items are appended at the back and removed at the front.
 //!
 //! [`FixedSizeQueue`] is stored inline, [`Queue`] and [`RelocatableQueue`] allocate only when they are made.
-//!
-//! ```text
-//! let mut queue = FixedSizeQueue::<u64, 2>::new();
-//! queue.push(1);                    // true
-//! queue.push(2);                    // true
-//! queue.pop();                      // Some(1)
-//! ```
 
 mod copies;
 mod drain;

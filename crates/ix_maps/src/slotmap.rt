@@ -2,16 +2,6 @@
 //! A key has a generation, so that a key which was removed or replaced never finds the value of another one.
 //!
 //! [`FixedSizeSlotMap`] is stored inline, [`SlotMap`] and [`RelocatableSlotMap`] allocate only when they are made.
-//!
-//! ```text
-//! let mut map = FixedSizeSlotMap::<char, 3>::new();
-//! if let Some(key) = map.insert('a') {  // index 0, generation 0
-//!     map.get(key);                     // Some(&'a')
-//!     map.remove(key);                  // Some('a')
-//!     map.insert('b');                  // Some: index 0, generation 1
-//!     map.get(key);                     // None
-//! }
-//! ```
 
 mod compared;
 mod content;

@@ -1,14 +1,6 @@
 //! Slot tables: bounded tables that choose the key of each value, by which it is found in constant time.
 //!
 //! [`FixedSizeSlotTable`] is stored inline, [`SlotTable`] and [`RelocatableSlotTable`] allocate only when they are made.
-//!
-//! ```text
-//! let mut table = FixedSizeSlotTable::<char, 3>::new();
-//! if let Some(key) = table.insert('a') {  // the key 0
-//!     table.get(key);                   // Some(&'a')
-//!     table.remove(key);                // Some('a')
-//! }
-//! ```
 
 mod compared;
 mod copies;

@@ -1,5 +1,5 @@
-//! Types for names and messages: strings whose rules are checked at every change, an option, and conversions to and from
-//! JSON.
+//! Types for names and messages: strings whose rules are checked at every change ([`semantic_string`]), an option
+//! ([`relocatable_option`]), and conversions to and from JSON ([`json`]).
 #![tactic(auto)]
 
 pub mod json;

@@ -17,14 +17,6 @@ use std::ops::{AsDeref, DerefMut};
 /// It has the most used calls of [`Option`], and [`RelocatableOption::to_option`] leads to the others. It is made by its
 /// variants, or by [`From`] of an [`Option`]. Every call is O(1), if nothing else is said, and does not allocate.
 ///
-/// ```text
-/// let mut port = RelocatableOption::Some(80);
-/// port.replace(443);              // Some(80)
-/// port.map(|port| port + 1);      // Some(444)
-/// port.take();                    // Some(443), and the option is None
-/// port.unwrap_or(22);             // 22
-/// ```
-///
 /// Options are ordered by their values, and `None` is less than each `Some`.
 ///
 /// This is `RelocatableOption` of iceoryx2-bb-container.

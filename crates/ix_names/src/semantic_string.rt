@@ -1,9 +1,4 @@
 //! Semantic strings: texts that obey rules, such as names of users, groups and paths.
-//!
-//! ```text
-//! GroupName::new(b"ab-1");    // Ok
-//! GroupName::new(b"1a");      // Err(SemanticStringError::InvalidContent)
-//! ```
 
 mod default_text;
 mod group_name;

@@ -1,13 +1,4 @@
 //! Scripts: lines are read as commands of `ix_commands`, and replies are written as lines.
-//!
-//! ```text
-//! read_header(b"queue fixed 3");    // Some: Container::Queue, Storage::Fixed(FixedCapacity::Three)
-//! read_queue_command(b"push 7");    // Some(QueueCommand::Push(7))
-//! let mut reader = b"queue fixed 3\npush 7\n".as_slice();
-//! let mut writer = Vec::new(alloc);
-//! script(alloc, &mut reader, &mut writer)?;
-//! writer.as_slice();                // b"ready\ntrue\n"
-//! ```
 
 mod containers;
 mod devices;

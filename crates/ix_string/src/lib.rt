@@ -4,13 +4,6 @@
 //! [`PolymorphicString`] allocates once, when it is made, and [`RelocatableString`] is made in two steps. Contracts see a
 //! string as a bounded list of its bytes, whatever its kind.
 //!
-//! ```text
-//! let mut string = PolymorphicString::new(alloc, 8)?;
-//! string.push_bytes(b"hello")?;
-//! string.strip_prefix(b"he");     // true, and the string is "llo"
-//! string.push_bytes(b" world");   // Err(StringModificationError::InsertWouldExceedCapacity)
-//! ```
-//!
 //! The string of std is `std::string::String` here.
 #![tactic(auto)]
 

@@ -1,11 +1,4 @@
 //! Strings: bytes from 1 to 127, with a capacity that is set when they are made.
-//!
-//! ```text
-//! let mut string = StaticString::<8>::from_bytes(b"ho")?;
-//! string.insert_bytes(1, b"ell");    // Ok(()), and the string is "hello"
-//! string.remove(0);                  // Some(104), and the string is "ello"
-//! string.find(b"l");                 // Some(1)
-//! ```
 
 mod creation;
 mod creation_error;

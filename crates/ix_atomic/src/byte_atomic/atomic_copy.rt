@@ -5,12 +5,6 @@ ghost use Rattle.std.specs.Prelude.{◌≡◌, ◌↔◌, ℕ, List, length, Som
 ///
 /// Each value has one encoding, and no two values have the same. The bytes of an encoding do not depend on the machine.
 ///
-/// ```text
-/// let mut bytes = [0; 2];
-/// 258u16.encode(&mut bytes);      // [2, 1]
-/// u16::decode(&bytes);            // Some(258)
-/// ```
-///
 /// This is `AtomicCopy` of iceoryx2-bb-elementary-traits, with an encoding in the place of the bytes in memory.
 pub trait AtomicCopy: Copy {
     /// The number of bytes of an encoding.

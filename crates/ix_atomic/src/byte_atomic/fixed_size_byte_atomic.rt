@@ -12,12 +12,6 @@ use std::{array, fmt};
 /// may be torn if a thread writes while others read or write. Contracts say nothing of its bytes, since any thread
 /// may change them at any time.
 ///
-/// ```text
-/// let cell = FixedSizeByteAtomic::<u64, 8>::new(1);
-/// cell.write(2);
-/// cell.read().assume_consistent();    // Some(2), unless another thread writes too
-/// ```
-///
 /// This is `FixedSizeByteAtomic` of iceoryx2-bb-container.
 #[derive(Drop)]
 pub struct FixedSizeByteAtomic<T, const SIZE: usize> {

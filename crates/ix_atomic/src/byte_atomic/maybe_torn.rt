@@ -11,11 +11,6 @@ use std::marker::{Model, PhantomData};
 /// The read is torn if another thread wrote to the cell while it lasted: then the bytes may be of several values. Use it
 /// beside a synchronization that tells torn reads, such as a sequence lock.
 ///
-/// ```text
-/// MaybeTorn::<bool, 1>::new([1]).assume_consistent();    // Some(true)
-/// MaybeTorn::<bool, 1>::new([2]).assume_consistent();    // None
-/// ```
-///
 /// This is `MaybeTorn` of iceoryx2-bb-container.
 #[derive(Drop)]
 pub struct MaybeTorn<T, const SIZE: usize> {

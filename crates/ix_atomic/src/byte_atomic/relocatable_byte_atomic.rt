@@ -14,12 +14,6 @@ const MAX_SIZE: usize = isize::MAX as usize / size_of::<AtomicU8>();
 
 /// A [`FixedSizeByteAtomic`] in memory of an allocator `A`. It is made in two steps, the second of which allocates.
 ///
-/// ```text
-/// let cell = RelocatableByteAtomic::<u64, 8>::new_uninit().init(alloc, 1)?;
-/// cell.write(2);
-/// cell.read().assume_consistent();    // Some(2), unless another thread writes too
-/// ```
-///
 /// This is `RelocatableByteAtomic` of iceoryx2-bb-container.
 #[derive(Drop)]
 pub struct RelocatableByteAtomic<T, const SIZE: usize, A: Allocator = Global> {
@@ -54,13 +48,6 @@ impl<T: AtomicCopy, const SIZE: usize, A: Allocator> RelocatableByteAtomic<T, SI
 }
 
 /// An uninitialised [`RelocatableByteAtomic`]: it has no memory yet, and offers [`UninitByteAtomic::init`] alone.
-///
-/// ```text
-/// match UninitByteAtomic::<u64, 8>::new_uninit().init(alloc, 1) {
-///     Ok(cell) => cell.write(2),
-///     Err(error) => retry_later(error.into_uninit()),
-/// }
-/// ```
 #[derive(Drop)]
 pub struct UninitByteAtomic<T, const SIZE: usize> {
     of: PhantomData<T>,

@@ -3,10 +3,6 @@ ghost use Rattle.std.specs.Prelude.{◌≡◌, ◌≤◌, length};
 ghost use Rattle.ix_atomic.specs.Words.{word_of, bytes_of_word};
 
 /// Returns the word of `bytes`, the least one first. There are at most eight of them; those that are missing count as 0. O(1).
-///
-/// ```text
-/// pack_word(&[4, 6]);     // 1540, which is 4 + 256 * 6
-/// ```
 #[inline]
 pub fn pack_word(bytes: &[u8]) -> u64
     requires { length bytes.now ≤ 8 }
@@ -23,11 +19,6 @@ pub fn pack_word(bytes: &[u8]) -> u64
 }
 
 /// Writes to all of `out` the bytes of `word`, from the least one on. `out` has at most eight bytes. O(1).
-///
-/// ```text
-/// let mut bytes = [0; 2];
-/// unpack_word(1540, &mut bytes);      // [4, 6]
-/// ```
 #[inline]
 pub fn unpack_word(word: u64, out: &mut [u8])
     requires { length out.old ≤ 8 }

@@ -28,15 +28,6 @@ const MAX_SIZE: usize = (isize::MAX as usize / size_of::<u64>() - 1) * 8;
 ///
 /// Threads share it by reference. The holders of [`WriterSeat`]s write, the holders of [`ReaderSeat`]s read. Each call loads or
 /// stores single words, and neither waits nor tries again. All finished writes are one history.
-///
-/// ```text
-/// let (cell, mut writer, mut reader) = SequencedByteAtomic::<u64, 8>::new(alloc, 7)?;
-/// let second = cell.writer(alloc, &mut writer).unwrap();     // for another thread; it never fails
-/// cell.try_write(&mut writer, 9);     // Ok(()), unless another thread writes
-/// cell.try_read(&mut reader);         // Ok(9), unless another thread writes
-/// cell.merge(&mut writer, second);
-/// cell.close(writer);                 // Ok(9)
-/// ```
 #[derive(Drop)]
 pub struct SequencedByteAtomic<T: AtomicCopy, const SIZE: usize> {
     table: Table<(), SeatView<T>, T, CellRule<T>, Global>,

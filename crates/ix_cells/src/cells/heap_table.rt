@@ -9,13 +9,6 @@ use std::fmt;
 use std::marker::Model;
 
 /// A table that allocates its places from `A` when it is made, and never after, and deallocates them when it ends.
-///
-/// ```text
-/// let mut table = HeapTable::new(alloc, 3)?;
-/// table.put(0, 'a');
-/// table.take(0);              // 'a'
-/// table.end();
-/// ```
 pub struct HeapTable<T, A: Allocator = Global> {
     slots: RawSlots<T, A>,
 }

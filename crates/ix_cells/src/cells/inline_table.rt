@@ -10,13 +10,6 @@ use std::fmt;
 use std::marker::Model;
 
 /// A table of `CAP` places that is stored inline and does not allocate.
-///
-/// ```text
-/// let mut table = InlineTable::<char, 3>::new();
-/// table.put(0, 'a');
-/// table.take(0);              // 'a'
-/// table.end();
-/// ```
 // The places are an `ArrayVec` that is always full: it is made of an array in one fill, and lends slices of its places.
 pub struct InlineTable<T, const CAP: usize> {
     places: ArrayVec<Option<MaybeMoved<T>>, CAP>,

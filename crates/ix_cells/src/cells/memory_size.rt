@@ -11,12 +11,6 @@ use std::mem::size_of;
 /// `LocalHeap` of `linked_list_allocator` rounds up to a multiple of 16, and a new one of `bytes + 16 * blocks` bytes has room.
 /// Nor is counted what an allocator takes to keep track of the blocks or to align them. Numbers past the greatest `usize` count
 /// as that one; no allocator has so many bytes.
-///
-/// ```text
-/// let size = HeapTable::<u64>::memory_size(100);
-/// size.bytes;                 // 900: a place takes its item and one byte more
-/// size.blocks;                // 2
-/// ```
 #[derive(Clone, Copy, PartialEq, Eq, Debug)]
 pub struct MemorySize {
     /// The bytes of all blocks together.
@@ -27,11 +21,6 @@ pub struct MemorySize {
 
 impl MemorySize {
     /// Returns what `n` items in one block take: no block if `n` is 0, and a block of no bytes if the items have none. O(1).
-    ///
-    /// ```text
-    /// MemorySize::of_items::<u64>(3);     // 24 bytes, 1 block
-    /// MemorySize::of_items::<u64>(0);     // 0 bytes, 0 blocks
-    /// ```
     #[inline]
     pub fn of_items<T>(n: usize) -> MemorySize
         ensures { result ≡ items_memory (type_size T.row) n }
@@ -43,11 +32,6 @@ impl MemorySize {
     }
 
     /// Returns what both take together. O(1).
-    ///
-    /// ```text
-    /// let size = PolymorphicVec::<u64>::memory_size(3);
-    /// size.saturating_add(size);          // 48 bytes, 2 blocks
-    /// ```
     #[inline]
     pub fn saturating_add(self, other: MemorySize) -> MemorySize
         ensures { result ≡ memory_plus self other }

@@ -18,14 +18,6 @@ use std_alloc::room::may_hold;
 ///
 /// Places are indexed from 0. A place takes the bytes of an item and one byte more, its mark. Contracts see the content of
 /// each place. The owner takes every item out before it consumes the row by [`RawSlots::end`]; a row can't be dropped.
-///
-/// ```text
-/// let mut slots = RawSlots::new(alloc, 3)?;
-/// slots.put(0, 'a');
-/// slots.get(0);               // &'a'
-/// slots.take(0);              // 'a'
-/// slots.end();
-/// ```
 pub struct RawSlots<T, A: Allocator = Global> {
     ptr: RowPtr<T>,
     row: RowOwner<T>,

@@ -64,12 +64,6 @@ impl<U: Drop> Error for InitError<U> {}
 ///
 /// An uninitialised container offers [`RelocatableContainer::init`] alone.
 ///
-/// ```text
-/// let uninit = UninitVec::<u64>::new_uninit(2);
-/// let mut vector = uninit.init(alloc)?;
-/// vector.push(1);             // Ok(())
-/// ```
-///
 /// This is `RelocatableContainer` of iceoryx2-bb-container.
 pub trait RelocatableContainer<A>: Sized {
     /// The initialised container.

@@ -23,13 +23,6 @@ use std::{fmt, slice, vec};
 /// `A` is the global allocator, a `&Bump` of `bumpalo`, a `&LocalHeap` of `linked_list_allocator`, or any other. The
 /// items are dropped from the last to the first.
 ///
-/// ```text
-/// let mut squares = PolymorphicVec::<u64>::new(alloc, 3)?;
-/// squares.extend_from_slice(&[0, 1, 4])?;
-/// squares.push(9);            // Err(VectorModificationError::InsertWouldExceedCapacity)
-/// squares.pop();              // Some(4)
-/// ```
-///
 /// This is `PolymorphicVec` of iceoryx2-bb-container.
 pub struct PolymorphicVec<T, A: Allocator = Global> {
     pub(super) items: Vec<T, A>,

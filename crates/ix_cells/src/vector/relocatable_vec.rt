@@ -9,12 +9,6 @@ use std::marker::PhantomData;
 
 /// A vector that is made in two steps: [`UninitVec`] has its capacity, and allocates from `A` when it is initialised.
 ///
-/// ```text
-/// let uninit = RelocatableVec::<u64>::new_uninit(2);
-/// let mut vector = uninit.init(alloc)?;
-/// vector.push(1);             // Ok(())
-/// ```
-///
 /// Once initialised it is a [`PolymorphicVec`]. This is `RelocatableVec` of iceoryx2-bb-container.
 pub type RelocatableVec<T, A = Global> = PolymorphicVec<T, A>;
 
@@ -30,13 +24,6 @@ impl<T, A: Allocator> RelocatableVec<T, A> {
 }
 
 /// An uninitialised [`RelocatableVec`]: a capacity, and no memory yet.
-///
-/// ```text
-/// match UninitVec::<u64>::new_uninit(1000).init(alloc) {
-///     Ok(mut vector) => vector.extend_from_slice(&[1, 2, 3])?,
-///     Err(error) => retry_later(error.into_uninit()),
-/// }
-/// ```
 pub type UninitVec<T> = Uninit<VecFamily<T>>;
 
 /// The relocatable vectors of `T`, one type for each allocator.

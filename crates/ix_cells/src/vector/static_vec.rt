@@ -25,15 +25,6 @@ use std::{fmt, mem, slice};
 ///
 /// The items are dropped from the last to the first.
 ///
-/// ```text
-/// let mut vector = StaticVec::<u64, 2>::new();
-/// vector.push(1);             // Ok(())
-/// vector.insert(0, 2);        // Ok(())
-/// vector.push(3);             // Err(VectorModificationError::InsertWouldExceedCapacity)
-/// vector.as_slice();          // [2, 1]
-/// vector.pop();               // Some(1)
-/// ```
-///
 /// This is `StaticVec` of iceoryx2-bb-container.
 // The `ArrayVec` is always full: its first `len` places hold the items, the others hold defaults.
 pub struct StaticVec<T: Default, const CAPACITY: usize> {
@@ -119,13 +110,6 @@ impl<T: Default + Drop, const CAPACITY: usize> StaticVec<T, CAPACITY> {
     /// O(`CAPACITY`).
     ///
     /// Returns [`VectorModificationError::OutOfBounds`], and leaves the vector unchanged, if `at` is greater than the length.
-    ///
-    /// ```text
-    /// vector.as_slice();          // [1, 2, 3]
-    /// let tail = vector.split_off(1)?;
-    /// tail.as_slice();            // [2, 3]
-    /// vector.as_slice();          // [1]
-    /// ```
     pub fn split_off(&mut self, at: usize) -> Result<Self, VectorModificationError>
         ensures tail { IfOk result (λ tail. tail ≡ drop at self.old) }
         ensures vector { self.new ≡ take at self.old }

@@ -27,15 +27,6 @@ use std::slice;
 /// The memory for all items is there once the vector is made, so no call allocates, except that cloning an item may. A
 /// call that returns an error leaves the vector unchanged, and drops an item that was passed to it. Indexes start at 0.
 ///
-/// ```text
-/// fn keep_even<V: Vector<u64>>(vector: &mut V) {
-///     let mut i = 0;
-///     while i < vector.len() {
-///         if vector.as_slice()[i] % 2 == 0 { i += 1 } else { vector.remove(i); }
-///     }
-/// }
-/// ```
-///
 /// This is `Vector` of iceoryx2-bb-container.
 pub trait Vector<T: Drop> {
     /// The items, and the capacity.
@@ -54,10 +45,6 @@ pub trait Vector<T: Drop> {
         ensures value { result.now ≡ (bounded self.old).items };
 
     /// Returns an iterator over references to the items, from the first to the last. O(1).
-    ///
-    /// ```text
-    /// for item in vector.iter().rev() { report(item) }
-    /// ```
     #[inline]
     final fn iter(&self) -> slice::Iter<'_, T>
         ensures { YieldsRefsTo (bounded self.now).items result }
@@ -137,12 +124,6 @@ pub trait Vector<T: Drop> {
     }
 
     /// Appends `item`. O(1). Returns `Err` with `item`, and leaves the vector unchanged, if the vector is full.
-    ///
-    /// ```text
-    /// let mut vector = StaticVec::<u64, 1>::new();
-    /// vector.try_push(1);         // Ok(())
-    /// vector.try_push(2);         // Err(2)
-    /// ```
     #[inline]
     final fn try_push(&mut self, item: T) -> Result<(), T>
         ensures full { IsErr result ↔ IsFull (bounded self.old) }
@@ -175,12 +156,6 @@ pub trait Vector<T: Drop> {
     /// Inserts `item` at `index` as [`Vector::insert`] does. O(`len - index`).
     ///
     /// Returns the errors of that call, each together with `item`.
-    ///
-    /// ```text
-    /// let mut vector = StaticVec::<u64, 1>::new();
-    /// vector.try_insert(1, 5);    // Err((VectorModificationError::OutOfBounds, 5))
-    /// vector.try_insert(0, 5);    // Ok(())
-    /// ```
     final fn try_insert(
         &mut self,
         index: usize,
@@ -220,12 +195,6 @@ pub trait Vector<T: Drop> {
 
     /// Removes the item at `index` and returns it; the last item takes its place. Returns `None` if `index` is out of
     /// bounds. O(1).
-    ///
-    /// ```text
-    /// vector.as_slice();          // [1, 2, 3]
-    /// vector.swap_remove(0);      // Some(1)
-    /// vector.as_slice();          // [3, 2]
-    /// ```
     final fn swap_remove(&mut self, index: usize) -> Option<T>
         ensures value { result ≡ slice_get (bounded self.old).items index }
         ensures vector { IfSome result (λ item. bounded self.new
@@ -244,11 +213,6 @@ pub trait Vector<T: Drop> {
     ///
     /// Returns [`VectorModificationError::InsertWouldExceedCapacity`], and leaves both unchanged, if there is no room for
     /// all of them.
-    ///
-    /// ```text
-    /// first.append(&mut second)?; // [1, 2] and [3]
-    /// first.as_slice();           // [1, 2, 3]
-    /// ```
     final fn append(&mut self, other: &mut Self) -> Result<(), VectorModificationError>
         ensures full { LacksRoomFor (length (bounded other.old).items) (bounded self.old)
             → result ≡ Err InsertWouldExceedCapacity }
@@ -279,12 +243,6 @@ pub trait Vector<T: Drop> {
 
     /// Calls `f` with each item, from the first to the last. Keeps the items for which `f` returns `true`, in their order,
     /// and drops the others, in any order, once `f` was called with all. O(`len`).
-    ///
-    /// ```text
-    /// vector.as_slice();          // [1, 2, 3]
-    /// vector.retain(|item| *item != 2);
-    /// vector.as_slice();          // [1, 3]
-    /// ```
     final fn retain<F: FnMut(&T) -> bool>(&mut self, f: F)
         requires { IsCallableOnEach F.FnMut (bounded self.old).items f }
         ensures items { IsFiltered (CalledAt F.FnMut) f
@@ -297,12 +255,6 @@ pub trait Vector<T: Drop> {
 
     /// Removes and drops each item that equals the one before it, so that of equal items in a row the first stays. They are
     /// dropped in any order. O(`len`).
-    ///
-    /// ```text
-    /// vector.as_slice();          // [1, 1, 2, 1]
-    /// vector.dedup();
-    /// vector.as_slice();          // [1, 2, 1]
-    /// ```
     final fn dedup(&mut self)
     where
         T: PartialEq,
@@ -314,13 +266,6 @@ pub trait Vector<T: Drop> {
     }
 
     /// Returns an iterator that removes all items, from the first to the last. O(`len`).
-    ///
-    /// ```text
-    /// for item in vector.drain() {
-    ///     send(item);
-    /// }
-    /// vector.is_empty();          // true
-    /// ```
     #[inline]
     final fn drain(&mut self) -> Drain<'_, T, Self>
         ensures items { drain_items bounded result ≡ (bounded self.old).items }

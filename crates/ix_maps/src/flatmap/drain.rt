@@ -30,13 +30,6 @@ impl<K: Eq + Drop, V: Drop, S: Table<Pair<K, V>>, L: Table<Link>> MetaFlatMap<Pa
 
     /// Returns an iterator that removes all keys, each with its value, in slot order. What is not taken is dropped with it, and
     /// the map is as [`MetaFlatMap::clear`] leaves it then. O(1), and O(capacity) for all of its items together.
-    ///
-    /// ```text
-    /// for (key, value) in map.drain() {
-    ///     send(key, value);
-    /// }
-    /// map.is_empty();                       // true
-    /// ```
     #[inline]
     pub fn drain(&mut self) -> Drain<'_, K, V, S, L>
         ensures items { drain_items result ≡ flat_items self.old }

@@ -21,13 +21,6 @@ impl<K: Eq + Drop, V: Drop, S: Table<Pair<K, V>>, L: Table<Link>> MetaFlatMap<Pa
     ///
     /// Returns [`FlatMapError::KeyAlreadyExists`] if the map has an equal key, and otherwise [`FlatMapError::IsFull`] if
     /// it is full, with `key` and `value`.
-    ///
-    /// ```text
-    /// let mut map = FixedSizeFlatMap::<u16, char, 1>::new();
-    /// map.try_insert(80, 'a');              // Ok(())
-    /// map.try_insert(80, 'b');              // Err((KeyAlreadyExists, 80, 'b'))
-    /// map.try_insert(443, 'b');             // Err((IsFull, 443, 'b'))
-    /// ```
     #[inline]
     pub fn try_insert(&mut self, key: K, value: V) -> Result<(), (FlatMapError, K, V)>
         ensures inserted { IsOk result ↔ IsOk (flat_insert_result K.eq self.old key) }
@@ -54,13 +47,6 @@ impl<K: Eq + Drop, V: Drop, S: Table<Pair<K, V>>, L: Table<Link>> MetaFlatMap<Pa
     /// dropped then.
     ///
     /// Returns `key` and `value` as the error if the map is full and has no equal key.
-    ///
-    /// ```text
-    /// let mut map = FixedSizeFlatMap::<u16, char, 1>::new();
-    /// map.replace(80, 'a');                 // Ok(None)
-    /// map.replace(80, 'b');                 // Ok(Some('a'))
-    /// map.replace(443, 'c');                // Err((443, 'c'))
-    /// ```
     pub fn replace(&mut self, key: K, value: V) -> Result<Option<V>, (K, V)>
         ensures value { IfOk result (λ old. old ≡ flat_value K.eq self.old key) }
         ensures full { IsErr result ↔ ((flat_value K.eq self.old key ≡ None) × (self.old.free ≡ [])) }
@@ -84,15 +70,6 @@ impl<K: Eq + Drop, V: Drop, S: Table<Pair<K, V>>, L: Table<Link>> MetaFlatMap<Pa
     /// `f` returns; if it has one, `key` is dropped, and `f` is not called.
     ///
     /// Returns `key` as the error if the map is full and has no equal key. `f` is not called then.
-    ///
-    /// ```text
-    /// let mut map = FixedSizeFlatMap::<u16, u32, 1>::new();
-    /// if let Ok(count) = map.get_or_insert_with(80, || 0) {
-    ///     *count += 1;
-    /// }
-    /// map.get_or_insert_with(80, || 7);     // Ok: 1
-    /// map.get_or_insert_with(443, || 7);    // Err(443)
-    /// ```
     pub fn get_or_insert_with<F: FnOnce() -> V>(&mut self, key: K, f: F) -> Result<&mut V, K>
         requires { flat_value K.eq self.old key ≡ None → self.old.free ≢ [] → F.pre f }
         ensures* writes_back { sem 𝓛

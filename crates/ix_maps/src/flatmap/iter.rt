@@ -13,15 +13,6 @@ use std::marker::Model;
 
 /// An iterator over the keys of a flat map in slot order, each with its value, as
 /// [`MetaFlatMap::iter`](crate::flatmap::MetaFlatMap::iter) returns it. Contracts see the items that are still to come.
-///
-/// ```text
-/// let mut map = FixedSizeFlatMap::<u16, char, 3>::new();
-/// map.insert(443, 'b');
-/// map.insert(80, 'a');
-/// for (key, value) in map.iter() {      // (443, 'b'), (80, 'a')
-///     report(*key, *value);
-/// }
-/// ```
 #[derive(Drop)]
 pub struct Iter<'a, K, V, S: Table<Pair<K, V>>, L: Table<Link>> {
     pairs: slottable::Iter<'a, Pair<K, V>, S, L>,

@@ -12,15 +12,6 @@ use std::marker::Model;
 
 /// An iterator over the keys of a flat map in slot order, as [`MetaFlatMap::keys`](crate::flatmap::MetaFlatMap::keys)
 /// returns it. Contracts see the keys that are still to come.
-///
-/// ```text
-/// let mut map = FixedSizeFlatMap::<u16, char, 3>::new();
-/// map.insert(443, 'b');
-/// map.insert(80, 'a');
-/// for key in map.keys() {               // 443, 80
-///     report(*key);
-/// }
-/// ```
 #[derive(Drop)]
 pub struct Keys<'a, K, V, S: Table<Pair<K, V>>, L: Table<Link>> {
     pairs: Iter<'a, Pair<K, V>, S, L>,

@@ -13,14 +13,6 @@ use std::marker::PhantomData;
 
 /// A flat map with room for `CAPACITY` keys that is stored inline and does not allocate.
 ///
-/// ```text
-/// let mut map = FixedSizeFlatMap::<u16, char, 2>::new();
-/// map.insert(80, 'a');                      // Ok(())
-/// map.insert(443, 'b');                     // Ok(())
-/// map.insert(8080, 'c');                    // Err(IsFull)
-/// map.contains(&443);                       // true
-/// ```
-///
 /// This is `FixedSizeFlatMap` of iceoryx2-bb-container.
 pub type FixedSizeFlatMap<K, V, const CAPACITY: usize> = MetaFlatMap<
     Pair<K, V>,
@@ -53,11 +45,6 @@ impl<K: Eq + Drop, V: Drop, const CAPACITY: usize> Default for FixedSizeFlatMap<
 
 /// A flat map whose memory is allocated from `A` when it is made, and deallocated when it is dropped.
 ///
-/// ```text
-/// let mut map = FlatMap::<u16, char>::new(alloc, 3)?;
-/// map.insert(80, 'a');                      // Ok(())
-/// ```
-///
 /// This is `FlatMap` of iceoryx2-bb-container.
 pub type FlatMap<K, V, A = Global> = MetaFlatMap<
     Pair<K, V>,
@@ -73,10 +60,6 @@ impl<K: Eq + Drop, V: Drop, A: Allocator + Copy> FlatMap<K, V, A> {
     /// a table of links. None if the capacity is 0.
     ///
     /// Does not allocate. O(1).
-    ///
-    /// ```text
-    /// FlatMap::<u64, u64>::memory_size(100);    // 3400 bytes, 4 blocks
-    /// ```
     #[inline]
     pub fn memory_size(capacity: usize) -> MemorySize
         ensures value { result ≡ slot_table_memory (type_size (pair.the_row K.row V.row)) (type_size link.the_row) capacity }
@@ -103,12 +86,6 @@ impl<K: Eq + Drop, V: Drop, A: Allocator + Copy> FlatMap<K, V, A> {
 /// A flat map that is made in two steps: first its capacity, as an [`UninitFlatMap`], and later its memory, allocated
 /// from `A`.
 ///
-/// ```text
-/// let uninit = RelocatableFlatMap::<u16, char>::new_uninit(3);
-/// let mut map = uninit.init(alloc)?;
-/// map.insert(80, 'a');                      // Ok(())
-/// ```
-///
 /// This is `RelocatableFlatMap` of iceoryx2-bb-container.
 pub type RelocatableFlatMap<K, V, A = Global> = FlatMap<K, V, A>;
 
@@ -125,13 +102,6 @@ impl<K: Eq + Drop, V: Drop, A: Allocator + Copy> RelocatableFlatMap<K, V, A> {
 
 /// An uninitialised flat map: a capacity without memory.
 /// [`RelocatableContainer::init`](ix_cells::RelocatableContainer::init) makes it a [`RelocatableFlatMap`].
-///
-/// ```text
-/// match UninitFlatMap::<u16, u64>::new_uninit(3).init(alloc) {
-///     Ok(mut map) => drop(map.insert(80, 1)),
-///     Err(error) => retry_with(error.into_uninit()),
-/// }
-/// ```
 pub type UninitFlatMap<K, V> = Uninit<FlatMapFamily<K, V>>;
 
 /// The relocatable flat maps from `K` to `V`, one type for each allocator.

@@ -30,16 +30,6 @@ use std::marker::Model;
 /// Each call that looks for a key takes O(capacity) time, any other O(1), if nothing else is said. No call allocates but those
 /// that make a map, and clones of a value. A map that is dropped drops its pairs in slot order, in O(capacity) time.
 ///
-/// ```text
-/// let mut map = FixedSizeFlatMap::<u16, char, 2>::new();
-/// map.insert(80, 'a');                  // Ok(())
-/// map.insert(80, 'b');                  // Err(KeyAlreadyExists)
-/// if let Some(value) = map.get_mut_ref(&80) {
-///     *value = 'c';
-/// }
-/// map.remove(&80);                      // Some('c')
-/// ```
-///
 /// This is `MetaFlatMap` of iceoryx2-bb-container.
 #[derive(Drop)]
 pub struct MetaFlatMap<P: Keyed, S: Table<P>, L: Table<Link>> {
@@ -70,13 +60,6 @@ impl<K: Eq + Drop, V: Drop, S: Table<Pair<K, V>>, L: Table<Link>> MetaFlatMap<Pa
     ///
     /// Returns [`FlatMapError::KeyAlreadyExists`] if the map has an equal key, and otherwise [`FlatMapError::IsFull`] if
     /// it is full. `key` and `value` are dropped then.
-    ///
-    /// ```text
-    /// let mut map = FixedSizeFlatMap::<u16, char, 1>::new();
-    /// map.insert(80, 'a');                  // Ok(())
-    /// map.insert(80, 'b');                  // Err(KeyAlreadyExists)
-    /// map.insert(443, 'b');                 // Err(IsFull)
-    /// ```
     pub fn insert(&mut self, key: K, value: V) -> Result<(), FlatMapError>
         ensures value { result ≡ flat_insert_result K.eq self.old key }
         ensures map { self.new ≡ flat_insert K.eq self.old key value }
@@ -245,13 +228,6 @@ impl<K: Eq + Drop, V: Drop, S: Table<Pair<K, V>>, L: Table<Link>> MetaFlatMap<Pa
     }
 
     /// Calls `callback` with each key in slot order, until it returns [`CallbackProgression::Stop`].
-    ///
-    /// ```text
-    /// map.list_keys(|key| {
-    ///     report(*key);
-    ///     CallbackProgression::Continue
-    /// });
-    /// ```
     pub fn list_keys<F: FnMut(&K) -> CallbackProgression>(&self, mut callback: F)
         requires { F.IsAlwaysCallable callback }
         ensures { (last : F) × ListsUntilStop F.FnMut callback (flat_keys self.now) last }
@@ -260,12 +236,6 @@ impl<K: Eq + Drop, V: Drop, S: Table<Pair<K, V>>, L: Table<Link>> MetaFlatMap<Pa
     }
 
     /// Returns an iterator over the keys in slot order. O(1), and O(capacity) for all of its items together.
-    ///
-    /// ```text
-    /// for key in map.keys() {
-    ///     report(*key);
-    /// }
-    /// ```
     #[inline]
     pub fn keys(&self) -> Keys<'_, K, V, S, L>
         ensures { result ≡ flat_keys self.now }
@@ -283,12 +253,6 @@ impl<K: Eq + Drop, V: Drop, S: Table<Pair<K, V>>, L: Table<Link>> MetaFlatMap<Pa
 
     /// Returns an iterator over the keys in slot order, each with its value. O(1), and O(capacity) for all of its items
     /// together.
-    ///
-    /// ```text
-    /// for (key, value) in map.iter() {      // or `in &map`
-    ///     report(*key, *value);
-    /// }
-    /// ```
     #[inline]
     pub fn iter(&self) -> Iter<'_, K, V, S, L>
         ensures items { result ≡ flat_items self.now }

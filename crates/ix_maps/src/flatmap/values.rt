@@ -12,15 +12,6 @@ use std::marker::Model;
 
 /// An iterator over the values of a flat map in slot order of their keys, as
 /// [`MetaFlatMap::values`](crate::flatmap::MetaFlatMap::values) returns it. Contracts see the values that are still to come.
-///
-/// ```text
-/// let mut map = FixedSizeFlatMap::<u16, char, 3>::new();
-/// map.insert(443, 'b');
-/// map.insert(80, 'a');
-/// for value in map.values() {           // 'b', 'a'
-///     report(*value);
-/// }
-/// ```
 #[derive(Drop)]
 pub struct Values<'a, K, V, S: Table<Pair<K, V>>, L: Table<Link>> {
     pairs: Iter<'a, Pair<K, V>, S, L>,

@@ -14,10 +14,6 @@ use ix_cells::Table;
 
 impl<K: Eq + Drop, V: Drop, S: Table<Pair<K, V>>, L: Table<Link>> MetaFlatMap<Pair<K, V>, S, L> {
     /// Calls `f` with each key in slot order and a mutable reference to its value. O(capacity), with one call for each key.
-    ///
-    /// ```text
-    /// map.for_each_mut(|_, value| *value += 1);
-    /// ```
     pub fn for_each_mut<F: FnMut(&K, &mut V)>(&mut self, f: F)
         requires { IsCallableOnEach (CallAtKey F.step) (TakesKey F.pre) f (flat_items self.old) }
         ensures calls { (last : F) × FoldsTo (ChangesItem (flat_set K.eq) (CallAtKey F.step))
@@ -33,10 +29,6 @@ impl<K: Eq + Drop, V: Drop, S: Table<Pair<K, V>>, L: Table<Link>> MetaFlatMap<Pa
     /// Calls `f` with each key in slot order and a mutable reference to its value. Removes each key for which `f` returns
     /// `false`, as [`MetaFlatMap::remove`] does, and drops the key and its value, right after the call. O(capacity), with one
     /// call for each key.
-    ///
-    /// ```text
-    /// map.retain(|_, value| *value > 3);
-    /// ```
     pub fn retain<F: FnMut(&K, &mut V) -> bool>(&mut self, f: F)
         requires { IsCallableOnEach (CallAtKey F.step) (TakesKey F.pre) f (flat_items self.old) }
         ensures calls { (last : F) × FoldsTo (RetainsItem (flat_set K.eq) (flat_remove K.eq) (CallAtKey F.step))

@@ -47,13 +47,6 @@ impl<K: Eq + Hash + Clone, V: Clone, A: Allocator + Copy, B: BuildHasher + Copy>
     ///
     /// O(`capacity`), with at most six allocations and `len` clones of keys and of values. Returns `AllocError` if an
     /// allocation or a clone fails; nothing stays allocated then.
-    ///
-    /// ```text
-    /// map.insert(80, 'a');                      // Ok(())
-    /// let mut copy = map.try_clone_in(alloc)?;
-    /// copy.remove(&80);                         // Some('a')
-    /// map.contains(&80);                        // true
-    /// ```
     pub fn try_clone_in<D: Allocator + Copy>(
         &self,
         alloc: D,

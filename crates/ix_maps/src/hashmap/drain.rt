@@ -47,13 +47,6 @@ impl<
 
     /// Returns an iterator that removes all keys, each with its value, in slot order. What is not taken is dropped with it, and
     /// the map is as [`MetaHashMap::clear`] leaves it then. O(1), and O(capacity) on average for all of its items together.
-    ///
-    /// ```text
-    /// for (key, value) in map.drain() {
-    ///     send(key, value);
-    /// }
-    /// map.is_empty();                       // true
-    /// ```
     #[inline]
     pub fn drain(&mut self) -> Drain<'_, K, V, S, L, C, B>
         ensures items { drain_items result ≡ flat_items self.old }

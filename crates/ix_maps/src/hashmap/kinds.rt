@@ -18,14 +18,6 @@ use std::marker::PhantomData;
 pub type DefaultHashBuilder = BuildHasherDefault<FoldHasher>;
 
 /// A hash map with room for `CAPACITY` keys that is stored inline and does not allocate.
-///
-/// ```text
-/// let mut map = FixedSizeHashMap::<u16, char, 2>::new();
-/// map.insert(80, 'a');                      // Ok(())
-/// map.insert(443, 'b');                     // Ok(())
-/// map.insert(8080, 'c');                    // Err(IsFull)
-/// map.contains(&443);                       // true
-/// ```
 pub type FixedSizeHashMap<K, V, const CAPACITY: usize, B = DefaultHashBuilder> = MetaHashMap<
     Pair<K, V>,
     InlineTable<Pair<K, V>, CAPACITY>,
@@ -76,11 +68,6 @@ impl<K: Eq + Hash + Drop, V: Drop, const CAPACITY: usize, B: BuildHasher + Defau
 }
 
 /// A hash map whose memory is allocated from `A` when it is made, and deallocated when it is dropped.
-///
-/// ```text
-/// let mut map = HashMap::<u16, char>::new(alloc, 3)?;
-/// map.insert(80, 'a');                      // Ok(())
-/// ```
 pub type HashMap<K, V, A = Global, B = DefaultHashBuilder> = MetaHashMap<
     Pair<K, V>,
     HeapTable<Pair<K, V>, A>,
@@ -112,10 +99,6 @@ impl<K: Eq + Hash + Drop, V: Drop, A: Allocator + Copy, B: BuildHasher + Drop> H
     /// a table of links and of a table of links of chains. None if the capacity is 0.
     ///
     /// Does not allocate. O(1).
-    ///
-    /// ```text
-    /// HashMap::<u64, u64>::memory_size(100);    // 7500 bytes, 6 blocks
-    /// ```
     #[inline]
     pub fn memory_size(capacity: usize) -> MemorySize
         ensures value { result ≡ hash_map_memory (type_size (pair.the_row K.row V.row)) (type_size link.the_row) (type_size chain_link.the_row) capacity }
@@ -144,12 +127,6 @@ impl<K: Eq + Hash + Drop, V: Drop, A: Allocator + Copy, B: BuildHasher + Drop> H
 
 /// A hash map that is made in two steps: first its capacity, as an [`UninitHashMap`], and later its memory, allocated
 /// from `A`.
-///
-/// ```text
-/// let uninit = RelocatableHashMap::<u16, char>::new_uninit(3);
-/// let mut map = uninit.init(alloc)?;
-/// map.insert(80, 'a');                      // Ok(())
-/// ```
 pub type RelocatableHashMap<K, V, A = Global, B = DefaultHashBuilder> = HashMap<K, V, A, B>;
 
 impl<
@@ -171,13 +148,6 @@ impl<
 /// An uninitialised hash map: a capacity without memory.
 /// [`RelocatableContainer::init`](ix_cells::RelocatableContainer::init) makes it a [`RelocatableHashMap`], whose hasher is
 /// `B::default()`.
-///
-/// ```text
-/// match UninitHashMap::<u16, u64>::new_uninit(3).init(alloc) {
-///     Ok(mut map) => drop(map.insert(80, 1)),
-///     Err(error) => retry_with(error.into_uninit()),
-/// }
-/// ```
 pub type UninitHashMap<K, V, B = DefaultHashBuilder> = Uninit<HashMapFamily<K, V, B>>;
 
 /// The relocatable hash maps from `K` to `V`, one type for each allocator. Hashers are made by a `B`.

@@ -51,12 +51,6 @@ impl<T: Clone, A: Allocator> Queue<T, A> {
     ///
     /// O(`capacity`), with at most two allocations and `len` clones. Returns `AllocError` if an allocation or a clone fails;
     /// nothing stays allocated then.
-    ///
-    /// ```text
-    /// queue.push(1);                    // true
-    /// let mut copy = queue.try_clone_in(alloc)?;
-    /// copy.pop();                       // Some(1)
-    /// ```
     pub fn try_clone_in<B: Allocator>(&self, alloc: B) -> Result<Queue<T, B>, AllocError>
         requires { AreEqualClones T.is_clone }
         ensures value { IfOk result (λ queue. queue ≡ self.now) }

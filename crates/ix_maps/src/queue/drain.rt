@@ -22,13 +22,6 @@ impl<T, S: Table<T>> MetaQueue<T, S> {
 
     /// Returns an iterator that removes all items, the front item first. What is not taken is dropped with it, and the queue
     /// is empty then. O(1), and O(`len`) for all of its items together.
-    ///
-    /// ```text
-    /// for item in queue.drain() {
-    ///     send(item);
-    /// }
-    /// queue.is_empty();                 // true
-    /// ```
     #[inline]
     pub fn drain(&mut self) -> Drain<'_, T, S>
     where

@@ -12,13 +12,6 @@ use ix_cells::Table;
 impl<T, S: Table<T>> MetaQueue<T, S> {
     /// Keeps the first `len` items, and drops the others, the back item first. Does nothing if there are at most `len`
     /// items. O(the number of dropped items).
-    ///
-    /// ```text
-    /// queue.push(1);                    // true
-    /// queue.push(2);                    // true
-    /// queue.truncate(1);
-    /// queue.pop_back();                 // Some(1)
-    /// ```
     pub fn truncate(&mut self, len: usize)
     where
         T: Drop,
@@ -32,13 +25,6 @@ impl<T, S: Table<T>> MetaQueue<T, S> {
     /// Calls `f` with each item, the front item first, so that it can change it. O(`len`).
     ///
     /// There is no `iter_mut`, since a table can lend one item at a time.
-    ///
-    /// ```text
-    /// queue.push(1);                    // true
-    /// queue.push(2);                    // true
-    /// queue.for_each_mut(|item| *item = 0);
-    /// queue.pop();                      // Some(0)
-    /// ```
     pub fn for_each_mut<F: FnMut(&mut T)>(&mut self, mut f: F)
         requires { IsCallableOnEachMut F.FnMut self.old.items f }
         ensures items { (last : F) × ChangesInTurn F.FnMut f self.old.items self.new.items last }
@@ -51,13 +37,6 @@ impl<T, S: Table<T>> MetaQueue<T, S> {
 
     /// Calls `f` with each item, the front item first. Keeps the items for which `f` returns `true`, in their order, and
     /// drops each of the others once `f` was asked. O(`len`).
-    ///
-    /// ```text
-    /// queue.push(1);                    // true
-    /// queue.push(2);                    // true
-    /// queue.retain(|item| *item != 1);
-    /// queue.pop();                      // Some(2)
-    /// ```
     pub fn retain<F: FnMut(&T) -> bool>(&mut self, mut f: F)
     where
         T: Drop,

@@ -26,13 +26,6 @@ impl<T, S: Table<T>> MetaQueue<T, S> {
     }
 
     /// Returns a mutable reference to the back item, or `None` if the queue is empty.
-    ///
-    /// ```text
-    /// if let Some(back) = queue.back_mut() {
-    ///     *back = 5;
-    /// }
-    /// queue.pop_back();                 // Some(5), if there was an item
-    /// ```
     #[inline]
     pub fn back_mut(&mut self) -> Option<&mut T>
         ensures* writes_back { sem 𝓛 (LendsIf (the_row T.row S.row S.Table)
@@ -49,12 +42,6 @@ impl<T, S: Table<T>> MetaQueue<T, S> {
     }
 
     /// Returns a reference to the item at `index`, where 0 is the front, or `None` if there are at most `index` items.
-    ///
-    /// ```text
-    /// queue.push(7);                    // true
-    /// queue.get_ref(0);                 // Some(&7)
-    /// queue.get_ref(1);                 // None
-    /// ```
     #[inline]
     pub fn get_ref(&self, index: usize) -> Option<&T>
         ensures value { option_copied result ≡ slice_get self.now.items index }

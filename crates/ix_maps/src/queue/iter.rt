@@ -12,16 +12,6 @@ use std::marker::Model;
 
 /// An iterator over the items of a queue, the front item first, as [`MetaQueue::iter`] returns it. Contracts see the items
 /// that are still to come.
-///
-/// ```text
-/// let mut queue = FixedSizeQueue::<u64, 2>::new();
-/// queue.push(1);
-/// queue.push(2);
-/// queue.push_with_overflow(3);
-/// for item in queue.iter() {            // &2, &3
-///     report(*item);
-/// }
-/// ```
 #[derive(Drop)]
 pub struct Iter<'a, T, S: Table<T>> {
     queue: &'a MetaQueue<T, S>,
@@ -143,12 +133,6 @@ impl<'a, T: Debug, S: Table<T>> Debug for Iter<'a, T, S> {
 ///
 /// It has the queue's memory. The items that are still to come when it is dropped are dropped with it, the next one first,
 /// in O(capacity) time.
-///
-/// ```text
-/// for item in queue {                   // the queue is moved
-///     send(item);
-/// }
-/// ```
 #[derive(Drop)]
 pub struct IntoIter<T, S: Table<T>> {
     queue: MetaQueue<T, S>,

@@ -13,15 +13,6 @@ use std::marker::PhantomData;
 
 /// A queue of at most `CAPACITY` items that is stored inline and does not allocate.
 ///
-/// ```text
-/// let mut queue = FixedSizeQueue::<u64, 2>::new();
-/// queue.push(1);                    // true
-/// queue.push(2);                    // true
-/// queue.push(3);                    // false: the queue is full
-/// queue.push_with_overflow(3);      // Some(1)
-/// queue.pop();                      // Some(2)
-/// ```
-///
 /// This is `FixedSizeQueue` of iceoryx2-bb-container.
 pub type FixedSizeQueue<T, const CAPACITY: usize> = MetaQueue<T, InlineTable<T, CAPACITY>>;
 
@@ -57,25 +48,11 @@ impl<T: Drop, const CAPACITY: usize> Default for FixedSizeQueue<T, CAPACITY> {
 
 /// A queue whose memory is allocated from `A` when it is made, and deallocated when it is dropped.
 ///
-/// ```text
-/// let mut queue = Queue::new(alloc, 2)?;
-/// queue.push(1);                    // true
-/// queue.peek();                     // Some(&1)
-/// queue.clear();
-/// queue.pop();                      // None
-/// ```
-///
 /// This is `Queue` of iceoryx2-bb-container.
 pub type Queue<T, A = Global> = MetaQueue<T, HeapTable<T, A>>;
 
 /// A queue that is made in two steps: first its capacity, as an [`UninitQueue`], and later its memory, allocated from
 /// `A`.
-///
-/// ```text
-/// let uninit = RelocatableQueue::<u64>::new_uninit(2);
-/// let mut queue = uninit.init(alloc)?;
-/// queue.push(1);                    // true
-/// ```
 ///
 /// This is `RelocatableQueue` of iceoryx2-bb-container.
 pub type RelocatableQueue<T, A = Global> = MetaQueue<T, HeapTable<T, A>>;
@@ -85,10 +62,6 @@ impl<T: Drop, A: Allocator> Queue<T, A> {
     /// capacity is 0.
     ///
     /// Does not allocate. O(1).
-    ///
-    /// ```text
-    /// Queue::<u64>::memory_size(100);       // 900 bytes, 2 blocks
-    /// ```
     #[inline]
     pub fn memory_size(capacity: usize) -> MemorySize
         ensures value { result ≡ table_memory (type_size T.row) capacity }
@@ -142,11 +115,4 @@ impl<T: Drop, A: Allocator> ContainerFamily<A> for QueueFamily<T> {
 
 /// An uninitialised queue: a capacity without memory.
 /// [`RelocatableContainer::init`](ix_cells::RelocatableContainer::init) makes it a [`RelocatableQueue`].
-///
-/// ```text
-/// match UninitQueue::<u64>::new_uninit(2).init(alloc) {
-///     Ok(mut queue) => drop(queue.push(1)),
-///     Err(error) => retry_with(error.into_uninit()),
-/// }
-/// ```
 pub type UninitQueue<T> = Uninit<QueueFamily<T>>;

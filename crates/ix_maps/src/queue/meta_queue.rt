@@ -23,14 +23,6 @@ use std::marker::{Model, PhantomData};
 /// The items lie in a ring of the table's places. Each call takes O(1) time if nothing else is said. No call allocates but
 /// those that make a queue. A queue that is dropped drops its items, the front item first, in O(capacity) time.
 ///
-/// ```text
-/// let mut queue = FixedSizeQueue::<u64, 2>::new();
-/// queue.push(1);                    // true
-/// queue.push(2);                    // true
-/// queue.get(1);                     // 2
-/// queue.pop();                      // Some(1)
-/// ```
-///
 /// This is `MetaQueue` of iceoryx2-bb-container.
 pub struct MetaQueue<T, S: Table<T>> {
     pub(crate) table: S,
@@ -86,11 +78,6 @@ impl<T, S: Table<T>> MetaQueue<T, S> {
     /// Creates an empty queue over `table`, whose length is the capacity.
     ///
     /// Every place of `table` is empty. A table of any kind will do, one of your own too.
-    ///
-    /// ```text
-    /// let mut queue = MetaQueue::from_table(InlineTable::<u64, 2>::new());
-    /// queue.capacity();                 // 2
-    /// ```
     #[inline]
     pub fn from_table(table: S) -> Self
         requires { IsVacant (S.places table) }
@@ -157,12 +144,6 @@ impl<T, S: Table<T>> MetaQueue<T, S> {
     }
 
     /// Appends `value` at the back. Returns `Err` with `value`, and leaves the queue unchanged, if the queue is full.
-    ///
-    /// ```text
-    /// let mut queue = FixedSizeQueue::<u64, 1>::new();
-    /// queue.try_push(1);                // Ok(())
-    /// queue.try_push(2);                // Err(2)
-    /// ```
     #[inline]
     pub fn try_push(&mut self, value: T) -> Result<(), T>
         ensures queue { self.new ≡ bounded_push self.old value }
@@ -180,12 +161,6 @@ impl<T, S: Table<T>> MetaQueue<T, S> {
 
     /// Appends `value` at the back. If the queue is full, removes the front item first and returns it; at capacity 0
     /// returns `value` itself. Returns `None` otherwise.
-    ///
-    /// ```text
-    /// let mut queue = FixedSizeQueue::<u64, 1>::new();
-    /// queue.push_with_overflow(1);      // None
-    /// queue.push_with_overflow(2);      // Some(1)
-    /// ```
     #[inline]
     pub fn push_with_overflow(&mut self, value: T) -> Option<T>
         ensures value { result ≡ queue_overflow_item self.old value }
@@ -226,12 +201,6 @@ impl<T, S: Table<T>> MetaQueue<T, S> {
     }
 
     /// Removes the back item, which is the newest, and returns it, or `None` if the queue is empty.
-    ///
-    /// ```text
-    /// queue.push(1);                    // true
-    /// queue.push(2);                    // true
-    /// queue.pop_back();                 // Some(2)
-    /// ```
     #[inline]
     pub fn pop_back(&mut self) -> Option<T>
         ensures value { result ≡ vec_last self.old }
@@ -273,13 +242,6 @@ impl<T, S: Table<T>> MetaQueue<T, S> {
     }
 
     /// Returns a mutable reference to the front item, or `None` if the queue is empty.
-    ///
-    /// ```text
-    /// if let Some(front) = queue.peek_mut() {
-    ///     *front = 5;
-    /// }
-    /// queue.pop();                      // Some(5), if there was an item
-    /// ```
     #[inline]
     pub fn peek_mut(&mut self) -> Option<&mut T>
         ensures* writes_back { sem 𝓛 (LendsIf (the_row T.row S.row S.Table)
@@ -317,12 +279,6 @@ impl<T, S: Table<T>> MetaQueue<T, S> {
     }
 
     /// Returns an iterator over the items, the front item first. O(1), and O(`len`) for all of its items together.
-    ///
-    /// ```text
-    /// for item in queue.iter() {        // or `in &queue`
-    ///     report(*item);
-    /// }
-    /// ```
     #[inline]
     pub fn iter(&self) -> Iter<'_, T, S>
         ensures { result ≡ self.now.items }

@@ -36,13 +36,6 @@ impl<T: Clone, A: Allocator + Copy> SlotMap<T, A> {
     ///
     /// O(`capacity`), with at most six allocations and `len` clones. Returns `AllocError` if an allocation or a clone fails;
     /// nothing stays allocated then.
-    ///
-    /// ```text
-    /// map.insert('a');                          // Some: index 0, generation 0
-    /// let mut copy = map.try_clone_in(alloc)?;
-    /// copy.remove(SlotMapKey::new(0, 0));       // Some('a')
-    /// map.contains(SlotMapKey::new(0, 0));      // true
-    /// ```
     pub fn try_clone_in<B: Allocator + Copy>(&self, alloc: B) -> Result<SlotMap<T, B>, AllocError>
         requires { AreEqualClones T.is_clone }
         ensures value { IfOk result (λ map. map ≡ self.now) }

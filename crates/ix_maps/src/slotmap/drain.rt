@@ -31,13 +31,6 @@ impl<T, S: Table<Option<T>>, L: Table<Link>, G: Table<u64>> MetaSlotMap<Option<T
     /// Returns an iterator that removes all held keys, each with its value, in rising order of the indexes. What is not taken is
     /// dropped with it, and the map is as [`MetaSlotMap::clear`] leaves it then. O(1), and O(capacity) for all of its items
     /// together.
-    ///
-    /// ```text
-    /// for (key, value) in map.drain() {
-    ///     send(key.index(), value);
-    /// }
-    /// map.is_empty();                       // true
-    /// ```
     #[inline]
     pub fn drain(&mut self) -> Drain<'_, T, S, L, G>
     where

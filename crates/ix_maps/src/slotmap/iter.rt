@@ -14,15 +14,6 @@ use std::marker::Model;
 /// An iterator over the held keys of a slot map in rising order of their indexes, each with its value, as
 /// [`MetaSlotMap::iter`] returns it. Contracts see the items that are still to come.
 ///
-/// ```text
-/// let mut map = FixedSizeSlotMap::<char, 3>::new();
-/// map.insert_at(2, 'c');
-/// map.insert('a');
-/// for (key, value) in map.iter() {      // index 0 and 'a', index 2 and 'c'
-///     report(key.index(), value);
-/// }
-/// ```
-///
 /// This is `Iter` of iceoryx2-bb-container.
 #[derive(Drop)]
 pub struct Iter<'a, T, S: Table<Option<T>>, L: Table<Link>, G: Table<u64>> {

@@ -13,15 +13,6 @@ use std::marker::Model;
 
 /// An iterator over the held keys of a slot map in rising order of their indexes, as
 /// [`MetaSlotMap::keys`](crate::MetaSlotMap::keys) returns it. Contracts see the keys that are still to come.
-///
-/// ```text
-/// let mut map = FixedSizeSlotMap::<char, 3>::new();
-/// map.insert_at(2, 'c');
-/// map.insert('a');
-/// for key in map.keys() {               // index 0, index 2
-///     report(key.index());
-/// }
-/// ```
 #[derive(Drop)]
 pub struct Keys<'a, T, S: Table<Option<T>>, L: Table<Link>, G: Table<u64>> {
     items: Iter<'a, T, S, L, G>,

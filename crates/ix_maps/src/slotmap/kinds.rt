@@ -17,15 +17,6 @@ use std::marker::{Model, PhantomData};
 
 /// A slot map with `CAPACITY` places that is stored inline and does not allocate.
 ///
-/// ```text
-/// let mut map = FixedSizeSlotMap::<char, 3>::new();
-/// map.insert('a');                          // Some: index 0, generation 0
-/// map.insert('b');                          // Some: index 1, generation 0
-/// map.remove(SlotMapKey::new(0, 0));        // Some('a')
-/// map.next_free_key();                      // Some: index 0, generation 1
-/// map.insert_at(2, 'c');                    // Some: index 2, generation 0
-/// ```
-///
 /// This is `FixedSizeSlotMap` of iceoryx2-bb-container.
 pub type FixedSizeSlotMap<T, const CAPACITY: usize> = MetaSlotMap<
     Option<T>,
@@ -75,11 +66,6 @@ impl<T: Drop, const CAPACITY: usize> Default for FixedSizeSlotMap<T, CAPACITY> {
 
 /// A slot map whose memory is allocated from `A` when it is made, and deallocated when it is dropped.
 ///
-/// ```text
-/// let mut map = SlotMap::<char>::new(alloc, 3)?;
-/// map.insert('a');                          // Some: index 0, generation 0
-/// ```
-///
 /// This is `SlotMap` of iceoryx2-bb-container.
 pub type SlotMap<T, A = Global> = MetaSlotMap<
     Option<T>,
@@ -96,10 +82,6 @@ impl<T: Drop, A: Allocator + Copy> SlotMap<T, A> {
     /// places hold, each an `Option<T>`, of a table of links and of a table of words. None if the capacity is 0.
     ///
     /// Does not allocate. O(1).
-    ///
-    /// ```text
-    /// SlotMap::<u64>::memory_size(100);         // 4300 bytes, 6 blocks
-    /// ```
     #[inline]
     pub fn memory_size(capacity: usize) -> MemorySize
         ensures value { result ≡ slot_map_memory (type_size (option.the_row T.row)) (type_size link.the_row) (type_size u64) capacity }
@@ -144,12 +126,6 @@ impl<T: Drop, A: Allocator + Copy> SlotMap<T, A> {
 /// A slot map that is made in two steps: first its capacity, as an [`UninitSlotMap`], and later its memory, allocated
 /// from `A`.
 ///
-/// ```text
-/// let uninit = RelocatableSlotMap::<char>::new_uninit(3);
-/// let mut map = uninit.init(alloc)?;
-/// map.insert('a');                          // Some: index 0, generation 0
-/// ```
-///
 /// This is `RelocatableSlotMap` of iceoryx2-bb-container.
 pub type RelocatableSlotMap<T, A = Global> = SlotMap<T, A>;
 
@@ -167,13 +143,6 @@ impl<T: Drop, A: Allocator + Copy> RelocatableSlotMap<T, A> {
 /// An uninitialised slot map: a capacity and a generation, and no memory yet. Contracts see these two numbers.
 ///
 /// It offers [`RelocatableContainer::init`] alone, which makes it a [`RelocatableSlotMap`].
-///
-/// ```text
-/// match UninitSlotMap::<u64>::new_uninit(3).init(alloc) {
-///     Ok(mut map) => drop(map.insert(1)),
-///     Err(error) => retry_with(error.into_uninit()),
-/// }
-/// ```
 #[derive(Drop)]
 pub struct UninitSlotMap<T> {
     capacity: usize,

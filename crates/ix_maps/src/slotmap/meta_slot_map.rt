@@ -32,16 +32,6 @@ use std::marker::Model;
 /// Each call takes O(1) time if nothing else is said. No call allocates but those that make a map. A map that is dropped
 /// drops its values, that of the least index first, in O(capacity) time.
 ///
-/// ```text
-/// let mut map = FixedSizeSlotMap::<char, 2>::new();
-/// if let Some(key) = map.insert('a') {  // index 0, generation 0
-///     map.get(key);                     // Some(&'a')
-///     map.remove(key);                  // Some('a')
-///     map.insert('b');                  // index 0, generation 1
-///     map.contains(key);                // false
-/// }
-/// ```
-///
 /// This is `MetaSlotMap` of iceoryx2-bb-container, whose keys have no generation: that map is [`MetaSlotTable`] here.
 #[derive(Drop)]
 pub struct MetaSlotMap<C: Content, S: Table<C>, L: Table<Link>, G: Table<u64>> {
@@ -181,12 +171,6 @@ impl<T, S: Table<Option<T>>, L: Table<Link>, G: Table<u64>> MetaSlotMap<Option<T
 
     /// Inserts `value` in the first free place and returns the key of that place; or drops `value` and returns `None` if no
     /// place is free.
-    ///
-    /// ```text
-    /// let mut map = FixedSizeSlotMap::<char, 1>::new();
-    /// map.insert('a');                      // Some: index 0, generation 0
-    /// map.insert('b');                      // None
-    /// ```
     #[inline]
     pub fn insert(&mut self, value: T) -> Option<SlotMapKey>
     where

@@ -14,12 +14,6 @@ use std::marker::Model;
 /// A key can have any two numbers. A map has a value for those of its keys that are held. Keys are ordered by their index,
 /// and then by their generation.
 ///
-/// ```text
-/// let key = SlotMapKey::new(3, 0);
-/// key.index();                              // 3
-/// key.generation();                         // 0
-/// ```
-///
 /// This is `SlotMapKey` of iceoryx2-bb-container, with a generation beside its number.
 #[derive(Clone, Copy, Debug, PartialEq, Eq, PartialOrd, Ord, Hash)]
 pub struct SlotMapKey {

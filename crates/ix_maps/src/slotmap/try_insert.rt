@@ -13,12 +13,6 @@ impl<T, S: Table<Option<T>>, L: Table<Link>, G: Table<u64>> MetaSlotMap<Option<T
     /// Inserts `value` in the first free place and returns the key of that place. Drops nothing.
     ///
     /// Returns `value` as the error if no place is free.
-    ///
-    /// ```text
-    /// let mut map = FixedSizeSlotMap::<char, 1>::new();
-    /// map.try_insert('a');                  // Ok: index 0, generation 0
-    /// map.try_insert('b');                  // Err('b')
-    /// ```
     #[inline]
     pub fn try_insert(&mut self, value: T) -> Result<SlotMapKey, T>
         ensures step { MapInsert self.old value self.new (result_ok result) }
@@ -39,13 +33,6 @@ impl<T, S: Table<Option<T>>, L: Table<Link>, G: Table<u64>> MetaSlotMap<Option<T
     /// The key of a value that was there is dead, and the new key has the next generation. Returns `value` as the error if
     /// `index` is out of range, if the place is retired, and if a value is there with the generation `u32::MAX`. Drops
     /// nothing.
-    ///
-    /// ```text
-    /// let mut map = FixedSizeSlotMap::<char, 1>::new();
-    /// map.try_insert_at(0, 'a');            // Ok: index 0, generation 0, and None
-    /// map.try_insert_at(0, 'b');            // Ok: index 0, generation 1, and Some('a')
-    /// map.try_insert_at(1, 'c');            // Err('c')
-    /// ```
     #[inline]
     pub fn try_insert_at(&mut self, index: usize, value: T) -> Result<(SlotMapKey, Option<T>), T>
         ensures step { MapInsertAt self.old index value self.new

@@ -12,15 +12,6 @@ use std::marker::Model;
 
 /// An iterator over the values of a slot map in rising order of the indexes of their keys, as
 /// [`MetaSlotMap::values`](crate::MetaSlotMap::values) returns it. Contracts see the values that are still to come.
-///
-/// ```text
-/// let mut map = FixedSizeSlotMap::<char, 3>::new();
-/// map.insert_at(2, 'c');
-/// map.insert('a');
-/// for value in map.values() {           // 'a', 'c'
-///     report(value);
-/// }
-/// ```
 #[derive(Drop)]
 pub struct Values<'a, T, S: Table<Option<T>>, L: Table<Link>, G: Table<u64>> {
     items: Iter<'a, T, S, L, G>,

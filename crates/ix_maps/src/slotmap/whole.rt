@@ -32,12 +32,6 @@ impl<T, S: Table<Option<T>>, L: Table<Link>, G: Table<u64>> MetaSlotMap<Option<T
 
     /// Returns an iterator over the held keys in rising order of their indexes. O(1), and O(capacity) for all of its items
     /// together.
-    ///
-    /// ```text
-    /// for key in map.keys() {
-    ///     report(key.index());
-    /// }
-    /// ```
     #[inline]
     pub fn keys(&self) -> Keys<'_, T, S, L, G>
         ensures { result ≡ keys_of (map_entries self.now) }
@@ -56,10 +50,6 @@ impl<T, S: Table<Option<T>>, L: Table<Link>, G: Table<u64>> MetaSlotMap<Option<T
 
     /// Calls `f` with each held key in rising order of the indexes and a mutable reference to its value. O(capacity), with one
     /// call for each value.
-    ///
-    /// ```text
-    /// map.for_each_mut(|_, value| *value += 1);
-    /// ```
     pub fn for_each_mut<F: FnMut(SlotMapKey, &mut T)>(&mut self, mut f: F)
         requires { IsCallableOnEach F.step F.pre f (map_entries self.old) }
         ensures calls { (last : F) × FoldsTo (ChangesItem map_set F.step)
@@ -83,10 +73,6 @@ impl<T, S: Table<Option<T>>, L: Table<Link>, G: Table<u64>> MetaSlotMap<Option<T
     /// Calls `f` with each held key in rising order of the indexes and a mutable reference to its value. Removes each key for
     /// which `f` returns `false`, as [`MetaSlotMap::remove`] does, and drops its value, right after the call. O(capacity), with
     /// one call for each value.
-    ///
-    /// ```text
-    /// map.retain(|_, value| *value > 3);
-    /// ```
     pub fn retain<F: FnMut(SlotMapKey, &mut T) -> bool>(&mut self, mut f: F)
     where
         T: Drop,

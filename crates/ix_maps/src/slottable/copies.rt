@@ -99,13 +99,6 @@ impl<T: Clone, A: Allocator + Copy> SlotTable<T, A> {
     ///
     /// O(`capacity`), with at most four allocations and `len` clones. Returns `AllocError` if an allocation or a clone fails;
     /// nothing stays allocated then.
-    ///
-    /// ```text
-    /// table.insert('a');                        // Some: the key 0
-    /// let mut copy = table.try_clone_in(alloc)?;
-    /// copy.remove(SlotTableKey::new(0));        // Some('a')
-    /// table.contains(SlotTableKey::new(0));     // true
-    /// ```
     pub fn try_clone_in<B: Allocator + Copy>(&self, alloc: B) -> Result<SlotTable<T, B>, AllocError>
         requires { AreEqualClones T.is_clone }
         ensures value { IfOk result (λ map. map ≡ self.now) }

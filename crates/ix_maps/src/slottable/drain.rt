@@ -29,13 +29,6 @@ impl<T, S: Table<T>, L: Table<Link>> MetaSlotTable<T, S, L> {
     /// Returns an iterator that removes all values, each with its key, in rising order of the keys. What is not taken is
     /// dropped with it, and the table is as [`MetaSlotTable::clear`] leaves it then. O(1), and O(capacity) for all of its items
     /// together.
-    ///
-    /// ```text
-    /// for (key, value) in table.drain() {
-    ///     send(key.value(), value);
-    /// }
-    /// table.is_empty();                     // true
-    /// ```
     #[inline]
     pub fn drain(&mut self) -> Drain<'_, T, S, L>
     where

@@ -15,12 +15,6 @@ use std::marker::Model;
 ///
 /// It has the table's memory. The values that are still to come when it is dropped are dropped with it, that of the least key
 /// first, in O(capacity) time.
-///
-/// ```text
-/// for (key, value) in table {         // the table is moved
-///     send(key.value(), value);
-/// }
-/// ```
 #[derive(Drop)]
 pub struct IntoIter<T, S: Table<T>, L: Table<Link>> {
     map: MetaSlotTable<T, S, L>,

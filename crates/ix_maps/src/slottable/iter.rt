@@ -13,15 +13,6 @@ use std::marker::Model;
 /// An iterator over the held keys of a slot table in rising order, each with its value, as [`MetaSlotTable::iter`] returns
 /// it. Contracts see the items that are still to come.
 ///
-/// ```text
-/// let mut table = FixedSizeSlotTable::<char, 3>::new();
-/// table.insert_at(SlotTableKey::new(2), 'c');
-/// table.insert('a');
-/// for (key, value) in table.iter() {    // (0, 'a'), (2, 'c')
-///     report(key.value(), value);
-/// }
-/// ```
-///
 /// This is `Iter` of iceoryx2-bb-container.
 #[derive(Drop)]
 pub struct Iter<'a, T, S: Table<T>, L: Table<Link>> {

@@ -12,15 +12,6 @@ use std::marker::Model;
 
 /// An iterator over the held keys of a slot table in rising order of their numbers, as
 /// [`MetaSlotTable::keys`](crate::MetaSlotTable::keys) returns it. Contracts see the keys that are still to come.
-///
-/// ```text
-/// let mut table = FixedSizeSlotTable::<char, 3>::new();
-/// table.insert_at(SlotTableKey::new(2), 'c');
-/// table.insert('a');
-/// for key in table.keys() {             // 0, 2
-///     report(key.value());
-/// }
-/// ```
 #[derive(Drop)]
 pub struct Keys<'a, T, S: Table<T>, L: Table<Link>> {
     items: Iter<'a, T, S, L>,

@@ -14,15 +14,6 @@ use std::marker::PhantomData;
 
 /// A slot table with `CAPACITY` keys that is stored inline and does not allocate.
 ///
-/// ```text
-/// let mut table = FixedSizeSlotTable::<char, 3>::new();
-/// table.insert('a');                        // Some: the key 0
-/// table.insert('b');                        // Some: the key 1
-/// table.remove(SlotTableKey::new(0));         // Some('a')
-/// table.next_free_key();                    // Some: the key 0
-/// table.insert_at(SlotTableKey::new(2), 'c');   // true
-/// ```
-///
 /// This is `FixedSizeSlotMap` of iceoryx2-bb-container, whose keys have no generation.
 pub type FixedSizeSlotTable<T, const CAPACITY: usize> = MetaSlotTable<
     T,
@@ -53,11 +44,6 @@ impl<T: Drop, const CAPACITY: usize> Default for FixedSizeSlotTable<T, CAPACITY>
 
 /// A slot table whose memory is allocated from `A` when it is made, and deallocated when it is dropped.
 ///
-/// ```text
-/// let mut table = SlotTable::<char>::new(alloc, 3)?;
-/// table.insert('a');                        // Some: the key 0
-/// ```
-///
 /// This is `SlotMap` of iceoryx2-bb-container, whose keys have no generation.
 pub type SlotTable<T, A = Global> = MetaSlotTable<T, HeapTable<T, A>, HeapTable<Link, A>>;
 
@@ -68,10 +54,6 @@ impl<T: Drop, A: Allocator + Copy> SlotTable<T, A> {
     /// of a table of links. None if the capacity is 0.
     ///
     /// Does not allocate. O(1).
-    ///
-    /// ```text
-    /// SlotTable::<u64>::memory_size(100);       // 2600 bytes, 4 blocks
-    /// ```
     #[inline]
     pub fn memory_size(capacity: usize) -> MemorySize
         ensures value { result ≡ slot_table_memory (type_size T.row) (type_size link.the_row) capacity }
@@ -106,12 +88,6 @@ impl<T: Drop, A: Allocator + Copy> SlotTable<T, A> {
 /// A slot table that is made in two steps: first its capacity, as an [`UninitSlotTable`], and later its memory, allocated
 /// from `A`.
 ///
-/// ```text
-/// let uninit = RelocatableSlotTable::<char>::new_uninit(3);
-/// let mut table = uninit.init(alloc)?;
-/// table.insert('a');                        // Some: the key 0
-/// ```
-///
 /// This is `RelocatableSlotMap` of iceoryx2-bb-container, whose keys have no generation.
 pub type RelocatableSlotTable<T, A = Global> = SlotTable<T, A>;
 
@@ -128,13 +104,6 @@ impl<T: Drop, A: Allocator + Copy> RelocatableSlotTable<T, A> {
 
 /// An uninitialised slot table: a capacity without memory.
 /// [`RelocatableContainer::init`](ix_cells::RelocatableContainer::init) makes it a [`RelocatableSlotTable`].
-///
-/// ```text
-/// match UninitSlotTable::<u64>::new_uninit(3).init(alloc) {
-///     Ok(mut table) => drop(table.insert(1)),
-///     Err(error) => retry_with(error.into_uninit()),
-/// }
-/// ```
 pub type UninitSlotTable<T> = Uninit<SlotTableFamily<T>>;
 
 /// The relocatable slot tables of `T`, one type for each allocator.

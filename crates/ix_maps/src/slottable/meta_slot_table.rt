@@ -29,15 +29,6 @@ use std::marker::{Model, PhantomData};
 /// Each call takes O(1) time if nothing else is said. No call allocates but those that make a table. A table that is dropped
 /// drops its values, that of the least key first, in O(capacity) time.
 ///
-/// ```text
-/// let mut table = FixedSizeSlotTable::<char, 2>::new();
-/// if let Some(key) = table.insert('a') {  // the key 0
-///     table.get(key);                   // Some(&'a')
-///     table.remove(key);                // Some('a')
-///     table.contains(key);              // false
-/// }
-/// ```
-///
 /// This is `MetaSlotMap` of iceoryx2-bb-container, whose keys have no generation.
 pub struct MetaSlotTable<T, S: Table<T>, L: Table<Link>> {
     pub(crate) values: Counted<S>,
@@ -68,13 +59,6 @@ impl<T, S: Table<T>, L: Table<Link>> MetaSlotTable<T, S, L> {
     /// Creates an empty table over two tables of the same length, which is the capacity. O(capacity).
     ///
     /// Every place of both tables is empty. A table of any kind will do, one of your own too.
-    ///
-    /// ```text
-    /// let values = InlineTable::<char, 2>::new();
-    /// let links = InlineTable::<Link, 2>::new();
-    /// let mut table = MetaSlotTable::from_tables(values, links);
-    /// table.capacity();                     // 2
-    /// ```
     pub fn from_tables(values: S, links: L) -> Self
         requires values { IsVacant (S.places values) }
         requires links { L.places links ≡ replicate (length (S.places values)) None }
@@ -159,13 +143,6 @@ impl<T, S: Table<T>, L: Table<Link>> MetaSlotTable<T, S, L> {
     }
 
     /// Returns the value at `key`, which has one.
-    ///
-    /// ```text
-    /// let mut table = FixedSizeSlotTable::<char, 1>::new();
-    /// if let Some(key) = table.insert('a') {
-    ///     table.get_unchecked(key);         // 'a'
-    /// }
-    /// ```
     #[inline]
     pub fn get_unchecked(&self, key: SlotTableKey) -> &T
         requires { IsHeld self.now key }
@@ -213,12 +190,6 @@ impl<T, S: Table<T>, L: Table<Link>> MetaSlotTable<T, S, L> {
 
     /// Inserts `value` at the first free key and returns that key; or drops `value` and returns `None` if the table is
     /// full.
-    ///
-    /// ```text
-    /// let mut table = FixedSizeSlotTable::<char, 1>::new();
-    /// table.insert('a');                    // the key 0
-    /// table.insert('b');                    // None
-    /// ```
     #[inline]
     pub fn insert(&mut self, value: T) -> Option<SlotTableKey>
     where

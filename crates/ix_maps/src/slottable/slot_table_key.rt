@@ -12,11 +12,6 @@ use std::marker::Model;
 ///
 /// A key can have any number. In range of a table are the keys whose number is less than its capacity.
 ///
-/// ```text
-/// let key = SlotTableKey::new(3);
-/// key.value();                              // 3
-/// ```
-///
 /// This is `SlotMapKey` of iceoryx2-bb-container, whose keys are plain numbers.
 #[derive(Clone, Copy, Debug, PartialEq, Eq, PartialOrd, Ord, Hash)]
 pub struct SlotTableKey {

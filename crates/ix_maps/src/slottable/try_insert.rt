@@ -13,12 +13,6 @@ impl<T, S: Table<T>, L: Table<Link>> MetaSlotTable<T, S, L> {
     /// Inserts `value` at the first free key and returns that key. Drops nothing.
     ///
     /// Returns `value` as the error if the table is full.
-    ///
-    /// ```text
-    /// let mut table = FixedSizeSlotTable::<char, 1>::new();
-    /// table.try_insert('a');                // Ok: the key 0
-    /// table.try_insert('b');                // Err('b')
-    /// ```
     #[inline]
     pub fn try_insert(&mut self, value: T) -> Result<SlotTableKey, T>
         ensures step { SlotInsert self.old value self.new (result_ok result) }
@@ -34,13 +28,6 @@ impl<T, S: Table<T>, L: Table<Link>> MetaSlotTable<T, S, L> {
 
     /// Inserts `value` at `key` and returns the value that was there, or `None` if `key` was free. Returns `value` as the
     /// error if `key` is out of range. Drops nothing.
-    ///
-    /// ```text
-    /// let mut table = FixedSizeSlotTable::<char, 1>::new();
-    /// table.try_insert_at(SlotTableKey::new(0), 'a');   // Ok(None)
-    /// table.try_insert_at(SlotTableKey::new(0), 'b');   // Ok(Some('a'))
-    /// table.try_insert_at(SlotTableKey::new(1), 'c');   // Err('c')
-    /// ```
     #[inline]
     pub fn try_insert_at(&mut self, key: SlotTableKey, value: T) -> Result<Option<T>, T>
         ensures step { SlotInsertAt self.old key value self.new (is_ok result) }

@@ -11,15 +11,6 @@ use std::marker::Model;
 
 /// An iterator over the values of a slot table in rising order of their keys, as
 /// [`MetaSlotTable::values`](crate::MetaSlotTable::values) returns it. Contracts see the values that are still to come.
-///
-/// ```text
-/// let mut table = FixedSizeSlotTable::<char, 3>::new();
-/// table.insert_at(SlotTableKey::new(2), 'c');
-/// table.insert('a');
-/// for value in table.values() {         // 'a', 'c'
-///     report(value);
-/// }
-/// ```
 #[derive(Drop)]
 pub struct Values<'a, T, S: Table<T>, L: Table<Link>> {
     items: Iter<'a, T, S, L>,

@@ -26,12 +26,6 @@ impl<T, S: Table<T>, L: Table<Link>> MetaSlotTable<T, S, L> {
     }
 
     /// Returns an iterator over the held keys in rising order. O(1), and O(capacity) for all of its items together.
-    ///
-    /// ```text
-    /// for key in table.keys() {
-    ///     report(key.value());
-    /// }
-    /// ```
     #[inline]
     pub fn keys(&self) -> Keys<'_, T, S, L>
         ensures { result ≡ keys_of (entries self.now) }
@@ -49,10 +43,6 @@ impl<T, S: Table<T>, L: Table<Link>> MetaSlotTable<T, S, L> {
 
     /// Calls `f` with each held key in rising order and a mutable reference to its value. O(capacity), with one call for each
     /// value.
-    ///
-    /// ```text
-    /// table.for_each_mut(|_, value| *value += 1);
-    /// ```
     pub fn for_each_mut<F: FnMut(SlotTableKey, &mut T)>(&mut self, mut f: F)
         requires { IsCallableOnEach F.step F.pre f (entries self.old) }
         ensures calls { (last : F) × FoldsTo (ChangesItem slot_set F.step)
@@ -72,10 +62,6 @@ impl<T, S: Table<T>, L: Table<Link>> MetaSlotTable<T, S, L> {
 
     /// Calls `f` with each held key in rising order and a mutable reference to its value, and removes and drops each value for
     /// which `f` returns `false`, right after the call. O(capacity), with one call for each value.
-    ///
-    /// ```text
-    /// table.retain(|_, value| *value > 3);
-    /// ```
     pub fn retain<F: FnMut(SlotTableKey, &mut T) -> bool>(&mut self, mut f: F)
     where
         T: Drop,

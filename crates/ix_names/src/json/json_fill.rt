@@ -12,14 +12,6 @@ use std::alloc::Global;
 /// A container in memory of an allocator that has a JSON form.
 ///
 /// Reading does not allocate, so a container that was made before takes in the entries that are read.
-///
-/// ```text
-/// let mut ports = PolymorphicVec::<u64>::new(alloc, 3)?;
-/// ports.fill_from_value(&value)?;     // of [80, 443]
-/// ports.as_slice();                   // [80, 443]
-/// ports.fill_from_value(&value);      // Err(JsonFault::TooLong)
-/// ports.as_slice();                   // [80, 443]
-/// ```
 pub trait JsonFill {
     /// The JSON tree of a container.
     ghost tree: { Self → Data };

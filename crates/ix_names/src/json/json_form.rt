@@ -10,12 +10,6 @@ use serde_json::Value;
 use std::alloc::Global;
 
 /// A value with a JSON form.
-///
-/// ```text
-/// let value = 80u64.to_value(alloc)?;     // 80
-/// u64::from_value(&value);                // Ok(80)
-/// bool::from_value(&value);               // Err(JsonFault::WrongKind)
-/// ```
 pub trait JsonForm: Sized {
     /// The JSON tree of a value.
     ghost tree: { Self → Data };

@@ -104,13 +104,6 @@ fn insert_members<
 /// keys in their order makes of a new map. Any other is read back with the same keys and values, at other places.
 ///
 /// O(`CAPACITY`) for each member, with as many calls of the values' conversion as there are keys.
-///
-/// ```text
-/// let mut ports = FixedSizeFlatMap::<StaticString<5>, u64, 3>::new();
-/// ports.insert(StaticString::try_from("https")?, 443);   // Ok(())
-/// ports.insert(StaticString::try_from("http")?, 80);     // Ok(())
-/// ports.to_value(alloc)?;                                // {"http":80,"https":443}
-/// ```
 impl<V: JsonItem + Drop, const N: usize, const CAPACITY: usize> JsonForm
     for FixedSizeFlatMap<StaticString<N>, V, CAPACITY> {
     ghost use Rattle.ix_maps.specs.SlotState.{slot_new};
@@ -155,12 +148,6 @@ impl<V: JsonItem + Drop, const N: usize, const CAPACITY: usize> JsonForm
 ///
 /// O(capacity) for each member. Writing calls the values' conversion once for each key, and reading twice for each member, since
 /// all are tried before the first is inserted.
-///
-/// ```text
-/// let mut ports = FlatMap::<StaticString<5>, u64>::new(alloc, 3)?;
-/// ports.fill_from_value(&value)?;     // of {"http":80,"https":443}
-/// ports.fill_from_value(&value);      // Err(JsonFault::TooLong)
-/// ```
 impl<V: JsonItem + Drop, A: Allocator, const N: usize> JsonFill for FlatMap<StaticString<N>, V, A> {
     ghost use Rattle.ix_maps.specs.SlotState.{slot_new};
     ghost use Rattle.ix_names.specs.JsonTree.{object_filled, by_key, map_without, HasSameEntries};

@@ -6,14 +6,6 @@ use crate::semantic_string::{Rules, Semantic, TrailingSlashRules};
 
 /// Rules that name a text which they accept: [`Semantic`] strings of such rules have a default, and can be the items of a
 /// fixed vector.
-///
-/// ```text
-/// impl DefaultText<31> for ZoneNameRules {
-///     fn default_text() -> &'static str {
-///         "local"
-///     }
-/// }
-/// ```
 pub trait DefaultText<const CAPACITY: usize>: Rules<CAPACITY> {
     /// The text that is named.
     ghost default_text: { List ℕ };

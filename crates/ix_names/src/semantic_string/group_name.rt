@@ -14,11 +14,6 @@ pub struct GroupNameRules;
 
 /// A name of a group: 1 to 31 lower-case letters, digits and dashes, of which the first is a letter. Each name is its own
 /// normal form.
-///
-/// ```text
-/// GroupName::new(b"ab-1");    // Ok
-/// GroupName::new(b"1a");      // Err(SemanticStringError::InvalidContent)
-/// ```
 pub type GroupName = Semantic<GroupNameRules, 31>;
 
 impl Rules<31> for GroupNameRules {

@@ -21,13 +21,6 @@ use std::marker::{Model, PhantomData};
 /// [`as_escaped_string`](ix_string::as_escaped_string) does. Lengths and indexes are counted in bytes, and indexes start
 /// at 0.
 ///
-/// ```text
-/// let mut name = GroupName::new(b"staff")?;
-/// name.push_bytes(b"-2");       // Ok(()), and the name is "staff-2"
-/// name.insert(0, b'1');         // Err(SemanticStringError::InvalidContent): no name begins with a digit
-/// name.truncate(0);             // Err(SemanticStringError::InvalidContent): no name is empty
-/// ```
-///
 /// This is `SemanticString` of iceoryx2-bb-container.
 pub struct Semantic<R: Rules<CAPACITY>, const CAPACITY: usize> {
     text: StaticString<CAPACITY>,

@@ -8,12 +8,6 @@ use ix_string::{StaticString, String};
 
 /// Rules that accept every text, and under which slashes at the end of a text mean nothing: `/tmp` and `/tmp/` are equal.
 /// A text of slashes alone means `/`.
-///
-/// ```text
-/// let path = Semantic::<TrailingSlashRules, 255>::new(b"/tmp//")?;
-/// path.eq_str("/tmp");          // true
-/// path.normalize().as_bytes();  // b"/tmp"
-/// ```
 #[derive(Clone, Copy, Debug)]
 pub struct TrailingSlashRules;
 

@@ -40,17 +40,6 @@ fn run_script<R: Read, W: Write>(
 /// container, as docs/SCRIPTS.md lists them, and `show`. The reply to any other line, and to one of more than 200 bytes, is
 /// `?`, and the line changes nothing. A line ends with a line feed, which the last one may lack.
 ///
-/// ```text
-/// queue fixed 1    ready
-/// push 5           true
-/// push 6           false     the queue is full
-/// over 6           some 5    the oldest item is removed
-/// show             6
-/// pop              some 6
-/// pop              none
-/// pop 1            ?
-/// ```
-///
 /// O(length of the input and of the replies) beside the calls of the container. Allocates the container of an allocated or
 /// a relocatable kind from `alloc`, and nothing else: the input is read in pieces of at most 32,768 bytes, and the replies
 /// wait in a buffer of that size. All of them are written before the next read. The writer is flushed once, at the end.

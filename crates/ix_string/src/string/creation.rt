@@ -14,11 +14,6 @@ impl<K: HeapStringKind, A: Allocator> HeapString<K, A> {
     ///
     /// Returns [`StringCreationError::InvalidCharacter`] if one of the bytes is 0 or above 127, and otherwise
     /// [`StringCreationError::OutOfMemory`] if there is no memory for them. Nothing stays allocated then.
-    ///
-    /// ```text
-    /// let string = PolymorphicString::try_from_bytes(alloc, b"staff")?;
-    /// string.capacity();    // 5
-    /// ```
     pub fn try_from_bytes(alloc: A, bytes: &[u8]) -> Result<Self, StringCreationError>
         ensures { HeapStringFromBytes bytes.now result }
     {
@@ -45,10 +40,6 @@ impl<K: HeapStringKind, A: Allocator> HeapString<K, A> {
     /// and none if the capacity is 0. An allocator that rounds each block up takes more than these bytes ([`MemorySize`]).
     ///
     /// Does not allocate. O(1).
-    ///
-    /// ```text
-    /// PolymorphicString::memory_size(31);   // 31 bytes, 1 block
-    /// ```
     #[inline]
     pub fn memory_size(capacity: usize) -> MemorySize
         ensures value { result ≡ items_memory 1 capacity }

@@ -59,12 +59,6 @@ impl fmt::Debug for EscapedByte {
 /// Returns the text that `byte` is printed as: `\t`, `\r` and `\n` for the bytes 9, 13 and 10, the byte itself for those
 /// from 32 to 127, a backslash and a quote too, and `\x` and two lower-case hexadecimal digits for every other byte. Does
 /// not allocate. O(1).
-///
-/// ```text
-/// escape_byte(b'a').as_str();    // "a"
-/// escape_byte(9).as_str();       // "\\t"
-/// escape_byte(1).as_str();       // "\\x01"
-/// ```
 #[inline]
 pub fn escape_byte(byte: u8) -> EscapedByte
     ensures { result ≡ escaped_byte byte }
@@ -122,10 +116,6 @@ impl fmt::Display for Escaped<'_> {
 
 /// Returns the bytes as a text that can be printed, in memory of `alloc`: the text of each, as [`escape_byte`] returns it.
 /// O(`bytes.len()`).
-///
-/// ```text
-/// as_escaped_string(alloc, b"a\tb\x01");    // Ok("a\\tb\\x01")
-/// ```
 ///
 /// Returns `AllocError` if there is no memory for the text.
 ///

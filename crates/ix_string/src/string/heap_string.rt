@@ -26,12 +26,6 @@ use std::marker::{Model, PhantomData};
 ///
 /// The two kinds `K` have names of their own, [`PolymorphicString`](crate::PolymorphicString) and
 /// [`RelocatableString`](crate::RelocatableString). `try_clone` asks for an allocator that is `Copy`.
-///
-/// ```text
-/// let mut string = PolymorphicString::new(alloc, 4)?;
-/// string.push_bytes(b"ab")?;
-/// // {:?} prints PolymorphicString { capacity: 4, len: 2, data: "ab" }
-/// ```
 #[derive(Drop)]
 pub struct HeapString<K, A: Allocator = Global> {
     pub(crate) bytes: PolymorphicVec<u8, A>,

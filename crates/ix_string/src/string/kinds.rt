@@ -45,14 +45,6 @@ impl HeapStringKind for Relocatable {
 
 /// A string in memory of the allocator `A`, which is allocated when the string is made.
 ///
-/// ```text
-/// let mut string = PolymorphicString::new(alloc, 4)?;
-/// string.push_bytes(b"abc")?;
-/// let mut copy = string.try_clone()?;
-/// copy.push(100)?;
-/// copy > string;    // true: "abcd" > "abc"
-/// ```
-///
 /// This is `PolymorphicString` of iceoryx2-bb-container.
 pub type PolymorphicString<A = Global> = HeapString<Polymorphic, A>;
 
@@ -88,12 +80,6 @@ impl<A: Allocator + Copy> PolymorphicString<A> {
 /// A string that is made in two steps: an [`UninitString`] has a capacity, and its `init` allocates the memory from the
 /// allocator `A`.
 ///
-/// ```text
-/// let uninit = RelocatableString::<Global>::new_uninit(2);
-/// let mut string = uninit.init(alloc)?;
-/// string.push(97);    // Ok(())
-/// ```
-///
 /// This is `RelocatableString` of iceoryx2-bb-container.
 pub type RelocatableString<A = Global> = HeapString<Relocatable, A>;
 
@@ -127,12 +113,4 @@ impl<A: Allocator> ContainerFamily<A> for StringFamily {
 
 /// An uninitialised string: a capacity, and no memory yet.
 /// [`RelocatableContainer::init`](ix_cells::RelocatableContainer::init) makes it a [`RelocatableString`].
-///
-/// ```text
-/// let uninit = UninitString::new_uninit(1000);
-/// match uninit.init(alloc) {
-///     Ok(mut string) => string.push_bytes(b"later")?,
-///     Err(error) => retry_with(error.into_uninit()),
-/// }
-/// ```
 pub type UninitString = Uninit<StringFamily>;

@@ -5,12 +5,6 @@ ghost use Rattle.ix_string.specs.Text.{nul_position};
 /// Returns the index of the first zero among the first `n` bytes. If there is none, returns `n` or `bytes.len()`,
 /// whichever is less. O(`n`).
 ///
-/// ```text
-/// strnlen(b"ab\0c", 4);    // 2
-/// strnlen(b"ab\0c", 1);    // 1
-/// strnlen(b"ab", 4);       // 2
-/// ```
-///
 /// This is `strnlen` of iceoryx2-bb-container, which reads from a pointer.
 pub fn strnlen(bytes: &[u8], n: usize) -> usize
     ensures { result ≡ min n (nul_position bytes.now) }

@@ -16,13 +16,6 @@ use std::marker::Model;
 ///
 /// `CAPACITY` can be any number, 0 too. The unused bytes of the value are zeros.
 ///
-/// ```text
-/// let mut string = StaticString::<8>::from_bytes(b"ho")?;
-/// string.insert_bytes(1, b"ell");    // Ok(()), and the string is "hello"
-/// string.push(0);                    // Err(StringModificationError::InvalidCharacter)
-/// string.rfind(b"l");                // Some(3)
-/// ```
-///
 /// This is `StaticString` of iceoryx2-bb-container.
 #[derive(Clone, Copy)]
 pub struct StaticString<const CAPACITY: usize> {

@@ -28,13 +28,6 @@ use std::str;
 /// Strings are compared and hashed by their bytes, whatever their capacities, and `Display` prints the bytes escaped,
 /// as [`as_escaped_string`](crate::as_escaped_string) does.
 ///
-/// ```text
-/// fn append_line<S: String>(string: &mut S, line: &[u8]) -> Result<(), StringModificationError> {
-///     string.push_bytes(line)?;
-///     string.push(10)
-/// }
-/// ```
-///
 /// This is `String` of iceoryx2-bb-container.
 pub trait String: Debug + Display + Eq + Ord + Hash {
     /// The bytes, and the capacity.

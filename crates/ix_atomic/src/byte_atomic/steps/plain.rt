@@ -39,13 +39,6 @@ impl ByteStep for Step {
 ///
 /// They are if each place is less than the length of `first`, and each load has the byte that was stored at its place
 /// last, or the byte of `first` if none was. O(n * m) for n bytes and m steps.
-///
-/// ```text
-/// let store = Step { op: 1, act: Act::Store { place: 0, byte: 5 } };
-/// let load = Step { op: 2, act: Act::Load { place: 0, byte: 5 } };
-/// replay(&[0, 0], &[store, load]);          // true
-/// replay(&[0, 0], &[load, store]);          // false: the first byte is 0
-/// ```
 pub fn replay(first: &[u8], steps: &[Step]) -> bool
     ensures { IsTrue result ↔ IsLegal first.now steps.now }
 {

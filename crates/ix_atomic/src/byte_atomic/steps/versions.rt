@@ -27,11 +27,6 @@ impl Error for VersionsUsedUp {}
 /// Returns the odd version during a write that begins at the even `version`, and the even version after it. O(1).
 ///
 /// Returns [`VersionsUsedUp`] if `version` is the greatest even number of a `u64`.
-///
-/// ```text
-/// next_versions(4);                                 // Ok((5, 6))
-/// next_versions(18_446_744_073_709_551_614);        // Err(VersionsUsedUp)
-/// ```
 #[inline]
 pub fn next_versions(version: u64) -> Result<(u64, u64), VersionsUsedUp>
     requires { version % 2 ≡ 0 }
