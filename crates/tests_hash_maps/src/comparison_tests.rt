@@ -150,9 +150,9 @@ fn check_spread<'a, M: BoundedMap<CountedKey<'a>, u64>>(
         missed = missed.wrapping_add(none);
         most = most.max(one).max(none);
     }
-    findings.expect(found < MANY * 14 / 10, "comparisons of keys that are found");
+    findings.expect(found < MANY * 12 / 10, "comparisons of keys that are found");
     findings.expect(
-        missed < MANY * 7 / 10,
+        missed < MANY * 4 / 10,
         "comparisons of keys that are missed",
     );
     findings.expect(most <= 7, "the most comparisons of a key");

@@ -58,15 +58,15 @@ fn read_made<A: Allocator + Copy, F: Fn() -> usize>(
     }
 }
 
-/// The capacity of a map, and the number of blocks of 16 bytes that it takes: 16 bytes for each pair and for each link, 24 for each
+/// The capacity of a map, and the number of blocks of 16 bytes that it takes: 16 bytes for each pair and for each link, 40 for each
 /// link of a chain, and one for the mark of each. An allocation takes whole blocks, so a seventh one would take one more.
 pub(crate) const SIZES: &[(usize, u16)] = &[
     (0, 0),
-    (1, 2 * (1 + 1) + 2 + 1),
-    (3, 2 * (3 + 1) + 5 + 1),
-    (8, 2 * (8 + 1) + 12 + 1),
-    (16, 2 * (16 + 1) + 24 + 1),
-    (33, 2 * (33 + 3) + 50 + 3),
+    (1, 2 * (1 + 1) + 3 + 1),
+    (3, 2 * (3 + 1) + 8 + 1),
+    (8, 2 * (8 + 1) + 20 + 1),
+    (16, 2 * (16 + 1) + 40 + 1),
+    (33, 2 * (33 + 3) + 83 + 3),
 ];
 
 #[test]
