@@ -13,10 +13,11 @@ mod list_tests;
 #[cfg(test)]
 mod map_tests;
 #[cfg(test)]
+mod object_tests;
+#[cfg(test)]
 mod option_tests;
 #[cfg(test)]
 mod reading_tests;
-#[cfg(test)]
 #[cfg(test)]
 mod text_tests;
 #[cfg(test)]

@@ -45,6 +45,38 @@ fn fixed_maps(rt: HostRuntime) -> Result<(), Fail> {
     findings.verdict()
 }
 
+/// Keys and values are read back, and lie in the order of the keys then.
+#[test]
+fn read_back_from_any_places(rt: HostRuntime) -> Result<(), Fail> {
+    let mut again = FlatMap::<Name, u8>::new(rt.alloc(), 2)?;
+    let findings = Findings::new();
+    let mut map = FixedSizeFlatMap::<Name, u8, 3>::new();
+    for (key, value) in [("b", 2), ("z", 9), ("a", 1)] {
+        findings.expect_same(map.insert(name(key), value), Ok(()), key);
+    }
+    findings.expect_same(map.remove(&name("z")), Some(9), "z");
+    let Ok(value) = map.to_value(rt.alloc()) else {
+        findings.miss("there is memory for a value");
+        return findings.verdict();
+    };
+    match FixedSizeFlatMap::<Name, u8, 3>::from_value(&value) {
+        Ok(other) => {
+            findings.expect(other == map, "the same map");
+            findings.expect_same(map.nth_key(0).copied(), Some(name("b")), "as it was");
+            findings.expect_same(other.nth_key(0).copied(), Some(name("a")), "by key");
+        }
+        Err(_) => findings.miss("a map"),
+    }
+    findings.expect_same(again.fill_from_value(&value), Ok(()), "an allocated map");
+    check_text(
+        &findings,
+        rt.alloc(),
+        again.to_value(rt.alloc()),
+        "{\"a\":1,\"b\":2}",
+    );
+    findings.verdict()
+}
+
 #[test]
 fn objects_that_are_no_fixed_map(rt: HostRuntime) -> Result<(), Fail> {
     let findings = Findings::new();
