@@ -55,7 +55,7 @@ fn inline() -> Result<(), Fail> {
         size_of::<FixedSizeHashMap<u64, u64, 1>>(),
         size_of::<FixedSizeHashMap<u64, u64, 9>>(),
     );
-    findings.expect_same(map, 80, "a hash map");
+    findings.expect_same(map, 96, "a hash map");
     findings.verdict()
 }
 
