@@ -28,6 +28,11 @@ def libraries_of_crates():
     return uses
 
 
+def version():
+    """Returns the name and the version of the library, which the first line of crates.txt has."""
+    return read("crates.txt").decode().splitlines()[0].removeprefix("# ").split()
+
+
 def below(crate, uses):
     """Returns the crates of this repository that a crate stands on, each once, lowest first."""
     found = {}
