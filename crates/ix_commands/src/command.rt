@@ -42,7 +42,7 @@ impl<T: Copy> Clone for QueueCommand<T> {
 }
 
 /// A command of a vector of `T`.
-#[derive(Clone, Copy)]
+#[derive(Clone, Copy, PartialEq, Eq, Debug)]
 pub enum VecCommand<'a, T> {
     /// `push X`: appends the item.
     Push(T),
@@ -188,7 +188,7 @@ impl<K: Copy, V: Copy> Clone for FlatCommand<K, V> {
 }
 
 /// A command of a string.
-#[derive(Clone, Copy)]
+#[derive(Clone, Copy, PartialEq, Eq, Debug)]
 pub enum TextCommand<'a> {
     /// `push B`: appends the byte.
     Push(u8),

@@ -87,7 +87,10 @@ fn printed_cells(rt: HostRuntime) -> Result<(), Fail> {
     let torn = fixed.read();
     let printed = InlineText::<40>::of(format_args!("{torn:?}"));
     findings.expect_same(printed.as_str(), "MaybeTorn { bytes: [2, 1] }", "bytes");
-    match RelocatableByteAtomic::<u8, 1>::new_uninit().init(rt.alloc(), 7) {
+    let uninit = RelocatableByteAtomic::<u8, 1>::new_uninit();
+    let printed = InlineText::<40>::of(format_args!("{uninit:?}"));
+    findings.expect_same(printed.as_str(), "UninitByteAtomic", "no memory yet");
+    match uninit.init(rt.alloc(), 7) {
         Ok(made) => {
             let printed = InlineText::<40>::of(format_args!("{made:?}"));
             findings.expect_same(printed.as_str(), "RelocatableByteAtomic { .. }", "made");

@@ -7,7 +7,7 @@ use ix_run::run::{
     read_slot_command, read_table_command, read_text_command, read_vec_command,
 };
 use std::test::Fail;
-use test_support::Findings;
+use test_support::{Findings, check_text};
 
 const QUEUE_LINES: &[(&str, Queue<u64>)] = &[
     ("push 0", Queue::Push(0)),
@@ -290,5 +290,21 @@ fn text_lists() -> Result<(), Fail> {
     } else {
         findings.miss("insert_bytes");
     }
+    findings.verdict()
+}
+
+/// Commands that hold slices are equal if their items are, and print these.
+#[test]
+fn commands_with_slices() -> Result<(), Fail> {
+    let findings = Findings::new();
+    let extend = VecCommand::<u64>::Extend(&[1, 2]);
+    check_text(&findings, &extend, "Extend([1, 2])");
+    findings.expect(extend == VecCommand::Extend(&[1, 2]), "equal items");
+    findings.expect(extend != VecCommand::Extend(&[1, 3]), "another item");
+    findings.expect(extend != VecCommand::Pop, "another command");
+    let find = TextCommand::Find(b"ab");
+    check_text(&findings, &find, "Find([97, 98])");
+    findings.expect(find == TextCommand::Find(b"ab"), "equal bytes");
+    findings.expect(find != TextCommand::Rfind(b"ab"), "another command");
     findings.verdict()
 }

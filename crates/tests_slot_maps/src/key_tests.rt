@@ -1,7 +1,7 @@
 //! Keys by their traits, and the texts of maps.
 use ix_cells::Table;
 use ix_maps::slotmap::key_order_law;
-use ix_maps::{FixedSizeSlotMap, Link, MetaSlotMap, SlotMap, SlotMapKey};
+use ix_maps::{FixedSizeSlotMap, Link, MetaSlotMap, SlotMap, SlotMapKey, UninitSlotMap};
 use std::alloc::AllocError;
 use std::cmp::Ordering;
 use std::test::Fail;
@@ -79,6 +79,9 @@ fn texts(rt: HostRuntime) -> Result<(), Fail> {
     let findings = Findings::new();
     let key = SlotMapKey::new(3, 1);
     check_text(&findings, &key, "SlotMapKey { index: 3, generation: 1 }");
+    let uninit = UninitSlotMap::<u64>::starting_at(8, 3);
+    let text = "UninitSlotMap { capacity: 8, generation: 3 }";
+    check_text(&findings, &uninit, text);
     check_texts(&findings, &mut FixedSizeSlotMap::<u64, 3>::new());
     match SlotMap::<u64>::new(rt.alloc(), 3) {
         Ok(mut map) => check_texts(&findings, &mut map),

@@ -61,6 +61,12 @@ impl<T, const SIZE: usize> UninitByteAtomic<T, SIZE> {
     }
 }
 
+impl<T, const SIZE: usize> fmt::Debug for UninitByteAtomic<T, SIZE> {
+    fn fmt<W: fmt::Write>(&self, f: &mut fmt::Formatter<W>) -> fmt::Result {
+        f.debug_struct("UninitByteAtomic").finish()
+    }
+}
+
 impl<T: AtomicCopy, const SIZE: usize> UninitByteAtomic<T, SIZE> {
     /// Allocates from `alloc` once and returns a cell that holds `value`. O(`SIZE`).
     ///

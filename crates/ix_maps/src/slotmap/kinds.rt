@@ -13,6 +13,7 @@ use ix_cells::{
     HeapTable, InitError, InlineTable, MAX_FIXED_CAPACITY, MemorySize, RelocatableContainer,
 };
 use std::alloc::{AllocError, Allocator, Global};
+use std::fmt;
 use std::marker::{Model, PhantomData};
 
 /// A slot map with `CAPACITY` places that is stored inline and does not allocate.
@@ -212,5 +213,14 @@ impl<T: Drop, A: Allocator + Copy> RelocatableContainer<A> for UninitSlotMap<T> 
             Ok(map) => Ok(map),
             Err(AllocError) => Err(InitError::new(self)),
         }
+    }
+}
+
+impl<T> fmt::Debug for UninitSlotMap<T> {
+    fn fmt<W: fmt::Write>(&self, f: &mut fmt::Formatter<W>) -> fmt::Result {
+        f.debug_struct("UninitSlotMap")
+            .field("capacity", &self.capacity)
+            .field("generation", &self.generation)
+            .finish()
     }
 }
