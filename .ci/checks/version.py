@@ -1,4 +1,4 @@
-"""The version: crates.txt, README and the newest entry of CHANGELOG name one."""
+"""The version: crates.txt, README and the newest entry of CHANGELOG name one, the latter two with its day or `unreleased`."""
 
 import re
 
@@ -8,7 +8,7 @@ from checks.items import text_of
 
 def check():
     number = version()[1]
-    patterns = {"README.md": r"^Version: (\S+) of (\S+)\. ", "CHANGELOG.md": r"^## (\d\S*) - (\S+)$"}
+    patterns = {"README.md": r"^Version: (\S+), (\S+)\. ", "CHANGELOG.md": r"^## (\d\S*) - (\S+)$"}
     found = {path: re.search(pattern, text_of(path), re.M) for path, pattern in patterns.items()}
     named = {path: it and it.groups() for path, it in found.items()}
     faults = [f"{path} does not name version {number} of crates.txt" for path, it in named.items() if not it or it[0] != number]
