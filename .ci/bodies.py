@@ -10,7 +10,7 @@ import re
 
 from checks.items import items_of, text_of
 
-# file: the path in its crate. span: the first and the last line of the function that it changes, or None if that is not one function.
+# file: the path in its crate. span: the first and the last line of the one function that it changes, or None if there are more.
 Body = collections.namedtuple("Body", "path crate file pairs name span")
 
 CALL = re.compile(r"\b(\w+)(?:::<[^()]*>)?\(")
@@ -32,9 +32,17 @@ def lines_of(crate, file):
     return tuple(text_of(f"crates/{crate}/{file}").split("\n"))
 
 
+def start_of(lines, first):
+    """Returns the first line of a function with its attributes, where the checker sees it begin."""
+    while lines[first - 1].lstrip().startswith("#["):
+        first -= 1
+    return first
+
+
 @functools.lru_cache(maxsize=None)
 def spans_of(crate, file):
-    return [(it.first, it.last, it.name) for it in functions_of(lines_of(crate, file))]
+    lines = lines_of(crate, file)
+    return [(start_of(lines, it.first), it.last, it.name) for it in functions_of(lines)]
 
 
 def read_body(crate, path):
@@ -111,13 +119,20 @@ def is_goal(body, path, number, said):
     return is_in_proof(body, path) and said.startswith("error: ") and not MISSED.search(said)
 
 
-def is_not_proved(status, output):
-    return status == 1 and output.rstrip().split("\n")[-1].startswith("logic=not-proved")
+def modules_of(batch):
+    """Returns the modules whose functions a check of a batch has to look at, or none if that is the whole crate."""
+    modules = sorted({body.file.removeprefix("src/").removesuffix(".rt").replace("/", "::") for body in batch})
+    return [] if {"lib", "main"} & set(modules) else modules
+
+
+def ends(output, word):
+    return output.rstrip().split("\n")[-1].startswith(word)
 
 
 def refused_by_batch(batch, status, output):
     """Yields each wrong body of a batch that the check refused by a goal of the function that it changes, and that line."""
-    faults = list(faults_in(output)) if is_not_proved(status, output) else []
+    is_told = status == 1 and (ends(output, "only=") or ends(output, "logic=not-proved"))
+    faults = list(faults_in(output)) if is_told else []
     for body in (it for it in batch if it.span):
         line = next((fault[0] for fault in faults if is_goal(body, *fault[1:])), None)
         if line:
@@ -138,7 +153,7 @@ def verdict_alone(body, status, output):
         return False, "NOT REFUSED: the crate is still proved with it"
     faults = list(faults_in(output))
     unread = next((line for line, path, _, said in faults if is_unread(body, path, said)), None)
-    if unread or not is_not_proved(status, output):
+    if unread or status != 1 or not ends(output, "logic=not-proved"):
         return False, f"BAD EDIT: it did not reach the prover: {unread or output.rstrip()[:600]}"
     told = next((line for line, _, _, said in faults if "it is not proved that" in said or said.startswith("error: ")), output.rstrip())
     return True, f"refused: {told[:200]}"

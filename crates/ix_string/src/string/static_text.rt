@@ -8,8 +8,8 @@ use std::convert::{AsSlice, AsStr};
 use std::fmt;
 use std::ops::DerefStr;
 
-/// `write!(string, "{n}")` appends the text piece by piece. It returns an error at the first piece that does not fit or
-/// has a byte that is 0 or above 127. The pieces before that one stay in the string, and no other is appended.
+/// With `use std::fmt::Write;`, `write!(string, "{n}")` appends the text piece by piece. It returns an error at the first piece
+/// that does not fit or has a byte that is 0 or above 127. The pieces before that one stay in the string, and no other is appended.
 impl<const CAPACITY: usize> fmt::Write for StaticString<CAPACITY> {
     ghost write_str_gives = { λ string text after. after ≡ string ++ text };
 
