@@ -28,8 +28,8 @@ impl<T> Model for ReaderSeat<T> {
 }
 
 /// Lets its holder write to one cell, and read from it. A cell may have any number of them, made by
-/// [`SequencedByteAtomic::writer`](crate::SequencedByteAtomic::writer). It can't be dropped: it is consumed by
-/// [`SequencedByteAtomic::merge`](crate::SequencedByteAtomic::merge) or
+/// [`SequencedByteAtomic::writer`](crate::SequencedByteAtomic::writer). It can't be dropped, so a thread's closure borrows one and
+/// does not own it. It is consumed by [`SequencedByteAtomic::merge`](crate::SequencedByteAtomic::merge) or
 /// [`SequencedByteAtomic::close`](crate::SequencedByteAtomic::close).
 ///
 /// Contracts see the cell, the beginning of the history that the holder knows, the versions that it has loaded, the places in the

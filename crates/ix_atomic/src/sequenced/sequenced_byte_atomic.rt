@@ -86,6 +86,8 @@ impl<T: AtomicCopy, const SIZE: usize> SequencedByteAtomic<T, SIZE> {
     /// Returns [`TryWriteError::Busy`] if the version is odd, or is no longer the loaded one when it would be exchanged, and
     /// [`TryWriteError::VersionsUsedUp`] at version 18,446,744,073,709,551,614, the greatest even number of a `u64`. Then the cell
     /// is left unchanged.
+    ///
+    /// In a loop, an invariant says that the seat is still one of this cell, as `l.seat.cell ≡ l.cell`.
     pub fn try_write(&self, seat: &mut WriterSeat<T>, value: T) -> Result<(), TryWriteError>
         requires { seat.old.cell ≡ self.now }
         ensures cell { seat.new.cell ≡ seat.old.cell }
