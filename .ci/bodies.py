@@ -10,7 +10,8 @@ import re
 
 from checks.items import items_of, text_of
 
-# file: the path in its crate. span: the first and the last line of the one function that it changes, or None if there are more.
+# file: the path in its crate. span: the first and the last line of the one function whose body it changes, or None if it changes
+# more: a function that loses a clause takes its callers along.
 Body = collections.namedtuple("Body", "path crate file pairs name span")
 
 CALL = re.compile(r"\b(\w+)(?:::<[^()]*>)?\(")
@@ -41,8 +42,9 @@ def start_of(lines, first):
 
 @functools.lru_cache(maxsize=None)
 def spans_of(crate, file):
+    """Returns of each function in a file where it begins, where its body does, its last line, and its name."""
     lines = lines_of(crate, file)
-    return [(start_of(lines, it.first), it.last, it.name) for it in functions_of(lines)]
+    return [(start_of(lines, it.first), it.first + len(it.head), it.last, it.name) for it in functions_of(lines)]
 
 
 def read_body(crate, path):
@@ -53,9 +55,9 @@ def read_body(crate, path):
     news = [it.removeprefix("new:").removeprefix(" ") for it in lines if it.startswith("new:")]
     whole = lines_of(crate, file)
     changed = {i for old in olds for i, line in enumerate(whole) if old in line}
-    around = {it for i in changed for it in spans_of(crate, file) if it[0] <= i <= it[1]}
-    first, last, name = around.pop() if len(around) == 1 else (0, 0, None)
-    is_inside = name and all(first <= i <= last for i in changed)
+    around = {it for i in changed for it in spans_of(crate, file) if it[0] <= i <= it[2]}
+    first, body, last, name = around.pop() if len(around) == 1 else (0, 0, 0, None)
+    is_inside = name and all(body <= i <= last for i in changed)
     return Body(path, crate, file, tuple(zip(olds, news)), name, (first, last) if is_inside else None)
 
 
