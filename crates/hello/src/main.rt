@@ -1,7 +1,8 @@
 //! A program that keeps the last two of three numbers, and the names of two ports.
 #![tactic(auto)]
 
-use ix_maps::{FixedSizeQueue, FlatMap};
+use ix_flatmap::FlatMap;
+use ix_queue::FixedSizeQueue;
 
 fn main(rt: HostRuntime) -> Result<(), anyhow::Error> {
     let mut latest = FixedSizeQueue::<u64, 2>::new(); // inline

@@ -3,8 +3,8 @@ use Rattle.std.proofs.Common.{ℕ, ◌≡◌, ◌+◌, ◌-◌, ◌∙◌, List,
 use Rattle.std.specs.List.{AppendsResults, FoldsTo}
 use Rattle.std.specs.Prelude.{OnOk}
 use Rattle.std.proofs.lemmas.Grind.{common_steps}
-use Rattle.ix_cells.specs.Bounded.{Bounded}
-use Rattle.ix_cells.specs.VectorSteps.{VecResult, vec_resize}
+use Rattle.ix_tables.specs.Bounded.{Bounded}
+use Rattle.ix_vector.specs.VectorSteps.{VecResult, vec_resize}
 
 -- calls that each returned x, and left the closure as it was
 copies : {F X : Type 0} (step : F → X → F → Type 0) (x : X) (f : F) → ((p : F) (r : X) (q : F) → p ≡ f → step p r q → (r ≡ x) × (q ≡ f))

@@ -6,11 +6,11 @@ use Rattle.std.proofs.lemmas.Bool.{and_parts, cases_eq, cases_lt, eqb-true}
 use Rattle.std.proofs.lemmas.Bool.Decides.{nat_tests}
 use Rattle.std.proofs.lemmas.List.{length-set, get_or-set_same, get_or-set_other, get_or_past}
 use Rattle.std.proofs.lemmas.List.Sums.{sum_by-cons}
-use Rattle.ix_cells.specs.Places.{place_at, IsEmptyAt}
-use Rattle.ix_maps.specs.SlotState.{value_at}
-use Rattle.ix_maps.specs.SlotSteps.{keys_without, slot_fill}
-use Rattle.ix_maps.specs.Generations.{SlotKey, SlotMapState, generation_at, place_value, map_value, IsRetired, IsDead, IsMapFormed}
-use Rattle.ix_maps.specs.SlotMapSteps.{is_raisable, map_set_at, map_set, map_insert, map_fill, map_replace, map_vacate, map_retire, map_remove}
+use Rattle.ix_tables.specs.Places.{place_at, IsEmptyAt}
+use Rattle.ix_slottable.specs.SlotState.{value_at}
+use Rattle.ix_slottable.specs.SlotSteps.{keys_without, slot_fill}
+use Rattle.ix_slotmap.specs.Generations.{SlotKey, SlotMapState, generation_at, place_value, map_value, IsRetired, IsDead, IsMapFormed}
+use Rattle.ix_slotmap.specs.SlotMapSteps.{is_raisable, map_set_at, map_set, map_insert, map_fill, map_replace, map_vacate, map_retire, map_remove}
 use Rattle.ix_commands.specs.Run.{run_state}
 use Rattle.ix_commands.specs.SlotRun.{is_free_place, is_replaceable, map_insert_at, slot_after, DeadStaysDead}
 use Rattle.ix_commands.specs.declared.command.SlotCommand.{SlotCommand}

@@ -6,7 +6,7 @@ use Rattle.std.proofs.lemmas.Bool.{false_from_ne_true}
 use Rattle.std.proofs.lemmas.List.{take-append-drop, drop_at}
 use Rattle.std.proofs.lemmas.List.Elements.{filter-append}
 use Rattle.std.proofs.lemmas.Grind.{common_steps}
-use Rattle.ix_cells.proofs.Lists.{slice_get-length}
+use Rattle.ix_vector.proofs.Lists.{slice_get-length}
 use Rattle.ix_string.specs.Text.{MatchesAt, IsFirstMatch, IsLastMatch}
 use Rattle.ix_string.proofs.Matches.{starts_with-MatchesAt}
 use Rattle.ix_commands.specs.TextRun.{match_indexes}

@@ -3,7 +3,7 @@ use Rattle.std.proofs.Common.{◌≡◌, List, [], ◌∷◌, ◌++◌, Bool, tr
 use Rattle.std.specs.Prelude.{reverse, map, not}
 use Rattle.std.specs.List.{filter, items_where_true}
 use Rattle.std.proofs.lemmas.List.{map-append, reverse-append}
-use Rattle.ix_cells.specs.Bounded.{Bounded, with_items}
+use Rattle.ix_tables.specs.Bounded.{Bounded, with_items}
 use Rattle.ix_string.specs.Retain.{ResultsAt, Retains}
 
 module _ {F X : Type 0} (step : F → X → Bool → F → Type 0) (test : X → Bool) (f : F) (tests : (x : X) (b : Bool) (h : F) → step f x b h → (b ≡ test x) × (h ≡ f)) where

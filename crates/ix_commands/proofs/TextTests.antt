@@ -3,8 +3,8 @@ use Rattle.std.proofs.Common.{ℕ, ◌≡◌, ◌+◌, ◌-◌, ◌≤◌, Bool,
 use Rattle.std.specs.Prelude.{◌↔◌, ◌==◌, nat_le, if◌then◌else◌}
 use Rattle.std.specs.Bool.{IsTrue, OnTrue, OnFalse}
 use Rattle.std.specs.List.{starts_with, ends_with}
-use Rattle.ix_cells.specs.Bounded.{Bounded}
-use Rattle.ix_cells.specs.VectorSteps.{vec_truncate}
+use Rattle.ix_tables.specs.Bounded.{Bounded}
+use Rattle.ix_vector.specs.VectorSteps.{vec_truncate}
 use Rattle.ix_string.specs.Text.{MatchesAt, EndsWith}
 use Rattle.ix_string.specs.TextSteps.{text_remove_range}
 use Rattle.ix_string.proofs.Matches.{starts_with-MatchesAt, ends_with-EndsWith}

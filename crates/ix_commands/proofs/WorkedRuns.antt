@@ -2,9 +2,9 @@
 use Rattle.std.proofs.Common.{ℕ, ◌≡◌, List, [], ◌∷◌, true, false, refl}
 use Rattle.std.specs.Prelude.{nat_eq}
 use Rattle.std.specs.Borrow.{Bor}
-use Rattle.ix_cells.specs.Bounded.{bounded_new}
-use Rattle.ix_maps.specs.SlotState.{slot_new}
-use Rattle.ix_maps.specs.Generations.{SlotKey, map_new}
+use Rattle.ix_tables.specs.Bounded.{bounded_new}
+use Rattle.ix_slottable.specs.SlotState.{slot_new}
+use Rattle.ix_slotmap.specs.Generations.{SlotKey, map_new}
 use Rattle.ix_commands.specs.Run.{run_replies}
 use Rattle.ix_commands.specs.QueueRun.{queue_reply, queue_after}
 use Rattle.ix_commands.specs.VecRun.{vec_reply, vec_after}

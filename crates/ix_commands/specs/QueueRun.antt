@@ -1,7 +1,7 @@
 -- The run of a queue: the reply to each command, and the queue after it.
 use Rattle.std.specs.Prelude.{ℕ, ◌==◌, [], length, slice_get, nat_lt}
-use Rattle.ix_cells.specs.Bounded.{Bounded, with_items, has_room, bounded_push}
-use Rattle.ix_maps.specs.QueueSteps.{queue_overflow, queue_overflow_item, queue_front, queue_pop, queue_set_front}
+use Rattle.ix_tables.specs.Bounded.{Bounded, with_items, has_room, bounded_push}
+use Rattle.ix_queue.specs.QueueSteps.{queue_overflow, queue_overflow_item, queue_front, queue_pop, queue_set_front}
 use Rattle.ix_commands.specs.Replies.{option_reply}
 use Rattle.ix_commands.specs.declared.command.QueueCommand.{QueueCommand}
 use Rattle.ix_commands.specs.declared.command.QueueCommand.TheVariants.{Push, Over, Pop, Peek, Set, At, Clear, Len, Capacity, Empty, Full}

@@ -1,9 +1,9 @@
 -- The run of a slot map: the reply to each command, and the map after it.
 use Rattle.std.specs.Prelude.{◌≡◌, ℕ, ◌==◌, Bool, List, Option, Some, None, length, slice_get, is_some, option_map, nat_le, nat_lt, ◌&&◌, not, if◌then◌else◌}
 use Rattle.std.specs.List.{find}
-use Rattle.ix_maps.specs.SlotState.{value_at}
-use Rattle.ix_maps.specs.Generations.{SlotKey, SlotMapState, key_at, place_value, map_value, IsDead, retired_count, map_len, map_entries}
-use Rattle.ix_maps.specs.SlotMapSteps.{is_raisable, map_set, map_insert, map_fill, map_replace, map_remove}
+use Rattle.ix_slottable.specs.SlotState.{value_at}
+use Rattle.ix_slotmap.specs.Generations.{SlotKey, SlotMapState, key_at, place_value, map_value, IsDead, retired_count, map_len, map_entries}
+use Rattle.ix_slotmap.specs.SlotMapSteps.{is_raisable, map_set, map_insert, map_fill, map_replace, map_remove}
 use Rattle.ix_commands.specs.Replies.{option_reply, key_reply, entry_reply}
 use Rattle.ix_commands.specs.Run.{run_state}
 use Rattle.ix_commands.specs.declared.command.SlotCommand.{SlotCommand}

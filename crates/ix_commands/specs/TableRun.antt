@@ -1,8 +1,8 @@
 -- The run of a slot table: the reply to each command, and the slot state after it.
 use Rattle.std.specs.Prelude.{ℕ, ◌==◌, Option, length, slice_get, is_some, nat_lt, nat_le, if◌then◌else◌}
 use Rattle.std.specs.List.{find}
-use Rattle.ix_maps.specs.SlotState.{SlotState, value_at, held_count, entries}
-use Rattle.ix_maps.specs.SlotSteps.{slot_set, slot_insert, slot_insert_at, slot_remove}
+use Rattle.ix_slottable.specs.SlotState.{SlotState, value_at, held_count, entries}
+use Rattle.ix_slottable.specs.SlotSteps.{slot_set, slot_insert, slot_insert_at, slot_remove}
 use Rattle.ix_commands.specs.Replies.{option_reply, key_reply, entry_reply}
 use Rattle.ix_commands.specs.declared.command.TableCommand.{TableCommand}
 use Rattle.ix_commands.specs.declared.command.TableCommand.TheVariants.{Insert, Next, InsertAt, Remove, Get, Set, Contains, From, Len, Capacity, Empty, Full}

@@ -1,8 +1,8 @@
 -- The run of a string: the reply to each command, and the string after it.
 use Rattle.std.specs.Prelude.{ℕ, ◌+◌, ◌-◌, ◌==◌, List, [], ◌∷◌, length, drop, not, slice_get, nat_le, if◌then◌else◌}
 use Rattle.std.specs.List.{filter, starts_with, ends_with, range_with_len}
-use Rattle.ix_cells.specs.Bounded.{Bounded, with_items}
-use Rattle.ix_cells.specs.VectorSteps.{vec_last, vec_pop, vec_remove, vec_truncate}
+use Rattle.ix_tables.specs.Bounded.{Bounded, with_items}
+use Rattle.ix_vector.specs.VectorSteps.{vec_last, vec_pop, vec_remove, vec_truncate}
 use Rattle.ix_string.specs.TextSteps.{text_insert, text_insert_result, text_remove_range}
 use Rattle.ix_string.specs.declared.string.modification_error.StringModificationError.{StringModificationError}
 use Rattle.ix_string.specs.declared.string.modification_error.StringModificationError.TheVariants as text_error

@@ -1,7 +1,7 @@
 //! The commands of each container.
 ghost use Rattle.std.specs.Prelude.{◌≡◌, ⊤};
 
-use ix_maps::SlotMapKey;
+use ix_slotmap::SlotMapKey;
 use std::alloc::AllocError;
 
 /// A command of a queue of `T`.

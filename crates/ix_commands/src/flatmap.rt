@@ -1,22 +1,23 @@
 //! Commands of flat maps.
 ghost use Rattle.std.specs.Prelude.{◌≡◌, is_some, IfOk, OnOk, OnErr};
-ghost use Rattle.ix_maps.specs.FlatState.{flat_value};
-ghost use Rattle.ix_maps.specs.FlatSteps.{flat_set};
+ghost use Rattle.ix_flatmap.specs.FlatState.{flat_value};
+ghost use Rattle.ix_flatmap.specs.FlatSteps.{flat_set};
 ghost use Rattle.ix_commands.specs.FlatRun.{flat_reply, flat_after};
 ghost use Rattle.ix_commands.specs.Replies.{result_reply, flat_reply_error};
 ghost use Rattle.ix_commands.specs.Run.{run_replies, run_state};
 
 use crate::reply::{reply_of_key, reply_of_option};
 use crate::{FlatCommand, Reply, ReplyError, Runs, run_all};
-use ix_cells::Table;
-use ix_maps::{FlatMapError, Link, MetaFlatMap, Pair};
+use ix_flatmap::{FlatMapError, MetaFlatMap, Pair};
+use ix_slottable::Link;
+use ix_tables::Table;
 use std::alloc::{AllocError, Global};
 
 /// The commands of a flat map, of any kind.
 impl<K: Eq + Copy, V: Copy, S: Table<Pair<K, V>>, L: Table<Link>> Runs<FlatCommand<K, V>>
     for MetaFlatMap<Pair<K, V>, S, L> {
-    ghost use Rattle.ix_maps.specs.SlotState.{SlotState};
-    ghost use Rattle.ix_maps.specs.declared.flatmap.pair.Pair.{Pair};
+    ghost use Rattle.ix_slottable.specs.SlotState.{SlotState};
+    ghost use Rattle.ix_flatmap.specs.declared.flatmap.pair.Pair.{Pair};
     ghost use Rattle.ix_commands.specs.FlatRun.{flat_reply, flat_after};
 
     type Reply = Reply<K, V>;

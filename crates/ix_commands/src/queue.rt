@@ -1,18 +1,18 @@
 //! Commands of queues.
 ghost use Rattle.std.specs.Prelude.{◌≡◌, ◌<◌, length, nat_lt, slice_get, IfOk, OnOk, OnErr};
-ghost use Rattle.ix_maps.specs.QueueSteps.{queue_set_front};
+ghost use Rattle.ix_queue.specs.QueueSteps.{queue_set_front};
 ghost use Rattle.ix_commands.specs.QueueRun.{queue_reply, queue_after};
 ghost use Rattle.ix_commands.specs.Run.{run_replies, run_state};
 
 use crate::reply::reply_of_option;
 use crate::{QueueCommand, Reply, Runs, run_all};
-use ix_cells::Table;
-use ix_maps::MetaQueue;
+use ix_queue::MetaQueue;
+use ix_tables::Table;
 use std::alloc::{AllocError, Global};
 
 /// The commands of a queue, of any kind. `clear` takes O(`len()`), each other one O(1).
 impl<T: Copy, S: Table<T>> Runs<QueueCommand<T>> for MetaQueue<T, S> {
-    ghost use Rattle.ix_cells.specs.Bounded.{Bounded};
+    ghost use Rattle.ix_tables.specs.Bounded.{Bounded};
     ghost use Rattle.ix_commands.specs.QueueRun.{queue_reply, queue_after};
 
     type Reply = Reply<usize, T>;

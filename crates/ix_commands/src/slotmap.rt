@@ -1,21 +1,22 @@
 //! Commands of slot maps.
 ghost use Rattle.std.specs.Prelude.{◌≡◌, List, is_some, if◌then◌else◌, IfOk, OnOk, OnErr};
-ghost use Rattle.ix_maps.specs.Generations.{SlotMapState, map_value, IsMapFormed};
-ghost use Rattle.ix_maps.specs.SlotMapSteps.{map_set};
+ghost use Rattle.ix_slotmap.specs.Generations.{SlotMapState, map_value, IsMapFormed};
+ghost use Rattle.ix_slotmap.specs.SlotMapSteps.{map_set};
 ghost use Rattle.ix_commands.specs.Run.{run_replies, run_state};
 ghost use Rattle.ix_commands.specs.SlotRun.{slot_reply, slot_after, slot_from, DeadStaysDead};
 ghost use Rattle.ix_commands.specs.declared.command.SlotCommand.{SlotCommand};
 
 use crate::reply::{reply_of_entry, reply_of_key, reply_of_option};
 use crate::{Reply, Runs, SlotCommand, run_all};
-use ix_cells::Table;
-use ix_maps::{Link, MetaSlotMap, SlotMapKey};
+use ix_slotmap::{MetaSlotMap, SlotMapKey};
+use ix_slottable::Link;
+use ix_tables::Table;
 use std::alloc::{AllocError, Global};
 
 /// The commands of a slot map, of any kind.
 impl<T: Copy, S: Table<Option<T>>, L: Table<Link>, G: Table<u64>> Runs<SlotCommand<T>>
     for MetaSlotMap<Option<T>, S, L, G> {
-    ghost use Rattle.ix_maps.specs.Generations.{SlotMapState};
+    ghost use Rattle.ix_slotmap.specs.Generations.{SlotMapState};
     ghost use Rattle.ix_commands.specs.SlotRun.{slot_reply, slot_after};
 
     type Reply = Reply<SlotMapKey, T>;

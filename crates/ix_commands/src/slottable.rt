@@ -1,20 +1,20 @@
 //! Commands of slot tables.
 ghost use Rattle.std.specs.Prelude.{◌≡◌, is_some, if◌then◌else◌, IfOk, OnOk, OnErr};
-ghost use Rattle.ix_maps.specs.SlotState.{value_at};
-ghost use Rattle.ix_maps.specs.SlotSteps.{slot_set};
+ghost use Rattle.ix_slottable.specs.SlotState.{value_at};
+ghost use Rattle.ix_slottable.specs.SlotSteps.{slot_set};
 ghost use Rattle.ix_commands.specs.Replies.{key_reply};
 ghost use Rattle.ix_commands.specs.Run.{run_replies, run_state};
 ghost use Rattle.ix_commands.specs.TableRun.{table_reply, table_after, table_from};
 
 use crate::reply::{reply_of_entry, reply_of_option};
 use crate::{Reply, Runs, TableCommand, run_all};
-use ix_cells::Table;
-use ix_maps::{Link, MetaSlotTable, SlotTableKey};
+use ix_slottable::{Link, MetaSlotTable, SlotTableKey};
+use ix_tables::Table;
 use std::alloc::{AllocError, Global};
 
 /// The commands of a slot table, of any kind.
 impl<T: Copy, S: Table<T>, L: Table<Link>> Runs<TableCommand<T>> for MetaSlotTable<T, S, L> {
-    ghost use Rattle.ix_maps.specs.SlotState.{SlotState};
+    ghost use Rattle.ix_slottable.specs.SlotState.{SlotState};
     ghost use Rattle.ix_commands.specs.TableRun.{table_reply, table_after};
 
     type Reply = Reply<usize, T>;

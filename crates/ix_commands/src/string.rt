@@ -12,7 +12,7 @@ use std::alloc::{AllocError, Global};
 /// The commands of a string, of any kind.
 impl<'a, S: String> Runs<TextCommand<'a>> for S {
     ghost use Rattle.std.specs.Prelude.{ℕ};
-    ghost use Rattle.ix_cells.specs.Bounded.{Bounded};
+    ghost use Rattle.ix_tables.specs.Bounded.{Bounded};
     ghost use Rattle.ix_commands.specs.TextRun.{text_reply, text_after};
 
     type Reply = Reply<usize, u8>;

@@ -1,19 +1,19 @@
 //! Commands of vectors.
 ghost use Rattle.std.specs.Prelude.{◌≡◌, length, set, slice_get, nat_lt, nat_le, if◌then◌else◌, IfOk, OnOk, OnErr};
-ghost use Rattle.ix_cells.specs.Bounded.{Bounded, with_items};
-ghost use Rattle.ix_cells.specs.VectorSteps.{vec_extend, vec_resize, vec_resize_result};
+ghost use Rattle.ix_tables.specs.Bounded.{Bounded, with_items};
+ghost use Rattle.ix_vector.specs.VectorSteps.{vec_extend, vec_resize, vec_resize_result};
 ghost use Rattle.ix_commands.specs.Replies.{option_reply, result_reply, vec_reply_error};
 ghost use Rattle.ix_commands.specs.Run.{run_replies, run_state};
 ghost use Rattle.ix_commands.specs.VecRun.{vec_extend_result, vec_reply, vec_after};
 
 use crate::reply::reply_of_option;
 use crate::{Reply, ReplyError, Runs, VecCommand, run_all};
-use ix_cells::{Vector, VectorModificationError};
+use ix_vector::{Vector, VectorModificationError};
 use std::alloc::{AllocError, Global};
 
 /// The commands of a vector, of any kind.
 impl<'a, T: Copy, V: Vector<T>> Runs<VecCommand<'a, T>> for V {
-    ghost use Rattle.ix_cells.specs.Bounded.{Bounded};
+    ghost use Rattle.ix_tables.specs.Bounded.{Bounded};
     ghost use Rattle.ix_commands.specs.VecRun.{vec_reply, vec_after};
 
     type Reply = Reply<usize, T>;

@@ -8,21 +8,21 @@ use Rattle.std.specs.Borrow.{Bor, MutBor}
 use Rattle.std.specs.List.{FoldsTo}
 use Rattle.std.proofs.lemmas.Bool.{cases_eq}
 use Rattle.std.proofs.lemmas.List.{append-nil, map-append, take-append-drop, get_or-set_same, get_or-set_other}
-use Rattle.ix_cells.specs.Places.{place_at}
-use Rattle.ix_cells.proofs.Places.{place_at_within}
-use Rattle.ix_maps.specs.SlotState.{SlotState, value_at, entries, entries_from}
-use Rattle.ix_maps.specs.SlotSteps.{slot_set, slot_vacate, slot_remove, SlotRemove}
-use Rattle.ix_maps.specs.SlotCalls.{CalledOn, SomeCallOn, IsCallableOnEach}
-use Rattle.ix_maps.specs.FlatState.{HasDistinctKeys, flat_entry, flat_value, flat_keys, flat_item, flat_items}
-use Rattle.ix_maps.specs.FlatSteps.{ListsUntilStop, flat_set, flat_remove}
-use Rattle.ix_maps.specs.FlatCalls.{CallAtKey}
-use Rattle.ix_maps.specs.declared.flatmap.pair.Pair.{Pair}
-use Rattle.ix_maps.specs.declared.flatmap.callback_progression.CallbackProgression.{CallbackProgression}
-use Rattle.ix_maps.specs.declared.flatmap.callback_progression.CallbackProgression.TheVariants.{Continue, Stop}
-use Rattle.ix_maps.proofs.Entries.{entries_from-none}
-use Rattle.ix_maps.proofs.SlotCalls.{FoldsTo-first, entries_from-append, entries_from-split, Visited}
-use Rattle.ix_maps.proofs.FlatEntries.{IsEntry-flat_entry, flat_entry-IsEntry, flat_value-IsEntry}
-use Rattle.ix_maps.proofs.FlatSteps.{flat_set-found}
+use Rattle.ix_tables.specs.Places.{place_at}
+use Rattle.ix_tables.proofs.Places.{place_at_within}
+use Rattle.ix_slottable.specs.SlotState.{SlotState, value_at, entries, entries_from}
+use Rattle.ix_slottable.specs.SlotSteps.{slot_set, slot_vacate, slot_remove, SlotRemove}
+use Rattle.ix_slottable.specs.SlotCalls.{CalledOn, SomeCallOn, IsCallableOnEach}
+use Rattle.ix_flatmap.specs.FlatState.{HasDistinctKeys, flat_entry, flat_value, flat_keys, flat_item, flat_items}
+use Rattle.ix_flatmap.specs.FlatSteps.{ListsUntilStop, flat_set, flat_remove}
+use Rattle.ix_flatmap.specs.FlatCalls.{CallAtKey}
+use Rattle.ix_flatmap.specs.declared.flatmap.pair.Pair.{Pair}
+use Rattle.ix_flatmap.specs.declared.flatmap.callback_progression.CallbackProgression.{CallbackProgression}
+use Rattle.ix_flatmap.specs.declared.flatmap.callback_progression.CallbackProgression.TheVariants.{Continue, Stop}
+use Rattle.ix_slottable.proofs.Entries.{entries_from-none}
+use Rattle.ix_slottable.proofs.SlotCalls.{FoldsTo-first, entries_from-append, entries_from-split, Visited}
+use Rattle.ix_flatmap.proofs.FlatEntries.{IsEntry-flat_entry, flat_entry-IsEntry, flat_value-IsEntry}
+use Rattle.ix_flatmap.proofs.FlatSteps.{flat_set-found}
 
 module _ {F K : Type 0} (calls : Mut F (Bor K × Unit {0}) CallbackProgression) (f next : F) where
   CalledAt-returned : (key : K) (answer is : CallbackProgression) (shown : Bor K) → shown.now ≡ key → Called calls f (shown, tt) answer next → answer ≡ is → CalledAt calls f key is next

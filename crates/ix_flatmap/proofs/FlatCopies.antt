@@ -1,13 +1,13 @@
 -- Clones of flat maps.
 use Rattle.std.proofs.Common.{◌≡◌, ℕ, ◌≤◌, Option, Some, None, Bool, refl, sym, ap₂, ◌∙◌, subst}
 use Rattle.std.specs.Cmp.{IsEquivalence}
-use Rattle.ix_cells.specs.Cloning.{AreEqualClones}
-use Rattle.ix_maps.specs.SlotState.{SlotState, value_at}
-use Rattle.ix_maps.specs.SlotCopies.{IsCloneAt, SlotIsClone}
-use Rattle.ix_maps.specs.FlatState.{HasDistinctKeys}
-use Rattle.ix_maps.specs.FlatCopies.{PairIsClone}
-use Rattle.ix_maps.specs.inner.FlatSearch.{IsBound}
-use Rattle.ix_maps.specs.declared.flatmap.pair.Pair.{Pair}
+use Rattle.ix_tables.specs.Cloning.{AreEqualClones}
+use Rattle.ix_slottable.specs.SlotState.{SlotState, value_at}
+use Rattle.ix_slottable.specs.SlotCopies.{IsCloneAt, SlotIsClone}
+use Rattle.ix_flatmap.specs.FlatState.{HasDistinctKeys}
+use Rattle.ix_flatmap.specs.FlatCopies.{PairIsClone}
+use Rattle.ix_flatmap.specs.inner.FlatSearch.{IsBound}
+use Rattle.ix_flatmap.specs.declared.flatmap.pair.Pair.{Pair}
 
 module _ {T : Type 0} (is_clone : T → T → Type 0) where
   -- what a clone is of

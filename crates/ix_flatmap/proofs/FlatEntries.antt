@@ -6,13 +6,13 @@ use Rattle.std.specs.List.{find}
 use Rattle.std.specs.Map.{keys_of, lookup}
 use Rattle.std.specs.Prelude.{map, option_map, is_some}
 use Rattle.std.proofs.lemmas.Simd.{map-map}
-use Rattle.ix_cells.specs.Places.{place_at}
-use Rattle.ix_maps.specs.SlotState.{SlotState, value_at, entries, entries_from, slot_new}
-use Rattle.ix_maps.specs.inner.FlatSearch.{is_key_at, HasNoKeyIn}
+use Rattle.ix_tables.specs.Places.{place_at}
+use Rattle.ix_slottable.specs.SlotState.{SlotState, value_at, entries, entries_from, slot_new}
+use Rattle.ix_flatmap.specs.inner.FlatSearch.{is_key_at, HasNoKeyIn}
 use Rattle.std.specs.Option.{option_map_or}
-use Rattle.ix_maps.proofs.VacantTables.{place_at-replicate}
-use Rattle.ix_maps.specs.FlatState.{AreDistinctBy, HasDistinctKeys, flat_entry, flat_value, flat_keys, flat_item, flat_items}
-use Rattle.ix_maps.specs.declared.flatmap.pair.Pair.{Pair}
+use Rattle.ix_tables.proofs.VacantTables.{place_at-replicate}
+use Rattle.ix_flatmap.specs.FlatState.{AreDistinctBy, HasDistinctKeys, flat_entry, flat_value, flat_keys, flat_item, flat_items}
+use Rattle.ix_flatmap.specs.declared.flatmap.pair.Pair.{Pair}
 
 find-equal : {X : Type 0} (test : X → Bool) (x : X) (xs : List X) → test x ≡ true → find test (x ∷ xs) ≡ Some x
 find-equal test x xs equal = ap (λ b. cond b (Some x) (find test xs)) equal

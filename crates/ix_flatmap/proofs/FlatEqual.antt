@@ -5,11 +5,11 @@ use Rattle.std.specs.Cmp.{IsEquivalence}
 use Rattle.std.specs.List.{list_any, find}
 use Rattle.std.specs.Option.{option_map_or}
 use Rattle.std.proofs.lemmas.Bool.{cases_Bool}
-use Rattle.ix_cells.specs.Places.{place_at}
-use Rattle.ix_maps.specs.SlotState.{SlotState, entries_from}
-use Rattle.ix_maps.specs.FlatState.{HasDistinctKeys, flat_item, flat_items, flat_entry, flat_value}
-use Rattle.ix_maps.specs.FlatCompared.{is_same_item}
-use Rattle.ix_maps.specs.declared.flatmap.pair.Pair.{Pair}
+use Rattle.ix_tables.specs.Places.{place_at}
+use Rattle.ix_slottable.specs.SlotState.{SlotState, entries_from}
+use Rattle.ix_flatmap.specs.FlatState.{HasDistinctKeys, flat_item, flat_items, flat_entry, flat_value}
+use Rattle.ix_flatmap.specs.FlatCompared.{is_same_item}
+use Rattle.ix_flatmap.specs.declared.flatmap.pair.Pair.{Pair}
 
 module _ {K V : Type 0} (eq : K → K → Bool) (value_eq : V → V → Bool) (laws : IsEquivalence eq) (key : K) (value : V) where
   -- the test of a pair, with the key and value given

@@ -5,13 +5,13 @@ use Rattle.std.specs.Cmp.{IsEquivalence}
 use Rattle.std.specs.Prelude.{if◌then◌else◌, is_some, option_map, slice_get, IfSome}
 use Rattle.std.specs.Option.{option_map_or}
 use Rattle.std.proofs.lemmas.List.{set-set}
-use Rattle.ix_maps.specs.SlotState.{SlotState, value_at, IsFree}
-use Rattle.ix_maps.specs.SlotSteps.{slot_set, slot_fill, slot_insert, keys_without, SlotInsert, SlotRemove}
-use Rattle.ix_maps.specs.FlatState.{HasDistinctKeys, flat_entry, flat_value}
-use Rattle.ix_maps.specs.FlatSteps.{flat_insert, pair_set, flat_set, flat_replace}
-use Rattle.ix_maps.specs.declared.flatmap.pair.Pair.{Pair}
-use Rattle.ix_cells.proofs.Places.{place_at_within}
-use Rattle.ix_maps.proofs.FlatEntries.{IsEntry, IsEntry-flat_entry, flat_entry_none, flat_entry-place, flat_entry-IsEntry, flat_value-IsEntry, flat_entry_same, equal_keys}
+use Rattle.ix_slottable.specs.SlotState.{SlotState, value_at, IsFree}
+use Rattle.ix_slottable.specs.SlotSteps.{slot_set, slot_fill, slot_insert, keys_without, SlotInsert, SlotRemove}
+use Rattle.ix_flatmap.specs.FlatState.{HasDistinctKeys, flat_entry, flat_value}
+use Rattle.ix_flatmap.specs.FlatSteps.{flat_insert, pair_set, flat_set, flat_replace}
+use Rattle.ix_flatmap.specs.declared.flatmap.pair.Pair.{Pair}
+use Rattle.ix_tables.proofs.Places.{place_at_within}
+use Rattle.ix_flatmap.proofs.FlatEntries.{IsEntry, IsEntry-flat_entry, flat_entry_none, flat_entry-place, flat_entry-IsEntry, flat_value-IsEntry, flat_entry_same, equal_keys}
 
 pub first_free : (free : List ℕ) → (free ≡ [] → ⊥) → IsSome (slice_get free 0)
 first_free [] some = absurd (some refl)

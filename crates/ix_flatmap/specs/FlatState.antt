@@ -1,8 +1,8 @@
 -- A flat map as contracts see it: a slot state of pairs, a key and its value each, in which no two keys are equal.
 use Rattle.std.specs.Prelude.{◌≡◌, ℕ, List, map, Option, Some, Bool, true, option_map}
 use Rattle.std.specs.List.{find}
-use Rattle.ix_maps.specs.SlotState.{SlotState, value_at, entries}
-use Rattle.ix_maps.specs.declared.flatmap.pair.Pair.{Pair}
+use Rattle.ix_slottable.specs.SlotState.{SlotState, value_at, entries}
+use Rattle.ix_flatmap.specs.declared.flatmap.pair.Pair.{Pair}
 
 -- no two places hold values that this relates
 abbrev pub AreDistinctBy : {T : Type 0} → (T → T → Bool) → SlotState T → Type 0

@@ -3,14 +3,14 @@ use Rattle.std.specs.Prelude.{◌≡◌, ℕ, ◌⊎◌, List, [], ◌∷◌, Bo
 use Rattle.std.specs.Option.{option_map_or}
 use Rattle.std.specs.Fn.{Mut, CalledAt}
 use Rattle.std.specs.Borrow.{Bor}
-use Rattle.ix_maps.specs.SlotState.{SlotState, value_at}
-use Rattle.ix_maps.specs.SlotSteps.{slot_set, slot_insert, slot_vacate}
-use Rattle.ix_maps.specs.FlatState.{flat_entry}
-use Rattle.ix_maps.specs.declared.flatmap.pair.Pair.{Pair}
-use Rattle.ix_maps.specs.declared.flatmap.callback_progression.CallbackProgression.{CallbackProgression}
-use Rattle.ix_maps.specs.declared.flatmap.callback_progression.CallbackProgression.TheVariants.{Continue, Stop}
-use Rattle.ix_maps.specs.declared.flatmap.flat_map_error.FlatMapError.{FlatMapError}
-use Rattle.ix_maps.specs.declared.flatmap.flat_map_error.FlatMapError.TheVariants.{KeyAlreadyExists, IsFull}
+use Rattle.ix_slottable.specs.SlotState.{SlotState, value_at}
+use Rattle.ix_slottable.specs.SlotSteps.{slot_set, slot_insert, slot_vacate}
+use Rattle.ix_flatmap.specs.FlatState.{flat_entry}
+use Rattle.ix_flatmap.specs.declared.flatmap.pair.Pair.{Pair}
+use Rattle.ix_flatmap.specs.declared.flatmap.callback_progression.CallbackProgression.{CallbackProgression}
+use Rattle.ix_flatmap.specs.declared.flatmap.callback_progression.CallbackProgression.TheVariants.{Continue, Stop}
+use Rattle.ix_flatmap.specs.declared.flatmap.flat_map_error.FlatMapError.{FlatMapError}
+use Rattle.ix_flatmap.specs.declared.flatmap.flat_map_error.FlatMapError.TheVariants.{KeyAlreadyExists, IsFull}
 
 abbrev pub FlatResult : Type 0
 FlatResult = Result (Unit {0}) FlatMapError

@@ -4,24 +4,22 @@ ghost use Rattle.std.specs.Borrow.{sem};
 ghost use Rattle.std.specs.List.{FoldsTo, list_any};
 ghost use Rattle.std.specs.Option.{option_copied_mut};
 ghost use Rattle.std.specs.Result.{IfErr};
-ghost use Rattle.ix_maps.specs.SlotState.{SlotState, IsWellFormed, value_at, held_count};
-ghost use Rattle.ix_maps.specs.SlotSteps.{slot_clear};
-ghost use Rattle.ix_maps.specs.FlatState.{HasDistinctKeys, flat_entry, flat_value, flat_keys, flat_item, flat_items};
-ghost use Rattle.ix_maps.specs.FlatCompared.{is_same_item, has_each};
-ghost use Rattle.ix_maps.specs.FlatCalls.{CallAtKey, TakesKey};
-ghost use Rattle.ix_maps.specs.SlotCalls.{IsCallableOnEach, ChangesItem, RetainsItem};
-ghost use Rattle.ix_maps.specs.FlatSteps.{flat_insert_result, flat_insert, flat_replace, flat_set, flat_remove};
-ghost use Rattle.ix_maps.specs.BoundedMap.{map_lends};
-ghost use Rattle.ix_maps.specs.declared.flatmap.pair.Pair.{Pair};
+ghost use Rattle.ix_slottable.specs.SlotState.{SlotState, IsWellFormed, value_at, held_count};
+ghost use Rattle.ix_slottable.specs.SlotSteps.{slot_clear};
+ghost use Rattle.ix_flatmap.specs.FlatState.{HasDistinctKeys, flat_entry, flat_value, flat_keys, flat_item, flat_items};
+ghost use Rattle.ix_flatmap.specs.FlatCompared.{is_same_item, has_each};
+ghost use Rattle.ix_flatmap.specs.FlatCalls.{CallAtKey, TakesKey};
+ghost use Rattle.ix_slottable.specs.SlotCalls.{IsCallableOnEach, ChangesItem, RetainsItem};
+ghost use Rattle.ix_flatmap.specs.FlatSteps.{flat_insert_result, flat_insert, flat_replace, flat_set, flat_remove};
+ghost use Rattle.ix_flatmap.specs.BoundedMap.{map_lends};
+ghost use Rattle.ix_flatmap.specs.declared.flatmap.pair.Pair.{Pair};
 
 use crate::flatmap::{FlatMapError, Iter, MetaFlatMap, Pair};
-use crate::hashmap::{ChainLink, MetaHashMap};
-use crate::slottable::Link;
-use ix_cells::Table;
-use std::hash::{BuildHasher, Hash};
+use ix_slottable::slottable::Link;
+use ix_tables::Table;
 
 /// A map with room for a set number of keys, each with a value, as [`MetaFlatMap`](crate::flatmap::MetaFlatMap) and
-/// [`MetaHashMap`](crate::hashmap::MetaHashMap) are. A function over any such map is written over this trait. What a call costs
+/// `MetaHashMap` of `ix_hashmap` are. A function over any such map is written over this trait. What a call costs
 /// is said at each map.
 pub trait BoundedMap<K: Eq, V>: Sized {
     /// The pair or nothing at each place.
@@ -284,114 +282,12 @@ impl<K: Eq + Drop, V: Drop, S: Table<Pair<K, V>>, L: Table<Link>> BoundedMap<K, 
     }
 }
 
-impl<
-    K: Eq + Hash + Drop,
-    V: Drop,
-    S: Table<Pair<K, V>>,
-    L: Table<Link>,
-    C: Table<ChainLink>,
-    B: BuildHasher,
-> BoundedMap<K, V> for MetaHashMap<Pair<K, V>, S, L, C, B> {
-    ghost state = { λ map. map };
-
-    ghost with_value = { λ map key value. flat_set K.eq map key value };
-
-    ghost state_with_value = { λ map key value. refl };
-
-    #[inline]
-    fn insert(&mut self, key: K, value: V) -> Result<(), FlatMapError> {
-        MetaHashMap::insert(self, key, value)
-    }
-
-    #[inline]
-    fn try_insert(&mut self, key: K, value: V) -> Result<(), (FlatMapError, K, V)> {
-        MetaHashMap::try_insert(self, key, value)
-    }
-
-    #[inline]
-    fn replace(&mut self, key: K, value: V) -> Result<Option<V>, (K, V)> {
-        MetaHashMap::replace(self, key, value)
-    }
-
-    #[inline]
-    fn get_ref(&self, key: &K) -> Option<&V> {
-        MetaHashMap::get_ref(self, key)
-    }
-
-    #[inline]
-    fn get_key_value(&self, key: &K) -> Option<(&K, &V)> {
-        MetaHashMap::get_key_value(self, key)
-    }
-
-    #[inline]
-    fn get_mut_ref(&mut self, key: &K) -> Option<&mut V> {
-        MetaHashMap::get_mut_ref(self, key)
-    }
-
-    #[inline]
-    fn remove(&mut self, key: &K) -> Option<V> {
-        MetaHashMap::remove(self, key)
-    }
-
-    #[inline]
-    fn remove_entry(&mut self, key: &K) -> Option<(K, V)> {
-        MetaHashMap::remove_entry(self, key)
-    }
-
-    #[inline]
-    fn clear(&mut self) {
-        MetaHashMap::clear(self);
-    }
-
-    #[inline]
-    fn for_each_mut<F: FnMut(&K, &mut V)>(&mut self, f: F) {
-        MetaHashMap::for_each_mut(self, f);
-    }
-
-    #[inline]
-    fn retain<F: FnMut(&K, &mut V) -> bool>(&mut self, f: F) {
-        MetaHashMap::retain(self, f);
-    }
-
-    #[inline]
-    fn capacity(&self) -> usize {
-        MetaHashMap::capacity(self)
-    }
-
-    #[inline]
-    fn is_empty(&self) -> bool {
-        MetaHashMap::is_empty(self)
-    }
-
-    #[inline]
-    fn is_full(&self) -> bool {
-        MetaHashMap::is_full(self)
-    }
-
-    #[inline]
-    fn contains(&self, key: &K) -> bool {
-        MetaHashMap::contains(self, key)
-    }
-
-    #[inline]
-    fn len(&self) -> usize {
-        MetaHashMap::len(self)
-    }
-
-    #[inline]
-    fn nth_key(&self, n: usize) -> Option<&K> {
-        MetaHashMap::nth_key(self, n)
-    }
-}
-
 /// Returns `true` if `map` has each of these keys, with an equal value.
-pub(crate) fn has_each_of<
-    K: Eq,
-    V: PartialEq,
-    M: BoundedMap<K, V>,
-    S: Table<Pair<K, V>>,
-    L: Table<Link>,
->(map: &M, items: Iter<'_, K, V, S, L>) -> bool
+#[doc(hidden)]
+pub fn has_each_of<K: Eq, V: PartialEq, M: BoundedMap<K, V>, S: Table<Pair<K, V>>, L: Table<Link>>(
+    map: &M,
+    items: Iter<'_, K, V, S, L>,
+) -> bool
     ensures { result ≡ has_each (is_same_item K.eq V.eq) (flat_items (M.state map.now)) items.entry }
 {
     for (key, value) in items {

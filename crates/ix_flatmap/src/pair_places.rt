@@ -2,20 +2,20 @@
 ghost use Rattle.std.specs.Prelude.{◌≡◌, ◌↔◌, ◌+◌, ◌<◌, ◌≤◌, length, drop, IsTrue, IsSome, Some};
 ghost use Rattle.std.specs.Borrow.{MutBor};
 ghost use Rattle.std.specs.List.{FoldsTo};
-ghost use Rattle.ix_maps.specs.SlotState.{SlotState, value_at, IsHeld, entries_from};
-ghost use Rattle.ix_maps.specs.SlotSteps.{slot_set, SlotRemove};
-ghost use Rattle.ix_maps.specs.SlotCalls.{CalledOn, IsCallableOnEach, ChangesItem, RetainsItem};
-ghost use Rattle.ix_maps.specs.FlatState.{HasDistinctKeys, flat_value, flat_keys, flat_items};
-ghost use Rattle.ix_maps.specs.FlatSteps.{flat_set, flat_remove};
-ghost use Rattle.ix_maps.specs.FlatCalls.{CallAtKey, TakesKey};
-ghost use Rattle.ix_maps.specs.inner.FlatSearch.{IsBound};
-ghost use Rattle.ix_maps.specs.declared.flatmap.pair.Pair.{Pair};
+ghost use Rattle.ix_slottable.specs.SlotState.{SlotState, value_at, IsHeld, entries_from};
+ghost use Rattle.ix_slottable.specs.SlotSteps.{slot_set, SlotRemove};
+ghost use Rattle.ix_slottable.specs.SlotCalls.{CalledOn, IsCallableOnEach, ChangesItem, RetainsItem};
+ghost use Rattle.ix_flatmap.specs.FlatState.{HasDistinctKeys, flat_value, flat_keys, flat_items};
+ghost use Rattle.ix_flatmap.specs.FlatSteps.{flat_set, flat_remove};
+ghost use Rattle.ix_flatmap.specs.FlatCalls.{CallAtKey, TakesKey};
+ghost use Rattle.ix_flatmap.specs.inner.FlatSearch.{IsBound};
+ghost use Rattle.ix_flatmap.specs.declared.flatmap.pair.Pair.{Pair};
 
 use crate::flatmap::Pair;
-use crate::slottable::SlotTableKey;
+use ix_slottable::slottable::SlotTableKey;
 
 /// A map whose pairs lie at places.
-pub(crate) trait PairPlaces<K: Eq, V>: Sized {
+pub trait PairPlaces<K: Eq, V>: Sized {
     /// The pair or nothing at each place.
     ghost state: { Self → SlotState (Pair K V) };
 
@@ -56,10 +56,7 @@ pub(crate) trait PairPlaces<K: Eq, V>: Sized {
 }
 
 /// Calls `f` with each key in slot order and a mutable reference to its value.
-pub(crate) fn change_each<K: Eq, V, M: PairPlaces<K, V>, F: FnMut(&K, &mut V)>(
-    map: &mut M,
-    mut f: F,
-)
+pub fn change_each<K: Eq, V, M: PairPlaces<K, V>, F: FnMut(&K, &mut V)>(map: &mut M, mut f: F)
     requires { IsCallableOnEach (CallAtKey F.step) (TakesKey F.pre) f (flat_items (M.state map.old)) }
     ensures calls { (last : F) × FoldsTo (ChangesItem (flat_set K.eq) (CallAtKey F.step))
         (f, M.state map.old) (flat_items (M.state map.old)) (last, M.state map.new) }
@@ -78,7 +75,7 @@ pub(crate) fn change_each<K: Eq, V, M: PairPlaces<K, V>, F: FnMut(&K, &mut V)>(
 }
 
 /// Does what [`change_each`] does, and removes each pair for which `f` returns `false`, right after the call.
-pub(crate) fn retain_each<K: Eq + Drop, V: Drop, M: PairPlaces<K, V>, F: FnMut(&K, &mut V) -> bool>(
+pub fn retain_each<K: Eq + Drop, V: Drop, M: PairPlaces<K, V>, F: FnMut(&K, &mut V) -> bool>(
     map: &mut M,
     mut f: F,
 )

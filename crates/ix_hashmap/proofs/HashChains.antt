@@ -4,10 +4,10 @@ use Rattle.std.specs.Prelude.{nat_eq, nat_lt, if◌then◌else◌}
 use Rattle.std.proofs.lemmas.Bool.{cases_eq, cases_lt}
 use Rattle.std.proofs.lemmas.Bool.Decides.{nat_tests}
 use Rattle.std.proofs.lemmas.List.{get_or-set_same, get_or-set_other, length-set, set_past, length-append}
-use Rattle.ix_maps.specs.declared.hashmap.chain_link.ChainLink.{ChainLink}
-use Rattle.ix_maps.specs.declared.hashmap.chain_link.Heads.{Heads}
-use Rattle.ix_maps.specs.inner.HashChains.{no_place, no_heads, no_link, heads_get, heads_set, link_head, link_set_head, head_at, next_at, links_set_head, links_set_next, places_met, chain_from, chain_at, IsLinked, IsChain, IsChainFrom, IsOnChain, IsBefore, IsUnlinked}
-use Rattle.ix_maps.proofs.FreeKeys.{key_count, key_count-cons, hit, hit_same, hit_other, key_count-append, split_at_key, first_occurs}
+use Rattle.ix_hashmap.specs.declared.hashmap.chain_link.ChainLink.{ChainLink}
+use Rattle.ix_hashmap.specs.declared.hashmap.chain_link.Heads.{Heads}
+use Rattle.ix_hashmap.specs.inner.HashChains.{no_place, no_heads, no_link, heads_get, heads_set, link_head, link_set_head, head_at, next_at, links_set_head, links_set_next, places_met, chain_from, chain_at, IsLinked, IsChain, IsChainFrom, IsOnChain, IsBefore, IsUnlinked}
+use Rattle.ix_slottable.proofs.FreeKeys.{key_count, key_count-cons, hit, hit_same, hit_other, key_count-append, split_at_key, first_occurs}
 
 -- a write that keeps a part of the link keeps that part of all links
 part-set : (part : ChainLink → ℕ) (links : List ChainLink) (i : ℕ) (link : ChainLink) → part link ≡ part (get_or links i no_link) → (other : ℕ) → part (get_or (set links i link) other no_link) ≡ part (get_or links other no_link)

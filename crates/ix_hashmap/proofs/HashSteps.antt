@@ -4,18 +4,18 @@ use Rattle.std.specs.Prelude.{option_map, replicate, slice_get}
 use Rattle.std.specs.Option.{option_map_or}
 use Rattle.std.proofs.lemmas.Bool.{cases_eq, cases_lt, both_ways}
 use Rattle.std.proofs.lemmas.List.{get_or-set_other, get_or-replicate, get_or_past, length-set, length-replicate}
-use Rattle.ix_maps.specs.SlotState.{SlotState, value_at, IsHeld}
-use Rattle.ix_maps.specs.SlotSteps.{slot_fill, SlotInsert, SlotRemove}
-use Rattle.ix_maps.specs.SlotCopies.{IsCloneAt, SlotIsClone}
-use Rattle.ix_maps.specs.FlatState.{flat_entry}
-use Rattle.ix_maps.specs.declared.flatmap.pair.Pair.{Pair}
-use Rattle.ix_maps.specs.declared.hashmap.chain_link.ChainLink.{ChainLink}
-use Rattle.ix_maps.specs.inner.FlatSearch.{is_key_at}
-use Rattle.ix_maps.specs.inner.HashChains.{no_place, no_link, link_head, bucket_of, head_at, next_at, links_set_next, links_insert_first, chain_from, chain_at, IsLinked, IsChain, IsOnChain, IsUnlinked, HasChain, IsHashed, LeadsToKey}
-use Rattle.ix_maps.proofs.FreeKeys.{key_count, key_count-cons, hit, hit_same, hit_other}
-use Rattle.ix_maps.proofs.SlotSteps.{SlotInsert-fills, SlotRemove-vacates}
-use Rattle.ix_maps.proofs.FlatEntries.{IsEntry-flat_entry}
-use Rattle.ix_maps.proofs.HashChains.{link_head-none, length-set_head, length-set_next, next_at-set_head, head_at-set_next, head_at-set_head, head_at-set_head_other, next_at-set_next, next_at-set_next_other, IsLinked-kept, chain_from-IsChain, IsChainFrom-of, HasRest-from, empty_chain, on_chain-first}
+use Rattle.ix_slottable.specs.SlotState.{SlotState, value_at, IsHeld}
+use Rattle.ix_slottable.specs.SlotSteps.{slot_fill, SlotInsert, SlotRemove}
+use Rattle.ix_slottable.specs.SlotCopies.{IsCloneAt, SlotIsClone}
+use Rattle.ix_flatmap.specs.FlatState.{flat_entry}
+use Rattle.ix_flatmap.specs.declared.flatmap.pair.Pair.{Pair}
+use Rattle.ix_hashmap.specs.declared.hashmap.chain_link.ChainLink.{ChainLink}
+use Rattle.ix_flatmap.specs.inner.FlatSearch.{is_key_at}
+use Rattle.ix_hashmap.specs.inner.HashChains.{no_place, no_link, link_head, bucket_of, head_at, next_at, links_set_next, links_insert_first, chain_from, chain_at, IsLinked, IsChain, IsOnChain, IsUnlinked, HasChain, IsHashed, LeadsToKey}
+use Rattle.ix_slottable.proofs.FreeKeys.{key_count, key_count-cons, hit, hit_same, hit_other}
+use Rattle.ix_slottable.proofs.SlotSteps.{SlotInsert-fills, SlotRemove-vacates}
+use Rattle.ix_flatmap.proofs.FlatEntries.{IsEntry-flat_entry}
+use Rattle.ix_hashmap.proofs.HashChains.{link_head-none, length-set_head, length-set_next, next_at-set_head, head_at-set_next, head_at-set_head, head_at-set_head_other, next_at-set_next, next_at-set_next_other, IsLinked-kept, chain_from-IsChain, IsChainFrom-of, HasRest-from, empty_chain, on_chain-first}
 
 -- the bucket of a hash among those of so many places, which are counted
 pub bucket_of-counted : (hash bucket places n : ℕ) → bucket ≡ bucket_of hash places → places ≡ n → bucket_of hash n ≡ bucket

@@ -1,11 +1,11 @@
 -- What contracts see of an iterator that drains a hash map.
 use Rattle.std.specs.Prelude.{List, drop, map}
-use Rattle.ix_maps.specs.SlotState.{SlotState, entries_from}
-use Rattle.ix_maps.specs.SlotSteps.{slot_clear}
-use Rattle.ix_maps.specs.FlatState.{flat_item}
-use Rattle.ix_maps.specs.declared.flatmap.pair.Pair.{Pair}
+use Rattle.ix_slottable.specs.SlotState.{SlotState, entries_from}
+use Rattle.ix_slottable.specs.SlotSteps.{slot_clear}
+use Rattle.ix_flatmap.specs.FlatState.{flat_item}
+use Rattle.ix_flatmap.specs.declared.flatmap.pair.Pair.{Pair}
 use Rattle.std.specs.Borrow.{GName}
-use Rattle.ix_maps.specs.declared.hashmap.drain.Drain.{Drain}
+use Rattle.ix_hashmap.specs.declared.hashmap.drain.Drain.{Drain}
 
 module _ {K V S L C B : Type 0} where
   -- the items that are still to come

@@ -1,7 +1,7 @@
 //! Hash maps: bounded maps from keys of your own to values, for keys that implement `Hash`.
 //!
 //! [`FixedSizeHashMap`] is stored inline, [`HashMap`] and [`RelocatableHashMap`] allocate only when they are made. Their calls
-//! promise what those of [`flatmap`](crate::flatmap) do, and take O(1) time on average.
+//! promise what those of [`flatmap`](ix_flatmap::flatmap) do, and take O(1) time on average.
 
 mod chain_link;
 mod chain_table;

@@ -8,9 +8,9 @@ use Rattle.serde_json.specs.Data.{Data}
 use Rattle.serde_json.specs.Find.{as_array}
 use Rattle.serde_json.specs.View.{view, items_of, items_view}
 use Rattle.serde_json.specs.declared.value.Value.{Value}
-use Rattle.ix_names.specs.JsonTree.{with_first, entries_read, list_read}
-use Rattle.ix_names.specs.declared.json.json_fault.JsonFault.{JsonFault}
-use Rattle.ix_names.specs.declared.json.json_fault.JsonFault.TheVariants.{TooLong}
+use Rattle.ix_json.specs.JsonTree.{with_first, entries_read, list_read}
+use Rattle.ix_json.specs.declared.json.json_fault.JsonFault.{JsonFault}
+use Rattle.ix_json.specs.declared.json.json_fault.JsonFault.TheVariants.{TooLong}
 
 module _ {T : Type 0} where
   -- the items of two lists of entries, or the first fault

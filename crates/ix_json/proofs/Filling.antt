@@ -7,12 +7,12 @@ use Rattle.serde_json.specs.Data.{Data}
 use Rattle.serde_json.specs.Find.{as_array}
 use Rattle.serde_json.specs.View.{view, items_view}
 use Rattle.serde_json.specs.declared.value.Value.{Value}
-use Rattle.ix_cells.specs.Bounded.{Bounded, with_items}
+use Rattle.ix_tables.specs.Bounded.{Bounded, with_items}
 use Rattle.std.specs.Result.{result_map_both}
-use Rattle.ix_names.specs.JsonTree.{entries_read, list_read, list_filled}
-use Rattle.ix_names.specs.declared.json.json_fault.JsonFault.{JsonFault}
-use Rattle.ix_names.specs.declared.json.json_fault.JsonFault.TheVariants.{TooLong}
-use Rattle.ix_names.proofs.Entries.{entries_read-push, entries_read-fault, list_read-entries, list_read-too_long}
+use Rattle.ix_json.specs.JsonTree.{entries_read, list_read, list_filled}
+use Rattle.ix_json.specs.declared.json.json_fault.JsonFault.{JsonFault}
+use Rattle.ix_json.specs.declared.json.json_fault.JsonFault.TheVariants.{TooLong}
+use Rattle.ix_json.proofs.Entries.{entries_read-push, entries_read-fault, list_read-entries, list_read-too_long}
 
 module _ {T : Type 0} (read : Data → Result T JsonFault) (old : Bounded T) where
   -- the values have been read, and their items are behind those of the old list

@@ -11,15 +11,15 @@ use Rattle.std.specs.List.Sorted.{IsStrictlySortedBy}
 use Rattle.std.specs.Map.{keys_of, lookup}
 use Rattle.std.specs.Ordering.{nat_cmp, match_ordering}
 use Rattle.std.specs.Prelude.{nat_eq, if◌then◌else◌, replicate, slice_set}
-use Rattle.ix_maps.specs.SlotState.{entries_from, slot_new}
-use Rattle.ix_maps.specs.SlotSteps.{keys_without}
-use Rattle.ix_maps.specs.FlatState.{HasDistinctKeys, flat_value, flat_item, flat_items}
-use Rattle.ix_maps.specs.FlatSteps.{flat_insert}
-use Rattle.ix_maps.specs.declared.flatmap.pair.Pair.{Pair}
-use Rattle.ix_maps.proofs.FlatEntries.{lookup-flat_items}
-use Rattle.ix_maps.proofs.FlatSteps.{flat_insert-fresh}
-use Rattle.ix_names.specs.JsonTree.{TextMap, HasSameEntries, map_with, by_key}
-use Rattle.ix_names.proofs.TextMaps.{same, tied_is, sorted_with, All-by_key, sorted-by_key, length-by_key, flat_entry-no_value, values-flat_items, apart_from_sorted}
+use Rattle.ix_slottable.specs.SlotState.{entries_from, slot_new}
+use Rattle.ix_slottable.specs.SlotSteps.{keys_without}
+use Rattle.ix_flatmap.specs.FlatState.{HasDistinctKeys, flat_value, flat_item, flat_items}
+use Rattle.ix_flatmap.specs.FlatSteps.{flat_insert}
+use Rattle.ix_flatmap.specs.declared.flatmap.pair.Pair.{Pair}
+use Rattle.ix_flatmap.proofs.FlatEntries.{lookup-flat_items}
+use Rattle.ix_flatmap.proofs.FlatSteps.{flat_insert-fresh}
+use Rattle.ix_json.specs.JsonTree.{TextMap, HasSameEntries, map_with, by_key}
+use Rattle.ix_json.proofs.TextMaps.{same, tied_is, sorted_with, All-by_key, sorted-by_key, length-by_key, flat_entry-no_value, values-flat_items, apart_from_sorted}
 
 module _ {V : Type 0} where
   -- the value of the first item with the key

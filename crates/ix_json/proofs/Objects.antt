@@ -16,14 +16,14 @@ use Rattle.serde_json.specs.Events.{members_len}
 use Rattle.serde_json.specs.Find.{as_object}
 use Rattle.serde_json.specs.View.{view}
 use Rattle.serde_json.specs.declared.value.Value.{Value}
-use Rattle.ix_maps.specs.SlotState.{slot_new}
-use Rattle.ix_maps.specs.FlatState.{HasDistinctKeys, flat_entry, flat_value, flat_items}
-use Rattle.ix_names.specs.JsonTree.{TextMap, bytes_read, with_first, object_tree, with_key, members_read, object_read, new_key, map_with, object_filled, by_key, map_without, HasSameEntries}
-use Rattle.ix_names.specs.inner.Objects.{IsItemReadBack}
-use Rattle.ix_names.specs.declared.json.json_fault.JsonFault.{JsonFault}
-use Rattle.ix_names.specs.declared.json.json_fault.JsonFault.TheVariants.{WrongKind, InvalidContent, TooLong}
-use Rattle.ix_names.proofs.NewMaps.{HasSameEntries-map_with}
-use Rattle.ix_names.proofs.TextMaps.{same, sorted_with, All-by_key, sorted-by_key, length-by_key, gone-map_without, flat_entry-no_value, map_with-map_without, length-map_without, values-flat_items, flat_entry-slot_new, length-map_with, length-flat_items}
+use Rattle.ix_slottable.specs.SlotState.{slot_new}
+use Rattle.ix_flatmap.specs.FlatState.{HasDistinctKeys, flat_entry, flat_value, flat_items}
+use Rattle.ix_json.specs.JsonTree.{TextMap, bytes_read, with_first, object_tree, with_key, members_read, object_read, new_key, map_with, object_filled, by_key, map_without, HasSameEntries}
+use Rattle.ix_json.specs.inner.Objects.{IsItemReadBack}
+use Rattle.ix_json.specs.declared.json.json_fault.JsonFault.{JsonFault}
+use Rattle.ix_json.specs.declared.json.json_fault.JsonFault.TheVariants.{WrongKind, InvalidContent, TooLong}
+use Rattle.ix_json.proofs.NewMaps.{HasSameEntries-map_with}
+use Rattle.ix_json.proofs.TextMaps.{same, sorted_with, All-by_key, sorted-by_key, length-by_key, gone-map_without, flat_entry-no_value, map_with-map_without, length-map_without, values-flat_items, flat_entry-slot_new, length-map_with, length-flat_items}
 
 module _ {V : Type 0} (tree_of : V → Data) where
   -- the members of sorted items

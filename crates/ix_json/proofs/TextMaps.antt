@@ -15,17 +15,17 @@ use Rattle.std.specs.Map.{keys_of}
 use Rattle.std.specs.Option.{option_map_or}
 use Rattle.std.specs.Ordering.{is_eq, nat_cmp, match_ordering, ordering_reverse}
 use Rattle.std.specs.Prelude.{◌==◌, nat_eq, if◌then◌else◌, is_some, option_map, slice_get}
-use Rattle.ix_cells.specs.Places.{place_at}
-use Rattle.ix_cells.proofs.Places.{place_at_within}
-use Rattle.ix_maps.specs.SlotState.{SlotState, value_at, entries_from, slot_new}
-use Rattle.ix_maps.specs.SlotSteps.{slot_vacate, slot_fill, slot_insert, keys_without, SlotRemove}
-use Rattle.ix_maps.specs.FlatState.{HasDistinctKeys, flat_entry, flat_value, flat_item, flat_items}
-use Rattle.ix_maps.specs.FlatSteps.{flat_insert, flat_remove}
-use Rattle.ix_maps.specs.declared.flatmap.pair.Pair.{Pair}
-use Rattle.ix_maps.proofs.FlatEntries.{IsEntry-flat_entry, flat_entry-absent, flat_value-IsEntry}
-use Rattle.ix_maps.proofs.FlatSteps.{HasDistinctKeys-removed, flat_value-removed, flat_value-removed_other}
-use Rattle.ix_maps.proofs.VacantTables.{place_at-replicate}
-use Rattle.ix_names.specs.JsonTree.{TextMap, map_with, by_key, map_without}
+use Rattle.ix_tables.specs.Places.{place_at}
+use Rattle.ix_tables.proofs.Places.{place_at_within}
+use Rattle.ix_slottable.specs.SlotState.{SlotState, value_at, entries_from, slot_new}
+use Rattle.ix_slottable.specs.SlotSteps.{slot_vacate, slot_fill, slot_insert, keys_without, SlotRemove}
+use Rattle.ix_flatmap.specs.FlatState.{HasDistinctKeys, flat_entry, flat_value, flat_item, flat_items}
+use Rattle.ix_flatmap.specs.FlatSteps.{flat_insert, flat_remove}
+use Rattle.ix_flatmap.specs.declared.flatmap.pair.Pair.{Pair}
+use Rattle.ix_flatmap.proofs.FlatEntries.{IsEntry-flat_entry, flat_entry-absent, flat_value-IsEntry}
+use Rattle.ix_flatmap.proofs.FlatSteps.{HasDistinctKeys-removed, flat_value-removed, flat_value-removed_other}
+use Rattle.ix_tables.proofs.VacantTables.{place_at-replicate}
+use Rattle.ix_json.specs.JsonTree.{TextMap, map_with, by_key, map_without}
 
 module _ {K V : Type 0} (eq : K → K → Bool) (laws : IsEquivalence eq) where
   SlotRemove-vacated : (s : SlotState (Pair K V)) (place : ℕ) (pair : Pair K V) → value_at s place ≡ Some pair → SlotRemove s place (slot_vacate s place) (Some pair)

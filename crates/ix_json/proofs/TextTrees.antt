@@ -8,7 +8,7 @@ use Rattle.serde_json.specs.declared.value.Value.{the_lemmas}
 use Rattle.serde_json.specs.declared.value.Value.TheVariants as value
 use Rattle.ix_string.specs.Text.{IsText}
 use Rattle.ix_string.proofs.Texts.{is_text-yes}
-use Rattle.ix_names.specs.JsonTree.{bytes_read, text_read}
+use Rattle.ix_json.specs.JsonTree.{bytes_read, text_read}
 
 -- bytes that fit and are text are read as they are
 pub bytes_read-fits : (capacity : ℕ) (bytes : List ℕ) → length bytes ≤ capacity → IsText bytes → bytes_read capacity bytes ≡ Ok bytes

@@ -2,10 +2,10 @@
 use Rattle.std.proofs.Common.{◌≡◌, [], ◌∷◌, true, refl, negsuc}
 use Rattle.std.specs.Prelude.{codes, Ok, Err}
 use Rattle.serde_json.specs.Data.{Data, null, boolean, number, string, array, unsigned, negative, no_items, item}
-use Rattle.ix_names.specs.JsonTree.{u64_tree, u64_read, i64_tree, i64_read, bool_read, text_read, semantic_read, list_tree, list_read, option_tree, option_read}
-use Rattle.ix_names.specs.SampleRules.{group_name_rules}
-use Rattle.ix_names.specs.declared.relocatable_option.RelocatableOption.TheVariants as relocatable
-use Rattle.ix_names.specs.declared.json.json_fault.JsonFault.TheVariants.{WrongKind, TooLong, BadByte, InvalidContent}
+use Rattle.ix_json.specs.JsonTree.{u64_tree, u64_read, i64_tree, i64_read, bool_read, text_read, semantic_read, list_tree, list_read, option_tree, option_read}
+use Rattle.ix_semantic_string.specs.SampleRules.{group_name_rules}
+use Rattle.ix_relocatable_option.specs.declared.relocatable_option.RelocatableOption.TheVariants as relocatable
+use Rattle.ix_json.specs.declared.json.json_fault.JsonFault.TheVariants.{WrongKind, TooLong, BadByte, InvalidContent}
 
 -- `None` is null, and `Some` of 4 is 4
 option_tree-None : option_tree u64_tree relocatable.None ≡ null

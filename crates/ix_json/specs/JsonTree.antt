@@ -10,17 +10,17 @@ use Rattle.serde_json.specs.Data.{Data, null, number, array, object, unsigned, I
 use Rattle.serde_json.specs.Events.{items_len, members_len}
 use Rattle.serde_json.specs.Find.{as_null, as_bool, as_number, as_str, as_array, as_object, as_u64, as_i64, of_integer}
 use Rattle.serde_json.specs.View.{items_of}
-use Rattle.ix_cells.specs.Bounded.{Bounded, with_items}
-use Rattle.ix_maps.specs.FlatState.{flat_entry, flat_value}
-use Rattle.ix_maps.specs.FlatSteps.{flat_insert, flat_remove}
-use Rattle.ix_maps.specs.SlotState.{SlotState}
-use Rattle.ix_maps.specs.declared.flatmap.pair.Pair.{Pair}
+use Rattle.ix_tables.specs.Bounded.{Bounded, with_items}
+use Rattle.ix_flatmap.specs.FlatState.{flat_entry, flat_value}
+use Rattle.ix_flatmap.specs.FlatSteps.{flat_insert, flat_remove}
+use Rattle.ix_slottable.specs.SlotState.{SlotState}
+use Rattle.ix_flatmap.specs.declared.flatmap.pair.Pair.{Pair}
 use Rattle.ix_string.specs.Text.{is_text}
-use Rattle.ix_names.specs.Rules.{TextRules}
-use Rattle.ix_names.specs.declared.relocatable_option.RelocatableOption.{RelocatableOption}
-use Rattle.ix_names.specs.declared.relocatable_option.RelocatableOption.TheVariants as relocatable
-use Rattle.ix_names.specs.declared.json.json_fault.JsonFault.{JsonFault}
-use Rattle.ix_names.specs.declared.json.json_fault.JsonFault.TheVariants.{WrongKind, TooLong, BadByte, InvalidContent}
+use Rattle.ix_semantic_string.specs.Rules.{TextRules}
+use Rattle.ix_relocatable_option.specs.declared.relocatable_option.RelocatableOption.{RelocatableOption}
+use Rattle.ix_relocatable_option.specs.declared.relocatable_option.RelocatableOption.TheVariants as relocatable
+use Rattle.ix_json.specs.declared.json.json_fault.JsonFault.{JsonFault}
+use Rattle.ix_json.specs.declared.json.json_fault.JsonFault.TheVariants.{WrongKind, TooLong, BadByte, InvalidContent}
 
 abbrev pub u64_tree : ℕ → Data
 u64_tree n = number (unsigned n)

@@ -1,31 +1,28 @@
-//! Containers over tables: queues, slot maps, slot tables, flat maps and hash maps.
+//! Containers over tables: queues, slot tables, slot maps, flat maps and hash maps.
 //!
-//! Each container is generic over the [`Table`](ix_cells::Table) that holds its items, and the kinds of storage are
-//! aliases of one type. Contracts see a container as its bounded model, whatever the table is.
+//! Each lies in a crate of its own, which this one passes on: [`ix_queue`], [`ix_slottable`], [`ix_slotmap`], [`ix_flatmap`]
+//! and [`ix_hashmap`].
 #![tactic(auto)]
 
-pub mod bounded_map;
 pub mod flatmap;
 pub mod hashmap;
-mod pair_places;
 pub mod queue;
 pub mod slotmap;
 pub mod slottable;
 
-pub use bounded_map::BoundedMap;
-pub use flatmap::{
-    CallbackProgression, FixedSizeFlatMap, FlatMap, FlatMapError, FlatMapFamily, Keyed, Keys,
-    MetaFlatMap, Pair, RelocatableFlatMap, UninitFlatMap,
+pub use ix_flatmap::{
+    BoundedMap, CallbackProgression, FixedSizeFlatMap, FlatMap, FlatMapError, FlatMapFamily, Keyed,
+    Keys, MetaFlatMap, Pair, RelocatableFlatMap, UninitFlatMap, bounded_map,
 };
-pub use hashmap::{
+pub use ix_hashmap::{
     ChainLink, DefaultHashBuilder, FixedSizeHashMap, HashMap, HashMapFamily, Hashed, MetaHashMap,
     RelocatableHashMap, UninitHashMap,
 };
-pub use queue::{FixedSizeQueue, MetaQueue, Queue, QueueFamily, RelocatableQueue, UninitQueue};
-pub use slotmap::{
+pub use ix_queue::{FixedSizeQueue, MetaQueue, Queue, QueueFamily, RelocatableQueue, UninitQueue};
+pub use ix_slotmap::{
     Content, FixedSizeSlotMap, MetaSlotMap, RelocatableSlotMap, SlotMap, SlotMapKey, UninitSlotMap,
 };
-pub use slottable::{
+pub use ix_slottable::{
     FixedSizeSlotTable, Link, MetaSlotTable, RelocatableSlotTable, SlotTable, SlotTableFamily,
     SlotTableKey, UninitSlotTable,
 };

@@ -1,11 +1,9 @@
-pub mod Eights
-pub mod Entries
-pub mod Filling
-pub mod Judging
-pub mod NewMaps
-pub mod Objects
-pub mod TextMaps
-pub mod TextTrees
-pub mod Undoing
-mod WorkedJson
-mod WorkedNames
+pub use Rattle.ix_semantic_string.proofs.Eights
+pub use Rattle.ix_json.proofs.Entries
+pub use Rattle.ix_json.proofs.Filling
+pub use Rattle.ix_semantic_string.proofs.Judging
+pub use Rattle.ix_json.proofs.NewMaps
+pub use Rattle.ix_json.proofs.Objects
+pub use Rattle.ix_json.proofs.TextMaps
+pub use Rattle.ix_json.proofs.TextTrees
+pub use Rattle.ix_semantic_string.proofs.Undoing

@@ -1,8 +1,7 @@
-pub mod ErrorTexts
-pub mod JsonTree
-pub mod Optional
-pub mod Rules
-pub mod SampleRules
-pub mod SemanticSteps
-pub mod inner
-pub mod laws
+pub use Rattle.ix_semantic_string.specs.ErrorTexts
+pub use Rattle.ix_json.specs.JsonTree
+pub use Rattle.ix_relocatable_option.specs.Optional
+pub use Rattle.ix_semantic_string.specs.Rules
+pub use Rattle.ix_semantic_string.specs.SampleRules
+pub use Rattle.ix_semantic_string.specs.SemanticSteps
+pub use Rattle.ix_semantic_string.specs.laws

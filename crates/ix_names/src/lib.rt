@@ -1,14 +1,16 @@
-//! Types for names and messages: strings whose rules are checked at every change ([`semantic_string`]), an option
-//! ([`relocatable_option`]), and conversions to and from JSON ([`json`]).
+//! Types for names and messages: strings whose rules are checked at every change, an option, and conversions to and from
+//! JSON.
+//!
+//! Each lies in a crate of its own, which this one passes on: [`ix_semantic_string`], [`ix_relocatable_option`] and
+//! [`ix_json`].
 #![tactic(auto)]
 
 pub mod json;
-pub mod relocatable_option;
 pub mod semantic_string;
 
-pub use json::{JsonFault, JsonFill, JsonForm, JsonItem};
-pub use relocatable_option::RelocatableOption;
-pub use semantic_string::{
+pub use ix_json::{JsonFault, JsonFill, JsonForm, JsonItem};
+pub use ix_relocatable_option::{RelocatableOption, relocatable_option};
+pub use ix_semantic_string::{
     DefaultText, GroupName, GroupNameRules, Rules, Semantic, SemanticStringError,
     TrailingSlashRules,
 };

@@ -3,7 +3,7 @@ use Rattle.std.proofs.Common.{◌≡◌, ◌+◌, ◌-◌, List, [], ◌∷◌, 
 use Rattle.std.specs.Iterator.{YieldsLast}
 use Rattle.std.proofs.lemmas.List.{take_all, take_more}
 use Rattle.std.proofs.lemmas.Option.{slice_get_within, get_or_from_slice_get}
-use Rattle.ix_maps.proofs.Rings.{IsSome-slice_get}
+use Rattle.ix_queue.proofs.Rings.{IsSome-slice_get}
 
 module _ {T : Type 0} where
   without_back : (items : List T) (x : T) → slice_get items (length items - 1) ≡ Some x → items ≡ take (length items - 1) items ++ x ∷ []

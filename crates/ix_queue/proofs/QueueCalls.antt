@@ -8,8 +8,8 @@ use Rattle.std.specs.List.{FoldsTo, push, items_where_true}
 use Rattle.std.specs.List.Retain.{IsFiltered, ReturnsInTurn}
 use Rattle.std.proofs.lemmas.List.{append-nil, append_assoc, drop-drop, drop-set-lt, drop_all, drop_more, length-append, length-drop, take_all, take_more, take_more_set}
 use Rattle.std.proofs.lemmas.Option.{slice_get_within, get_or_from_slice_get}
-use Rattle.ix_cells.specs.Calls.{IsCallableOnEach}
-use Rattle.ix_maps.specs.QueueCalls.{ChangesInTurn, IsCallableOnEachMut}
+use Rattle.ix_tables.specs.Calls.{IsCallableOnEach}
+use Rattle.ix_queue.specs.QueueCalls.{ChangesInTurn, IsCallableOnEachMut}
 
 module _ {T : Type 0} where
   drop_at : (xs : List T) (i : ℕ) (x : T) → slice_get xs i ≡ Some x → drop i xs ≡ x ∷ drop (i + 1) xs

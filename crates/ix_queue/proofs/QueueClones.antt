@@ -4,7 +4,7 @@ use Rattle.std.specs.List.{AllZip}
 use Rattle.std.proofs.lemmas.List.{take_more}
 use Rattle.std.proofs.lemmas.List.Elements.{AllZip-push}
 use Rattle.std.proofs.lemmas.Option.{slice_get_within, get_or_from_slice_get}
-use Rattle.ix_cells.specs.Cloning.{AreEqualClones, AreInfallible}
+use Rattle.ix_tables.specs.Cloning.{AreEqualClones, AreInfallible}
 
 module _ {T : Type 0} where
   -- the item at index i is cloned next

@@ -1,7 +1,7 @@
 -- What stays while a queue is drained.
 use Rattle.std.proofs.Common.{[], ◌∷◌, refl, subst, ◌∙◌}
-use Rattle.ix_maps.specs.QueueDrain.{DrainKeeps, DrainKeepsAlong}
-use Rattle.ix_maps.specs.declared.queue.drain.Drain.{Drain}
+use Rattle.ix_queue.specs.QueueDrain.{DrainKeeps, DrainKeepsAlong}
+use Rattle.ix_queue.specs.declared.queue.drain.Drain.{Drain}
 
 module _ {T S : Type 0} where
   pub Drain-keeps_along : (drain : Drain T S) → DrainKeepsAlong drain

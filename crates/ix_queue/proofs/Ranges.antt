@@ -1,7 +1,7 @@
 -- The items of a range: what is left of it without its first or its last one.
 use Rattle.std.proofs.Common.{◌≡◌, ℕ, suc, ◌+◌, ◌-◌, ◌<◌, List, [], ◌∷◌, ◌++◌, take, drop, get_or, slice_get, Some, ap, ◌∙◌, arith}
 use Rattle.std.specs.Prelude.{◌≢◌, slice_range}
-use Rattle.ix_maps.specs.inner.Ring.{IsIndexRange}
+use Rattle.ix_queue.specs.inner.Ring.{IsIndexRange}
 use Rattle.std.proofs.lemmas.List.{drop_more, take_more, get_or-drop, length-drop}
 use Rattle.std.proofs.lemmas.Option.{slice_get_within, get_or_from_slice_get}
 

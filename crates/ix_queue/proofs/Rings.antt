@@ -6,11 +6,10 @@ use Rattle.std.proofs.lemmas.Bool.Decides.{nat_tests}
 use Rattle.std.proofs.lemmas.List.{append-nil, append_assoc, length-append, length-drop, length-map, length-replicate, length-set, length-take-le, drop-append-le, drop-drop, drop-set-add, drop-set-lt, drop_all, take-set-le, take_all, take_more_set, set-append_left, set-append_right, set-set, set_at, get_or-append_right, get_or-drop, get_or-replicate, get_or-take, get_or_append_left, map-set, map_push, replicate_more, take_at, drop_at, take-append-drop, take-replicate, drop-replicate, replicate-append-replicate}
 use Rattle.std.proofs.Math.Seq.{take-set-lt}
 use Rattle.std.specs.List.{push}
-use Rattle.ix_cells.specs.Bounded.{Bounded, bounded_new, with_items}
-use Rattle.ix_cells.specs.Places.{place_at, IsEmptyAt, IsHeldAt, IsVacant}
-use Rattle.ix_cells.specs.VectorSteps.{vec_last, vec_pop}
-use Rattle.ix_maps.specs.QueueSteps.{is_too_long, queue_overflow, queue_pop, queue_set, queue_set_front}
-use Rattle.ix_maps.specs.inner.Ring.{ring_place, ring_next, ring_row, row_items, IsRingOf, IsRing}
+use Rattle.ix_tables.specs.Bounded.{Bounded, bounded_new, with_items, vec_last, vec_pop}
+use Rattle.ix_tables.specs.Places.{place_at, IsEmptyAt, IsHeldAt, IsVacant}
+use Rattle.ix_queue.specs.QueueSteps.{is_too_long, queue_overflow, queue_pop, queue_set, queue_set_front}
+use Rattle.ix_queue.specs.inner.Ring.{ring_place, ring_next, ring_row, row_items, IsRingOf, IsRing}
 
 -- before the end of the row
 ring_place_low : (start i capacity : ℕ) → i < capacity - start → ring_place start i capacity ≡ start + i

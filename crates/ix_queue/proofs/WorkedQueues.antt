@@ -1,7 +1,7 @@
 -- Worked examples: the steps of a queue do what users expect.
 use Rattle.std.proofs.Common.{ℕ, ◌≡◌, List, [], ◌∷◌, true, false, Some, None, refl}
-use Rattle.ix_cells.specs.Bounded.{Bounded, has_room, bounded_push}
-use Rattle.ix_maps.specs.QueueSteps.{queue_overflow, queue_overflow_item, queue_front, queue_pop, queue_set, queue_set_back, queue_set_front}
+use Rattle.ix_tables.specs.Bounded.{Bounded, has_room, bounded_push}
+use Rattle.ix_queue.specs.QueueSteps.{queue_overflow, queue_overflow_item, queue_front, queue_pop, queue_set, queue_set_back, queue_set_front}
 
 -- a queue with this capacity
 abbrev queue_of : List ℕ → ℕ → Bounded ℕ

@@ -1,7 +1,7 @@
 -- Clones of queues.
 use Rattle.std.specs.Prelude.{◌≡◌}
 use Rattle.std.specs.List.{AllZip}
-use Rattle.ix_cells.specs.Bounded.{Bounded}
+use Rattle.ix_tables.specs.Bounded.{Bounded}
 
 module _ {T : Type 0} where
   -- clones of the items, in order, and the same capacity

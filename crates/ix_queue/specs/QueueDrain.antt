@@ -2,7 +2,7 @@
 use Rattle.std.specs.Prelude.{◌≡◌, ℕ, List, Option}
 use Rattle.std.specs.Borrow.{GName}
 use Rattle.std.specs.Iterator.{Yields, YieldsFirst, YieldsLast}
-use Rattle.ix_maps.specs.declared.queue.drain.Drain.{Drain}
+use Rattle.ix_queue.specs.declared.queue.drain.Drain.{Drain}
 
 module _ {T S : Type 0} where
   -- the items that are still to come

@@ -2,7 +2,7 @@
 -- oldest.
 use Rattle.std.specs.Prelude.{ℕ, ◌-◌, List, length, drop, slice_get, slice_set, nat_lt, if◌then◌else◌, Bool, Option, None}
 use Rattle.std.specs.List.{push}
-use Rattle.ix_cells.specs.Bounded.{Bounded, with_items}
+use Rattle.ix_tables.specs.Bounded.{Bounded, with_items}
 
 module _ {T : Type 0} where
   -- more items than the capacity

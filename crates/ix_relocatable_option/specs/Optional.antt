@@ -2,9 +2,9 @@
 use Rattle.std.specs.Prelude.{◌≡◌, ◌⊎◌, Bool, true, false, Option, None, Some}
 use Rattle.std.specs.Fn.{Once, FnOnceReturnsAtMut}
 use Rattle.std.specs.Borrow.{Fml, RattleType, MutBor, LendsIf}
-use Rattle.ix_names.specs.declared.relocatable_option.RelocatableOption.{RelocatableOption}
-use Rattle.ix_names.specs.declared.relocatable_option.RelocatableOption.TheVariants as relocatable
-use Rattle.ix_names.specs.contracts.relocatable_option.RelocatableOption as relocatable_option
+use Rattle.ix_relocatable_option.specs.declared.relocatable_option.RelocatableOption.{RelocatableOption}
+use Rattle.ix_relocatable_option.specs.declared.relocatable_option.RelocatableOption.TheVariants as relocatable
+use Rattle.ix_relocatable_option.specs.contracts.relocatable_option.RelocatableOption as relocatable_option
 
 module _ {T : Type 0} where
   -- the optional value

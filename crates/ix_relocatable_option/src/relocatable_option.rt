@@ -3,7 +3,7 @@ ghost use Rattle.std.specs.Prelude.{◌≡◌, ◌↔◌, None, Some, IsTrue, Is
 ghost use Rattle.std.specs.Borrow.{sem};
 ghost use Rattle.std.specs.Fn.{FnOnceReturnsAt, FnOnceTakesAt, FnOnceTakesAtMut};
 ghost use Rattle.std.specs.Option.{ForSome, ForNone, MatchOption, UnwrapsOrElse, option_copied_mut};
-ghost use Rattle.ix_names.specs.Optional.{option_of, relocatable_of, relocatable_lends, TakesIf};
+ghost use Rattle.ix_relocatable_option.specs.Optional.{option_of, relocatable_of, relocatable_lends, TakesIf};
 
 mod conversions;
 mod made_of_values;

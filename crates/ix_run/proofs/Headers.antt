@@ -9,7 +9,7 @@ use Rattle.std.proofs.lemmas.List.{append-nil}
 use Rattle.std.proofs.lemmas.List.Splits.{slice_split_at, slice_split_none, join_with_byte-slice_split}
 use Rattle.std.proofs.lemmas.Option.{IfSome_then}
 use Rattle.std.proofs.lemmas.Slice.Eq.{bytes_eq-Decides}
-use Rattle.ix_maps.specs.Generations.{greatest_generation}
+use Rattle.ix_slotmap.specs.Generations.{greatest_generation}
 use Rattle.ix_run.specs.Words.{is_space, fits_generation, words_text, numbers_in, make_named, takes_one}
 use Rattle.ix_run.specs.Headers.{IsStorage, IsStart, capacity_of, with_start, starting_at, container_with_start, fixed_capacity, container_name, containers, named_container, storage_text, storage_forms, takes_fixed_capacity, fixed_capacities, up_to_max, header_of_words, header_of, header_text}
 use Rattle.ix_run.specs.declared.run.grammar.header.FixedCapacity.{FixedCapacity}

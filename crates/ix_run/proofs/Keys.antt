@@ -3,7 +3,7 @@ use Rattle.std.proofs.Common.{ℕ, ◌≡◌, if◌then◌else◌, ◌≤◌, �
 use Rattle.std.specs.List.{slice_split, position_or_len}
 use Rattle.std.specs.Option.{option_and_then}
 use Rattle.std.proofs.lemmas.List.Sums.{prefix_len-le-length}
-use Rattle.ix_maps.specs.Generations.{SlotKey}
+use Rattle.ix_slotmap.specs.Generations.{SlotKey}
 use Rattle.ix_run.specs.Reading.{number_of}
 use Rattle.ix_run.specs.Words.{is_colon, fits_generation, numbers_in, takes_one, key_of_numbers, key_of}
 use Rattle.ix_run.proofs.Words.{cons_number, split_first, split_last, number_of_last_part}

@@ -5,7 +5,7 @@ use Rattle.std.specs.Option.{option_and_then, option_map}
 use Rattle.std.specs.Map.{lookup}
 use Rattle.std.proofs.lemmas.Option.{none-some}
 use Rattle.std.proofs.lemmas.Map.Made.{lookup-map_values}
-use Rattle.ix_maps.specs.Generations.{SlotKey}
+use Rattle.ix_slotmap.specs.Generations.{SlotKey}
 use Rattle.ix_run.specs.Words.{Form, KeyForm, is_space, numbers_in, line_words, fits_byte, make_named, command_of, key_and_numbers, name_key_numbers, make_with_key, key_command_of}
 use Rattle.ix_run.specs.inner.NameTables.{first_word, IsNamed, numbers_taken, items_taken, bytes_taken, forms_by}
 use Rattle.ix_run.specs.declared.run.grammar.name_table.Takes.{Takes}

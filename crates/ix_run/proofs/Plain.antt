@@ -1,6 +1,6 @@
 -- A run sees the items of a slice, and not its address.
 use Rattle.std.proofs.Common.{ℕ, ◌≡◌, refl}
-use Rattle.ix_cells.specs.Bounded.{Bounded}
+use Rattle.ix_tables.specs.Bounded.{Bounded}
 use Rattle.ix_commands.specs.VecRun.{vec_reply, vec_after}
 use Rattle.ix_commands.specs.TextRun.{text_reply, text_after}
 use Rattle.ix_commands.specs.declared.command.VecCommand.{VecCommand}

@@ -2,14 +2,14 @@
 use Rattle.std.proofs.Common.{ℕ, ◌≡◌, List, [], ◌∷◌, ◌++◌, All, nat_eq, true, false, refl, decimal, codes, arith, rules}
 use Rattle.std.proofs.lemmas.Grind.{common_steps}
 use Rattle.std.proofs.lemmas.List.Elements.{All-head, All-tail}
-use Rattle.ix_cells.specs.Bounded.{Bounded}
+use Rattle.ix_tables.specs.Bounded.{Bounded}
 use Rattle.ix_commands.specs.declared.reply.Reply.{Reply}
 use Rattle.ix_commands.specs.declared.reply.Reply.TheVariants as reply
 use Rattle.ix_commands.specs.declared.reply.ReplyError.{ReplyError}
 use Rattle.ix_commands.specs.declared.reply.ReplyError.TheVariants.{OutOfBounds, InsertWouldExceedCapacity, InvalidCharacter, KeyAlreadyExists, IsFull, IndexPastEnd}
 use Rattle.ix_string.specs.Escape.{hex_digit, escaped_byte, escaped_text}
 use Rattle.ix_run.specs.Laws.{HasU64s, HasU64sAnd, IsSlotKey, IsU64}
-use Rattle.ix_maps.specs.Generations.{SlotKey}
+use Rattle.ix_slotmap.specs.Generations.{SlotKey}
 use Rattle.ix_run.specs.Words.{key_text}
 use Rattle.ix_run.specs.Lines.{line_feed, IsOneLine}
 use Rattle.ix_run.specs.ReplyTexts.{error_name, reply_text_by, reply_text, slot_reply_text, entry_text, key_entry_text, more_items_text, items_text}

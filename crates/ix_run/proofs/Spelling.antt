@@ -12,7 +12,7 @@ use Rattle.std.proofs.lemmas.List.Splits.{slice_split_at, slice_split_none, join
 use Rattle.std.proofs.lemmas.Map.Views.{Contains-from_lookup, lookup-from_Contains}
 use Rattle.std.proofs.lemmas.Slice.Eq.{bytes_eq-Decides}
 use Rattle.std.proofs.lemmas.Grind.{common_steps}
-use Rattle.ix_maps.specs.Generations.{SlotKey}
+use Rattle.ix_slotmap.specs.Generations.{SlotKey}
 use Rattle.ix_run.specs.Laws.{IsSlotKey}
 use Rattle.ix_run.specs.Reading.{number_of}
 use Rattle.ix_run.specs.Words.{Form, KeyForm, HasNames, is_space, is_colon, is_name, fits_generation, words_text, line_words, numbers_in, name_and_numbers, make_named, command_of, key_text, key_of_numbers, key_of, key_and_numbers, name_key_numbers, key_words_of, key_words_text, make_with_key, key_command_of}

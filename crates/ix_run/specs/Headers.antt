@@ -1,7 +1,7 @@
 -- Headers: a container, and its storage. Each header has exactly one text.
 use Rattle.std.specs.Prelude.{ℕ, ◌≤◌, ◌==◌, List, [], ◌∷◌, ◌++◌, nat_le, if◌then◌else◌, Option, None, Some, option_map, option_and_then, unwrap_or, codes, bytes_eq, find, ⊤}
 use Rattle.std.specs.List.{slice_split}
-use Rattle.ix_maps.specs.Generations.{greatest_generation}
+use Rattle.ix_slotmap.specs.Generations.{greatest_generation}
 use Rattle.ix_run.specs.Words.{is_space, fits_generation, words_text, numbers_in, Form, make_named}
 use Rattle.ix_run.specs.declared.run.grammar.header.FixedCapacity.{FixedCapacity}
 use Rattle.ix_run.specs.declared.run.grammar.header.FixedCapacity.TheVariants.{Zero, One, Three, Eight}

@@ -1,6 +1,6 @@
 -- What the laws of scripts say.
 use Rattle.std.specs.Prelude.{ℕ, ◌≡◌, ◌<◌, ◌≤◌, ◌^◌, List, [], ◌∷◌, length, Option, Some, map, codes, ⊤}
-use Rattle.ix_maps.specs.Generations.{SlotKey, greatest_generation}
+use Rattle.ix_slotmap.specs.Generations.{SlotKey, greatest_generation}
 use Rattle.ix_commands.specs.Run.{run_replies}
 use Rattle.ix_commands.specs.declared.reply.Reply.{Reply}
 use Rattle.ix_commands.specs.declared.reply.Reply.TheVariants as reply

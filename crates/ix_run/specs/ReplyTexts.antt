@@ -1,6 +1,6 @@
 -- The texts of replies, and of items that are shown.
 use Rattle.std.specs.Prelude.{ℕ, List, [], ◌∷◌, ◌++◌, true, false, codes, decimal}
-use Rattle.ix_maps.specs.Generations.{SlotKey}
+use Rattle.ix_slotmap.specs.Generations.{SlotKey}
 use Rattle.ix_commands.specs.declared.reply.Reply.{Reply}
 use Rattle.ix_commands.specs.declared.reply.Reply.TheVariants as reply
 use Rattle.ix_commands.specs.declared.reply.ReplyError.{ReplyError}

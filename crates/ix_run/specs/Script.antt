@@ -1,10 +1,10 @@
 -- The replies to a script: one line for each line, in order.
 use Rattle.std.specs.Prelude.{ℕ, List, [], ◌∷◌, ◌++◌, if◌then◌else◌, Option, None, Some, option_map, option_and_then, unwrap_or, map, codes, decimal, bytes_eq, nat_eq}
-use Rattle.ix_cells.specs.Bounded.{Bounded, bounded_new}
-use Rattle.ix_maps.specs.SlotState.{SlotState, slot_new, entries}
-use Rattle.ix_maps.specs.Generations.{SlotMapState, map_entries, map_new}
-use Rattle.ix_maps.specs.FlatState.{flat_keys}
-use Rattle.ix_maps.specs.declared.flatmap.pair.Pair.{Pair}
+use Rattle.ix_tables.specs.Bounded.{Bounded, bounded_new}
+use Rattle.ix_slottable.specs.SlotState.{SlotState, slot_new, entries}
+use Rattle.ix_slotmap.specs.Generations.{SlotMapState, map_entries, map_new}
+use Rattle.ix_flatmap.specs.FlatState.{flat_keys}
+use Rattle.ix_flatmap.specs.declared.flatmap.pair.Pair.{Pair}
 use Rattle.ix_string.specs.Escape.{escaped_text}
 use Rattle.ix_commands.specs.QueueRun.{queue_reply, queue_after}
 use Rattle.ix_commands.specs.VecRun.{vec_reply, vec_after}

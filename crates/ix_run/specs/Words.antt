@@ -3,7 +3,7 @@ use Rattle.std.specs.Prelude.{ℕ, ◌≡◌, List, [], ◌∷◌, ◌++◌, len
 use Rattle.std.specs.Borrow.{Bor}
 use Rattle.std.specs.List.{slice_split, IsDistinct, list_all, list_any}
 use Rattle.std.specs.Map.{lookup, keys_of}
-use Rattle.ix_maps.specs.Generations.{SlotKey, greatest_generation}
+use Rattle.ix_slotmap.specs.Generations.{SlotKey, greatest_generation}
 use Rattle.ix_run.specs.Reading.{number_of}
 
 abbrev pub is_space : ℕ → Bool

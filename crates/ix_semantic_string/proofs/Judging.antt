@@ -4,15 +4,15 @@ use Rattle.std.specs.List.{insert_slice}
 use Rattle.std.proofs.lemmas.Grind.{common_steps}
 use Rattle.std.proofs.lemmas.List.{take_at, drop_at}
 use Rattle.std.proofs.lemmas.List.Elements.{All-take, All-drop}
-use Rattle.ix_cells.specs.Bounded.{Bounded}
+use Rattle.ix_tables.specs.Bounded.{Bounded}
 use Rattle.ix_string.specs.Text.{IsText, IsTextByte}
 use Rattle.ix_string.proofs.Texts.{is_text-yes}
 use Rattle.ix_string.specs.TextSteps.{text_insert, text_insert_result, text_insert_slice}
 use Rattle.ix_string.specs.declared.string.modification_error.StringModificationError.{StringModificationError}
 use Rattle.ix_string.specs.declared.string.modification_error.StringModificationError.TheVariants.{InvalidCharacter, InsertWouldExceedCapacity}
-use Rattle.ix_names.specs.ErrorTexts.{semantic_error_of}
-use Rattle.ix_names.specs.Rules.{TextRules}
-use Rattle.ix_names.specs.SemanticSteps.{SemanticResult}
+use Rattle.ix_semantic_string.specs.ErrorTexts.{semantic_error_of}
+use Rattle.ix_semantic_string.specs.Rules.{TextRules}
+use Rattle.ix_semantic_string.specs.SemanticSteps.{SemanticResult}
 
 pub length-insert_slice : (text : List ℕ) (i : ℕ) (bytes : List ℕ) → i ≤ length text → length (insert_slice text i bytes) ≡ length text + length bytes
 length-insert_slice text i bytes within = grind (arith, common_steps)

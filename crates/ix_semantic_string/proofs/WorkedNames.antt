@@ -4,10 +4,10 @@ use Rattle.std.specs.Prelude.{codes, remove, slice_get, Ok, Err}
 use Rattle.std.specs.List.{insert_slice}
 use Rattle.std.proofs.lemmas.List.Elements.{All-nil, All-cons}
 use Rattle.ix_string.specs.Text.{IsText, IsTextByte}
-use Rattle.ix_names.specs.Rules.{IsAccepted}
-use Rattle.ix_names.specs.SampleRules.{group_name_rules, without_trailing_slashes}
-use Rattle.ix_names.specs.SemanticSteps.{SemanticResult, text_without_range}
-use Rattle.ix_names.specs.declared.semantic_string.semantic_string_error.SemanticStringError.TheVariants.{InvalidContent, ExceedsMaximumLength}
+use Rattle.ix_semantic_string.specs.Rules.{IsAccepted}
+use Rattle.ix_semantic_string.specs.SampleRules.{group_name_rules, without_trailing_slashes}
+use Rattle.ix_semantic_string.specs.SemanticSteps.{SemanticResult, text_without_range}
+use Rattle.ix_semantic_string.specs.declared.semantic_string.semantic_string_error.SemanticStringError.TheVariants.{InvalidContent, ExceedsMaximumLength}
 
 IsText-a : IsText (codes "a")
 IsText-a = All-cons (λ b. IsTextByte b) 97 [] (omega arith, omega arith) (All-nil (λ b. IsTextByte b))

@@ -2,7 +2,7 @@
 use Rattle.std.specs.Prelude.{ℕ, ◌-◌, ◌==◌, ◌||◌, List, [], ◌∷◌, length, take, max, Bool, true, false, not}
 use Rattle.std.specs.Char.{is_ascii_digit, is_ascii_lowercase}
 use Rattle.std.specs.List.{list_any, suffix_len}
-use Rattle.ix_names.specs.Rules.{TextRules}
+use Rattle.ix_semantic_string.specs.Rules.{TextRules}
 
 abbrev pub is_dash : ℕ → Bool
 is_dash b = b == 45

@@ -5,13 +5,9 @@ use Rattle.std.specs.Option.{option_flatten}
 use Rattle.std.proofs.lemmas.Bool.Decides.{nat_tests}
 use Rattle.std.proofs.lemmas.List.{length-set}
 use Rattle.std.proofs.lemmas.List.Sums.{sum_by-cons, sum_by-set, count_by-le-length}
-use Rattle.ix_cells.specs.Places.{place_at}
-use Rattle.ix_maps.specs.Generations.{SlotMapState, generation_at, place_value, is_retired, DeadAreNotHeld}
-use Rattle.ix_maps.proofs.SlotTables.{place_at_past}
-
-pub none_of_not_some : {X : Type 0} (content : Option X) → (IsSome content → ⊥) → content ≡ None
-none_of_not_some None none = refl
-none_of_not_some (Some x) none = absurd (none refl)
+use Rattle.ix_tables.specs.Places.{place_at}
+use Rattle.ix_slotmap.specs.Generations.{SlotMapState, generation_at, place_value, is_retired, DeadAreNotHeld}
+use Rattle.ix_slottable.proofs.SlotTables.{place_at_past}
 
 module _ {T : Type 0} where
   abbrev one_if_some : Option (Option T) → ℕ

@@ -5,14 +5,14 @@ use Rattle.std.specs.List.{fold, range_with_len}
 use Rattle.std.specs.Option.{option_flatten}
 use Rattle.std.proofs.lemmas.Bool.{cases_eq}
 use Rattle.std.proofs.lemmas.List.{drop-set-lt}
-use Rattle.ix_cells.specs.Places.{place_at}
-use Rattle.ix_cells.proofs.Places.{place_at_within}
-use Rattle.ix_maps.specs.SlotState.{value_at, entries_from}
-use Rattle.ix_maps.specs.Generations.{SlotKey, SlotMapState, generation_at, key_at, place_value, map_value, map_len, held_entries}
-use Rattle.ix_maps.specs.SlotMapSteps.{is_raisable, map_vacate, map_retire, map_remove_at, map_clear, MapRemove}
-use Rattle.ix_maps.proofs.MapEntries.{count_by-held, held_entries-first}
-use Rattle.ix_maps.proofs.SlotMapCalls.{content_of, map_value-key_at, SettlesPlace, SettlesPlace-map_remove_at}
-use Rattle.ix_maps.proofs.SlotDrains.{fold-first, none_before, none_of}
+use Rattle.ix_tables.specs.Places.{place_at}
+use Rattle.ix_tables.proofs.Places.{place_at_within}
+use Rattle.ix_slottable.specs.SlotState.{value_at, entries_from}
+use Rattle.ix_slotmap.specs.Generations.{SlotKey, SlotMapState, generation_at, key_at, place_value, map_value, map_len, held_entries}
+use Rattle.ix_slotmap.specs.SlotMapSteps.{is_raisable, map_vacate, map_retire, map_remove_at, map_clear, MapRemove}
+use Rattle.ix_slotmap.proofs.MapEntries.{count_by-held, held_entries-first}
+use Rattle.ix_slotmap.proofs.SlotMapCalls.{content_of, map_value-key_at, SettlesPlace, SettlesPlace-map_remove_at}
+use Rattle.ix_slottable.proofs.SlotDrains.{fold-first, none_before, none_of}
 
 module _ {T : Type 0} where
   -- the entries of places whose generations are the same

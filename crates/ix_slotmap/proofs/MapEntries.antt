@@ -5,14 +5,14 @@ use Rattle.std.specs.Option.{option_flatten}
 use Rattle.std.specs.Map.{lookup}
 use Rattle.std.proofs.lemmas.Bool.Decides.{nat_tests}
 use Rattle.std.proofs.lemmas.List.Sums.{sum_by-cons}
-use Rattle.ix_cells.specs.Places.{place_at}
-use Rattle.ix_maps.specs.SlotState.{value_at, entries_from}
-use Rattle.ix_maps.specs.Generations.{SlotKey, slot_key_eq, SlotMapState, generation_at, key_at, place_value, held_entries, map_entries, KeysRise, ListsExactly}
+use Rattle.ix_tables.specs.Places.{place_at}
+use Rattle.ix_slottable.specs.SlotState.{value_at, entries_from}
+use Rattle.ix_slotmap.specs.Generations.{SlotKey, slot_key_eq, SlotMapState, generation_at, key_at, place_value, held_entries, map_entries, KeysRise, ListsExactly}
 use Rattle.std.proofs.lemmas.Bool.{cases_lt}
 use Rattle.std.proofs.lemmas.List.{at_drop_more}
-use Rattle.ix_cells.proofs.Places.{place_at_within}
-use Rattle.ix_maps.proofs.SlotTables.{place_at_past}
-use Rattle.ix_maps.proofs.Entries.{Rises, Rises-none, Rises-weaken, Rises-cons, entries_from-none}
+use Rattle.ix_tables.proofs.Places.{place_at_within}
+use Rattle.ix_slottable.proofs.SlotTables.{place_at_past}
+use Rattle.ix_slottable.proofs.Entries.{Rises, Rises-none, Rises-weaken, Rises-cons, entries_from-none}
 
 module _ {T : Type 0} (s : SlotMapState T) where
   Rises-held_entries : (start : ℕ) (places : List (Option (Option T))) → Rises start (map (λ item. item.0.index) (held_entries s (entries_from start places)))

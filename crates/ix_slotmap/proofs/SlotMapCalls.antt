@@ -8,12 +8,12 @@ use Rattle.std.proofs.lemmas.Bool.{cases_eq, eqb-true}
 use Rattle.std.proofs.lemmas.Bool.Decides.{nat_tests}
 use Rattle.std.proofs.lemmas.Fn.{FoldsTo-push}
 use Rattle.std.proofs.lemmas.List.{append-nil, take_all, get_or-set_same, get_or-set_other, length-set, set-set}
-use Rattle.ix_cells.proofs.Places.{place_at_within}
-use Rattle.ix_maps.specs.SlotState.{value_at, entries_from}
-use Rattle.ix_maps.specs.Generations.{SlotKey, SlotMapState, generation_at, key_at, place_value, map_value, IsDead, held_entries, map_entries}
-use Rattle.ix_maps.specs.SlotMapSteps.{is_raisable, map_set_at, map_vacate, map_retire, map_remove_at, MapRemove}
-use Rattle.ix_maps.specs.SlotCalls.{SomeCallOn, IsCallableOnEach}
-use Rattle.ix_maps.proofs.SlotCalls.{FoldsTo-first, entries_from-take, entries_from-split}
+use Rattle.ix_tables.proofs.Places.{place_at_within}
+use Rattle.ix_slottable.specs.SlotState.{value_at, entries_from}
+use Rattle.ix_slotmap.specs.Generations.{SlotKey, SlotMapState, generation_at, key_at, place_value, map_value, IsDead, held_entries, map_entries}
+use Rattle.ix_slotmap.specs.SlotMapSteps.{is_raisable, map_set_at, map_vacate, map_retire, map_remove_at, MapRemove}
+use Rattle.ix_slottable.specs.SlotCalls.{SomeCallOn, IsCallableOnEach}
+use Rattle.ix_slottable.proofs.SlotCalls.{FoldsTo-first, entries_from-take, entries_from-split}
 
 keys_same : (key other : SlotKey) → key.index ≡ other.index → key.generation ≡ other.generation → key ≡ other
 keys_same key other index generation =

@@ -1,11 +1,11 @@
 -- Clones of slot maps.
 use Rattle.std.proofs.Common.{◌≡◌, ℕ, List, Option, Some, None, refl, sym, ap, ◌∙◌, subst, arith}
 use Rattle.std.specs.Option.{option_flatten}
-use Rattle.ix_maps.specs.SlotState.{SlotState, value_at}
-use Rattle.ix_maps.specs.Generations.{is_retired}
-use Rattle.ix_maps.specs.SlotCopies.{IsCloneAt, SlotIsClone, SlotIsInfallible}
-use Rattle.ix_maps.specs.inner.Words.{place_word, HasWords}
-use Rattle.ix_maps.proofs.SlotCopies.{count_by-same}
+use Rattle.ix_slottable.specs.SlotState.{SlotState, value_at}
+use Rattle.ix_slotmap.specs.Generations.{is_retired}
+use Rattle.ix_slottable.specs.SlotCopies.{IsCloneAt, SlotIsClone, SlotIsInfallible}
+use Rattle.ix_slotmap.specs.inner.Words.{place_word, HasWords}
+use Rattle.ix_slottable.proofs.SlotCopies.{count_by-same}
 
 module _ {T : Type 0} (is_clone : T → T → Type 0) where
   module _ (R : Option T → Option T → Type 0) (no_value : (y : T) → R None (Some y) → ⊥) (no_copy : (x : T) → R (Some x) None → ⊥) (both : (x y : T) → R (Some x) (Some y) → is_clone x y) where

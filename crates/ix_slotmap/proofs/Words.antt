@@ -9,16 +9,16 @@ use Rattle.std.proofs.Math.Seq.{map-set_same}
 use Rattle.std.proofs.lemmas.List.{set-get_or, get_or-set_same, get_or-set_other, get_or-replicate, length-map, length-replicate, length-set, map-set}
 use Rattle.std.proofs.lemmas.List.Sums.{sum_by-set}
 use Rattle.std.proofs.lemmas.List.Folds.{sum_by-replicate}
-use Rattle.ix_cells.proofs.Places.{place_at_within}
-use Rattle.ix_cells.specs.Places.{place_at}
-use Rattle.ix_maps.specs.SlotState.{SlotState, value_at, IsFree, IsWellFormed, slot_new}
-use Rattle.ix_maps.specs.Generations.{SlotKey, SlotMapState, greatest_generation, generation_at, place_value, map_value, IsRetired, is_retired, IsMapFormed, map_new}
-use Rattle.ix_maps.specs.SlotSteps.{slot_set, slot_fill, slot_vacate, SlotInsert, SlotInsertAt, SlotRemove}
-use Rattle.ix_maps.specs.SlotMapSteps.{map_fill, map_replace, map_vacate, map_retire}
-use Rattle.ix_maps.proofs.SlotSteps.{SlotInsert-fills, SlotInsertAt-fills, SlotRemove-vacates}
-use Rattle.ix_maps.proofs.VacantTables.{place_at-replicate}
-use Rattle.ix_maps.proofs.Generations.{one_if_retired, if_none, free_of_usable, retired_count-room}
-use Rattle.ix_maps.specs.inner.Words.{word_at, retired_word, word_generation, word_generations, IsWordOf, HasWords}
+use Rattle.ix_tables.proofs.Places.{place_at_within}
+use Rattle.ix_tables.specs.Places.{place_at}
+use Rattle.ix_slottable.specs.SlotState.{SlotState, value_at, IsFree, IsWellFormed, slot_new}
+use Rattle.ix_slotmap.specs.Generations.{SlotKey, SlotMapState, greatest_generation, generation_at, place_value, map_value, IsRetired, is_retired, IsMapFormed, map_new}
+use Rattle.ix_slottable.specs.SlotSteps.{slot_set, slot_fill, slot_vacate, SlotInsert, SlotInsertAt, SlotRemove}
+use Rattle.ix_slotmap.specs.SlotMapSteps.{map_fill, map_replace, map_vacate, map_retire}
+use Rattle.ix_slottable.proofs.SlotSteps.{SlotInsert-fills, SlotInsertAt-fills, SlotRemove-vacates}
+use Rattle.ix_tables.proofs.VacantTables.{place_at-replicate}
+use Rattle.ix_slotmap.proofs.Generations.{one_if_retired, if_none, free_of_usable, retired_count-room}
+use Rattle.ix_slotmap.specs.inner.Words.{word_at, retired_word, word_generation, word_generations, IsWordOf, HasWords}
 
 word_generation-below : (word : ℕ) → word < retired_word → word_generation word ≡ word / 2
 word_generation-below word below =

@@ -1,7 +1,7 @@
 -- Worked examples: the steps of a slot map with generations do what users expect.
 use Rattle.std.proofs.Common.{ℕ, ◌≡◌, inl, inr, List, [], ◌∷◌, Option, Some, None, option_map, slice_get, refl, lit<, lit≤, arith}
-use Rattle.ix_maps.specs.Generations.{SlotKey, SlotMapState, key_at, map_value, IsDead, retired_count, map_len, map_entries, map_new, IsMapFormed}
-use Rattle.ix_maps.specs.SlotMapSteps.{map_insert, map_fill, map_replace, map_remove, CanInsertAt}
+use Rattle.ix_slotmap.specs.Generations.{SlotKey, SlotMapState, key_at, map_value, IsDead, retired_count, map_len, map_entries, map_new, IsMapFormed}
+use Rattle.ix_slotmap.specs.SlotMapSteps.{map_insert, map_fill, map_replace, map_remove, CanInsertAt}
 
 abbrev key : ℕ → ℕ → SlotKey
 key index generation = record { index = index; generation = generation }

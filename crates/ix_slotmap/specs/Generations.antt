@@ -4,7 +4,7 @@ use Rattle.std.specs.Option.{option_flatten}
 use Rattle.std.specs.List.Sorted.{IsStrictlyIncreasing}
 use Rattle.std.specs.Map.{lookup}
 use Rattle.std.specs.Coded.{Coded, code_by, coded×, coded_ℕ, coded_list}
-use Rattle.ix_maps.specs.SlotState.{SlotState, slot_state_code, value_at, slot_new, entries}
+use Rattle.ix_slottable.specs.SlotState.{SlotState, slot_state_code, value_at, slot_new, entries}
 
 -- a key: the number of a place, and a generation
 pub record SlotKey : Type 0 where

@@ -1,10 +1,10 @@
 -- What contracts see of an iterator that drains a slot map.
 use Rattle.std.specs.Prelude.{List, drop}
 use Rattle.std.specs.Borrow.{GName}
-use Rattle.ix_maps.specs.SlotState.{entries_from}
-use Rattle.ix_maps.specs.Generations.{SlotKey, SlotMapState, held_entries}
-use Rattle.ix_maps.specs.SlotMapSteps.{map_clear}
-use Rattle.ix_maps.specs.declared.slotmap.drain.Drain.{Drain}
+use Rattle.ix_slottable.specs.SlotState.{entries_from}
+use Rattle.ix_slotmap.specs.Generations.{SlotKey, SlotMapState, held_entries}
+use Rattle.ix_slotmap.specs.SlotMapSteps.{map_clear}
+use Rattle.ix_slotmap.specs.declared.slotmap.drain.Drain.{Drain}
 
 module _ {T S L G : Type 0} where
   -- the items that are still to come

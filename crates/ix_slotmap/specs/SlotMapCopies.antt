@@ -1,7 +1,7 @@
 -- Clones of slot maps.
 use Rattle.std.specs.Prelude.{◌≡◌, ℕ, Some}
-use Rattle.ix_maps.specs.Generations.{SlotMapState, place_value}
-use Rattle.ix_maps.specs.SlotCopies.{IsCloneAt, SlotIsClone}
+use Rattle.ix_slotmap.specs.Generations.{SlotMapState, place_value}
+use Rattle.ix_slottable.specs.SlotCopies.{IsCloneAt, SlotIsClone}
 
 module _ {T : Type 0} where
   -- clones of the values in the same places, the same free and retired places, the former in the same order, and the same

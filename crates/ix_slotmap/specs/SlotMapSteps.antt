@@ -1,9 +1,9 @@
 -- The steps of a slot map with generations: the state after each call, and what the calls that change a map promise.
 use Rattle.std.specs.Prelude.{◌≡◌, ◌≢◌, ◌↔◌, ◌⊎◌, ℕ, ◌+◌, ◌<◌, List, [], length, nat_lt, if◌then◌else◌, Bool, Option, Some, None, IsSome, IsNone, IfSome, is_some, option_map, slice_get, slice_set}
 use Rattle.std.specs.List.{fold, range_with_len}
-use Rattle.ix_maps.specs.SlotState.{IsFree}
-use Rattle.ix_maps.specs.SlotSteps.{slot_set, slot_fill, slot_vacate, slot_insert}
-use Rattle.ix_maps.specs.Generations.{SlotKey, SlotMapState, greatest_generation, generation_at, key_at, place_value, map_value, IsDead}
+use Rattle.ix_slottable.specs.SlotState.{IsFree}
+use Rattle.ix_slottable.specs.SlotSteps.{slot_set, slot_fill, slot_vacate, slot_insert}
+use Rattle.ix_slotmap.specs.Generations.{SlotKey, SlotMapState, greatest_generation, generation_at, key_at, place_value, map_value, IsDead}
 
 module _ {T : Type 0} where
   -- the generation of the place is raised by one

@@ -26,4 +26,4 @@ pub use kinds::{FixedSizeSlotMap, RelocatableSlotMap, SlotMap, UninitSlotMap};
 pub use meta_slot_map::{MetaSlotMap, dead_keys_law};
 pub use slot_map_key::{SlotMapKey, default_key_law, key_order_law};
 pub use values::Values;
-pub(crate) use word_table::{RETIRED, WordTable, copy_items, empty, fill};
+pub(crate) use word_table::{RETIRED, WordTable};

@@ -3,11 +3,11 @@ use Rattle.std.proofs.Common.{◌≡◌, ℕ, zero, suc, ◌<◌, ◌≤◌, ◌
 use Rattle.std.specs.Prelude.{option_map, unwrap_or}
 use Rattle.std.proofs.lemmas.Bool.{cases_eq}
 use Rattle.std.proofs.lemmas.List.{get_or-set_same, get_or-set_other}
-use Rattle.ix_cells.specs.Places.{place_at}
-use Rattle.ix_cells.proofs.Places.{place_at_within}
-use Rattle.ix_maps.specs.declared.slottable.link.Link.{Link}
-use Rattle.ix_maps.specs.inner.FreeList.{free_link, first_or, last_or, links_keys_from, IsChain, links_set_next, links_set_previous}
-use Rattle.ix_maps.proofs.FreeKeys.{key_count, key_count-cons, hit_same, hit_other, first_occurs, apart_from_last_or}
+use Rattle.ix_tables.specs.Places.{place_at}
+use Rattle.ix_tables.proofs.Places.{place_at_within}
+use Rattle.ix_slottable.specs.declared.slottable.link.Link.{Link}
+use Rattle.ix_slottable.specs.inner.FreeList.{free_link, first_or, last_or, links_keys_from, IsChain, links_set_next, links_set_previous}
+use Rattle.ix_slottable.proofs.FreeKeys.{key_count, key_count-cons, hit_same, hit_other, first_occurs, apart_from_last_or}
 
 -- the links around one key of a chain
 pub record ChainParts (links : List (Option Link)) (before : ℕ) (front : List ℕ) (key : ℕ) (back : List ℕ) (after : ℕ) : Type 0 where

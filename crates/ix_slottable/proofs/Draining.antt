@@ -1,7 +1,7 @@
 -- What stays while a map is drained.
 use Rattle.std.proofs.Common.{List, [], ◌∷◌, refl, subst, ◌∙◌}
 use Rattle.std.specs.Borrow.{GName}
-use Rattle.ix_maps.specs.Draining.{DrainingKeeps, DrainingKeepsAlong}
+use Rattle.ix_slottable.specs.Draining.{DrainingKeeps, DrainingKeepsAlong}
 
 module _ {D X S : Type 0} (items : D → List X) (lender : D → GName) (left : D → S) where
   pub Draining-keeps_along : (drain : D) → DrainingKeepsAlong items lender left drain

@@ -5,8 +5,8 @@ use Rattle.std.specs.List.Sorted.{IsStrictlyIncreasing}
 use Rattle.std.specs.Map.{keys_of, lookup}
 use Rattle.std.proofs.lemmas.Bool.Decides.{nat_tests}
 use Rattle.std.proofs.lemmas.List.Sums.{sum_by-cons}
-use Rattle.ix_cells.specs.Places.{place_at, IsHeldAt}
-use Rattle.ix_maps.specs.SlotState.{SlotState, value_at, entries_from, entries}
+use Rattle.ix_tables.specs.Places.{place_at, IsHeldAt}
+use Rattle.ix_slottable.specs.SlotState.{SlotState, value_at, entries_from, entries}
 
 -- some keys rise, and none is less than `start`
 pub record Rises (start : ℕ) (keys : List ℕ) : Type 0 where

@@ -1,9 +1,9 @@
 -- A map with a greater capacity takes no less memory.
 use Rattle.std.proofs.Common.{◌≡◌, ℕ, ◌≤◌, ◌+◌, sym, ap₂, subst, arith}
-use Rattle.ix_cells.specs.Memory.{no_memory, memory_plus, table_memory}
-use Rattle.ix_cells.specs.declared.cells.memory_size.MemorySize.{MemorySize}
-use Rattle.ix_cells.proofs.Memory.{saturated-mono, table_memory-mono}
-use Rattle.ix_maps.specs.Memory.{slot_table_memory, slot_map_memory}
+use Rattle.ix_tables.specs.Memory.{no_memory, memory_plus, table_memory}
+use Rattle.ix_tables.specs.declared.cells.memory_size.MemorySize.{MemorySize}
+use Rattle.ix_tables.proofs.Memory.{saturated-mono, table_memory-mono}
+use Rattle.ix_slottable.specs.Memory.{slot_table_memory, slot_map_memory}
 
 memory_plus-mono : (a b c d : MemorySize) → a.bytes ≤ c.bytes → b.bytes ≤ d.bytes → (memory_plus a b).bytes ≤ (memory_plus c d).bytes
 memory_plus-mono a b c d first second = saturated-mono (a.bytes + b.bytes) (c.bytes + d.bytes) (omega (arith, first, second))

@@ -7,11 +7,11 @@ use Rattle.std.proofs.lemmas.Bool.{cases_eq}
 use Rattle.std.proofs.lemmas.Fn.{FoldsTo-push}
 use Rattle.std.proofs.lemmas.List.{take_more, take_all, take-append-drop, drop_more, length-take-le}
 use Rattle.std.proofs.lemmas.List.{append-nil, get_or-set_same, get_or-set_other, length-set, set-set}
-use Rattle.ix_cells.specs.Places.{place_at}
-use Rattle.ix_cells.proofs.Places.{place_at_within}
-use Rattle.ix_maps.specs.SlotState.{SlotState, value_at, IsHeld, entries_from, entries}
-use Rattle.ix_maps.specs.SlotSteps.{slot_set, slot_vacate, slot_remove}
-use Rattle.ix_maps.specs.SlotCalls.{CalledOn, SomeCallOn, IsCallableOnEach}
+use Rattle.ix_tables.specs.Places.{place_at}
+use Rattle.ix_tables.proofs.Places.{place_at_within}
+use Rattle.ix_slottable.specs.SlotState.{SlotState, value_at, IsHeld, entries_from, entries}
+use Rattle.ix_slottable.specs.SlotSteps.{slot_set, slot_vacate, slot_remove}
+use Rattle.ix_slottable.specs.SlotCalls.{CalledOn, SomeCallOn, IsCallableOnEach}
 
 -- of pairs, what the first parts go through
 pub FoldsTo-first : {F S A : Type 0} (R : F × S → A → F × S → Type 0) (Q : F → A → F → Type 0) → ((p q : F × S) (x : A) → R p x q → Q p.0 x q.0)

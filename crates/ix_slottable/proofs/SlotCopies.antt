@@ -4,16 +4,16 @@ use Rattle.std.specs.Prelude.{replicate, if◌then◌else◌, is_some, nat_lt, c
 use Rattle.std.proofs.lemmas.Bool.{cases_eq, cases_lt}
 use Rattle.std.proofs.lemmas.List.{length-set, length-replicate}
 use Rattle.std.proofs.lemmas.List.Sums.{sum_by-cons}
-use Rattle.ix_cells.specs.Places.{place_at, IsHeldAt}
-use Rattle.ix_cells.specs.Cloning.{AreEqualClones}
-use Rattle.ix_maps.specs.declared.slottable.link.Link.{Link}
-use Rattle.ix_maps.specs.SlotState.{SlotState, value_at, IsHeld, IsFree}
-use Rattle.ix_maps.specs.SlotSteps.{slot_fill, SlotInsertAt}
-use Rattle.ix_maps.specs.SlotCopies.{IsCloneAt, SlotIsClone}
-use Rattle.ix_maps.specs.inner.FreeList.{Represents}
-use Rattle.ix_maps.proofs.Generations.{none_of_not_some}
-use Rattle.ix_maps.proofs.SlotTables.{place_at_past}
-use Rattle.ix_maps.proofs.VacantTables.{place_at-replicate}
+use Rattle.ix_tables.specs.Places.{place_at, IsHeldAt}
+use Rattle.ix_tables.specs.Cloning.{AreEqualClones}
+use Rattle.ix_slottable.specs.declared.slottable.link.Link.{Link}
+use Rattle.ix_slottable.specs.SlotState.{SlotState, value_at, IsHeld, IsFree}
+use Rattle.ix_slottable.specs.SlotSteps.{slot_fill, SlotInsertAt}
+use Rattle.ix_slottable.specs.SlotCopies.{IsCloneAt, SlotIsClone}
+use Rattle.ix_slottable.specs.inner.FreeList.{Represents}
+use Rattle.ix_tables.proofs.Places.{none_of_not_some}
+use Rattle.ix_slottable.proofs.SlotTables.{place_at_past}
+use Rattle.ix_tables.proofs.VacantTables.{place_at-replicate}
 
 -- two rows with the same content at each place
 pub places_same : {X : Type 0} (xs ys : List (Option X)) → length xs ≡ length ys → ((i : ℕ) → i < length ys → place_at xs i ≡ place_at ys i) → xs ≡ ys

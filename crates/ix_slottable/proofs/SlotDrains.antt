@@ -4,14 +4,14 @@ use Rattle.std.specs.Prelude.{replicate, if◌then◌else◌, is_some, count_by}
 use Rattle.std.specs.List.{fold, range_with_len}
 use Rattle.std.proofs.lemmas.Bool.{cases_eq, cases_Bool}
 use Rattle.std.proofs.lemmas.List.Sums.{sum_by-cons}
-use Rattle.ix_cells.specs.Places.{place_at}
-use Rattle.ix_maps.specs.SlotState.{SlotState, value_at, held_count, entries_from}
-use Rattle.ix_maps.specs.SlotSteps.{slot_vacate, slot_remove, slot_clear, SlotRemove}
+use Rattle.ix_tables.specs.Places.{place_at}
+use Rattle.ix_slottable.specs.SlotState.{SlotState, value_at, held_count, entries_from}
+use Rattle.ix_slottable.specs.SlotSteps.{slot_vacate, slot_remove, slot_clear, SlotRemove}
 use Rattle.std.proofs.lemmas.List.{drop_more, drop-set-lt}
-use Rattle.ix_maps.proofs.Entries.{count_by-is_some, entries_from-none}
-use Rattle.ix_maps.proofs.VacantTables.{place_at-replicate}
-use Rattle.ix_maps.proofs.SlotCalls.{fold-range_with_len, length-slot_remove}
-use Rattle.ix_cells.proofs.Places.{place_at_within}
+use Rattle.ix_slottable.proofs.Entries.{count_by-is_some, entries_from-none}
+use Rattle.ix_tables.proofs.VacantTables.{place_at-replicate}
+use Rattle.ix_slottable.proofs.SlotCalls.{fold-range_with_len, length-slot_remove}
+use Rattle.ix_tables.proofs.Places.{place_at_within}
 
 module _ {X : Type 0} (f : X → ℕ → X) where
   -- steps that change nothing

@@ -9,16 +9,16 @@ use Rattle.std.proofs.lemmas.List.{get_or-set_same, get_or-set_other, get_or-rep
 use Rattle.std.proofs.lemmas.List.Sums.{sum_by-set}
 use Rattle.std.proofs.lemmas.List.Folds.{sum_by-replicate}
 use Rattle.std.proofs.lemmas.List.FromFn.{length-range_with_len}
-use Rattle.ix_cells.specs.Places.{place_at}
-use Rattle.ix_maps.specs.declared.slottable.link.Link.{Link}
-use Rattle.ix_maps.specs.SlotState.{SlotState, value_at, IsHeld, IsFree, slot_new}
-use Rattle.ix_maps.specs.SlotSteps.{slot_fill, slot_vacate, slot_insert, SlotInsert, SlotInsertAt, SlotRemove}
-use Rattle.ix_maps.specs.inner.FreeList.{no_key, held_link, free_link, first_or, last_or, IsChain, IsKeyOrNone, IsLinkWithin, links_set_next, links_set_previous, links_remove, links_remove_first, links_insert_first, first_after_remove, IsRisingList, Represents}
-use Rattle.ix_maps.proofs.Entries.{one_if_held}
-use Rattle.ix_maps.proofs.FreeKeys.{key_count, key_count-cons, hit, hit_same, hit_other, key_count-append, keys_without-absent, apart_from_last_or, apart_from_first_or, key_count-range_past, key_count-range_within}
-use Rattle.ix_cells.proofs.Places.{held_item, held_within, place_at_within}
-use Rattle.ix_maps.proofs.Chains.{IsChain-append, IsChain-set_other, IsChain-links_set_next, IsChain-links_set_previous}
-use Rattle.ix_maps.proofs.SlotTables.{Shows, Shows-from, represents_of, place_of, key_count_le_one, key_count-no_key, key_count-held, nil_from_first, IsLinkTable-shown, IsLinkWithin-shown, occurs-free}
+use Rattle.ix_tables.specs.Places.{place_at}
+use Rattle.ix_slottable.specs.declared.slottable.link.Link.{Link}
+use Rattle.ix_slottable.specs.SlotState.{SlotState, value_at, IsHeld, IsFree, slot_new}
+use Rattle.ix_slottable.specs.SlotSteps.{slot_fill, slot_vacate, slot_insert, SlotInsert, SlotInsertAt, SlotRemove}
+use Rattle.ix_slottable.specs.inner.FreeList.{no_key, held_link, free_link, first_or, last_or, IsChain, IsKeyOrNone, IsLinkWithin, links_set_next, links_set_previous, links_remove, links_remove_first, links_insert_first, first_after_remove, IsRisingList, Represents}
+use Rattle.ix_slottable.proofs.Entries.{one_if_held}
+use Rattle.ix_slottable.proofs.FreeKeys.{key_count, key_count-cons, hit, hit_same, hit_other, key_count-append, keys_without-absent, apart_from_last_or, apart_from_first_or, key_count-range_past, key_count-range_within}
+use Rattle.ix_tables.proofs.Places.{held_item, held_within, place_at_within}
+use Rattle.ix_slottable.proofs.Chains.{IsChain-append, IsChain-set_other, IsChain-links_set_next, IsChain-links_set_previous}
+use Rattle.ix_slottable.proofs.SlotTables.{Shows, Shows-from, represents_of, place_of, key_count_le_one, key_count-no_key, key_count-held, nil_from_first, IsLinkTable-shown, IsLinkWithin-shown, occurs-free}
 
 -- the first key after one is removed
 first_after_remove-append : (front back : List ℕ) (key first : ℕ) → key_count no_key front ≡ 0 → first ≡ first_or (front ++ key ∷ back) no_key → first_after_remove first (free_link (last_or no_key front) (first_or back no_key)) ≡ first_or (front ++ back) no_key

@@ -2,14 +2,14 @@
 use Rattle.std.proofs.Common.{◌≡◌, ◌≢◌, ℕ, zero, suc, ◌+◌, ◌<◌, ◌≤◌, inl, inr, ◌⊎◌, List, [], ◌∷◌, ◌++◌, length, Option, Some, None, IsSome, refl, sym, ap, ap₂, ◌∙◌, subst, arith}
 use Rattle.std.proofs.lemmas.Bool.{cases_eq}
 use Rattle.std.proofs.lemmas.List.{length-append}
-use Rattle.ix_cells.specs.Places.{place_at, IsEmptyAt, IsHeldAt, IsVacant}
-use Rattle.ix_maps.specs.declared.slottable.link.Link.{Link}
-use Rattle.ix_maps.specs.SlotState.{SlotState, value_at, IsHeld, IsFree, IsWellFormed}
-use Rattle.ix_maps.specs.SlotSteps.{keys_without}
-use Rattle.ix_maps.specs.inner.FreeList.{no_key, held_link, free_link, first_or, last_or, links_keys_from, IsChain, IsLinkTable, IsKeyOrNone, IsLinkWithin, slots_of, IsLinkOf, MatchesLink, MatchesLinks, Represents}
-use Rattle.ix_maps.proofs.FreeKeys.{key_count, key_count-cons, hit, hit_same, key_count-append, split_at_key, first_occurs, apart_from_last_or, apart_from_first_or}
-use Rattle.ix_cells.proofs.Places.{place_at_within}
-use Rattle.ix_maps.proofs.Chains.{chain_parts, place_at-chain, links_keys_from-chain}
+use Rattle.ix_tables.specs.Places.{place_at, IsEmptyAt, IsHeldAt, IsVacant}
+use Rattle.ix_slottable.specs.declared.slottable.link.Link.{Link}
+use Rattle.ix_slottable.specs.SlotState.{SlotState, value_at, IsHeld, IsFree, IsWellFormed}
+use Rattle.ix_slottable.specs.SlotSteps.{keys_without}
+use Rattle.ix_slottable.specs.inner.FreeList.{no_key, held_link, free_link, first_or, last_or, links_keys_from, IsChain, IsLinkTable, IsKeyOrNone, IsLinkWithin, slots_of, IsLinkOf, MatchesLink, MatchesLinks, Represents}
+use Rattle.ix_slottable.proofs.FreeKeys.{key_count, key_count-cons, hit, hit_same, key_count-append, split_at_key, first_occurs, apart_from_last_or, apart_from_first_or}
+use Rattle.ix_tables.proofs.Places.{place_at_within}
+use Rattle.ix_slottable.proofs.Chains.{chain_parts, place_at-chain, links_keys_from-chain}
 
 pub place_at_past : {X : Type 0} (row : List (Option X)) (i : ℕ) → length row ≤ i → place_at row i ≡ None
 place_at_past [] i past = refl

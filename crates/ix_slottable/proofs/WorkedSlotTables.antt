@@ -1,7 +1,7 @@
 -- Worked examples: the steps of a slot table do what users expect.
 use Rattle.std.proofs.Common.{ℕ, ◌≡◌, List, [], ◌∷◌, Option, Some, None, refl}
-use Rattle.ix_maps.specs.SlotState.{SlotState, slot_new, held_count, entries}
-use Rattle.ix_maps.specs.SlotSteps.{slot_insert, slot_insert_at, slot_remove}
+use Rattle.ix_slottable.specs.SlotState.{SlotState, slot_new, held_count, entries}
+use Rattle.ix_slottable.specs.SlotSteps.{slot_insert, slot_insert_at, slot_remove}
 
 -- a slot table with these values and free keys
 abbrev slots : List (Option ℕ) → List ℕ → SlotState ℕ

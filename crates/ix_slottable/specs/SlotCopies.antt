@@ -1,6 +1,6 @@
 -- Clones of slot tables.
 use Rattle.std.specs.Prelude.{◌≡◌, ℕ, length, Option, Some, None}
-use Rattle.ix_maps.specs.SlotState.{SlotState, value_at}
+use Rattle.ix_slottable.specs.SlotState.{SlotState, value_at}
 
 module _ {T : Type 0} where
   -- a clone of what is at a place, and nothing where nothing is

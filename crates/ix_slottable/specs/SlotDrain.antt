@@ -1,9 +1,9 @@
 -- What contracts see of an iterator that drains a slot table.
 use Rattle.std.specs.Prelude.{ℕ, List, drop}
-use Rattle.ix_maps.specs.SlotState.{SlotState, entries_from}
-use Rattle.ix_maps.specs.SlotSteps.{slot_clear}
+use Rattle.ix_slottable.specs.SlotState.{SlotState, entries_from}
+use Rattle.ix_slottable.specs.SlotSteps.{slot_clear}
 use Rattle.std.specs.Borrow.{GName}
-use Rattle.ix_maps.specs.declared.slottable.drain.Drain.{Drain}
+use Rattle.ix_slottable.specs.declared.slottable.drain.Drain.{Drain}
 
 module _ {T S L : Type 0} where
   -- the items that are still to come

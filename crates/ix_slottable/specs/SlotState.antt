@@ -2,7 +2,7 @@
 use Rattle.std.specs.Prelude.{◌≡◌, ℕ, ◌+◌, ◌<◌, List, [], ◌∷◌, length, replicate, nat_eq, Option, Some, None, is_some, count_by, refl}
 use Rattle.std.specs.List.{range_with_len}
 use Rattle.std.specs.Coded.{Coded, code_by, coded×, coded_ℕ, coded_list, coded_option}
-use Rattle.ix_cells.specs.Places.{place_at, IsEmptyAt, IsHeldAt}
+use Rattle.ix_tables.specs.Places.{place_at, IsEmptyAt, IsHeldAt}
 
 pub record SlotState (T : Type 0) : Type 0 where
   pub values : List (Option T)

@@ -3,7 +3,7 @@ use Rattle.std.specs.Prelude.{◌≡◌, ◌≢◌, ◌↔◌, ℕ, List, [], �
 use Rattle.std.specs.Bool.{OnFalse}
 use Rattle.std.specs.Option.{option_map_or}
 use Rattle.std.specs.List.{fold, range_with_len}
-use Rattle.ix_maps.specs.SlotState.{SlotState, value_at, IsHeld, IsKey, IsFree}
+use Rattle.ix_slottable.specs.SlotState.{SlotState, value_at, IsHeld, IsKey, IsFree}
 
 -- the keys but for the first one that equals this key
 abbrev pub keys_without : ℕ → List ℕ → List ℕ

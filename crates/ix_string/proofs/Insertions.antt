@@ -4,8 +4,8 @@ use Rattle.std.specs.List.{insert_slice}
 use Rattle.std.proofs.lemmas.Bool.{cases_lt}
 use Rattle.std.proofs.lemmas.List.{take_more, take_at, length-take-le, take-take, take-append-drop, take-append-le, drop_all, drop-append-le, drop_at, get_or-drop}
 use Rattle.std.proofs.lemmas.Grind.{common_steps}
-use Rattle.ix_cells.specs.Bounded.{Bounded, with_items}
-use Rattle.ix_cells.specs.VectorSteps.{vec_extend}
+use Rattle.ix_tables.specs.Bounded.{Bounded, with_items}
+use Rattle.ix_vector.specs.VectorSteps.{vec_extend}
 
 module _ {X : Type 0} where
   -- a range that is one item longer

@@ -14,7 +14,7 @@ use Rattle.std.proofs.lemmas.List.Sums.{AllPass-from_list_all, list_all-from_All
 use Rattle.std.specs.Prelude.{if◌then◌else◌, Bool, Result, Ok, Err, IsOk, refl, ◌↔◌, true, false}
 use Rattle.ix_string.specs.Text.{IsText, IsTextByte, padded_text, is_text, is_text_byte}
 use Rattle.ix_string.specs.inner.Padding.{IsPadded}
-use Rattle.ix_cells.specs.Bounded.{Bounded}
+use Rattle.ix_tables.specs.Bounded.{Bounded}
 use Rattle.ix_string.specs.TextSteps.{TextResult, StringFromBytes, has_room_for, text_insert_result}
 use Rattle.ix_string.specs.declared.string.modification_error.StringModificationError.{StringModificationError}
 use Rattle.ix_string.specs.declared.string.modification_error.StringModificationError.TheVariants.{InvalidCharacter, InsertWouldExceedCapacity}

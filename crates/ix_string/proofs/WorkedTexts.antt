@@ -2,7 +2,7 @@
 use Rattle.std.proofs.Common.{ℕ, ◌≡◌, ◌+◌, ◌≤◌, List, [], ◌∷◌, ◌++◌, Bool, true, false, length, refl, ap₂, arith}
 use Rattle.std.specs.Prelude.{codes, not, reverse, Some, None, Ok, Err}
 use Rattle.std.proofs.lemmas.Fmt.{decimal_digit}
-use Rattle.ix_cells.specs.Bounded.{Bounded}
+use Rattle.ix_tables.specs.Bounded.{Bounded}
 use Rattle.ix_string.specs.Text.{MatchesAt, IsFirstMatch, IsLastMatch, EndsWith, nul_position, before_nul}
 use Rattle.ix_string.specs.TextSteps.{text_insert, text_insert_result, IsRangeOf, text_remove_range, StringFromBytes}
 use Rattle.ix_string.specs.Retain.{ResultsAt, retained_items, Retains}

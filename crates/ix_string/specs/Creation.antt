@@ -1,6 +1,6 @@
 -- Making a string of bytes, in memory of an allocator.
 use Rattle.std.specs.Prelude.{ℕ, ◌≡◌, ◌≢◌, List, [], length, Result, Ok, Err}
-use Rattle.ix_cells.specs.Bounded.{Bounded}
+use Rattle.ix_tables.specs.Bounded.{Bounded}
 use Rattle.ix_string.specs.Text.{IsText}
 use Rattle.ix_string.specs.declared.string.creation_error.StringCreationError.{StringCreationError}
 use Rattle.ix_string.specs.declared.string.creation_error.StringCreationError.TheVariants.{InvalidCharacter, OutOfMemory}

@@ -2,7 +2,7 @@
 use Rattle.std.specs.Prelude.{ℕ, List, [], ◌∷◌, length, codes}
 use Rattle.std.specs.Fmt.{decimal}
 use Rattle.std.specs.List.{concat}
-use Rattle.ix_cells.specs.Bounded.{Bounded}
+use Rattle.ix_tables.specs.Bounded.{Bounded}
 use Rattle.ix_string.specs.Escape.{escaped_text}
 
 -- as `StaticString<5> { len: 2, data: "ab" }`

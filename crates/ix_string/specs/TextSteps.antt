@@ -1,7 +1,7 @@
 -- The steps of a string: the bounded text after each call, and the result of each call that may be refused.
 use Rattle.std.specs.Prelude.{◌≡◌, ℕ, ◌+◌, ◌<◌, ◌≤◌, List, length, nat_le, if◌then◌else◌, Bool, Result, Ok, Err}
 use Rattle.std.specs.List.{remove_range, insert_slice}
-use Rattle.ix_cells.specs.Bounded.{Bounded, with_items}
+use Rattle.ix_tables.specs.Bounded.{Bounded, with_items}
 use Rattle.ix_string.specs.Text.{is_text, IsText}
 use Rattle.ix_string.specs.declared.string.modification_error.StringModificationError.{StringModificationError}
 use Rattle.ix_string.specs.declared.string.modification_error.StringModificationError.TheVariants.{InvalidCharacter, InsertWouldExceedCapacity}

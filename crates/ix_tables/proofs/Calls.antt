@@ -2,7 +2,7 @@
 use Rattle.std.proofs.Common.{ℕ, ◌≡◌, ◌+◌, List, [], ◌∷◌, ◌++◌, length, refl, subst, sym, arith}
 use Rattle.std.specs.Prelude.{Option, Some}
 use Rattle.std.specs.Iterator.{CallableAtEachTurn}
-use Rattle.ix_cells.specs.Calls.{ResultsFrom}
+use Rattle.ix_tables.specs.Calls.{ResultsFrom}
 
 pub ResultsFrom-push : {F X : Type 0} (step : F → ℕ → X → F → Type 0) (i n : ℕ) (f : F) (xs : List X) (g : F) (x : X) (h : F)
     → n ≡ i + length xs → ResultsFrom step i f xs g → step g n x h → ResultsFrom step i f (xs ++ x ∷ []) h

@@ -8,7 +8,7 @@ use denote.RattleType.{Valss}
 use denote.Steps.{nothing}
 use denote.Struct.Owning.{shape}
 use denote.Struct.Struct.{within}
-use Rattle.ix_cells.specs.contracts.cells.counted.Count as count
+use Rattle.ix_tables.specs.contracts.cells.counted.Count as count
 
 -- the one machine value of a count
 abbrev pub no_bytes : Val

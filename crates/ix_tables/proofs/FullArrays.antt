@@ -8,8 +8,8 @@ use Rattle.std.proofs.lemmas.List.{length-take-le}
 use Rattle.std.proofs.lemmas.Result.{on_ok_weaker}
 use Rattle.std.proofs.lemmas.Slice.{take-put_mid, take-put_mid_below, drop-put_mid, between-put_mid}
 use borrow.Rule.Slice.PartMut.{put_mid}
-use Rattle.ix_cells.specs.inner.FullArrays.{IsFront}
-use Rattle.ix_cells.proofs.Refilling.{refill-same_length}
+use Rattle.ix_tables.specs.FullArrays.{IsFront}
+use Rattle.ix_tables.proofs.Refilling.{refill-same_length}
 
 -- the items are as many as len says
 pub length-front : {T : Type 0} {places items : List T} {capacity len : ℕ} → IsFront capacity places len → take len places ≡ items → length items ≡ len

@@ -27,8 +27,8 @@ use denote.Slice.{MutSlice}
 use denote.Triple.Clauses.{Lasts, lasts}
 use denote.Triple.Walked.{Stays, stay_dropped}
 use Rattle.arrayvec.specs.contracts.array_vec.ArrayVec.{the_row}
-use Rattle.ix_cells.proofs.Refilling.{refill-same_length}
-use Rattle.ix_cells.specs.contracts.cells.full_array.all_mut as all_mut
+use Rattle.ix_tables.proofs.Refilling.{refill-same_length}
+use Rattle.ix_tables.specs.contracts.cells.full_array.all_mut as all_mut
 
 module _ (X : RattleType) (cap : ℕ) where
   abbrev pub args : Args

@@ -7,7 +7,7 @@ use Rattle.std.specs.Prelude.{if◌then◌else◌}
 use Rattle.std.proofs.Math.Nat.{min-eq_left, min_comm, mul-le-mul_right}
 use Rattle.std.proofs.lemmas.Bool.{cases_lt}
 use Rattle.std.proofs.lemmas.Grind.{common_steps}
-use Rattle.ix_cells.specs.Memory.{saturated, items_memory, memory_plus, table_memory}
+use Rattle.ix_tables.specs.Memory.{saturated, items_memory, memory_plus, table_memory}
 
 pub saturated-mono : (m n : ℕ) → m ≤ n → saturated m ≤ saturated n
 saturated-mono m n le = grind (arith, common_steps)

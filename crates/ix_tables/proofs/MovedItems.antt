@@ -26,9 +26,9 @@ use denote.Struct.Members.{Member}
 use borrow.Table.OneValue.{part_in, part_out}
 use Rattle.core.proofs.cell.Inside.{round, wraps, unwraps, Good-round}
 use Rattle.core.proofs.mem.Param.{Good}
-use Rattle.ix_cells.specs.contracts.cells.maybe_moved.MaybeMoved as moved
-use Rattle.ix_cells.specs.contracts.cells.maybe_moved.MaybeMoved.TheInside as inside
-use Rattle.ix_cells.proofs.RawSteps.{P, τ, E, item_out}
+use Rattle.ix_tables.specs.contracts.cells.maybe_moved.MaybeMoved as moved
+use Rattle.ix_tables.specs.contracts.cells.maybe_moved.MaybeMoved.TheInside as inside
+use Rattle.ix_tables.proofs.RawSteps.{P, τ, E, item_out}
 
 module _ (T : RattleType) where
   abbrev pub Moved : RattleType

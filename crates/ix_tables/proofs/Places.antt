@@ -4,13 +4,18 @@ use Rattle.std.specs.Prelude.{slice_index_or}
 use Rattle.std.specs.Option.{option_flatten}
 use Rattle.std.proofs.Math.ListN.{get_or-map}
 use Rattle.std.proofs.lemmas.List.{get_or_default, length-map, map-set}
-use Rattle.ix_cells.specs.Places.{place_at, IsHeldAt}
+use Rattle.ix_tables.specs.Places.{place_at, IsHeldAt}
 
 module _ {T : Type 0} where
   -- a held place holds an item
   pub held_item : (place : Option T) → IsSome place → (x : T) × (place ≡ Some x)
   held_item (Some x) held = (x, refl)
   held_item None held = cc
+
+  -- a place that is not held is empty
+  pub none_of_not_some : (place : Option T) → (IsSome place → ⊥) → place ≡ None
+  none_of_not_some None none = refl
+  none_of_not_some (Some x) none = absurd (none refl)
 
   -- a held place is one of the row's
   pub held_within : (places : List (Option T)) (i : ℕ) → IsHeldAt places i → i < length places

@@ -3,10 +3,10 @@ use Rattle.std.proofs.Common.{◌≡◌, ℕ, zero, suc, Bool, false, List, ◌�
 use Rattle.std.proofs.Common.{Option, Some, None, IsSome, is_some, refl, sym, ap, subst, ◌∙◌}
 use Rattle.std.proofs.lemmas.List.{map-set, length-map, length-replicate}
 use Rattle.std.proofs.Math.Seq.{map-set_same}
-use Rattle.ix_cells.specs.inner.RawRows.{with_places, IsVacantRow, IsGrantFor, IsGrantOf, AreParts}
-use Rattle.ix_cells.specs.declared.cells.raw_row.RowPtr.{RowPtr}
-use Rattle.ix_cells.specs.declared.cells.raw_row.RowOwner.{RowOwner}
-use Rattle.ix_cells.specs.declared.cells.raw_row.RowGrant.{RowGrant}
+use Rattle.ix_tables.specs.inner.RawRows.{with_places, IsVacantRow, IsGrantFor, IsGrantOf, AreParts}
+use Rattle.ix_tables.specs.declared.cells.raw_row.RowPtr.{RowPtr}
+use Rattle.ix_tables.specs.declared.cells.raw_row.RowOwner.{RowOwner}
+use Rattle.ix_tables.specs.declared.cells.raw_row.RowGrant.{RowGrant}
 
 -- no place holds an item, and none is marked
 unmarked_places : (T : Type 0) (n : ℕ) → replicate n false ≡ map (is_some {T = T}) (replicate n None)

@@ -10,9 +10,9 @@ use denote.Struct.Struct.{exits_of}
 use denote.Struct.Owning.{shape, fields, to}
 use denote.Param.Send.{IsSend, IsSync, Common, AllSend, part_keyless, owning_send, struct_send, struct_sync, sendable}
 use Rattle.std_alloc.proofs.SendSync.{FreesAnywhere, quiet}
-use Rattle.ix_cells.specs.inner.RawMemory.{places_own, places_share, row_owns, row_shares}
-use Rattle.ix_cells.specs.contracts.cells.raw_row.RowOwner as owner
-use Rattle.ix_cells.specs.contracts.cells.raw_row.RowGrant as grant
+use Rattle.ix_tables.specs.inner.RawMemory.{places_own, places_share, row_owns, row_shares}
+use Rattle.ix_tables.specs.contracts.cells.raw_row.RowOwner as owner
+use Rattle.ix_tables.specs.contracts.cells.raw_row.RowGrant as grant
 
 module _ (T : RattleType) where
   module _ (send : IsSend T) where

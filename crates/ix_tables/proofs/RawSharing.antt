@@ -11,7 +11,7 @@ use denote.Sharing.{ShrLaws, said}
 use denote.SharingLaws.{nothing_shr_laws, said_shr_laws, beside_shr_laws}
 use denote.Shares.{Shares-less}
 use denote.Struct.Lending.{Lends, Lends-both, Lends-nothing, Lends-said, Lends-false}
-use Rattle.ix_cells.specs.inner.RawMemory.{place_owns, places_own, place_shares, places_share, fits_isize, row_owns, row_shares}
+use Rattle.ix_tables.specs.inner.RawMemory.{place_owns, places_own, place_shares, places_share, fits_isize, row_owns, row_shares}
 
 -- what a `&` holds can be copied, and used at a shorter lifetime
 module _ (T : RattleType) (L : RowLaws T) where

@@ -37,9 +37,9 @@ use Rattle.core.proofs.mem.Param.{El, Good}
 use Rattle.core.proofs.ptr.Rows.{times_below, one_below}
 use Rattle.std_alloc.proofs.RawLayout.{as_raw, as_written}
 use Rattle.std_alloc.proofs.RcSteps.{word}
-use Rattle.ix_cells.specs.inner.RawMemory.{place_owns, places_own, place_shares, places_share}
-use Rattle.ix_cells.specs.contracts.cells.raw_row.RowOwner as owner
-use Rattle.ix_cells.specs.contracts.cells.raw_row.RowPtr as start
+use Rattle.ix_tables.specs.inner.RawMemory.{place_owns, places_own, place_shares, places_share}
+use Rattle.ix_tables.specs.contracts.cells.raw_row.RowOwner as owner
+use Rattle.ix_tables.specs.contracts.cells.raw_row.RowPtr as start
 
 -- the offset of one of n places of s bytes, and the bytes of one, fit a `usize`
 pub offset_fits : (i n s : ℕ) → i < n → n * s < 2 ^ 63 → (i * s < 2 ^ 64) × (s < 2 ^ 64)

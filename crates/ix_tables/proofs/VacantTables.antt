@@ -2,7 +2,7 @@
 use Rattle.std.proofs.Common.{◌≡◌, ◌∙◌, ℕ, zero, suc, List, length, Option, None, refl, sym, ap}
 use Rattle.std.specs.Prelude.{replicate}
 use Rattle.std.proofs.lemmas.List.{length-replicate}
-use Rattle.ix_cells.specs.Places.{place_at, IsVacant}
+use Rattle.ix_tables.specs.Places.{place_at, IsVacant}
 
 module _ {T : Type 0} {places : List (Option T)} (capacity : ℕ) (vacant : places ≡ replicate capacity None) where
   -- another table of as many empty places

@@ -1,6 +1,6 @@
 -- Worked examples: how much memory items and tables take.
 use Rattle.std.proofs.Common.{◌≡◌, ◌-◌, ◌^◌, refl}
-use Rattle.ix_cells.specs.Memory.{no_memory, items_memory, memory_plus, table_memory}
+use Rattle.ix_tables.specs.Memory.{no_memory, items_memory, memory_plus, table_memory}
 
 -- three numbers of eight bytes
 items_memory-three : items_memory 8 3 ≡ record { bytes = 24; blocks = 1 }

@@ -1,5 +1,5 @@
 -- A bounded list: items in order, and a capacity that their number does not pass.
-use Rattle.std.specs.Prelude.{◌≡◌, ℕ, ◌≤◌, nat_lt, Bool, List, [], length, if◌then◌else◌, refl}
+use Rattle.std.specs.Prelude.{◌≡◌, ℕ, ◌-◌, ◌≤◌, nat_lt, Bool, List, [], length, take, slice_get, if◌then◌else◌, Option, refl}
 use Rattle.std.specs.List.{push}
 use Rattle.std.specs.Coded.{Coded, code_by, coded×, coded_ℕ, coded_list}
 
@@ -36,3 +36,15 @@ module _ {T : Type 0} where
   -- x appended, if there is room
   abbrev pub bounded_push : Bounded T → T → Bounded T
   bounded_push b x = if has_room b then with_items b (push b.items x) else b
+
+  -- the last item
+  abbrev pub vec_last : Bounded T → Option T
+  vec_last vec = slice_get vec.items (length vec.items - 1)
+
+  -- the last item removed
+  abbrev pub vec_pop : Bounded T → Bounded T
+  vec_pop vec = with_items vec (take (length vec.items - 1) vec.items)
+
+  -- the first n items kept
+  abbrev pub vec_truncate : Bounded T → ℕ → Bounded T
+  vec_truncate vec n = with_items vec (take n vec.items)

@@ -1,6 +1,6 @@
 -- How much memory is taken: bytes, and the blocks in which they lie.
 use Rattle.std.specs.Prelude.{ℕ, ◌+◌, ◌-◌, ◌*◌, ◌^◌, min, nat_eq, if◌then◌else◌}
-use Rattle.ix_cells.specs.declared.cells.memory_size.MemorySize.{MemorySize}
+use Rattle.ix_tables.specs.declared.cells.memory_size.MemorySize.{MemorySize}
 
 -- n, or the greatest `usize` if n is greater
 abbrev pub saturated : ℕ → ℕ

@@ -1,7 +1,8 @@
 //! Tables, tables that count the calls on them, and containers that are made in two steps.
 
 mod counted;
-pub(crate) mod full_array;
+#[doc(hidden)]
+pub mod full_array;
 mod heap_table;
 mod held_item;
 mod inline_table;

@@ -2,10 +2,10 @@
 use Rattle.std.proofs.Common.{◌≡◌, ◌-◌, List, [], ◌∷◌, length, take, reverse, slice_get, Option, Some, None, refl, sym, subst, ap, ◌∙◌}
 use Rattle.std.specs.Iterator.{YieldsFirst}
 use Rattle.std.proofs.lemmas.List.{reverse-append}
-use Rattle.ix_cells.specs.Bounded.{Bounded}
-use Rattle.ix_cells.specs.VectorDrain.{DrainKeeps, DrainKeepsAlong}
-use Rattle.ix_cells.specs.declared.vector.drain.Drain.{Drain}
-use Rattle.ix_cells.proofs.Tails.{without_last, no_last}
+use Rattle.ix_tables.specs.Bounded.{Bounded}
+use Rattle.ix_vector.specs.VectorDrain.{DrainKeeps, DrainKeepsAlong}
+use Rattle.ix_vector.specs.declared.vector.drain.Drain.{Drain}
+use Rattle.ix_vector.proofs.Tails.{without_last, no_last}
 
 module _ {T V : Type 0} (bounded : V → Bounded T) where
   pub Drain-keeps_along : (drain : Drain T V) → DrainKeepsAlong bounded drain

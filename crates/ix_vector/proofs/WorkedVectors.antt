@@ -1,10 +1,10 @@
 -- Worked examples: bounded lists, the steps of a vector and rows of places do what users expect.
 use Rattle.std.proofs.Common.{ℕ, ◌≡◌, List, [], ◌∷◌, Option, Some, None, false, refl, arith}
 use Rattle.std.specs.Prelude.{Ok, Err, slice_set}
-use Rattle.ix_cells.specs.Bounded.{Bounded, IsFull, has_room, bounded_new, bounded_push}
-use Rattle.ix_cells.specs.Places.{place_at, IsEmptyAt, IsHeldAt, IsVacant}
-use Rattle.ix_cells.specs.VectorSteps.{HasRoomFor, LacksRoomFor, vec_push_result, vec_insert, vec_insert_result, vec_remove, vec_last, vec_pop, vec_truncate, vec_extend, vec_resize, vec_resize_result, vec_refill}
-use Rattle.ix_cells.specs.declared.vector.modification_error.VectorModificationError.TheVariants.{OutOfBounds, InsertWouldExceedCapacity}
+use Rattle.ix_tables.specs.Bounded.{Bounded, IsFull, has_room, bounded_new, bounded_push}
+use Rattle.ix_tables.specs.Places.{place_at, IsEmptyAt, IsHeldAt, IsVacant}
+use Rattle.ix_vector.specs.VectorSteps.{HasRoomFor, LacksRoomFor, vec_push_result, vec_insert, vec_insert_result, vec_remove, vec_last, vec_pop, vec_truncate, vec_extend, vec_resize, vec_resize_result, vec_refill}
+use Rattle.ix_vector.specs.declared.vector.modification_error.VectorModificationError.TheVariants.{OutOfBounds, InsertWouldExceedCapacity}
 
 -- a vector with this capacity
 abbrev vec_of : List ℕ → ℕ → Bounded ℕ

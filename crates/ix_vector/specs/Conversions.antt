@@ -1,10 +1,10 @@
 -- The result of converting a slice or an array into a fixed vector.
 use Rattle.std.specs.Prelude.{◌≡◌, ℕ, ◌<◌, ◌≤◌, ◌⊎◌, List, length, Result, Ok, Err}
 use Rattle.std.specs.List.{AllZip}
-use Rattle.ix_cells.specs.Cloning.{AreInfallible}
-use Rattle.ix_cells.specs.declared.cells.table.TheConstants.{MAX_FIXED_CAPACITY}
-use Rattle.ix_cells.specs.declared.vector.modification_error.VectorModificationError.{VectorModificationError}
-use Rattle.ix_cells.specs.declared.vector.modification_error.VectorModificationError.TheVariants.{OutOfBounds, InsertWouldExceedCapacity, OutOfMemory}
+use Rattle.ix_tables.specs.Cloning.{AreInfallible}
+use Rattle.ix_tables.specs.declared.cells.table.TheConstants.{MAX_FIXED_CAPACITY}
+use Rattle.ix_vector.specs.declared.vector.modification_error.VectorModificationError.{VectorModificationError}
+use Rattle.ix_vector.specs.declared.vector.modification_error.VectorModificationError.TheVariants.{OutOfBounds, InsertWouldExceedCapacity, OutOfMemory}
 
 module _ {T : Type 0} where
   -- a fixed vector may have this capacity, and the items fit

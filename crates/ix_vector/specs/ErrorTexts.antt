@@ -1,7 +1,7 @@
 -- The texts of the error.
 use Rattle.std.specs.Prelude.{ℕ, List, codes}
-use Rattle.ix_cells.specs.declared.vector.modification_error.VectorModificationError.{VectorModificationError}
-use Rattle.ix_cells.specs.declared.vector.modification_error.VectorModificationError.TheVariants.{OutOfBounds, InsertWouldExceedCapacity, OutOfMemory}
+use Rattle.ix_vector.specs.declared.vector.modification_error.VectorModificationError.{VectorModificationError}
+use Rattle.ix_vector.specs.declared.vector.modification_error.VectorModificationError.TheVariants.{OutOfBounds, InsertWouldExceedCapacity, OutOfMemory}
 
 abbrev pub vec_error_text : VectorModificationError → List ℕ
 vec_error_text OutOfBounds = codes "VectorModificationError::OutOfBounds"

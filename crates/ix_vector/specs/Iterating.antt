@@ -9,10 +9,10 @@ use Rattle.std.specs.declared.alloc.Allocator as alloc
 use Rattle.std.specs.declared.default.Default as default
 use Rattle.std.specs.declared.slice.Iter.{Iter}
 use Rattle.std.specs.declared.slice.IterMut.{IterMut}
-use Rattle.ix_cells.specs.Bounded.{Bounded}
-use Rattle.ix_cells.specs.VectorSteps.{vec_extend, vec_refill}
-use Rattle.ix_cells.specs.contracts.vector.polymorphic_vec.PolymorphicVec as polymorphic_vec
-use Rattle.ix_cells.specs.contracts.vector.static_vec.StaticVec as static_vec
+use Rattle.ix_tables.specs.Bounded.{Bounded}
+use Rattle.ix_vector.specs.VectorSteps.{vec_extend, vec_refill}
+use Rattle.ix_vector.specs.contracts.vector.polymorphic_vec.PolymorphicVec as polymorphic_vec
+use Rattle.ix_vector.specs.contracts.vector.static_vec.StaticVec as static_vec
 
 module _ {T : Type 0} (xs : List T) where
   -- the iterator yields references to xs, from the first to the last, or from the back

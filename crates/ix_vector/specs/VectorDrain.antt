@@ -2,8 +2,8 @@
 use Rattle.std.specs.Prelude.{◌≡◌, ℕ, List, reverse, Option}
 use Rattle.std.specs.Borrow.{GName}
 use Rattle.std.specs.Iterator.{Yields, YieldsFirst}
-use Rattle.ix_cells.specs.Bounded.{Bounded}
-use Rattle.ix_cells.specs.declared.vector.drain.Drain.{Drain}
+use Rattle.ix_tables.specs.Bounded.{Bounded}
+use Rattle.ix_vector.specs.declared.vector.drain.Drain.{Drain}
 
 module _ {T V : Type 0} (bounded : V → Bounded T) where
   -- the items that are still to come: the vector holds them the last one first

@@ -1,9 +1,10 @@
 -- The steps of a vector: the bounded list after each call, and the result of each call that may be refused.
 use Rattle.std.specs.Prelude.{ℕ, ◌+◌, ◌-◌, ◌<◌, ◌≤◌, List, ◌++◌, length, take, insert, remove, replicate, slice_get, nat_le, if◌then◌else◌, Option, Result, Ok, Err}
 use Rattle.std.specs.List.{refill}
-use Rattle.ix_cells.specs.Bounded.{Bounded, has_room, with_items}
-use Rattle.ix_cells.specs.declared.vector.modification_error.VectorModificationError.{VectorModificationError}
-use Rattle.ix_cells.specs.declared.vector.modification_error.VectorModificationError.TheVariants.{OutOfBounds, InsertWouldExceedCapacity}
+use Rattle.ix_tables.specs.Bounded.{Bounded, has_room, with_items}
+pub use Rattle.ix_tables.specs.Bounded.{vec_last, vec_pop, vec_truncate}
+use Rattle.ix_vector.specs.declared.vector.modification_error.VectorModificationError.{VectorModificationError}
+use Rattle.ix_vector.specs.declared.vector.modification_error.VectorModificationError.TheVariants.{OutOfBounds, InsertWouldExceedCapacity}
 
 abbrev pub VecResult : Type 0
 VecResult = Result (Unit {0}) VectorModificationError
@@ -33,18 +34,6 @@ module _ {T : Type 0} where
   -- item i removed; the same list past the end
   abbrev pub vec_remove : Bounded T → ℕ → Bounded T
   vec_remove vec i = with_items vec (remove vec.items i)
-
-  -- the last item
-  abbrev pub vec_last : Bounded T → Option T
-  vec_last vec = slice_get vec.items (length vec.items - 1)
-
-  -- the last item removed
-  abbrev pub vec_pop : Bounded T → Bounded T
-  vec_pop vec = with_items vec (take (length vec.items - 1) vec.items)
-
-  -- the first n items kept
-  abbrev pub vec_truncate : Bounded T → ℕ → Bounded T
-  vec_truncate vec n = with_items vec (take n vec.items)
 
   -- xs appended
   abbrev pub vec_extend : Bounded T → List T → Bounded T

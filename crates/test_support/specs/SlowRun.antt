@@ -1,6 +1,6 @@
 -- The run of a slow slot table, which has room for 512 free keys: the reply to each command, and the slot state after it.
 use Rattle.std.specs.Prelude.{ℕ, length, nat_lt, if◌then◌else◌}
-use Rattle.ix_maps.specs.SlotState.{SlotState}
+use Rattle.ix_slottable.specs.SlotState.{SlotState}
 use Rattle.ix_commands.specs.TableRun.{table_reply, table_after}
 use Rattle.ix_commands.specs.declared.command.TableCommand.{TableCommand}
 use Rattle.ix_commands.specs.declared.command.TableCommand.TheVariants.{From}

@@ -1,6 +1,6 @@
 //! Checks of flat maps and hash maps, by the trait that they share: equality, and clones, of which some fail.
 use crate::{Findings, Noted, Notes};
-use ix_maps::BoundedMap;
+use ix_flatmap::BoundedMap;
 use std::alloc::AllocError;
 
 /// Checks which of two maps are equal, of which the first is empty and of capacity 2, and the second empty and of a greater one.

@@ -1,8 +1,8 @@
 //! A plain slow slot table, with which tests compare slot tables, and of which other slow maps are made.
 ghost use Rattle.std.specs.Prelude.{◌≡◌, ◌≤◌, ◌<◌, None, length, replicate, nat_eq, nat_lt, is_some, slice_get, slice_set, if◌then◌else◌, IfOk};
 ghost use Rattle.std.specs.List.{position, range_with_len};
-ghost use Rattle.ix_maps.specs.SlotState.{value_at, slot_new, held_count};
-ghost use Rattle.ix_maps.specs.SlotSteps.{keys_without, slot_set, slot_fill, slot_vacate, slot_insert, slot_insert_at, slot_remove};
+ghost use Rattle.ix_slottable.specs.SlotState.{value_at, slot_new, held_count};
+ghost use Rattle.ix_slottable.specs.SlotSteps.{keys_without, slot_set, slot_fill, slot_vacate, slot_insert, slot_insert_at, slot_remove};
 ghost use Rattle.ix_commands.specs.Replies.{option_reply, key_reply};
 
 use arrayvec::ArrayVec;
@@ -19,7 +19,7 @@ pub struct SlowTable<T> {
 }
 
 impl<T> Model for SlowTable<T> {
-    ghost use Rattle.ix_maps.specs.SlotState.{SlotState, slot_state_code};
+    ghost use Rattle.ix_slottable.specs.SlotState.{SlotState, slot_state_code};
 
     ghost Value = { SlotState T };
 
@@ -237,7 +237,7 @@ impl<T: Copy> SlowTable<T> {
 
 /// The commands of a slot table but for `From`, to which the reply is `None`. A table with 512 free keys does nothing.
 impl<T: Copy> Runs<TableCommand<T>> for SlowTable<T> {
-    ghost use Rattle.ix_maps.specs.SlotState.{SlotState};
+    ghost use Rattle.ix_slottable.specs.SlotState.{SlotState};
     ghost use Rattle.test_support.specs.SlowRun.{slow_reply, slow_after};
 
     type Reply = Reply<usize, T>;

@@ -6,8 +6,8 @@ use bumpalo::Bump;
 use ix_atomic::{
     AtomicCopy, FixedSizeByteAtomic, RelocatableByteAtomic, SequencedByteAtomic, UninitByteAtomic,
 };
-use ix_cells::InitError;
 use ix_string::StaticString;
+use ix_tables::InitError;
 use linked_list_allocator::LocalHeap;
 use std::alloc::{Allocator, Global};
 use std::array;

@@ -2,7 +2,7 @@
 ghost use Rattle.std.specs.Prelude.{◌≤◌};
 
 use ix_atomic::UninitByteAtomic;
-use ix_cells::InitError;
+use ix_tables::InitError;
 use linked_list_allocator::LocalHeap;
 use std::alloc::Global;
 use std::sync::atomic::AtomicU8;

@@ -2,8 +2,8 @@
 use Rattle.std.specs.Prelude.{ℕ, ◌==◌, Bool, false, Option, None, Some, length, nat_eq, nat_lt, is_some, slice_get, option_map, if◌then◌else◌}
 use Rattle.std.specs.List.{position}
 use Rattle.std.specs.Option.{option_flatten, option_map_or}
-use Rattle.ix_maps.specs.SlotState.{SlotState, value_at}
-use Rattle.ix_maps.specs.SlotSteps.{slot_set, slot_insert, slot_vacate}
+use Rattle.ix_slottable.specs.SlotState.{SlotState, value_at}
+use Rattle.ix_slottable.specs.SlotSteps.{slot_set, slot_insert, slot_vacate}
 use Rattle.ix_commands.specs.Replies.{option_reply}
 use Rattle.ix_commands.specs.declared.command.FlatCommand.{FlatCommand}
 use Rattle.ix_commands.specs.declared.command.FlatCommand.TheVariants.{Insert, Get, Set, Remove, Contains, Key, Len, Empty, Full}

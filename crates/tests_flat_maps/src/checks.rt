@@ -1,10 +1,11 @@
 //! Checks of what the commands of flat maps can't say: clones, and listings of keys with a callback.
-ghost use Rattle.ix_cells.specs.Cloning.{AreEqualClones};
+ghost use Rattle.ix_tables.specs.Cloning.{AreEqualClones};
 
 use crate::rows::Row;
-use ix_cells::Table;
 use ix_commands::{FlatCommand, Reply, Runs};
-use ix_maps::{CallbackProgression, Link, MetaFlatMap, Pair};
+use ix_flatmap::{CallbackProgression, MetaFlatMap, Pair};
+use ix_slottable::Link;
+use ix_tables::Table;
 use std::alloc::AllocError;
 use std::fmt::{Debug, InlineText};
 use test_support::{Findings, check_text, reply_of_option};

@@ -1,12 +1,13 @@
 //! Each function once, by its bound where it has one.
 use crate::checks::check_example;
 use crate::rows::EVERY_CALL;
-use ix_cells::{InitError, RelocatableContainer, Table};
-use ix_maps::FlatMapError::{IsFull, KeyAlreadyExists};
-use ix_maps::{
-    CallbackProgression, FixedSizeFlatMap, FlatMap, FlatMapError, Link, MetaFlatMap, Pair,
+use ix_flatmap::FlatMapError::{IsFull, KeyAlreadyExists};
+use ix_flatmap::{
+    CallbackProgression, FixedSizeFlatMap, FlatMap, FlatMapError, MetaFlatMap, Pair,
     RelocatableFlatMap, UninitFlatMap,
 };
+use ix_slottable::Link;
+use ix_tables::{InitError, RelocatableContainer, Table};
 use std::alloc::{AllocError, Global};
 use std::fmt::Debug;
 use std::test::Fail;

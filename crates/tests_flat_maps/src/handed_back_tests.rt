@@ -1,8 +1,9 @@
 //! What the calls that hand something back return, and what they drop: keys and values note it by their names.
 use crate::noted_tests::{AllNotes, NotedKey, NotedMap, take_drops};
-use ix_cells::{RelocatableContainer, Table};
-use ix_maps::FlatMapError::{self, IsFull, KeyAlreadyExists};
-use ix_maps::{FixedSizeFlatMap, FlatMap, Link, Pair, UninitFlatMap};
+use ix_flatmap::FlatMapError::{self, IsFull, KeyAlreadyExists};
+use ix_flatmap::{FixedSizeFlatMap, FlatMap, Pair, UninitFlatMap};
+use ix_slottable::Link;
+use ix_tables::{RelocatableContainer, Table};
 use std::alloc::Global;
 use std::test::Fail;
 use test_support::{Findings, Noted, made};

@@ -1,8 +1,9 @@
 //! Maps for which there is not enough memory, at each of the four allocations: nothing stays allocated. Where there is memory,
 //! none is refused.
-use ix_cells::{RelocatableContainer, Table};
-use ix_maps::FlatMapError::IsFull;
-use ix_maps::{FlatMap, Link, MetaFlatMap, Pair, UninitFlatMap};
+use ix_flatmap::FlatMapError::IsFull;
+use ix_flatmap::{FlatMap, MetaFlatMap, Pair, UninitFlatMap};
+use ix_slottable::Link;
+use ix_tables::{RelocatableContainer, Table};
 use linked_list_allocator::LocalHeap;
 use std::alloc::{Allocator, Global};
 use std::test::Fail;

@@ -6,13 +6,14 @@ ghost use Rattle.std.specs.Cmp.Rules.{comparing};
 ghost use Rattle.std.specs.Ordering.{on};
 ghost use Rattle.std.specs.Prelude.{nat_eq, ◌≤◌};
 
-use ix_cells::{RelocatableContainer, Table};
 use ix_commands::FlatCommand::{
     self, Contains, Empty, Full, Get, Insert, Key as KeyAt, Len, Remove, Set,
 };
-use ix_maps::{
-    CallbackProgression, FixedSizeFlatMap, FlatMap, Link, MetaFlatMap, Pair, UninitFlatMap,
+use ix_flatmap::{
+    CallbackProgression, FixedSizeFlatMap, FlatMap, MetaFlatMap, Pair, UninitFlatMap,
 };
+use ix_slottable::Link;
+use ix_tables::{RelocatableContainer, Table};
 use std::alloc::Global;
 use std::cell::Cell;
 use std::test::Fail;

@@ -1,9 +1,10 @@
 //! Clones that find no memory: `get` returns the error, and the map is unchanged.
 use crate::refusal_tests::Call::{Clone as Cloned, Keep, Release};
-use ix_cells::{RelocatableContainer, Table};
-use ix_maps::{
-    CallbackProgression, FixedSizeFlatMap, FlatMap, Link, MetaFlatMap, Pair, UninitFlatMap,
+use ix_flatmap::{
+    CallbackProgression, FixedSizeFlatMap, FlatMap, MetaFlatMap, Pair, UninitFlatMap,
 };
+use ix_slottable::Link;
+use ix_tables::{RelocatableContainer, Table};
 use linked_list_allocator::LocalHeap;
 use std::alloc::{AllocError, Global};
 use std::marker::Model;

@@ -1,5 +1,5 @@
 //! The worked examples on each kind of map and in each memory.
-ghost use Rattle.ix_cells.specs.Cloning.{AreEqualClones};
+ghost use Rattle.ix_tables.specs.Cloning.{AreEqualClones};
 
 use crate::caseless::Caseless;
 use crate::checks::check_example;
@@ -9,9 +9,10 @@ use crate::rows::{
     SLOT_ORDER, UNIT_VALUES, VALUE_WRITTEN, case_ignored, ports, texts,
 };
 use bumpalo::Bump;
-use ix_cells::{RelocatableContainer, Table};
-use ix_maps::{FixedSizeFlatMap, FlatMap, Link, MetaFlatMap, Pair, UninitFlatMap};
+use ix_flatmap::{FixedSizeFlatMap, FlatMap, MetaFlatMap, Pair, UninitFlatMap};
+use ix_slottable::Link;
 use ix_string::StaticString;
+use ix_tables::{RelocatableContainer, Table};
 use linked_list_allocator::LocalHeap;
 use std::alloc::{AllocError, Allocator};
 use std::fmt::Debug;

@@ -1,6 +1,6 @@
 //! A plain slow map, with which tests compare flat maps.
 ghost use Rattle.std.specs.Prelude.{◌≡◌, ◌<◌, length, is_some, IfOk};
-ghost use Rattle.ix_maps.specs.SlotState.{slot_new};
+ghost use Rattle.ix_slottable.specs.SlotState.{slot_new};
 ghost use Rattle.tests_flat_maps.specs.SlowRun.{is_pair_of, slow_place, slow_value, slow_insert, slow_insert_reply, slow_set, slow_remove};
 
 use ix_commands::{FlatCommand, Reply, ReplyError, Runs};
@@ -121,7 +121,7 @@ impl SlowMap {
 /// does nothing.
 impl Runs<FlatCommand<u64, u64>> for SlowMap {
     ghost use Rattle.std.specs.Prelude.{ℕ};
-    ghost use Rattle.ix_maps.specs.SlotState.{SlotState};
+    ghost use Rattle.ix_slottable.specs.SlotState.{SlotState};
     ghost use Rattle.tests_flat_maps.specs.SlowRun.{slow_reply, slow_after};
 
     type Reply = Reply<u64, u64>;

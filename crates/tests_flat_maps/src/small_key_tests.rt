@@ -4,7 +4,7 @@ ghost use Rattle.std.specs.Cmp.Rules.{comparing};
 ghost use Rattle.std.specs.Ordering.{on};
 ghost use Rattle.std.specs.Prelude.{nat_eq, ◌≤◌};
 
-use ix_maps::FixedSizeFlatMap;
+use ix_flatmap::FixedSizeFlatMap;
 use std::array::from_fn;
 use std::cell::Cell;
 use std::mem::size_of;

@@ -4,9 +4,10 @@ ghost use Rattle.std.specs.Prelude.{◌≤◌};
 
 use crate::checks::check_listing;
 use crate::slow_map::SlowMap;
-use ix_cells::Table;
 use ix_commands::FlatCommand;
-use ix_maps::{FixedSizeFlatMap, FlatMap, Link, MetaFlatMap, Pair};
+use ix_flatmap::{FixedSizeFlatMap, FlatMap, MetaFlatMap, Pair};
+use ix_slottable::Link;
+use ix_tables::Table;
 use std::alloc::{AllocError, Global};
 use std::test::Fail;
 use test_support::{Findings, Numbers};

@@ -1,7 +1,8 @@
 //! Calls that go through all keys of a flat map, drains, clones and equality: what they return, how often a closure is called,
 //! and which values are dropped, and when.
-use ix_cells::{RelocatableContainer, Table};
-use ix_maps::{FixedSizeFlatMap, FlatMap, Link, MetaFlatMap, Pair, UninitFlatMap};
+use ix_flatmap::{FixedSizeFlatMap, FlatMap, MetaFlatMap, Pair, UninitFlatMap};
+use ix_slottable::Link;
+use ix_tables::{RelocatableContainer, Table};
 use linked_list_allocator::LocalHeap;
 use std::alloc::{AllocError, Global};
 use std::test::Fail;

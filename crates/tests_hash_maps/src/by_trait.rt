@@ -1,11 +1,11 @@
 //! Maps of any kind by the trait that they share.
 ghost use Rattle.std.specs.Prelude.{◌≡◌, is_some};
-ghost use Rattle.ix_maps.specs.FlatState.{flat_value};
-ghost use Rattle.ix_maps.specs.FlatSteps.{flat_set};
+ghost use Rattle.ix_flatmap.specs.FlatState.{flat_value};
+ghost use Rattle.ix_flatmap.specs.FlatSteps.{flat_set};
 ghost use Rattle.ix_commands.specs.Replies.{result_reply, flat_reply_error};
 
 use ix_commands::{FlatCommand, Reply, ReplyError, Runs};
-use ix_maps::{BoundedMap, FlatMapError};
+use ix_flatmap::{BoundedMap, FlatMapError};
 use test_support::{reply_of_key, reply_of_option};
 
 /// A map that runs commands by [`BoundedMap`] alone.
@@ -14,8 +14,8 @@ pub struct ByTrait<'a, M> {
 }
 
 impl<K: Eq + Copy, V: Copy, M: BoundedMap<K, V>> Runs<FlatCommand<K, V>> for ByTrait<'_, M> {
-    ghost use Rattle.ix_maps.specs.SlotState.{SlotState};
-    ghost use Rattle.ix_maps.specs.declared.flatmap.pair.Pair.{Pair};
+    ghost use Rattle.ix_slottable.specs.SlotState.{SlotState};
+    ghost use Rattle.ix_flatmap.specs.declared.flatmap.pair.Pair.{Pair};
     ghost use Rattle.ix_commands.specs.FlatRun.{flat_reply, flat_after};
 
     type Reply = Reply<K, V>;

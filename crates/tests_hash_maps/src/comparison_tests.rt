@@ -6,7 +6,8 @@ ghost use Rattle.std.specs.Ordering.{on};
 ghost use Rattle.std.specs.Prelude.{nat_eq};
 
 use crate::hashers::{HASHES, OneHash};
-use ix_maps::{BoundedMap, HashMap};
+use ix_flatmap::BoundedMap;
+use ix_hashmap::HashMap;
 use std::alloc::{AllocError, Global};
 use std::cell::Cell;
 use std::hash::{Hash, Hasher};

@@ -1,8 +1,10 @@
 //! Clones, equality, defaults, look-ups by index and by `get_or_insert_with`, and how much memory a making takes.
 use crate::hashers::{HASHES, OneHash};
 use crate::memory_tests::SIZES;
-use ix_cells::{MemorySize, Table};
-use ix_maps::{ChainLink, FixedSizeHashMap, HashMap, Link, MetaHashMap, Pair, RelocatableHashMap};
+use ix_flatmap::Pair;
+use ix_hashmap::{ChainLink, FixedSizeHashMap, HashMap, MetaHashMap, RelocatableHashMap};
+use ix_slottable::Link;
+use ix_tables::{MemorySize, Table};
 use linked_list_allocator::LocalHeap;
 use std::alloc::{AllocError, Global};
 use std::hash::BuildHasher;

@@ -1,12 +1,14 @@
 //! Each function once, by its bound where it has one.
 ghost use Rattle.std.specs.Prelude.{◌≡◌};
 
-use ix_cells::{InitError, RelocatableContainer, Table};
-use ix_maps::FlatMapError::{IsFull, KeyAlreadyExists};
-use ix_maps::{
-    BoundedMap, CallbackProgression, ChainLink, DefaultHashBuilder, FixedSizeFlatMap,
-    FixedSizeHashMap, HashMap, Link, MetaHashMap, Pair, RelocatableHashMap, UninitHashMap,
+use ix_flatmap::FlatMapError::{IsFull, KeyAlreadyExists};
+use ix_flatmap::{BoundedMap, CallbackProgression, FixedSizeFlatMap, Pair};
+use ix_hashmap::{
+    ChainLink, DefaultHashBuilder, FixedSizeHashMap, HashMap, MetaHashMap, RelocatableHashMap,
+    UninitHashMap,
 };
+use ix_slottable::Link;
+use ix_tables::{InitError, RelocatableContainer, Table};
 use std::alloc::{AllocError, Global};
 use std::hash::{BuildHasher, RandomState};
 use std::io;

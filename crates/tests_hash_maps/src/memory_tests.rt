@@ -1,8 +1,9 @@
 //! Maps for which there is not enough memory, at each of the six allocations: nothing stays allocated. Where there is memory,
 //! none is refused.
-use ix_cells::RelocatableContainer;
-use ix_maps::FlatMapError::IsFull;
-use ix_maps::{BoundedMap, HashMap, UninitHashMap};
+use ix_flatmap::BoundedMap;
+use ix_flatmap::FlatMapError::IsFull;
+use ix_hashmap::{HashMap, UninitHashMap};
+use ix_tables::RelocatableContainer;
 use linked_list_allocator::LocalHeap;
 use std::alloc::{Allocator, Global};
 use std::test::Fail;

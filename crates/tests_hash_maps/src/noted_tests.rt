@@ -7,8 +7,9 @@ ghost use Rattle.std.specs.Prelude.{nat_eq};
 
 use crate::hashers::{HASHES, OneHash};
 use crate::noted_tests::Call::{Clear, Insert, Remove, RemoveEntry, Replace, Set, TryInsert};
-use ix_cells::RelocatableContainer;
-use ix_maps::{BoundedMap, FixedSizeHashMap, HashMap, UninitHashMap};
+use ix_flatmap::BoundedMap;
+use ix_hashmap::{FixedSizeHashMap, HashMap, UninitHashMap};
+use ix_tables::RelocatableContainer;
 use std::alloc::Global;
 use std::hash::{Hash, Hasher};
 use std::test::Fail;

@@ -7,8 +7,9 @@ use crate::rows::{
     letters, ports,
 };
 use bumpalo::Bump;
-use ix_cells::RelocatableContainer;
-use ix_maps::{BoundedMap, FixedSizeFlatMap, FixedSizeHashMap, FlatMap, HashMap, UninitHashMap};
+use ix_flatmap::{BoundedMap, FixedSizeFlatMap, FlatMap};
+use ix_hashmap::{FixedSizeHashMap, HashMap, UninitHashMap};
+use ix_tables::RelocatableContainer;
 use linked_list_allocator::LocalHeap;
 use std::alloc::{AllocError, Allocator};
 use std::fmt::Debug;

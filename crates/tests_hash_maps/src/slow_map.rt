@@ -1,5 +1,5 @@
 //! A plain slow map, with which tests compare hash maps.
-use ix_maps::FlatMapError;
+use ix_flatmap::FlatMapError;
 use std::alloc::{AllocError, Global};
 use test_support::SlowTable;
 

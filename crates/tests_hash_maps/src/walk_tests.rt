@@ -2,7 +2,8 @@
 //! the maps are nearly full. Keys are spread over all buckets, or all have one.
 use crate::hashers::{HASHES, OneHash};
 use crate::slow_map::{SlowMap, is_divided};
-use ix_maps::{BoundedMap, FixedSizeHashMap, HashMap};
+use ix_flatmap::BoundedMap;
+use ix_hashmap::{FixedSizeHashMap, HashMap};
 use std::alloc::{AllocError, Global};
 use std::test::Fail;
 use test_support::{Findings, Numbers};

@@ -3,8 +3,10 @@
 use crate::hashers::{HASHES, OneHash};
 use crate::noted_tests::{AllNotes, NotedKey};
 use crate::whole_tests::Call::{Drain, Insert, Raise, Retain};
-use ix_cells::{RelocatableContainer, Table};
-use ix_maps::{ChainLink, FixedSizeHashMap, HashMap, Link, MetaHashMap, Pair, UninitHashMap};
+use ix_flatmap::Pair;
+use ix_hashmap::{ChainLink, FixedSizeHashMap, HashMap, MetaHashMap, UninitHashMap};
+use ix_slottable::Link;
+use ix_tables::{RelocatableContainer, Table};
 use std::alloc::Global;
 use std::hash::BuildHasher;
 use std::test::Fail;

@@ -2,8 +2,8 @@
 ghost use Rattle.std.specs.Prelude.{◌<◌};
 
 use crate::own_rules::{EvenLengthRules, NonEmptyRules};
-use ix_names::SemanticStringError::{ExceedsMaximumLength, InvalidContent};
-use ix_names::{
+use ix_semantic_string::SemanticStringError::{ExceedsMaximumLength, InvalidContent};
+use ix_semantic_string::{
     GroupName, GroupNameRules, Rules, Semantic, SemanticStringError, TrailingSlashRules,
 };
 use ix_string::String;

@@ -4,10 +4,10 @@ ghost use Rattle.std.specs.Prelude.{◌≡◌, ◌<◌, ◌↔◌, IsTrue, IfOk,
 ghost use Rattle.std.specs.Hash.DefaultHasher as sip;
 ghost use Rattle.std.specs.declared.cmp.Ordering.TheVariants.{Less};
 ghost use Rattle.ix_string.specs.Escape.{escaped_text};
-ghost use Rattle.ix_names.specs.Rules.{means_the_same, compare_meanings};
+ghost use Rattle.ix_semantic_string.specs.Rules.{means_the_same, compare_meanings};
 
 use crate::own_rules::NonEmptyRules;
-use ix_names::{GroupNameRules, Rules, Semantic, TrailingSlashRules};
+use ix_semantic_string::{GroupNameRules, Rules, Semantic, TrailingSlashRules};
 use std::alloc::{AllocError, Global};
 use std::cmp::Ordering;
 use std::hash::{DefaultHasher, Hash, Hasher};

@@ -1,7 +1,7 @@
 //! Rules of the tests' own, for any capacity.
 ghost use Rattle.std.specs.Prelude.{◌%◌, ◌==◌, length, false, refl};
 
-use ix_names::Rules;
+use ix_semantic_string::Rules;
 use ix_string::StaticString;
 
 /// Refuses the empty text alone.

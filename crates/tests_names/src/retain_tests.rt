@@ -2,7 +2,9 @@
 ghost use Rattle.std.specs.Prelude.{◌<◌};
 
 use crate::own_rules::{EvenLengthRules, NonEmptyRules};
-use ix_names::{GroupNameRules, Rules, Semantic, SemanticStringError, TrailingSlashRules};
+use ix_semantic_string::{
+    GroupNameRules, Rules, Semantic, SemanticStringError, TrailingSlashRules,
+};
 use std::cell::Cell;
 use std::test::Fail;
 use test_support::Findings;

@@ -3,8 +3,8 @@ ghost use Rattle.std.specs.Prelude.{◌<◌};
 
 use crate::own_rules::{EvenLengthRules, NonEmptyRules};
 use crate::rows::{EVEN_LENGTHS, NAMES, NO_ROOM, NO_SINGLE_BYTE, SINGLE_BYTES, check_rows};
-use ix_names::SemanticStringError::{ExceedsMaximumLength, InvalidContent};
-use ix_names::{GroupNameRules, Rules, Semantic, TrailingSlashRules};
+use ix_semantic_string::SemanticStringError::{ExceedsMaximumLength, InvalidContent};
+use ix_semantic_string::{GroupNameRules, Rules, Semantic, TrailingSlashRules};
 use ix_string::{StaticString, String};
 use std::cell::Cell;
 use std::test::Fail;

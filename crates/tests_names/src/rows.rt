@@ -6,8 +6,8 @@ use ix_commands::TextCommand::{
     self, Append, Empty, Find, Full, Insert, InsertBytes, Pop, Push, Remove, RemoveRange, Rfind,
     StripPrefix, StripSuffix, Truncate,
 };
-use ix_names::SemanticStringError::{self, ExceedsMaximumLength, InvalidContent};
-use ix_names::{Rules, Semantic};
+use ix_semantic_string::SemanticStringError::{self, ExceedsMaximumLength, InvalidContent};
+use ix_semantic_string::{Rules, Semantic};
 use test_support::{Findings, reply_of_key, reply_of_option};
 
 /// What the call that a command names returns.

@@ -1,7 +1,7 @@
 //! Printed texts, texts in the machine's memory, and errors.
 use crate::own_rules::EvenLengthRules;
-use ix_names::SemanticStringError::{ExceedsMaximumLength, InvalidContent};
-use ix_names::{
+use ix_semantic_string::SemanticStringError::{ExceedsMaximumLength, InvalidContent};
+use ix_semantic_string::{
     GroupName, GroupNameRules, Rules, Semantic, SemanticStringError, TrailingSlashRules,
 };
 use ix_string::StringModificationError;

@@ -1,5 +1,5 @@
 //! Closures are called once where there is a value for them, and not at all where there is none.
-use ix_names::RelocatableOption;
+use ix_relocatable_option::RelocatableOption;
 use std::cell::Cell;
 use std::test::Fail;
 use test_support::Findings;

@@ -1,5 +1,5 @@
 //! When the value of an option is dropped, and when it is cloned.
-use ix_names::RelocatableOption;
+use ix_relocatable_option::RelocatableOption;
 use std::alloc::AllocError;
 use std::test::Fail;
 use test_support::{Findings, Noted, Notes};

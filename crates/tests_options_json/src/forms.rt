@@ -1,8 +1,8 @@
 //! Item types of the tests: one that counts its conversions to JSON, and one of size zero.
 ghost use Rattle.std.specs.Result.{result_map_both};
-ghost use Rattle.ix_names.specs.JsonTree.{u64_tree, u64_read, bool_read};
+ghost use Rattle.ix_json.specs.JsonTree.{u64_tree, u64_read, bool_read};
 
-use ix_names::{JsonFault, JsonForm, JsonItem};
+use ix_json::{JsonFault, JsonForm, JsonItem};
 use serde_json::Value;
 use std::alloc::Global;
 use std::cell::Cell;

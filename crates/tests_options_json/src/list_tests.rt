@@ -1,9 +1,9 @@
 //! Vectors of vectors, queues, and allocated containers that are filled from a list.
 use crate::forms::Counted;
-use ix_cells::{PolymorphicVec, StaticVec, Vector};
-use ix_maps::{FixedSizeQueue, Queue};
-use ix_names::JsonFault::{OutOfMemory, TooLong, WrongKind};
-use ix_names::{JsonFault, JsonFill, JsonForm};
+use ix_json::JsonFault::{OutOfMemory, TooLong, WrongKind};
+use ix_json::{JsonFault, JsonFill, JsonForm};
+use ix_queue::{FixedSizeQueue, Queue};
+use ix_vector::{PolymorphicVec, StaticVec, Vector};
 use serde_json::Value;
 use std::alloc::Global;
 use std::cell::Cell;

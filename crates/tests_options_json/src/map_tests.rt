@@ -1,9 +1,9 @@
 //! Flat maps from strings that are written as objects and read from them.
 use crate::forms::Counted;
 use crate::list_tests::{check_text, fill, read};
-use ix_maps::{FixedSizeFlatMap, FlatMap};
-use ix_names::JsonFault::{BadByte, InvalidContent, OutOfMemory, TooLong, WrongKind};
-use ix_names::{JsonFill, JsonForm};
+use ix_flatmap::{FixedSizeFlatMap, FlatMap};
+use ix_json::JsonFault::{BadByte, InvalidContent, OutOfMemory, TooLong, WrongKind};
+use ix_json::{JsonFill, JsonForm};
 use ix_string::StaticString;
 use std::cell::Cell;
 use std::test::Fail;

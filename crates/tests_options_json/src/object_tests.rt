@@ -1,9 +1,10 @@
 //! A struct of a program's own as an object: each field is a member, by the calls of the field's type.
 use crate::list_tests::check_text;
-use ix_cells::StaticVec;
-use ix_names::JsonFault::{BadByte, OutOfMemory, TooLong, WrongKind};
-use ix_names::{JsonFault, JsonForm, RelocatableOption};
+use ix_json::JsonFault::{BadByte, OutOfMemory, TooLong, WrongKind};
+use ix_json::{JsonFault, JsonForm};
+use ix_relocatable_option::RelocatableOption;
 use ix_string::StaticString;
+use ix_vector::StaticVec;
 use serde_json::{Map, Value};
 use std::alloc::Global;
 use std::test::Fail;

@@ -1,5 +1,5 @@
 //! Each function of options once, with a value and without one.
-use ix_names::RelocatableOption;
+use ix_relocatable_option::RelocatableOption;
 use std::alloc::{AllocError, Global};
 use std::cmp::Ordering::{self, Equal, Greater, Less};
 use std::test::Fail;

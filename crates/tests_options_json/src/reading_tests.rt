@@ -1,9 +1,11 @@
 //! How JSON is read: rows of a text, and the value or the fault.
 use crate::forms::Empty;
-use ix_cells::{StaticVec, Vector};
-use ix_names::JsonFault::{BadByte, InvalidContent, TooLong, WrongKind};
-use ix_names::{GroupName, JsonFault, JsonForm, RelocatableOption};
+use ix_json::JsonFault::{BadByte, InvalidContent, TooLong, WrongKind};
+use ix_json::{JsonFault, JsonForm};
+use ix_relocatable_option::RelocatableOption;
+use ix_semantic_string::GroupName;
 use ix_string::{StaticString, String};
+use ix_vector::{StaticVec, Vector};
 use serde_json::Value;
 use std::alloc::Global;
 use std::fmt::Debug;

@@ -1,6 +1,7 @@
 //! Printed texts, and copies of faults.
-use ix_names::JsonFault::{BadByte, InvalidContent, OutOfMemory, TooLong, WrongKind};
-use ix_names::{JsonFault, RelocatableOption};
+use ix_json::JsonFault;
+use ix_json::JsonFault::{BadByte, InvalidContent, OutOfMemory, TooLong, WrongKind};
+use ix_relocatable_option::RelocatableOption;
 use std::test::Fail;
 use test_support::{Findings, check_printed, check_text};
 

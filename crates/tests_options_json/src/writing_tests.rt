@@ -1,8 +1,10 @@
 //! Values as JSON and back.
 use crate::forms::{Counted, Empty};
-use ix_cells::{StaticVec, Vector, VectorModificationError};
-use ix_names::{GroupName, JsonFault, JsonForm, RelocatableOption, Semantic, TrailingSlashRules};
+use ix_json::{JsonFault, JsonForm};
+use ix_relocatable_option::RelocatableOption;
+use ix_semantic_string::{GroupName, Semantic, TrailingSlashRules};
 use ix_string::StaticString;
+use ix_vector::{StaticVec, Vector, VectorModificationError};
 use serde_json::Value;
 use std::alloc::{AllocError, Global};
 use std::cell::Cell;

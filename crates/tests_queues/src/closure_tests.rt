@@ -1,8 +1,8 @@
 //! The calls of closures: one for each item, the front item first, in the closure's own state.
 use crate::replacing::{change_each, keep_passing};
 use crate::turning::TURNS;
-use ix_cells::{RelocatableContainer, Table};
-use ix_maps::{FixedSizeQueue, MetaQueue, Queue, RelocatableQueue};
+use ix_queue::{FixedSizeQueue, MetaQueue, Queue, RelocatableQueue};
+use ix_tables::{RelocatableContainer, Table};
 use std::alloc::Global;
 use std::cell::Cell;
 use std::test::Fail;

@@ -1,6 +1,6 @@
 //! Clones of queues: each item is cloned once, the front item first; a clone that fails leaves nothing.
-use ix_cells::Table;
-use ix_maps::{FixedSizeQueue, MetaQueue, Queue};
+use ix_queue::{FixedSizeQueue, MetaQueue, Queue};
+use ix_tables::Table;
 use linked_list_allocator::LocalHeap;
 use std::alloc::AllocError;
 use std::test::Fail;

@@ -2,8 +2,8 @@
 use crate::drain_tests::Step::{Back, Left, Next};
 use crate::replacing::{drain_all, drain_one};
 use crate::turning::TURNS;
-use ix_cells::{RelocatableContainer, Table};
-use ix_maps::{FixedSizeQueue, MetaQueue, Queue, RelocatableQueue};
+use ix_queue::{FixedSizeQueue, MetaQueue, Queue, RelocatableQueue};
+use ix_tables::{RelocatableContainer, Table};
 use std::alloc::Global;
 use std::test::Fail;
 use test_support::{Findings, Noted, Notes, check_rows, check_text, made};

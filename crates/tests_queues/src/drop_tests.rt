@@ -3,8 +3,8 @@ use crate::drop_tests::Call::{
     Clear, KeepOdd, Pop, PopBack, Push, PushWithOverflow, Truncate, TryPush, Write, WriteBack,
 };
 use crate::replacing::replace_back;
-use ix_cells::{RelocatableContainer, Table};
-use ix_maps::{FixedSizeQueue, MetaQueue, Queue, RelocatableQueue};
+use ix_queue::{FixedSizeQueue, MetaQueue, Queue, RelocatableQueue};
+use ix_tables::{RelocatableContainer, Table};
 use std::alloc::Global;
 use std::test::Fail;
 use test_support::{Findings, Noted, Notes, made};

@@ -6,10 +6,10 @@ ghost use Rattle.std.specs.Prelude.{nat_eq};
 
 use crate::equality_tests::Side::{One, Other};
 use crate::turning::{TURNS, Turn};
-use ix_cells::{RelocatableContainer, Table};
 use ix_commands::QueueCommand::{self, Clear, Len, Pop, Push};
 use ix_commands::Runs;
-use ix_maps::{FixedSizeQueue, MetaQueue, Queue, RelocatableQueue};
+use ix_queue::{FixedSizeQueue, MetaQueue, Queue, RelocatableQueue};
+use ix_tables::{RelocatableContainer, Table};
 use std::cell::Cell;
 use std::test::Fail;
 use test_support::{Findings, check_rows, made};

@@ -3,12 +3,12 @@ use crate::own_table::CountedPuts;
 use crate::replacing::replace_front;
 use crate::rows::{Row, check_kinds};
 use bumpalo::Bump;
-use ix_cells::{InitError, InlineTable, RelocatableContainer, Table};
 use ix_commands::QueueCommand::{
     At, Capacity, Clear, Empty, Full, Len, Over, Peek, Pop, Push, Set,
 };
 use ix_commands::Reply::{self, Bool, Done, Number, Value};
-use ix_maps::{FixedSizeQueue, MetaQueue, Queue, RelocatableQueue, UninitQueue};
+use ix_queue::{FixedSizeQueue, MetaQueue, Queue, RelocatableQueue, UninitQueue};
+use ix_tables::{InitError, InlineTable, RelocatableContainer, Table};
 use linked_list_allocator::LocalHeap;
 use std::alloc::{AllocError, Allocator, Global};
 use std::test::Fail;

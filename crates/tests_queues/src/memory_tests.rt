@@ -1,10 +1,10 @@
 //! Queues for which there is not enough memory, at each of their allocations: nothing stays allocated. Where there is memory,
 //! none is refused.
 use bumpalo::Bump;
-use ix_cells::RelocatableContainer;
 use ix_commands::QueueCommand::{Capacity, Len, Push};
 use ix_commands::Reply::{Bool, Number};
-use ix_maps::{Queue, UninitQueue};
+use ix_queue::{Queue, UninitQueue};
+use ix_tables::RelocatableContainer;
 use linked_list_allocator::LocalHeap;
 use std::alloc::Allocator;
 use std::test::Fail;

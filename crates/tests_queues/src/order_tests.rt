@@ -1,7 +1,7 @@
 //! The order of queues and what they feed to a hasher: that of their items, wherever these lie in the ring.
 use crate::turning::TURNS;
-use ix_cells::Table;
-use ix_maps::{FixedSizeQueue, MetaQueue, Queue};
+use ix_queue::{FixedSizeQueue, MetaQueue, Queue};
+use ix_tables::Table;
 use std::cmp::Ordering::{self, Equal, Greater, Less};
 use std::test::Fail;
 use test_support::{Findings, check_rows, fed_by, hash_of, order_of};

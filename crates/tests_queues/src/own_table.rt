@@ -1,7 +1,7 @@
 //! A table as a user would write it, for queues of one's own kind.
 ghost use Rattle.std.specs.Prelude.{◌≡◌, ℕ};
 
-use ix_cells::Table;
+use ix_tables::Table;
 
 /// A table that counts the items put into it.
 pub struct CountedPuts<S> {

@@ -1,11 +1,11 @@
 //! Functions over any queue, as a user would write them, proved from the contracts of queues alone.
 ghost use Rattle.std.specs.Prelude.{◌≡◌, ◌≤◌, not, nat_lt, filter, map, slice_get};
-ghost use Rattle.ix_cells.specs.Bounded.{bounded_new};
-ghost use Rattle.ix_cells.specs.VectorSteps.{vec_last};
-ghost use Rattle.ix_maps.specs.QueueSteps.{queue_front, queue_set, queue_set_back, queue_set_front};
+ghost use Rattle.ix_tables.specs.Bounded.{bounded_new};
+ghost use Rattle.ix_vector.specs.VectorSteps.{vec_last};
+ghost use Rattle.ix_queue.specs.QueueSteps.{queue_front, queue_set, queue_set_back, queue_set_front};
 
-use ix_cells::Table;
-use ix_maps::MetaQueue;
+use ix_queue::MetaQueue;
+use ix_tables::Table;
 use std::mem;
 
 /// Replaces the front item by `item` and returns the old one; or drops `item` and returns `None` if the queue is empty.

@@ -3,7 +3,7 @@ use crate::rows::{Row, check_kinds};
 use crate::turning::TURNS;
 use ix_commands::QueueCommand::{At, Clear, Len, Over, Peek, Pop, Push, Set};
 use ix_commands::Reply::{self, Bool, Done, Number, Value};
-use ix_maps::{FixedSizeQueue, Queue};
+use ix_queue::{FixedSizeQueue, Queue};
 use std::test::Fail;
 use test_support::{Findings, check_tables, made};
 

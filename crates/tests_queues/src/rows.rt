@@ -2,9 +2,9 @@
 ghost use Rattle.std.specs.Prelude.{◌≤◌};
 
 use crate::own_table::CountedPuts;
-use ix_cells::{InlineTable, RelocatableContainer};
 use ix_commands::{QueueCommand, Reply};
-use ix_maps::{FixedSizeQueue, MetaQueue, Queue, RelocatableQueue};
+use ix_queue::{FixedSizeQueue, MetaQueue, Queue, RelocatableQueue};
+use ix_tables::{InlineTable, RelocatableContainer};
 use std::alloc::Allocator;
 use test_support::{Findings, check_tables, made};
 

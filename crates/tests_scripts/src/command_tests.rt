@@ -1,11 +1,11 @@
 //! Lines of each container that are just a command, and others that just are none.
 use crate::reading_tests::check_reading;
-use ix_maps::SlotMapKey;
 use ix_run::run::{
     FlatCommand as Flat, MAX_LINE_LEN, MAX_NUMBERS, QueueCommand as Queue, SlotCommand as Slot,
     TableCommand as Table, TextCommand, VecCommand, read_flat_command, read_queue_command,
     read_slot_command, read_table_command, read_text_command, read_vec_command,
 };
+use ix_slotmap::SlotMapKey;
 use std::test::Fail;
 use test_support::{Findings, check_text};
 

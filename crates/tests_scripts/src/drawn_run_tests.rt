@@ -1,5 +1,5 @@
 //! Long lists of commands: there is memory for the replies to them.
-use ix_maps::FixedSizeQueue;
+use ix_queue::FixedSizeQueue;
 use ix_run::run::{QueueCommand, Reply, run_queue};
 use std::test::Fail;
 use test_support::{Findings, check_drawn_sizes};

@@ -2,12 +2,12 @@
 ghost use Rattle.std.specs.Prelude.{◌≤◌};
 
 use crate::slow_queue::SlowQueue;
-use ix_cells::Table;
 use ix_commands::QueueCommand::{
     self, At, Capacity, Clear, Empty, Full, Len, Over, Peek, Pop, Push, Set,
 };
 use ix_commands::Runs;
-use ix_maps::{FixedSizeQueue, MetaQueue, Queue};
+use ix_queue::{FixedSizeQueue, MetaQueue, Queue};
+use ix_tables::Table;
 use std::alloc::AllocError;
 use std::test::Fail;
 use test_support::{Findings, Numbers, walk};

@@ -1,15 +1,16 @@
 //! Lists of commands, run on containers of every kind: which replies come, and in which order.
-use ix_cells::{PolymorphicVec, RelocatableContainer, StaticVec, UninitVec};
-use ix_maps::{
-    FixedSizeFlatMap, FixedSizeQueue, FixedSizeSlotMap, FixedSizeSlotTable, FlatMap, Queue,
-    SlotMapKey, SlotTable,
-};
+use ix_flatmap::{FixedSizeFlatMap, FlatMap};
+use ix_queue::{FixedSizeQueue, Queue};
 use ix_run::run::ReplyError::{InsertWouldExceedCapacity, IsFull, KeyAlreadyExists, OutOfBounds};
 use ix_run::run::{
     FlatCommand, QueueCommand, Reply, Runs, SlotCommand, TableCommand, TextCommand, VecCommand,
     run_all, run_flat, run_queue, run_slot, run_table, run_text, run_vec,
 };
+use ix_slotmap::{FixedSizeSlotMap, SlotMapKey};
+use ix_slottable::{FixedSizeSlotTable, SlotTable};
 use ix_string::StaticString;
+use ix_tables::RelocatableContainer;
+use ix_vector::{PolymorphicVec, StaticVec, UninitVec};
 use std::alloc::{AllocError, Global};
 use std::fmt::Debug;
 use std::test::Fail;

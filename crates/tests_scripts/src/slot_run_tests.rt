@@ -1,7 +1,7 @@
 //! Lists of commands, run on slot maps of every kind.
 use crate::run_tests::check_run;
-use ix_maps::{FixedSizeSlotMap, SlotMap, SlotMapKey};
 use ix_run::run::{Reply, SlotCommand};
+use ix_slotmap::{FixedSizeSlotMap, SlotMap, SlotMapKey};
 use std::test::Fail;
 use test_support::Findings;
 

@@ -1,7 +1,7 @@
 //! A plain slow queue, with the ring's contract and another body, which tests compare with the ring.
 ghost use Rattle.std.specs.Prelude.{◌≡◌, ◌≤◌, length, nat_lt};
-ghost use Rattle.ix_cells.specs.Bounded.{has_room, bounded_new, bounded_push};
-ghost use Rattle.ix_maps.specs.QueueSteps.{queue_overflow, queue_overflow_item, queue_front, queue_pop, queue_set_front};
+ghost use Rattle.ix_tables.specs.Bounded.{has_room, bounded_new, bounded_push};
+ghost use Rattle.ix_queue.specs.QueueSteps.{queue_overflow, queue_overflow_item, queue_front, queue_pop, queue_set_front};
 
 use arrayvec::ArrayVec;
 use ix_commands::{QueueCommand, Reply, Runs};
@@ -17,7 +17,7 @@ pub struct SlowQueue<T> {
 
 impl<T> Model for SlowQueue<T> {
     ghost use Rattle.std.specs.Prelude.{◌≤◌, length};
-    ghost use Rattle.ix_cells.specs.Bounded.{Bounded, bounded_code};
+    ghost use Rattle.ix_tables.specs.Bounded.{Bounded, bounded_code};
 
     ghost Value = { Bounded T };
 
@@ -95,7 +95,7 @@ impl<T: Default + Drop> SlowQueue<T> {
 }
 
 impl<T: Default + Copy> Runs<QueueCommand<T>> for SlowQueue<T> {
-    ghost use Rattle.ix_cells.specs.Bounded.{Bounded};
+    ghost use Rattle.ix_tables.specs.Bounded.{Bounded};
     ghost use Rattle.ix_commands.specs.QueueRun.{queue_reply, queue_after};
 
     type Reply = Reply<usize, T>;

@@ -1,6 +1,5 @@
 //! Runs of commands on strings: each command, at each kind of string.
 use crate::run_tests::check_run;
-use ix_cells::RelocatableContainer;
 use ix_run::run::ReplyError::{IndexPastEnd, InsertWouldExceedCapacity, InvalidCharacter};
 use ix_run::run::TextCommand::{
     Append, At, Capacity, Clear, Drop as DropByte, Empty, Find, Full, Insert, InsertBytes, Len,
@@ -8,6 +7,7 @@ use ix_run::run::TextCommand::{
 };
 use ix_run::run::{Reply, TextCommand};
 use ix_string::{PolymorphicString, StaticString, String, UninitString};
+use ix_tables::RelocatableContainer;
 use std::alloc::Global;
 use std::test::Fail;
 use test_support::{Findings, made};

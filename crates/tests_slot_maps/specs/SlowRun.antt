@@ -1,6 +1,6 @@
 -- The run of a slow slot map, which has room for 512 free places: the reply to each command, and the map after it.
 use Rattle.std.specs.Prelude.{length, nat_lt, if◌then◌else◌}
-use Rattle.ix_maps.specs.Generations.{SlotKey, SlotMapState}
+use Rattle.ix_slotmap.specs.Generations.{SlotKey, SlotMapState}
 use Rattle.ix_commands.specs.SlotRun.{slot_reply, slot_after}
 use Rattle.ix_commands.specs.declared.command.SlotCommand.{SlotCommand}
 use Rattle.ix_commands.specs.declared.command.SlotCommand.TheVariants.{From, Retired, Len, Empty}

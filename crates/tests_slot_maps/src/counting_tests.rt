@@ -1,11 +1,12 @@
 //! The counted forms of calls return what the plain forms return, at capacity 1,000, and calls of either form take as long on a
 //! map of 100,000 places as on one of 16.
 use crate::rows::{Row, key};
-use ix_cells::{Table, Touches};
 use ix_commands::Reply::{self, Key, Number, Value};
 use ix_commands::Runs;
 use ix_commands::SlotCommand::{self, Get, Insert, InsertAt, Len, Next, Remove};
-use ix_maps::{Link, MetaSlotMap, SlotMap, SlotMapKey};
+use ix_slotmap::{MetaSlotMap, SlotMap, SlotMapKey};
+use ix_slottable::Link;
+use ix_tables::{Table, Touches};
 use std::alloc::{AllocError, Global};
 use std::cmp::min;
 use std::test::Fail;

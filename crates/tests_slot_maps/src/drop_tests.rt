@@ -1,8 +1,9 @@
 //! When values are dropped: each one once, and by the drop of a map that of the least index first.
 use crate::drop_tests::Call::{Insert, InsertAt, Remove};
 use crate::rows::{LAST, key};
-use ix_cells::{RelocatableContainer, Table};
-use ix_maps::{FixedSizeSlotMap, Link, MetaSlotMap, SlotMap, UninitSlotMap};
+use ix_slotmap::{FixedSizeSlotMap, MetaSlotMap, SlotMap, UninitSlotMap};
+use ix_slottable::Link;
+use ix_tables::{RelocatableContainer, Table};
 use std::alloc::{AllocError, Global};
 use std::test::Fail;
 use test_support::{Findings, Noted, Notes};

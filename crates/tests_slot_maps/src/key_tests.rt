@@ -1,7 +1,8 @@
 //! Keys by their traits, and the texts of maps.
-use ix_cells::Table;
-use ix_maps::slotmap::key_order_law;
-use ix_maps::{FixedSizeSlotMap, Link, MetaSlotMap, SlotMap, SlotMapKey, UninitSlotMap};
+use ix_slotmap::slotmap::key_order_law;
+use ix_slotmap::{FixedSizeSlotMap, MetaSlotMap, SlotMap, SlotMapKey, UninitSlotMap};
+use ix_slottable::Link;
+use ix_tables::Table;
 use std::alloc::AllocError;
 use std::cmp::Ordering;
 use std::test::Fail;

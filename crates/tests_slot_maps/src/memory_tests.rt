@@ -1,7 +1,8 @@
 //! Maps for which there is not enough memory, at each of the six allocations: nothing stays allocated.
 use crate::rows::key;
-use ix_cells::{RelocatableContainer, Table};
-use ix_maps::{Link, MetaSlotMap, SlotMap, UninitSlotMap};
+use ix_slotmap::{MetaSlotMap, SlotMap, UninitSlotMap};
+use ix_slottable::Link;
+use ix_tables::{RelocatableContainer, Table};
 use linked_list_allocator::LocalHeap;
 use std::alloc::{AllocError, Global};
 use std::test::Fail;

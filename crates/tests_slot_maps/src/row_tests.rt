@@ -5,8 +5,8 @@ use crate::rows::{
     LAST, Row, dead_keys, each_place, no_place, no_such_keys, one_place, place_retired, size_zero,
 };
 use bumpalo::Bump;
-use ix_cells::RelocatableContainer;
-use ix_maps::{FixedSizeSlotMap, RelocatableSlotMap, SlotMap, UninitSlotMap};
+use ix_slotmap::{FixedSizeSlotMap, RelocatableSlotMap, SlotMap, UninitSlotMap};
+use ix_tables::RelocatableContainer;
 use linked_list_allocator::LocalHeap;
 use std::alloc::Allocator;
 use std::fmt::Debug;

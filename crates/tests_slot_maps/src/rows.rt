@@ -4,7 +4,7 @@ use ix_commands::SlotCommand::{
     self, Capacity, Contains, Empty, From, Full, Get, Insert, InsertAt, Len, Next, Remove, Retired,
     Set,
 };
-use ix_maps::SlotMapKey;
+use ix_slotmap::SlotMapKey;
 
 /// A command of a slot map and the reply to it.
 pub type Row<T> = (SlotCommand<T>, Reply<SlotMapKey, T>);

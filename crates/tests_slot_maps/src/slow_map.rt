@@ -1,11 +1,11 @@
 //! A plain slow map, with which tests compare slot maps. Its contracts are the definitions of the steps.
 ghost use Rattle.std.specs.Prelude.{◌≡◌, ◌<◌, length, is_some, slice_set, if◌then◌else◌, IfOk};
-ghost use Rattle.ix_maps.specs.Generations.{greatest_generation, generation_at, key_at, place_value, map_value, map_new};
-ghost use Rattle.ix_maps.specs.SlotMapSteps.{generations_raise, map_set, map_insert, map_remove};
+ghost use Rattle.ix_slotmap.specs.Generations.{greatest_generation, generation_at, key_at, place_value, map_value, map_new};
+ghost use Rattle.ix_slotmap.specs.SlotMapSteps.{generations_raise, map_set, map_insert, map_remove};
 ghost use Rattle.ix_commands.specs.SlotRun.{map_next, is_free_place, is_replaceable, map_insert_at, map_insert_at_key};
 
 use ix_commands::{Reply, Runs, SlotCommand};
-use ix_maps::SlotMapKey;
+use ix_slotmap::SlotMapKey;
 use std::alloc::{AllocError, Global};
 use std::marker::Model;
 use test_support::{SlowTable, reply_of_key, reply_of_option};
@@ -20,7 +20,7 @@ pub struct SlowMap {
 impl Model for SlowMap {
     ghost use Rattle.std.specs.Prelude.{ℕ};
     ghost use Rattle.std.specs.Coded.{coded_ℕ, coded_option};
-    ghost use Rattle.ix_maps.specs.Generations.{SlotMapState, generation_state_code};
+    ghost use Rattle.ix_slotmap.specs.Generations.{SlotMapState, generation_state_code};
 
     ghost Value = { SlotMapState ℕ };
 
@@ -194,7 +194,7 @@ impl SlowMap {
 /// free places does nothing.
 impl Runs<SlotCommand<u64>> for SlowMap {
     ghost use Rattle.std.specs.Prelude.{ℕ};
-    ghost use Rattle.ix_maps.specs.Generations.{SlotMapState};
+    ghost use Rattle.ix_slotmap.specs.Generations.{SlotMapState};
     ghost use Rattle.tests_slot_maps.specs.SlowRun.{slow_reply, slow_after};
 
     type Reply = Reply<SlotMapKey, u64>;

@@ -1,7 +1,8 @@
 //! Drains and clones of slot maps: the items that come, the values that are dropped, and the maps afterwards.
 use crate::rows::{LAST, key};
-use ix_cells::{RelocatableContainer, Table};
-use ix_maps::{FixedSizeSlotMap, Link, MetaSlotMap, SlotMap, UninitSlotMap};
+use ix_slotmap::{FixedSizeSlotMap, MetaSlotMap, SlotMap, UninitSlotMap};
+use ix_slottable::Link;
+use ix_tables::{RelocatableContainer, Table};
 use linked_list_allocator::LocalHeap;
 use std::alloc::{AllocError, Global};
 use std::test::Fail;

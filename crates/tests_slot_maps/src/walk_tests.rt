@@ -4,9 +4,10 @@ ghost use Rattle.std.specs.Prelude.{◌≤◌};
 
 use crate::rows::LAST;
 use crate::slow_map::SlowMap;
-use ix_cells::{RelocatableContainer, Table};
 use ix_commands::SlotCommand;
-use ix_maps::{FixedSizeSlotMap, Link, MetaSlotMap, SlotMap, SlotMapKey, UninitSlotMap};
+use ix_slotmap::{FixedSizeSlotMap, MetaSlotMap, SlotMap, SlotMapKey, UninitSlotMap};
+use ix_slottable::Link;
+use ix_tables::{RelocatableContainer, Table};
 use std::alloc::{AllocError, Global};
 use std::test::Fail;
 use test_support::{Findings, Numbers};

@@ -1,8 +1,9 @@
 //! Calls that go through all values, values that are handed back, and maps that are compared and taken apart.
 use crate::rows::{LAST, key};
-use ix_cells::{RelocatableContainer, Table};
-use ix_maps::slotmap::default_key_law;
-use ix_maps::{FixedSizeSlotMap, Link, MetaSlotMap, SlotMap, SlotMapKey, UninitSlotMap};
+use ix_slotmap::slotmap::default_key_law;
+use ix_slotmap::{FixedSizeSlotMap, MetaSlotMap, SlotMap, SlotMapKey, UninitSlotMap};
+use ix_slottable::Link;
+use ix_tables::{RelocatableContainer, Table};
 use std::alloc::{AllocError, Global};
 use std::test::Fail;
 use test_support::{Findings, Noted, Notes, check_display, check_text};

@@ -3,8 +3,8 @@ ghost use Rattle.std.specs.Prelude.{◌≡◌, ℕ};
 
 use crate::counting_tests::Call::{Contains, Get, GetMut, Insert, InsertAt, NextFreeKey, Remove};
 use crate::counting_tests::Outcome::{Key, Truth, Value};
-use ix_cells::{Counted, HeapTable, InlineTable, Table, Touches};
-use ix_maps::{Link, MetaSlotTable, SlotTableKey};
+use ix_slottable::{Link, MetaSlotTable, SlotTableKey};
+use ix_tables::{Counted, HeapTable, InlineTable, Table, Touches};
 use std::alloc::{AllocError, Global};
 use std::cell::Cell;
 use std::test::Fail;

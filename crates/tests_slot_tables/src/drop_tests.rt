@@ -1,7 +1,9 @@
 //! When values are dropped: each one once, and by the drop of a map that of the least key first.
 use crate::drop_tests::Call::{Insert, InsertAt, Remove, Write};
-use ix_cells::{RelocatableContainer, Table};
-use ix_maps::{FixedSizeSlotTable, Link, MetaSlotTable, SlotTable, SlotTableKey, UninitSlotTable};
+use ix_slottable::{
+    FixedSizeSlotTable, Link, MetaSlotTable, SlotTable, SlotTableKey, UninitSlotTable,
+};
+use ix_tables::{RelocatableContainer, Table};
 use std::alloc::{AllocError, Global};
 use std::test::Fail;
 use test_support::{Findings, Noted, Notes};

@@ -1,11 +1,11 @@
 //! Each function once.
 use crate::inserting::{insert_and_get, insert_at_next};
 use crate::rows::EVERY_CALL;
-use ix_cells::{HeapTable, InitError, InlineTable, RelocatableContainer, Table, Touches};
-use ix_maps::{
+use ix_slottable::{
     FixedSizeSlotTable, Link, MetaSlotTable, RelocatableSlotTable, SlotTable, SlotTableKey,
     UninitSlotTable,
 };
+use ix_tables::{HeapTable, InitError, InlineTable, RelocatableContainer, Table, Touches};
 use std::alloc::{AllocError, Global};
 use std::mem::size_of;
 use std::test::Fail;

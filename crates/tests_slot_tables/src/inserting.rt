@@ -2,8 +2,8 @@
 ghost use Rattle.std.specs.Prelude.{◌≡◌, ◌↔◌, [], IsNone, IfSome};
 ghost use Rattle.std.specs.Bool.{OnFalse};
 
-use ix_cells::Table;
-use ix_maps::{Link, MetaSlotTable};
+use ix_slottable::{Link, MetaSlotTable};
+use ix_tables::Table;
 
 /// Inserts `value` and returns what the map then has at its key, or `None` if the map is full.
 pub fn insert_and_get<T: Copy, S: Table<T>, L: Table<Link>>(

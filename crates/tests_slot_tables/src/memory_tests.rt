@@ -1,6 +1,6 @@
 //! Maps for which there is not enough memory, at each of the four allocations: nothing stays allocated.
-use ix_cells::{RelocatableContainer, Table};
-use ix_maps::{Link, MetaSlotTable, SlotTable, UninitSlotTable};
+use ix_slottable::{Link, MetaSlotTable, SlotTable, UninitSlotTable};
+use ix_tables::{RelocatableContainer, Table};
 use linked_list_allocator::LocalHeap;
 use std::alloc::{AllocError, Global};
 use std::test::Fail;

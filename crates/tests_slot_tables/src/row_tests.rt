@@ -4,8 +4,8 @@ use crate::rows::{
     NO_KEY, ONE_KEY, REMOVED_KEY_IS_FIRST, REMOVED_KEY_IS_NEXT, Row, SIZE_ZERO, VALUE_REPLACED,
 };
 use bumpalo::Bump;
-use ix_cells::RelocatableContainer;
-use ix_maps::{FixedSizeSlotTable, SlotTable, UninitSlotTable};
+use ix_slottable::{FixedSizeSlotTable, SlotTable, UninitSlotTable};
+use ix_tables::RelocatableContainer;
 use linked_list_allocator::LocalHeap;
 use std::alloc::Allocator;
 use std::fmt::Debug;

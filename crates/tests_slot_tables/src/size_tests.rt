@@ -1,6 +1,6 @@
 //! How much memory a making takes: what `memory_size` returns, and that just so much is enough.
-use ix_cells::MemorySize;
-use ix_maps::SlotTable;
+use ix_slottable::SlotTable;
+use ix_tables::MemorySize;
 use linked_list_allocator::LocalHeap;
 use std::alloc::{AllocError, Global};
 use std::test::Fail;

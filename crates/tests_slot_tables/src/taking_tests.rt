@@ -1,6 +1,8 @@
 //! Drains and clones of slot tables: the items that come, the values that are dropped, and the tables afterwards.
-use ix_cells::{RelocatableContainer, Table};
-use ix_maps::{FixedSizeSlotTable, Link, MetaSlotTable, SlotTable, SlotTableKey, UninitSlotTable};
+use ix_slottable::{
+    FixedSizeSlotTable, Link, MetaSlotTable, SlotTable, SlotTableKey, UninitSlotTable,
+};
+use ix_tables::{RelocatableContainer, Table};
 use linked_list_allocator::LocalHeap;
 use std::alloc::{AllocError, Global};
 use std::test::Fail;

@@ -2,9 +2,9 @@
 //! memory have each capacity from 0 to 40, fixed ones 0, 1, 2, 7 and 40.
 ghost use Rattle.std.specs.Prelude.{◌≤◌};
 
-use ix_cells::{RelocatableContainer, Table};
 use ix_commands::TableCommand;
-use ix_maps::{FixedSizeSlotTable, Link, MetaSlotTable, SlotTable, UninitSlotTable};
+use ix_slottable::{FixedSizeSlotTable, Link, MetaSlotTable, SlotTable, UninitSlotTable};
+use ix_tables::{RelocatableContainer, Table};
 use std::alloc::{AllocError, Global};
 use std::test::Fail;
 use test_support::{Findings, Numbers, SlowTable};

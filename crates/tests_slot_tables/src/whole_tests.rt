@@ -1,7 +1,9 @@
 //! Calls that go through all values, values that are handed back, and maps that are compared and taken apart.
-use ix_cells::{RelocatableContainer, Table};
-use ix_maps::slottable::default_key_law;
-use ix_maps::{FixedSizeSlotTable, Link, MetaSlotTable, SlotTable, SlotTableKey, UninitSlotTable};
+use ix_slottable::slottable::default_key_law;
+use ix_slottable::{
+    FixedSizeSlotTable, Link, MetaSlotTable, SlotTable, SlotTableKey, UninitSlotTable,
+};
+use ix_tables::{RelocatableContainer, Table};
 use std::alloc::{AllocError, Global};
 use std::test::Fail;
 use test_support::{Findings, Noted, Notes, check_display, check_text};

@@ -2,8 +2,8 @@
 ghost use Rattle.std.specs.Prelude.{◌≤◌};
 
 use bumpalo::Bump;
-use ix_cells::RelocatableContainer;
 use ix_string::{PolymorphicString, StaticString, String, UninitString};
+use ix_tables::RelocatableContainer;
 use linked_list_allocator::LocalHeap;
 use std::alloc::{Allocator, Global};
 use test_support::{Findings, made};

@@ -1,5 +1,4 @@
 //! Memory that is refused to each call that makes a string: nothing stays allocated. Where there is memory, none is refused.
-use ix_cells::{PolymorphicVec, RelocatableContainer, Vector};
 use ix_commands::Reply::{self, Number};
 use ix_commands::TextCommand::{self, Capacity, Len};
 use ix_string::StringCreationError::{InvalidCharacter, OutOfMemory};
@@ -7,6 +6,8 @@ use ix_string::{
     PolymorphicString, RelocatableString, String, StringCreationError, UninitString,
     as_escaped_string,
 };
+use ix_tables::RelocatableContainer;
+use ix_vector::{PolymorphicVec, Vector};
 use linked_list_allocator::LocalHeap;
 use std::alloc::{AllocError, Allocator, Global};
 use std::test::Fail;

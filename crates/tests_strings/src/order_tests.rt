@@ -8,8 +8,8 @@ ghost use Rattle.std.specs.declared.cmp.Ordering.TheVariants.{Less};
 ghost use Rattle.ix_string.specs.Escape.{escaped_text};
 
 use crate::kinds::{holding, refill};
-use ix_cells::RelocatableContainer;
 use ix_string::{PolymorphicString, StaticString, String, UninitString};
+use ix_tables::RelocatableContainer;
 use std::alloc::{AllocError, Global};
 use std::cmp::Ordering;
 use std::hash::{DefaultHasher, Hash, Hasher};

@@ -1,10 +1,10 @@
 //! Printed texts.
-use ix_cells::RelocatableContainer;
 use ix_string::StringModificationError::{InsertWouldExceedCapacity, InvalidCharacter};
 use ix_string::{
     Polymorphic, PolymorphicString, Relocatable, StaticString, String, StringCreationError,
     StringFamily, UninitString, as_escaped_string, escape_byte,
 };
+use ix_tables::RelocatableContainer;
 use std::alloc::Global;
 use std::fmt::InlineText;
 use std::test::Fail;

@@ -1,8 +1,8 @@
 //! Formatted text that is written to strings, and strings that are made of texts.
 use crate::kinds::holding;
-use ix_cells::RelocatableContainer;
 use ix_string::StringModificationError::{InsertWouldExceedCapacity, InvalidCharacter};
 use ix_string::{PolymorphicString, StaticString, String, StringModificationError, UninitString};
+use ix_tables::RelocatableContainer;
 use std::convert::{AsSlice, AsStr};
 use std::fmt::{self, Write};
 use std::ops::DerefStr;

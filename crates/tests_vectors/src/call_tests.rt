@@ -1,7 +1,8 @@
 //! Calls that hand items back, take one out of the middle, keep some, and move items between vectors.
 use crate::call_tests::Call::{Dedup, Retain, Room, SwapRemove, TryInsert, TryPush};
-use ix_cells::VectorModificationError::{self, InsertWouldExceedCapacity, OutOfBounds};
-use ix_cells::{PolymorphicVec, RelocatableContainer, StaticVec, UninitVec, Vector};
+use ix_tables::RelocatableContainer;
+use ix_vector::VectorModificationError::{self, InsertWouldExceedCapacity, OutOfBounds};
+use ix_vector::{PolymorphicVec, StaticVec, UninitVec, Vector};
 use std::alloc::Global;
 use std::test::Fail;
 use test_support::{Findings, made};

@@ -1,6 +1,6 @@
 //! Clones that take memory, which is refused to each in turn: the items are as before, and nothing stays allocated.
-use ix_cells::VectorModificationError::OutOfMemory;
-use ix_cells::{PolymorphicVec, StaticVec, Vector};
+use ix_vector::VectorModificationError::OutOfMemory;
+use ix_vector::{PolymorphicVec, StaticVec, Vector};
 use linked_list_allocator::LocalHeap;
 use std::alloc::{AllocError, Global};
 use std::marker::Model;

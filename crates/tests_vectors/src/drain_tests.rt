@@ -1,6 +1,7 @@
 //! Drains: the items that come, those that are dropped with the drain, and the vector afterwards. And the drops of the other
 //! calls that remove or move items.
-use ix_cells::{PolymorphicVec, RelocatableContainer, StaticVec, UninitVec, Vector};
+use ix_tables::RelocatableContainer;
+use ix_vector::{PolymorphicVec, StaticVec, UninitVec, Vector};
 use std::alloc::Global;
 use std::test::Fail;
 use test_support::{Findings, Noted, Notes, check_text, made, names_of};

@@ -1,10 +1,11 @@
 //! The drops and the clones of items: each is dropped once, the last one first, and no call clones more items than it keeps.
 use crate::rows::Way::{self, Clones, Closures, Unchecked};
-use ix_cells::VectorModificationError::{
+use ix_commands::VecCommand::{self, Clear, Extend, Insert, Pop, Push, Remove, Resize, Truncate};
+use ix_tables::RelocatableContainer;
+use ix_vector::VectorModificationError::{
     self, InsertWouldExceedCapacity, OutOfBounds, OutOfMemory,
 };
-use ix_cells::{PolymorphicVec, RelocatableContainer, StaticVec, UninitVec, Vector};
-use ix_commands::VecCommand::{self, Clear, Extend, Insert, Pop, Push, Remove, Resize, Truncate};
+use ix_vector::{PolymorphicVec, StaticVec, UninitVec, Vector};
 use linked_list_allocator::LocalHeap;
 use std::alloc::{AllocError, Global};
 use std::test::Fail;

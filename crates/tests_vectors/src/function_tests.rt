@@ -1,9 +1,9 @@
 //! Functions that no row has: copies, equality, closures that are called in turn, texts, and a vector that is made later.
 use bumpalo::Bump;
-use ix_cells::VectorModificationError::{InsertWouldExceedCapacity, OutOfBounds, OutOfMemory};
-use ix_cells::{
-    InitError, MAX_FIXED_CAPACITY, PolymorphicVec, RelocatableContainer, RelocatableVec, StaticVec,
-    UninitVec, Vector, VectorModificationError,
+use ix_tables::{InitError, MAX_FIXED_CAPACITY, RelocatableContainer};
+use ix_vector::VectorModificationError::{InsertWouldExceedCapacity, OutOfBounds, OutOfMemory};
+use ix_vector::{
+    PolymorphicVec, RelocatableVec, StaticVec, UninitVec, Vector, VectorModificationError,
 };
 use linked_list_allocator::LocalHeap;
 use std::alloc::{AllocError, Allocator, Global};

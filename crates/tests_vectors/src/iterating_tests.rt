@@ -1,7 +1,7 @@
 //! Iteration: the items in order from both ends, by value and by reference, and what an iterator drops.
 use crate::iterating_tests::Taken::{Back, Front};
-use ix_cells::VectorModificationError::InsertWouldExceedCapacity;
-use ix_cells::{PolymorphicVec, StaticVec, Vector};
+use ix_vector::VectorModificationError::InsertWouldExceedCapacity;
+use ix_vector::{PolymorphicVec, StaticVec, Vector};
 use std::alloc::Global;
 use std::test::Fail;
 use test_support::{Findings, Noted, Notes, made};

@@ -1,11 +1,10 @@
 //! Memory that is refused to each call that makes a vector or a table: nothing stays allocated. Where there is memory, none
 //! is refused.
-use ix_cells::VectorModificationError::InsertWouldExceedCapacity;
-use ix_cells::{
-    HeapTable, PolymorphicVec, RawSlots, RelocatableContainer, StaticVec, Table, UninitVec, Vector,
-};
 use ix_commands::Reply::{self, Number};
 use ix_commands::VecCommand::{self, Capacity, Len};
+use ix_tables::{HeapTable, RawSlots, RelocatableContainer, Table};
+use ix_vector::VectorModificationError::InsertWouldExceedCapacity;
+use ix_vector::{PolymorphicVec, StaticVec, UninitVec, Vector};
 use linked_list_allocator::LocalHeap;
 use std::alloc::{AllocError, Allocator, Global};
 use std::cell::Cell;

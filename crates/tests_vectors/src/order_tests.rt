@@ -1,5 +1,5 @@
 //! The order of vectors, what they feed to a hasher, and vectors of vectors.
-use ix_cells::{PolymorphicVec, StaticVec, Vector};
+use ix_vector::{PolymorphicVec, StaticVec, Vector};
 use std::cmp::Ordering::{self, Equal, Greater, Less};
 use std::hash::Hash;
 use std::test::Fail;

@@ -1,9 +1,9 @@
 //! Functions over any vector, proved from the contract of its trait.
 ghost use Rattle.std.specs.Prelude.{◌≡◌, ◌<◌, ◌↔◌, Some, None, length, IsOk, IfOk, IfErr, OnOk, OnErr, if◌then◌else◌, slice_get, slice_set};
-ghost use Rattle.ix_cells.specs.Bounded.{has_room, with_items, bounded_push};
-ghost use Rattle.ix_cells.specs.VectorSteps.{vec_remove};
+ghost use Rattle.ix_tables.specs.Bounded.{has_room, with_items, bounded_push};
+ghost use Rattle.ix_vector.specs.VectorSteps.{vec_remove};
 
-use ix_cells::Vector;
+use ix_vector::Vector;
 use std::mem;
 
 /// Appends `item`. If the vector is full, removes the first item before and returns it. A vector of capacity 0 drops

@@ -1,6 +1,6 @@
 //! The functions over any vector, with each kind.
 use crate::rolling::{push_over, replace_at};
-use ix_cells::{PolymorphicVec, StaticVec, Vector};
+use ix_vector::{PolymorphicVec, StaticVec, Vector};
 use std::test::Fail;
 use test_support::{Findings, made};
 

@@ -1,12 +1,12 @@
 //! Worked examples: rows of commands of vectors of each capacity, kind and way, in each memory.
 use crate::rows::{FULL, Row, check_kinds, check_made};
 use bumpalo::Bump;
-use ix_cells::{PolymorphicVec, StaticVec};
 use ix_commands::Reply::{self, Bool, Done, Error, Number, Value};
 use ix_commands::ReplyError::OutOfBounds;
 use ix_commands::VecCommand::{
     At, Capacity, Clear, Empty, Extend, Full, Insert, Len, Pop, Push, Remove, Resize, Set, Truncate,
 };
+use ix_vector::{PolymorphicVec, StaticVec};
 use linked_list_allocator::LocalHeap;
 use std::alloc::{AllocError, Allocator};
 use std::cell::Cell;

@@ -1,12 +1,11 @@
 //! Rows of commands of vectors, run by each call that does what a command says, on a vector of each kind.
-ghost use Rattle.ix_cells.specs.Cloning.{AreEqualClones};
+ghost use Rattle.ix_tables.specs.Cloning.{AreEqualClones};
 
 use crate::rows::Way::{Clones, Closures, Commands, Unchecked};
-use ix_cells::{
-    PolymorphicVec, RelocatableContainer, StaticVec, UninitVec, Vector, VectorModificationError,
-};
 use ix_commands::VecCommand::{Extend, Push, Resize};
 use ix_commands::{Reply, ReplyError, Runs, VecCommand};
+use ix_tables::RelocatableContainer;
+use ix_vector::{PolymorphicVec, StaticVec, UninitVec, Vector, VectorModificationError};
 use std::alloc::{AllocError, Allocator};
 use std::cell::Cell;
 use std::fmt::Debug;

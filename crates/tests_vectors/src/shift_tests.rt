@@ -1,5 +1,5 @@
 //! Items that are shifted by one place, few and many of them: those before the place stay, and those after it keep their order.
-use ix_cells::{PolymorphicVec, StaticVec, Vector};
+use ix_vector::{PolymorphicVec, StaticVec, Vector};
 use std::alloc::AllocError;
 use std::test::Fail;
 use test_support::Findings;

@@ -1,7 +1,6 @@
 //! How much memory a making takes, and the texts of tables.
-use ix_cells::{
-    Counted, HeapTable, InlineTable, MemorySize, PolymorphicVec, RawSlots, Table, Touches,
-};
+use ix_tables::{Counted, HeapTable, InlineTable, MemorySize, RawSlots, Table, Touches};
+use ix_vector::PolymorphicVec;
 use linked_list_allocator::LocalHeap;
 use std::alloc::{AllocError, Global};
 use std::test::Fail;

@@ -1,5 +1,5 @@
 //! The calls of slices on vectors: those that look, and those that change items.
-use ix_cells::{PolymorphicVec, StaticVec, Vector};
+use ix_vector::{PolymorphicVec, StaticVec, Vector};
 use std::test::Fail;
 use test_support::{Findings, made};
 

@@ -2,7 +2,7 @@
 ghost use Rattle.std.specs.Prelude.{◌≡◌, None, replicate};
 
 use bumpalo::Bump;
-use ix_cells::{HeapTable, InlineTable, RawSlots, Table};
+use ix_tables::{HeapTable, InlineTable, RawSlots, Table};
 use linked_list_allocator::LocalHeap;
 use std::alloc::{AllocError, Allocator, Global};
 use std::test::Fail;

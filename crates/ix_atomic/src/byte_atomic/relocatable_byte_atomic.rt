@@ -3,7 +3,7 @@ ghost use Rattle.std.specs.Prelude.{◌≡◌, ◌≤◌, length, IfErr};
 ghost use Rattle.ix_atomic.specs.declared.byte_atomic.relocatable_byte_atomic.TheConstants.{MAX_SIZE};
 
 use crate::byte_atomic::{AtomicCopy, FixedSizeByteAtomic, MaybeTorn};
-use ix_cells::InitError;
+use ix_tables::InitError;
 use std::alloc::{Allocator, Global};
 use std::fmt;
 use std::marker::PhantomData;

@@ -1,8 +1,8 @@
 -- Which places of a flat map have a key.
 use Rattle.std.specs.Prelude.{◌≡◌, ℕ, ◌+◌, ◌<◌, ◌≤◌, length, nat_eq, nat_lt, if◌then◌else◌, None, Bool, true, false}
 use Rattle.std.specs.Option.{option_map_or}
-use Rattle.ix_maps.specs.SlotState.{SlotState, value_at}
-use Rattle.ix_maps.specs.declared.flatmap.pair.Pair.{Pair}
+use Rattle.ix_slottable.specs.SlotState.{SlotState, value_at}
+use Rattle.ix_flatmap.specs.declared.flatmap.pair.Pair.{Pair}
 
 module _ {K V : Type 0} where
   -- the place has a pair whose key equals this one

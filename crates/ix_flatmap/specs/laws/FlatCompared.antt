@@ -6,10 +6,10 @@ use Rattle.std.specs.List.{list_any}
 use Rattle.std.proofs.Math.Bool.{and_comm}
 use Rattle.std.proofs.lemmas.Bool.{cases_Bool}
 use Rattle.std.proofs.lemmas.Cmp.{and_equiv}
-use Rattle.ix_maps.specs.SlotState.{SlotState}
-use Rattle.ix_maps.specs.FlatState.{flat_items}
-use Rattle.ix_maps.specs.declared.flatmap.pair.Pair.{Pair}
-use Rattle.ix_maps.specs.FlatCompared.{is_same_item, has_each, has_same}
+use Rattle.ix_slottable.specs.SlotState.{SlotState}
+use Rattle.ix_flatmap.specs.FlatState.{flat_items}
+use Rattle.ix_flatmap.specs.declared.flatmap.pair.Pair.{Pair}
+use Rattle.ix_flatmap.specs.FlatCompared.{is_same_item, has_each, has_same}
 
 and_left : (a b : Bool) → (a && b) ≡ true → a ≡ true
 and_left true b both = refl

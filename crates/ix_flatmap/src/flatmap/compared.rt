@@ -1,12 +1,12 @@
 //! Equality of flat maps.
-ghost use Rattle.ix_maps.specs.FlatState.{flat_items};
-ghost use Rattle.ix_maps.specs.FlatCompared.{is_same_item, has_same};
-ghost use Rattle.ix_maps.specs.laws.FlatCompared.{same_items_per, same_items_equiv};
+ghost use Rattle.ix_flatmap.specs.FlatState.{flat_items};
+ghost use Rattle.ix_flatmap.specs.FlatCompared.{is_same_item, has_same};
+ghost use Rattle.ix_flatmap.specs.laws.FlatCompared.{same_items_per, same_items_equiv};
 
 use crate::bounded_map::has_each_of;
 use crate::flatmap::{MetaFlatMap, Pair};
-use crate::slottable::Link;
-use ix_cells::Table;
+use ix_slottable::slottable::Link;
+use ix_tables::Table;
 
 /// Maps are equal if each has the keys of the other, with equal values. Places and capacities do not matter.
 impl<K: Eq + Drop, V: PartialEq + Drop, S: Table<Pair<K, V>>, L: Table<Link>> PartialEq

@@ -1,8 +1,8 @@
 //! Clones of flat maps.
 ghost use Rattle.std.specs.Prelude.{◌≡◌, length, IsOk, IfOk};
-ghost use Rattle.ix_cells.specs.Cloning.{AreEqualClones};
-ghost use Rattle.ix_maps.specs.SlotCopies.{SlotIsClone, SlotIsInfallible};
-ghost use Rattle.ix_maps.specs.FlatCopies.{PairIsClone, PairIsInfallible};
+ghost use Rattle.ix_tables.specs.Cloning.{AreEqualClones};
+ghost use Rattle.ix_slottable.specs.SlotCopies.{SlotIsClone, SlotIsInfallible};
+ghost use Rattle.ix_flatmap.specs.FlatCopies.{PairIsClone, PairIsInfallible};
 
 use crate::flatmap::{FixedSizeFlatMap, FlatMap, MetaFlatMap, Pair};
 use std::alloc::{AllocError, Allocator};

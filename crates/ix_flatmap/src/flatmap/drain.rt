@@ -2,14 +2,14 @@
 ghost use Rattle.std.specs.Prelude.{◌≡◌, length, drop, Some, IfSome};
 ghost use Rattle.std.specs.Iterator.{UpTo, at_most, item_count};
 ghost use Rattle.std.specs.Iterator.SizeHint.{IsWithinCount};
-ghost use Rattle.ix_maps.specs.SlotState.{held_count, entries_from};
-ghost use Rattle.ix_maps.specs.SlotSteps.{slot_clear};
-ghost use Rattle.ix_maps.specs.FlatState.{flat_items};
+ghost use Rattle.ix_slottable.specs.SlotState.{held_count, entries_from};
+ghost use Rattle.ix_slottable.specs.SlotSteps.{slot_clear};
+ghost use Rattle.ix_flatmap.specs.FlatState.{flat_items};
 
 use crate::flatmap::{MetaFlatMap, Pair};
 use crate::pair_places::PairPlaces;
-use crate::slottable::{Link, SlotTableKey};
-use ix_cells::Table;
+use ix_slottable::slottable::{Link, SlotTableKey};
+use ix_tables::Table;
 use std::fmt::{self, Debug, Formatter, Write};
 use std::iter::FusedIterator;
 
@@ -25,8 +25,8 @@ pub struct Drain<'a, K: Eq, V, S: Table<Pair<K, V>>, L: Table<Link>> {
 }
 
 impl<K: Eq + Drop, V: Drop, S: Table<Pair<K, V>>, L: Table<Link>> MetaFlatMap<Pair<K, V>, S, L> {
-    ghost use Rattle.ix_maps.specs.Draining.{DrainingKeepsAlong};
-    ghost use Rattle.ix_maps.specs.FlatDrain.{drain_items, drain_left, drain_lender};
+    ghost use Rattle.ix_slottable.specs.Draining.{DrainingKeepsAlong};
+    ghost use Rattle.ix_flatmap.specs.FlatDrain.{drain_items, drain_left, drain_lender};
 
     /// Returns an iterator that removes all keys, each with its value, in slot order. What is not taken is dropped with it, and
     /// the map is as [`MetaFlatMap::clear`] leaves it then. O(1), and O(capacity) for all of its items together.
@@ -47,7 +47,7 @@ impl<K: Eq + Drop, V: Drop, S: Table<Pair<K, V>>, L: Table<Link>> MetaFlatMap<Pa
 
 /// Drops the keys and values that are still to come, the next ones first. The map is empty then. O(capacity).
 impl<K: Eq + Drop, V: Drop, S: Table<Pair<K, V>>, L: Table<Link>> Drop for Drain<'_, K, V, S, L> {
-    ghost use Rattle.ix_maps.specs.FlatDrain.{drain_left};
+    ghost use Rattle.ix_flatmap.specs.FlatDrain.{drain_left};
 
     fn drop(self)
         ensures { self.exit.0.now ≡ drain_left self.entry }
@@ -61,8 +61,8 @@ impl<K: Eq + Drop, V: Drop, S: Table<Pair<K, V>>, L: Table<Link>> Iterator
     for Drain<'_, K, V, S, L> {
     type Item = (K, V);
 
-    ghost use Rattle.ix_maps.specs.Draining.{DrainingSteps};
-    ghost use Rattle.ix_maps.specs.FlatDrain.{drain_items, drain_left, drain_lender};
+    ghost use Rattle.ix_slottable.specs.Draining.{DrainingSteps};
+    ghost use Rattle.ix_flatmap.specs.FlatDrain.{drain_items, drain_left, drain_lender};
 
     ghost next_gives = { DrainingSteps drain_items drain_lender drain_left };
 

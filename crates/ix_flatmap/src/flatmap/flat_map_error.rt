@@ -16,7 +16,7 @@ pub enum FlatMapError {
 }
 
 impl fmt::Display for FlatMapError {
-    ghost use Rattle.ix_maps.specs.FlatSteps.{flat_map_error_text};
+    ghost use Rattle.ix_flatmap.specs.FlatSteps.{flat_map_error_text};
 
     ghost output = { λ error. Some (flat_map_error_text error) };
 

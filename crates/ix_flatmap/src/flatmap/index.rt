@@ -1,10 +1,10 @@
 //! Values of a flat map by their keys.
 ghost use Rattle.std.specs.Prelude.{◌≡◌, IsSome, Some};
-ghost use Rattle.ix_maps.specs.FlatState.{flat_value};
+ghost use Rattle.ix_flatmap.specs.FlatState.{flat_value};
 
 use crate::flatmap::{MetaFlatMap, Pair};
-use crate::slottable::Link;
-use ix_cells::Table;
+use ix_slottable::slottable::Link;
+use ix_tables::Table;
 use std::ops::Index;
 
 /// `map[&key]` is the value of `key`, which the map has; [`MetaFlatMap::get_ref`] asks for nothing. O(capacity).

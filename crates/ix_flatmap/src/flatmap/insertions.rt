@@ -3,19 +3,19 @@ ghost use Rattle.std.specs.Prelude.{◌≡◌, ◌≢◌, ◌+◌, ◌↔◌, �
 ghost use Rattle.std.specs.Borrow.{sem, LendsIfOk};
 ghost use Rattle.std.specs.Option.{UnwrapsOrElse};
 ghost use Rattle.std.specs.Result.{IfErr};
-ghost use Rattle.ix_maps.specs.SlotState.{IsFree};
-ghost use Rattle.ix_maps.specs.FlatState.{HasDistinctKeys, flat_entry, flat_value};
-ghost use Rattle.ix_maps.specs.FlatSteps.{flat_insert_result, flat_insert, flat_replace};
-ghost use Rattle.ix_maps.specs.inner.FlatSearch.{bound_with};
+ghost use Rattle.ix_slottable.specs.SlotState.{IsFree};
+ghost use Rattle.ix_flatmap.specs.FlatState.{HasDistinctKeys, flat_entry, flat_value};
+ghost use Rattle.ix_flatmap.specs.FlatSteps.{flat_insert_result, flat_insert, flat_replace};
+ghost use Rattle.ix_flatmap.specs.inner.FlatSearch.{bound_with};
 
 use crate::flatmap::{FlatMapError, Keyed, MetaFlatMap, Pair};
-use crate::slottable::{Link, SlotTableKey};
-use ix_cells::Table;
+use ix_slottable::slottable::{Link, SlotTableKey};
+use ix_tables::Table;
 use std::mem;
 
 impl<K: Eq + Drop, V: Drop, S: Table<Pair<K, V>>, L: Table<Link>> MetaFlatMap<Pair<K, V>, S, L> {
-    ghost use Rattle.ix_maps.specs.contracts.flatmap.meta_flat_map.MetaFlatMap.{the_row};
-    ghost use Rattle.ix_maps.specs.contracts.flatmap.pair.Pair as pair;
+    ghost use Rattle.ix_flatmap.specs.contracts.flatmap.meta_flat_map.MetaFlatMap.{the_row};
+    ghost use Rattle.ix_flatmap.specs.contracts.flatmap.pair.Pair as pair;
 
     /// Inserts `key` with `value`. What is refused is handed back.
     ///

@@ -1,12 +1,13 @@
 //! The iterator of flat maps.
-ghost use Rattle.std.specs.Prelude.{◌≡◌, length, map, Some, IfSome};
+ghost use Rattle.std.specs.Prelude.{◌≡◌, length, map, Some, IfSome, ⊤};
 ghost use Rattle.std.specs.Iterator.{YieldsFirstBy, UpTo, at_most, item_count};
 ghost use Rattle.std.specs.Iterator.SizeHint.{IsWithinCount};
-ghost use Rattle.ix_maps.specs.FlatState.{flat_item};
+ghost use Rattle.ix_flatmap.specs.FlatState.{flat_item};
 
 use crate::flatmap::{MetaFlatMap, Pair};
-use crate::slottable::{self, Link};
-use ix_cells::Table;
+use ix_slottable::slottable::{self, Link};
+use ix_tables::Table;
+use std::alloc::AllocError;
 use std::fmt::{self, Debug, Formatter, Write};
 use std::iter::FusedIterator;
 use std::marker::Model;
@@ -20,7 +21,7 @@ pub struct Iter<'a, K, V, S: Table<Pair<K, V>>, L: Table<Link>> {
 
 impl<'a, K, V, S: Table<Pair<K, V>>, L: Table<Link>> Model for Iter<'a, K, V, S, L> {
     ghost use Rattle.std.specs.Prelude.{List, map};
-    ghost use Rattle.ix_maps.specs.FlatState.{flat_item};
+    ghost use Rattle.ix_flatmap.specs.FlatState.{flat_item};
 
     ghost Value = { List (K × V) };
 
@@ -29,8 +30,9 @@ impl<'a, K, V, S: Table<Pair<K, V>>, L: Table<Link>> Model for Iter<'a, K, V, S,
 
 impl<'a, K, V, S: Table<Pair<K, V>>, L: Table<Link>> Iter<'a, K, V, S, L> {
     /// Returns an iterator over the keys of pairs, each with its value. O(1).
+    #[doc(hidden)]
     #[inline]
-    pub(crate) fn new(pairs: slottable::Iter<'a, Pair<K, V>, S, L>) -> Self
+    pub fn new(pairs: slottable::Iter<'a, Pair<K, V>, S, L>) -> Self
         ensures { result ≡ map flat_item pairs.entry }
     {
         Iter { pairs }
@@ -74,11 +76,28 @@ impl<'a, K, V, S: Table<Pair<K, V>>, L: Table<Link>> ExactSizeIterator for Iter<
 
 impl<'a, K, V, S: Table<Pair<K, V>>, L: Table<Link>> FusedIterator for Iter<'a, K, V, S, L> {}
 
+impl<'a, K, V, S: Table<Pair<K, V>>, L: Table<Link>> Clone for Iter<'a, K, V, S, L> {
+    ghost is_clone = { λ iter clone. clone ≡ iter };
+
+    ghost is_infallible = { λ _. ⊤ };
+
+    /// Returns an iterator over the items that are still to come. O(1). Never fails.
+    #[inline]
+    fn clone(&self) -> Result<Self, AllocError> {
+        Ok(Iter {
+            pairs: self.pairs.clone()?,
+        })
+    }
+}
+
 /// Prints a list of the items that are still to come, each a key and its value. O(capacity).
 impl<'a, K: Debug, V: Debug, S: Table<Pair<K, V>>, L: Table<Link>> Debug for Iter<'a, K, V, S, L> {
     fn fmt<W: Write>(&self, f: &mut Formatter<W>) -> fmt::Result {
+        let Ok(pairs) = self.pairs.clone() else {
+            return Err(fmt::Error);
+        };
         let mut list = f.debug_list();
-        for (_, pair) in self.pairs.rest() {
+        for (_, pair) in pairs {
             list.entry(&(&pair.key, &pair.value));
         }
         list.finish()
@@ -87,7 +106,7 @@ impl<'a, K: Debug, V: Debug, S: Table<Pair<K, V>>, L: Table<Link>> Debug for Ite
 
 impl<'a, K: Eq, V, S: Table<Pair<K, V>>, L: Table<Link>> IntoIterator
     for &'a MetaFlatMap<Pair<K, V>, S, L> {
-    ghost use Rattle.ix_maps.specs.FlatState.{flat_items};
+    ghost use Rattle.ix_flatmap.specs.FlatState.{flat_items};
 
     type Item = (&'a K, &'a V);
 

@@ -1,11 +1,12 @@
 //! The iterator over the keys of flat maps.
-ghost use Rattle.std.specs.Prelude.{◌≡◌, length, map, Some, IfSome};
+ghost use Rattle.std.specs.Prelude.{◌≡◌, length, map, Some, IfSome, ⊤};
 ghost use Rattle.std.specs.Iterator.{YieldsFirstBy, UpTo, at_most, item_count};
 ghost use Rattle.std.specs.Iterator.SizeHint.{IsWithinCount};
 
 use crate::flatmap::Pair;
-use crate::slottable::{Iter, Link};
-use ix_cells::Table;
+use ix_slottable::slottable::{Iter, Link};
+use ix_tables::Table;
+use std::alloc::AllocError;
 use std::fmt::{self, Debug, Formatter, Write};
 use std::iter::FusedIterator;
 use std::marker::Model;
@@ -27,8 +28,9 @@ impl<'a, K, V, S: Table<Pair<K, V>>, L: Table<Link>> Model for Keys<'a, K, V, S,
 
 impl<'a, K, V, S: Table<Pair<K, V>>, L: Table<Link>> Keys<'a, K, V, S, L> {
     /// Returns an iterator over the keys of pairs. O(1).
+    #[doc(hidden)]
     #[inline]
-    pub(crate) fn new(pairs: Iter<'a, Pair<K, V>, S, L>) -> Self
+    pub fn new(pairs: Iter<'a, Pair<K, V>, S, L>) -> Self
         ensures { result ≡ map (λ entry. entry.1.key) pairs.entry }
     {
         Keys { pairs }
@@ -72,11 +74,28 @@ impl<'a, K, V, S: Table<Pair<K, V>>, L: Table<Link>> ExactSizeIterator for Keys<
 
 impl<'a, K, V, S: Table<Pair<K, V>>, L: Table<Link>> FusedIterator for Keys<'a, K, V, S, L> {}
 
+impl<'a, K, V, S: Table<Pair<K, V>>, L: Table<Link>> Clone for Keys<'a, K, V, S, L> {
+    ghost is_clone = { λ iter clone. clone ≡ iter };
+
+    ghost is_infallible = { λ _. ⊤ };
+
+    /// Returns an iterator over the keys that are still to come. O(1). Never fails.
+    #[inline]
+    fn clone(&self) -> Result<Self, AllocError> {
+        Ok(Keys {
+            pairs: self.pairs.clone()?,
+        })
+    }
+}
+
 /// Prints a list of the keys that are still to come. O(capacity).
 impl<'a, K: Debug, V, S: Table<Pair<K, V>>, L: Table<Link>> Debug for Keys<'a, K, V, S, L> {
     fn fmt<W: Write>(&self, f: &mut Formatter<W>) -> fmt::Result {
+        let Ok(pairs) = self.pairs.clone() else {
+            return Err(fmt::Error);
+        };
         let mut list = f.debug_list();
-        for (_, pair) in self.pairs.rest() {
+        for (_, pair) in pairs {
             list.entry(&pair.key);
         }
         list.finish()

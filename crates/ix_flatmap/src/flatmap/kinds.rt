@@ -1,13 +1,13 @@
 //! The kinds of flat maps: stored inline, in memory of an allocator, and made in two steps.
 ghost use Rattle.std.specs.Prelude.{◌≡◌, ℕ, ◌≤◌, IfOk, IsOk};
 ghost use Rattle.std.specs.Mem.{type_size};
-ghost use Rattle.ix_cells.specs.Memory.{no_memory};
-ghost use Rattle.ix_maps.specs.Memory.{slot_table_memory};
-ghost use Rattle.ix_maps.specs.SlotState.{slot_new};
+ghost use Rattle.ix_tables.specs.Memory.{no_memory};
+ghost use Rattle.ix_slottable.specs.Memory.{slot_table_memory};
+ghost use Rattle.ix_slottable.specs.SlotState.{slot_new};
 
 use crate::flatmap::{MetaFlatMap, Pair};
-use crate::slottable::{FixedSizeSlotTable, Link, SlotTable};
-use ix_cells::{ContainerFamily, HeapTable, InlineTable, MAX_FIXED_CAPACITY, MemorySize, Uninit};
+use ix_slottable::slottable::{FixedSizeSlotTable, Link, SlotTable};
+use ix_tables::{ContainerFamily, HeapTable, InlineTable, MAX_FIXED_CAPACITY, MemorySize, Uninit};
 use std::alloc::{AllocError, Allocator, Global};
 use std::marker::PhantomData;
 
@@ -53,8 +53,8 @@ pub type FlatMap<K, V, A = Global> = MetaFlatMap<
 >;
 
 impl<K: Eq + Drop, V: Drop, A: Allocator + Copy> FlatMap<K, V, A> {
-    ghost use Rattle.ix_maps.specs.contracts.flatmap.pair.Pair as pair;
-    ghost use Rattle.ix_maps.specs.contracts.slottable.link.Link as link;
+    ghost use Rattle.ix_flatmap.specs.contracts.flatmap.pair.Pair as pair;
+    ghost use Rattle.ix_slottable.specs.contracts.slottable.link.Link as link;
 
     /// Returns how much memory a map of this capacity takes from its allocator when it is made: that of a table of pairs and of
     /// a table of links. None if the capacity is 0.
@@ -101,7 +101,7 @@ impl<K: Eq + Drop, V: Drop, A: Allocator + Copy> RelocatableFlatMap<K, V, A> {
 }
 
 /// An uninitialised flat map: a capacity without memory.
-/// [`RelocatableContainer::init`](ix_cells::RelocatableContainer::init) makes it a [`RelocatableFlatMap`].
+/// [`RelocatableContainer::init`](ix_tables::RelocatableContainer::init) makes it a [`RelocatableFlatMap`].
 pub type UninitFlatMap<K, V> = Uninit<FlatMapFamily<K, V>>;
 
 /// The relocatable flat maps from `K` to `V`, one type for each allocator.

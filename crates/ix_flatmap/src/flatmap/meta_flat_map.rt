@@ -3,17 +3,17 @@ ghost use Rattle.std.specs.Prelude.{◌≡◌, ◌↔◌, ◌+◌, ◌<◌, ◌�
 ghost use Rattle.std.specs.Borrow.{sem, Lends, LendsIf};
 ghost use Rattle.std.specs.Option.{option_copied_mut};
 ghost use Rattle.std.specs.Map.{keys_of, lookup};
-ghost use Rattle.ix_cells.specs.Cloning.{AreEqualClones};
-ghost use Rattle.ix_maps.specs.SlotState.{IsWellFormed, IsHeld, value_at, held_count};
-ghost use Rattle.ix_maps.specs.SlotSteps.{slot_clear};
-ghost use Rattle.ix_maps.specs.FlatState.{HasDistinctKeys, flat_entry, flat_value, flat_keys, flat_values, flat_item, flat_items};
-ghost use Rattle.ix_maps.specs.FlatSteps.{flat_insert_result, flat_insert, pair_set, flat_set, flat_remove, ListsUntilStop};
-ghost use Rattle.ix_maps.specs.inner.FlatSearch.{bound_without};
+ghost use Rattle.ix_tables.specs.Cloning.{AreEqualClones};
+ghost use Rattle.ix_slottable.specs.SlotState.{IsWellFormed, IsHeld, value_at, held_count};
+ghost use Rattle.ix_slottable.specs.SlotSteps.{slot_clear};
+ghost use Rattle.ix_flatmap.specs.FlatState.{HasDistinctKeys, flat_entry, flat_value, flat_keys, flat_values, flat_item, flat_items};
+ghost use Rattle.ix_flatmap.specs.FlatSteps.{flat_insert_result, flat_insert, pair_set, flat_set, flat_remove, ListsUntilStop};
+ghost use Rattle.ix_flatmap.specs.inner.FlatSearch.{bound_without};
 
 use crate::flatmap::{CallbackProgression, FlatMapError, Iter, Keyed, Keys, Pair, Values};
 use crate::pair_places::PairPlaces;
-use crate::slottable::{Link, MetaSlotTable, SlotTableKey};
-use ix_cells::Table;
+use ix_slottable::slottable::{Link, MetaSlotTable, SlotTableKey};
+use ix_tables::Table;
 use std::alloc::AllocError;
 use std::fmt::{self, Debug, Formatter, Write};
 use std::marker::Model;
@@ -39,9 +39,9 @@ pub struct MetaFlatMap<P: Keyed, S: Table<P>, L: Table<Link>> {
 }
 
 impl<P: Keyed, S: Table<P>, L: Table<Link>> Model for MetaFlatMap<P, S, L> {
-    ghost use Rattle.ix_maps.specs.SlotState.{SlotState, slot_state_code};
-    ghost use Rattle.ix_maps.specs.FlatState.{AreDistinctBy};
-    ghost use Rattle.ix_maps.specs.inner.FlatSearch.{IsBound};
+    ghost use Rattle.ix_slottable.specs.SlotState.{SlotState, slot_state_code};
+    ghost use Rattle.ix_flatmap.specs.FlatState.{AreDistinctBy};
+    ghost use Rattle.ix_flatmap.specs.inner.FlatSearch.{IsBound};
 
     ghost Value = { SlotState P };
 
@@ -53,8 +53,8 @@ impl<P: Keyed, S: Table<P>, L: Table<Link>> Model for MetaFlatMap<P, S, L> {
 }
 
 impl<K: Eq + Drop, V: Drop, S: Table<Pair<K, V>>, L: Table<Link>> MetaFlatMap<Pair<K, V>, S, L> {
-    ghost use Rattle.ix_maps.specs.contracts.flatmap.meta_flat_map.MetaFlatMap.{the_row};
-    ghost use Rattle.ix_maps.specs.contracts.flatmap.pair.Pair as pair;
+    ghost use Rattle.ix_flatmap.specs.contracts.flatmap.meta_flat_map.MetaFlatMap.{the_row};
+    ghost use Rattle.ix_flatmap.specs.contracts.flatmap.pair.Pair as pair;
 
     /// Inserts `key` with `value`.
     ///

@@ -1,13 +1,13 @@
 //! How a flat map looks for a key.
 ghost use Rattle.std.specs.Prelude.{◌≡◌, ◌+◌, ◌<◌, ◌≤◌, ℕ, length, nat_lt, if◌then◌else◌, IfSome, IsNone, option_map, true};
-ghost use Rattle.ix_maps.specs.SlotState.{IsHeld};
-ghost use Rattle.ix_maps.specs.FlatState.{HasDistinctKeys, flat_entry};
-ghost use Rattle.ix_maps.specs.inner.FlatSearch.{is_key_at, HasNoKeyIn, IsFoundIn};
-ghost use Rattle.ix_maps.specs.declared.flatmap.search.TheConstants.{BLOCK_LEN, ROW_LEN};
+ghost use Rattle.ix_slottable.specs.SlotState.{IsHeld};
+ghost use Rattle.ix_flatmap.specs.FlatState.{HasDistinctKeys, flat_entry};
+ghost use Rattle.ix_flatmap.specs.inner.FlatSearch.{is_key_at, HasNoKeyIn, IsFoundIn};
+ghost use Rattle.ix_flatmap.specs.declared.flatmap.search.TheConstants.{BLOCK_LEN, ROW_LEN};
 
 use crate::flatmap::{MetaFlatMap, Pair};
-use crate::slottable::{Link, SlotTableKey};
-use ix_cells::Table;
+use ix_slottable::slottable::{Link, SlotTableKey};
+use ix_tables::Table;
 use std::mem::size_of_val;
 
 /// A map without a free place before its last key compares so many keys at a time, with no branch between them.

@@ -1,16 +1,16 @@
 //! The calls of a flat map that go through all of its pairs.
 ghost use Rattle.std.specs.Prelude.{◌≡◌, length, IsSome};
 ghost use Rattle.std.specs.List.{FoldsTo};
-ghost use Rattle.ix_maps.specs.SlotCalls.{IsCallableOnEach, ChangesItem, RetainsItem};
-ghost use Rattle.ix_maps.specs.FlatState.{HasDistinctKeys, flat_value, flat_keys, flat_items};
-ghost use Rattle.ix_maps.specs.FlatSteps.{flat_set, flat_remove};
-ghost use Rattle.ix_maps.specs.FlatCalls.{CallAtKey, TakesKey};
+ghost use Rattle.ix_slottable.specs.SlotCalls.{IsCallableOnEach, ChangesItem, RetainsItem};
+ghost use Rattle.ix_flatmap.specs.FlatState.{HasDistinctKeys, flat_value, flat_keys, flat_items};
+ghost use Rattle.ix_flatmap.specs.FlatSteps.{flat_set, flat_remove};
+ghost use Rattle.ix_flatmap.specs.FlatCalls.{CallAtKey, TakesKey};
 
 use crate::flatmap::meta_flat_map::bound_without;
 use crate::flatmap::{MetaFlatMap, Pair};
 use crate::pair_places::{PairPlaces, change_each, retain_each};
-use crate::slottable::{Link, SlotTableKey};
-use ix_cells::Table;
+use ix_slottable::slottable::{Link, SlotTableKey};
+use ix_tables::Table;
 
 impl<K: Eq + Drop, V: Drop, S: Table<Pair<K, V>>, L: Table<Link>> MetaFlatMap<Pair<K, V>, S, L> {
     /// Calls `f` with each key in slot order and a mutable reference to its value. O(capacity), with one call for each key.

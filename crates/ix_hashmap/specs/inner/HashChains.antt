@@ -2,12 +2,12 @@
 -- this.
 use Rattle.std.specs.Prelude.{◌≡◌, ◌≢◌, ◌↔◌, ℕ, zero, suc, ◌*◌, ◌/◌, ◌%◌, ◌^◌, ◌<◌, ◌≤◌, List, [], ◌∷◌, ◌++◌, length, nat_eq, nat_lt, count_by, if◌then◌else◌, Option, Some, option_map, slice_index_or, slice_set, Bool, true}
 use Rattle.std.specs.List.{fold}
-use Rattle.ix_maps.specs.SlotState.{SlotState, value_at, IsHeld}
-use Rattle.ix_maps.specs.inner.FlatSearch.{is_key_at}
-use Rattle.ix_maps.specs.inner.FullTables.{items_in}
-use Rattle.ix_maps.specs.declared.hashmap.chain_link.ChainLink.{ChainLink}
-use Rattle.ix_maps.specs.declared.hashmap.chain_link.Heads.{Heads}
-use Rattle.ix_maps.specs.declared.flatmap.pair.Pair.{Pair}
+use Rattle.ix_slottable.specs.SlotState.{SlotState, value_at, IsHeld}
+use Rattle.ix_flatmap.specs.inner.FlatSearch.{is_key_at}
+use Rattle.ix_slottable.specs.inner.FullTables.{items_in}
+use Rattle.ix_hashmap.specs.declared.hashmap.chain_link.ChainLink.{ChainLink}
+use Rattle.ix_hashmap.specs.declared.hashmap.chain_link.Heads.{Heads}
+use Rattle.ix_flatmap.specs.declared.flatmap.pair.Pair.{Pair}
 
 -- the number for no place: no table has so many
 abbrev pub no_place : ℕ

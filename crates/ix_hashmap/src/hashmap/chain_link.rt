@@ -42,7 +42,7 @@ pub(crate) const NO_LINK: ChainLink = ChainLink {
 };
 
 impl Heads {
-    ghost use Rattle.ix_maps.specs.inner.HashChains.{heads_get, heads_set};
+    ghost use Rattle.ix_hashmap.specs.inner.HashChains.{heads_get, heads_set};
 
     /// Returns the first place of a bucket, of the two.
     #[inline]
@@ -66,7 +66,7 @@ impl Heads {
 }
 
 impl ChainLink {
-    ghost use Rattle.ix_maps.specs.inner.HashChains.{link_head, link_set_head};
+    ghost use Rattle.ix_hashmap.specs.inner.HashChains.{link_head, link_set_head};
 
     /// Returns the first place of a bucket, of the four that the link has.
     #[inline]

@@ -1,12 +1,12 @@
 //! A table of links, which are chains of places.
 ghost use Rattle.std.specs.Prelude.{◌≡◌, ◌≢◌, ◌*◌, ◌<◌, ◌≤◌, length, replicate};
-ghost use Rattle.ix_cells.specs.Places.{IsVacant};
-ghost use Rattle.ix_maps.specs.inner.HashChains.{no_link, head_at, next_at, links_set_head, links_set_next, links_insert_first, IsChainFrom, IsOnChain, IsBefore, IsUnlinked};
+ghost use Rattle.ix_tables.specs.Places.{IsVacant};
+ghost use Rattle.ix_hashmap.specs.inner.HashChains.{no_link, head_at, next_at, links_set_head, links_set_next, links_insert_first, IsChainFrom, IsOnChain, IsBefore, IsUnlinked};
 
 use crate::hashmap::ChainLink;
 use crate::hashmap::chain_link::NO_LINK;
-use crate::slotmap::{copy_items, empty, fill};
-use ix_cells::{Counted, Table, Touches};
+use ix_slottable::full_table::{copy_items, empty, fill};
+use ix_tables::{Counted, Table, Touches};
 use std::marker::Model;
 
 /// A link in each place of a table. Contracts see the list of them.
@@ -16,9 +16,9 @@ pub(crate) struct ChainTable<C: Table<ChainLink>> {
 
 impl<C: Table<ChainLink>> Model for ChainTable<C> {
     ghost use Rattle.std.specs.Prelude.{List};
-    ghost use Rattle.ix_maps.specs.inner.Words.{HasEachPlace};
-    ghost use Rattle.ix_maps.specs.inner.HashChains.{links_in};
-    ghost use Rattle.ix_maps.specs.declared.hashmap.chain_link.ChainLink.{ChainLink};
+    ghost use Rattle.ix_slottable.specs.FullTables.{HasEachPlace};
+    ghost use Rattle.ix_hashmap.specs.inner.HashChains.{links_in};
+    ghost use Rattle.ix_hashmap.specs.declared.hashmap.chain_link.ChainLink.{ChainLink};
 
     ghost Value = { List ChainLink };
 

@@ -1,13 +1,13 @@
 //! Equality of hash maps.
-ghost use Rattle.ix_maps.specs.FlatState.{flat_items};
-ghost use Rattle.ix_maps.specs.FlatCompared.{is_same_item, has_same};
-ghost use Rattle.ix_maps.specs.laws.FlatCompared.{same_items_per, same_items_equiv};
+ghost use Rattle.ix_flatmap.specs.FlatState.{flat_items};
+ghost use Rattle.ix_flatmap.specs.FlatCompared.{is_same_item, has_same};
+ghost use Rattle.ix_flatmap.specs.laws.FlatCompared.{same_items_per, same_items_equiv};
 
-use crate::bounded_map::has_each_of;
-use crate::flatmap::Pair;
 use crate::hashmap::{ChainLink, MetaHashMap};
-use crate::slottable::Link;
-use ix_cells::Table;
+use ix_flatmap::bounded_map::has_each_of;
+use ix_flatmap::flatmap::Pair;
+use ix_slottable::slottable::Link;
+use ix_tables::Table;
 use std::hash::{BuildHasher, Hash};
 
 /// Maps are equal if each has the keys of the other, with equal values. Places, capacities and hashers do not matter.

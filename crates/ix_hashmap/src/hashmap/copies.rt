@@ -1,12 +1,12 @@
 //! Clones of hash maps.
 ghost use Rattle.std.specs.Prelude.{◌≡◌, length, IsOk, IfOk};
-ghost use Rattle.ix_cells.specs.Cloning.{AreEqualClones};
-ghost use Rattle.ix_maps.specs.SlotCopies.{SlotIsClone, SlotIsInfallible};
-ghost use Rattle.ix_maps.specs.FlatCopies.{PairIsClone, PairIsInfallible};
+ghost use Rattle.ix_tables.specs.Cloning.{AreEqualClones};
+ghost use Rattle.ix_slottable.specs.SlotCopies.{SlotIsClone, SlotIsInfallible};
+ghost use Rattle.ix_flatmap.specs.FlatCopies.{PairIsClone, PairIsInfallible};
 
 use crate::hashmap::chain_table::ChainTable;
 use crate::hashmap::{FixedSizeHashMap, HashMap, MetaHashMap};
-use ix_cells::{HeapTable, InlineTable};
+use ix_tables::{HeapTable, InlineTable};
 use std::alloc::{AllocError, Allocator};
 use std::hash::{BuildHasher, Hash};
 

@@ -2,15 +2,15 @@
 ghost use Rattle.std.specs.Prelude.{◌≡◌, length, drop, Some, IfSome};
 ghost use Rattle.std.specs.Iterator.{UpTo, at_most, item_count};
 ghost use Rattle.std.specs.Iterator.SizeHint.{IsWithinCount};
-ghost use Rattle.ix_maps.specs.SlotState.{held_count, entries_from};
-ghost use Rattle.ix_maps.specs.SlotSteps.{slot_clear};
-ghost use Rattle.ix_maps.specs.FlatState.{flat_items};
+ghost use Rattle.ix_slottable.specs.SlotState.{held_count, entries_from};
+ghost use Rattle.ix_slottable.specs.SlotSteps.{slot_clear};
+ghost use Rattle.ix_flatmap.specs.FlatState.{flat_items};
 
-use crate::flatmap::Pair;
 use crate::hashmap::{ChainLink, MetaHashMap};
-use crate::pair_places::PairPlaces;
-use crate::slottable::{Link, SlotTableKey};
-use ix_cells::Table;
+use ix_flatmap::flatmap::Pair;
+use ix_flatmap::pair_places::PairPlaces;
+use ix_slottable::slottable::{Link, SlotTableKey};
+use ix_tables::Table;
 use std::fmt::{self, Debug, Formatter, Write};
 use std::hash::{BuildHasher, Hash};
 use std::iter::FusedIterator;
@@ -42,8 +42,8 @@ impl<
     C: Table<ChainLink>,
     B: BuildHasher,
 > MetaHashMap<Pair<K, V>, S, L, C, B> {
-    ghost use Rattle.ix_maps.specs.Draining.{DrainingKeepsAlong};
-    ghost use Rattle.ix_maps.specs.HashDrain.{drain_items, drain_left, drain_lender};
+    ghost use Rattle.ix_slottable.specs.Draining.{DrainingKeepsAlong};
+    ghost use Rattle.ix_hashmap.specs.HashDrain.{drain_items, drain_left, drain_lender};
 
     /// Returns an iterator that removes all keys, each with its value, in slot order. What is not taken is dropped with it, and
     /// the map is as [`MetaHashMap::clear`] leaves it then. O(1), and O(capacity) on average for all of its items together.
@@ -71,7 +71,7 @@ impl<
     C: Table<ChainLink>,
     B: BuildHasher,
 > Drop for Drain<'_, K, V, S, L, C, B> {
-    ghost use Rattle.ix_maps.specs.HashDrain.{drain_left};
+    ghost use Rattle.ix_hashmap.specs.HashDrain.{drain_left};
 
     fn drop(self)
         ensures { self.exit.0.now ≡ drain_left self.entry }
@@ -91,8 +91,8 @@ impl<
 > Iterator for Drain<'_, K, V, S, L, C, B> {
     type Item = (K, V);
 
-    ghost use Rattle.ix_maps.specs.Draining.{DrainingSteps};
-    ghost use Rattle.ix_maps.specs.HashDrain.{drain_items, drain_left, drain_lender};
+    ghost use Rattle.ix_slottable.specs.Draining.{DrainingSteps};
+    ghost use Rattle.ix_hashmap.specs.HashDrain.{drain_items, drain_left, drain_lender};
 
     ghost next_gives = { DrainingSteps drain_items drain_lender drain_left };
 

@@ -1,12 +1,12 @@
 //! What a hash map has at a place, and which bucket a key has.
 ghost use Rattle.std.specs.Prelude.{◌≡◌, ◌*◌, ◌<◌, ℕ, List};
-ghost use Rattle.ix_maps.specs.inner.HashChains.{bucket_of, hash_of};
+ghost use Rattle.ix_hashmap.specs.inner.HashChains.{bucket_of, hash_of};
 
-use crate::flatmap::Pair;
+use ix_flatmap::flatmap::Pair;
 use std::hash::{BuildHasher, Hash};
 
 /// What a [`MetaHashMap`](crate::hashmap::MetaHashMap) can hold at a place: it has a key that can be hashed. Every
-/// [`Pair`](crate::flatmap::Pair) whose key implements `Hash` is, and nothing else has the calls of a map.
+/// [`Pair`](ix_flatmap::flatmap::Pair) whose key implements `Hash` is, and nothing else has the calls of a map.
 pub trait Hashed {
     /// What the key feeds a hasher.
     ghost key_input: { Self → List (List ℕ) };

@@ -1,11 +1,11 @@
 //! Values of a hash map by their keys.
 ghost use Rattle.std.specs.Prelude.{◌≡◌, IsSome, Some};
-ghost use Rattle.ix_maps.specs.FlatState.{flat_value};
+ghost use Rattle.ix_flatmap.specs.FlatState.{flat_value};
 
-use crate::flatmap::Pair;
 use crate::hashmap::{ChainLink, MetaHashMap};
-use crate::slottable::Link;
-use ix_cells::Table;
+use ix_flatmap::flatmap::Pair;
+use ix_slottable::slottable::Link;
+use ix_tables::Table;
 use std::hash::{BuildHasher, Hash};
 use std::ops::Index;
 

@@ -3,18 +3,18 @@ ghost use Rattle.std.specs.Prelude.{◌≡◌, ◌≢◌, ◌↔◌, ◌*◌, �
 ghost use Rattle.std.specs.Borrow.{sem, LendsIfOk};
 ghost use Rattle.std.specs.Result.{IfErr};
 ghost use Rattle.std.specs.Option.{option_map_or, UnwrapsOrElse};
-ghost use Rattle.ix_maps.specs.SlotSteps.{SlotInsert};
-ghost use Rattle.ix_maps.specs.FlatState.{HasDistinctKeys, flat_value};
-ghost use Rattle.ix_maps.specs.FlatSteps.{flat_insert_result, flat_insert, flat_replace};
-ghost use Rattle.ix_maps.specs.inner.HashChains.{links_insert_first};
+ghost use Rattle.ix_slottable.specs.SlotSteps.{SlotInsert};
+ghost use Rattle.ix_flatmap.specs.FlatState.{HasDistinctKeys, flat_value};
+ghost use Rattle.ix_flatmap.specs.FlatSteps.{flat_insert_result, flat_insert, flat_replace};
+ghost use Rattle.ix_hashmap.specs.inner.HashChains.{links_insert_first};
 
-use crate::flatmap::{FlatMapError, Keyed, Pair};
 use crate::hashmap::chain_table::ChainTable;
 use crate::hashmap::hashed::bucket_of;
 use crate::hashmap::search::place_from;
 use crate::hashmap::{ChainLink, Hashed, MetaHashMap};
-use crate::slottable::{Link, MetaSlotTable};
-use ix_cells::Table;
+use ix_flatmap::flatmap::{FlatMapError, Keyed, Pair};
+use ix_slottable::slottable::{Link, MetaSlotTable};
+use ix_tables::Table;
 use std::hash::{BuildHasher, Hash};
 use std::mem;
 
@@ -26,8 +26,8 @@ impl<
     C: Table<ChainLink>,
     B: BuildHasher,
 > MetaHashMap<Pair<K, V>, S, L, C, B> {
-    ghost use Rattle.ix_maps.specs.contracts.hashmap.meta_hash_map.MetaHashMap.{the_row};
-    ghost use Rattle.ix_maps.specs.contracts.flatmap.pair.Pair as pair;
+    ghost use Rattle.ix_hashmap.specs.contracts.hashmap.meta_hash_map.MetaHashMap.{the_row};
+    ghost use Rattle.ix_flatmap.specs.contracts.flatmap.pair.Pair as pair;
 
     /// Inserts `key` with `value`. What is refused is handed back.
     ///

@@ -1,11 +1,11 @@
-//! How a hash map is iterated over by reference: as a flat map is, by the iterators of [`flatmap`](crate::flatmap).
+//! How a hash map is iterated over by reference: as a flat map is, by the iterators of [`flatmap`](ix_flatmap::flatmap).
 ghost use Rattle.std.specs.Prelude.{◌≡◌};
-ghost use Rattle.ix_maps.specs.FlatState.{flat_items};
+ghost use Rattle.ix_flatmap.specs.FlatState.{flat_items};
 
-use crate::flatmap::{Iter, Pair};
 use crate::hashmap::{ChainLink, MetaHashMap};
-use crate::slottable::Link;
-use ix_cells::Table;
+use ix_flatmap::flatmap::{Iter, Pair};
+use ix_slottable::slottable::Link;
+use ix_tables::Table;
 use std::hash::{BuildHasher, Hash};
 
 impl<

@@ -1,14 +1,14 @@
 //! The kinds of hash maps: stored inline, in memory of an allocator, and made in two steps.
 ghost use Rattle.std.specs.Prelude.{◌≡◌, ℕ, ◌≤◌, IfOk, IsOk};
 ghost use Rattle.std.specs.Mem.{type_size};
-ghost use Rattle.ix_cells.specs.Memory.{no_memory};
-ghost use Rattle.ix_maps.specs.Memory.{hash_map_memory};
-ghost use Rattle.ix_maps.specs.SlotState.{slot_new};
+ghost use Rattle.ix_tables.specs.Memory.{no_memory};
+ghost use Rattle.ix_slottable.specs.Memory.{hash_map_memory};
+ghost use Rattle.ix_slottable.specs.SlotState.{slot_new};
 
-use crate::flatmap::Pair;
 use crate::hashmap::{ChainLink, MetaHashMap};
-use crate::slottable::{FixedSizeSlotTable, Link, SlotTable};
-use ix_cells::{ContainerFamily, HeapTable, InlineTable, MAX_FIXED_CAPACITY, MemorySize, Uninit};
+use ix_flatmap::flatmap::Pair;
+use ix_slottable::slottable::{FixedSizeSlotTable, Link, SlotTable};
+use ix_tables::{ContainerFamily, HeapTable, InlineTable, MAX_FIXED_CAPACITY, MemorySize, Uninit};
 use std::alloc::{AllocError, Allocator, Global};
 use std::hash::{BuildHasher, BuildHasherDefault, FoldHasher, Hash};
 use std::marker::PhantomData;
@@ -91,9 +91,9 @@ impl<K: Eq + Hash + Drop, V: Drop, A: Allocator + Copy> HashMap<K, V, A> {
 }
 
 impl<K: Eq + Hash + Drop, V: Drop, A: Allocator + Copy, B: BuildHasher + Drop> HashMap<K, V, A, B> {
-    ghost use Rattle.ix_maps.specs.contracts.flatmap.pair.Pair as pair;
-    ghost use Rattle.ix_maps.specs.contracts.slottable.link.Link as link;
-    ghost use Rattle.ix_maps.specs.contracts.hashmap.chain_link.ChainLink as chain_link;
+    ghost use Rattle.ix_flatmap.specs.contracts.flatmap.pair.Pair as pair;
+    ghost use Rattle.ix_slottable.specs.contracts.slottable.link.Link as link;
+    ghost use Rattle.ix_hashmap.specs.contracts.hashmap.chain_link.ChainLink as chain_link;
 
     /// Returns how much memory a map of this capacity takes from its allocator when it is made: that of a table of pairs, of
     /// a table of links and of a table of links of chains. None if the capacity is 0.
@@ -146,7 +146,7 @@ impl<
 }
 
 /// An uninitialised hash map: a capacity without memory.
-/// [`RelocatableContainer::init`](ix_cells::RelocatableContainer::init) makes it a [`RelocatableHashMap`], whose hasher is
+/// [`RelocatableContainer::init`](ix_tables::RelocatableContainer::init) makes it a [`RelocatableHashMap`], whose hasher is
 /// `B::default()`.
 pub type UninitHashMap<K, V, B = DefaultHashBuilder> = Uninit<HashMapFamily<K, V, B>>;
 

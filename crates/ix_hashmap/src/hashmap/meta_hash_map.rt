@@ -3,19 +3,19 @@ ghost use Rattle.std.specs.Prelude.{◌≡◌, ◌↔◌, ◌+◌, ℕ, [], leng
 ghost use Rattle.std.specs.Borrow.{sem, Lends, LendsIf};
 ghost use Rattle.std.specs.Option.{option_copied_mut};
 ghost use Rattle.std.specs.Map.{keys_of, lookup};
-ghost use Rattle.ix_cells.specs.Cloning.{AreEqualClones};
-ghost use Rattle.ix_maps.specs.SlotState.{IsWellFormed, IsHeld, value_at, held_count, slot_new};
-ghost use Rattle.ix_maps.specs.SlotSteps.{slot_clear};
-ghost use Rattle.ix_maps.specs.FlatState.{HasDistinctKeys, flat_entry, flat_value, flat_keys, flat_values, flat_item, flat_items};
-ghost use Rattle.ix_maps.specs.FlatSteps.{flat_insert_result, flat_insert, pair_set, flat_set, flat_remove, ListsUntilStop};
+ghost use Rattle.ix_tables.specs.Cloning.{AreEqualClones};
+ghost use Rattle.ix_slottable.specs.SlotState.{IsWellFormed, IsHeld, value_at, held_count, slot_new};
+ghost use Rattle.ix_slottable.specs.SlotSteps.{slot_clear};
+ghost use Rattle.ix_flatmap.specs.FlatState.{HasDistinctKeys, flat_entry, flat_value, flat_keys, flat_values, flat_item, flat_items};
+ghost use Rattle.ix_flatmap.specs.FlatSteps.{flat_insert_result, flat_insert, pair_set, flat_set, flat_remove, ListsUntilStop};
 
-use crate::flatmap::{CallbackProgression, FlatMapError, Iter, Keyed, Keys, Pair, Values};
 use crate::hashmap::chain_table::ChainTable;
 use crate::hashmap::hashed::bucket_of;
 use crate::hashmap::search::{find_from, place_from};
 use crate::hashmap::{ChainLink, Hashed};
-use crate::slottable::{Link, MetaSlotTable, SlotTableKey};
-use ix_cells::Table;
+use ix_flatmap::flatmap::{CallbackProgression, FlatMapError, Iter, Keyed, Keys, Pair, Values};
+use ix_slottable::slottable::{Link, MetaSlotTable, SlotTableKey};
+use ix_tables::Table;
 use std::alloc::AllocError;
 use std::fmt::{self, Debug, Formatter, Write};
 use std::hash::{BuildHasher, Hash};
@@ -23,7 +23,7 @@ use std::marker::Model;
 
 /// A map from keys to values, over a table of pairs `S`, a table of links `L` and a table of chain links `C`. Keys are
 /// compared by their `Eq`, and found by their `Hash`, which `B` makes hashers for. Contracts see a slot table of pairs, in which
-/// no two keys are equal, as they see a [`MetaFlatMap`](crate::flatmap::MetaFlatMap).
+/// no two keys are equal, as they see a [`MetaFlatMap`](ix_flatmap::flatmap::MetaFlatMap).
 ///
 /// A pair stays at its place until it is removed, and a new one takes the first free place: the one vacated last, or else
 /// the least that was never used. Slot order is that of the places. A call that looks for a key compares it with the keys
@@ -48,9 +48,9 @@ pub struct MetaHashMap<
 
 impl<P: Keyed + Hashed, S: Table<P>, L: Table<Link>, C: Table<ChainLink>, B: BuildHasher> Model
     for MetaHashMap<P, S, L, C, B> {
-    ghost use Rattle.ix_maps.specs.SlotState.{SlotState, slot_state_code};
-    ghost use Rattle.ix_maps.specs.FlatState.{AreDistinctBy};
-    ghost use Rattle.ix_maps.specs.inner.HashChains.{hash_of, IsHashed};
+    ghost use Rattle.ix_slottable.specs.SlotState.{SlotState, slot_state_code};
+    ghost use Rattle.ix_flatmap.specs.FlatState.{AreDistinctBy};
+    ghost use Rattle.ix_hashmap.specs.inner.HashChains.{hash_of, IsHashed};
 
     ghost Value = { SlotState P };
 
@@ -70,7 +70,7 @@ impl<
     C: Table<ChainLink>,
     B: BuildHasher,
 > MetaHashMap<P, S, L, C, B> {
-    ghost use Rattle.ix_cells.specs.Places.{IsVacant};
+    ghost use Rattle.ix_tables.specs.Places.{IsVacant};
 
     /// Makes a map of an empty slot table and an empty table of as many places. O(capacity).
     pub(crate) fn over(pairs: MetaSlotTable<P, S, L>, chains: C, hasher: B) -> Self
@@ -96,8 +96,8 @@ impl<
     C: Table<ChainLink>,
     B: BuildHasher,
 > MetaHashMap<Pair<K, V>, S, L, C, B> {
-    ghost use Rattle.ix_maps.specs.contracts.hashmap.meta_hash_map.MetaHashMap.{the_row};
-    ghost use Rattle.ix_maps.specs.contracts.flatmap.pair.Pair as pair;
+    ghost use Rattle.ix_hashmap.specs.contracts.hashmap.meta_hash_map.MetaHashMap.{the_row};
+    ghost use Rattle.ix_flatmap.specs.contracts.flatmap.pair.Pair as pair;
 
     /// Inserts `key` with `value`.
     ///

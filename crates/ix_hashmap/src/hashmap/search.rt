@@ -1,14 +1,14 @@
 //! How a hash map looks for a key.
 ghost use Rattle.std.specs.Prelude.{◌≡◌, option_map};
-ghost use Rattle.ix_maps.specs.FlatState.{HasDistinctKeys, flat_entry};
-ghost use Rattle.ix_maps.specs.inner.HashChains.{LeadsToKey};
+ghost use Rattle.ix_flatmap.specs.FlatState.{HasDistinctKeys, flat_entry};
+ghost use Rattle.ix_hashmap.specs.inner.HashChains.{LeadsToKey};
 
-use crate::flatmap::Pair;
 use crate::hashmap::ChainLink;
 use crate::hashmap::chain_link::NO_PLACE;
 use crate::hashmap::chain_table::ChainTable;
-use crate::slottable::{Link, MetaSlotTable, SlotTableKey};
-use ix_cells::Table;
+use ix_flatmap::flatmap::Pair;
+use ix_slottable::slottable::{Link, MetaSlotTable, SlotTableKey};
+use ix_tables::Table;
 
 /// Returns the place of the key that equals `key`, and the pair there. If the map has one, it is in the chain that begins at
 /// `first`.

@@ -1,17 +1,17 @@
 //! The calls of a hash map that go through all of its pairs.
 ghost use Rattle.std.specs.Prelude.{◌≡◌, length, IsSome};
 ghost use Rattle.std.specs.List.{FoldsTo};
-ghost use Rattle.ix_maps.specs.SlotCalls.{IsCallableOnEach, ChangesItem, RetainsItem};
-ghost use Rattle.ix_maps.specs.FlatState.{HasDistinctKeys, flat_value, flat_keys, flat_items};
-ghost use Rattle.ix_maps.specs.FlatSteps.{flat_set, flat_remove};
-ghost use Rattle.ix_maps.specs.FlatCalls.{CallAtKey, TakesKey};
+ghost use Rattle.ix_slottable.specs.SlotCalls.{IsCallableOnEach, ChangesItem, RetainsItem};
+ghost use Rattle.ix_flatmap.specs.FlatState.{HasDistinctKeys, flat_value, flat_keys, flat_items};
+ghost use Rattle.ix_flatmap.specs.FlatSteps.{flat_set, flat_remove};
+ghost use Rattle.ix_flatmap.specs.FlatCalls.{CallAtKey, TakesKey};
 
-use crate::flatmap::Pair;
 use crate::hashmap::hashed::bucket_of;
 use crate::hashmap::{ChainLink, MetaHashMap};
-use crate::pair_places::{PairPlaces, change_each, retain_each};
-use crate::slottable::{Link, SlotTableKey};
-use ix_cells::Table;
+use ix_flatmap::flatmap::Pair;
+use ix_flatmap::pair_places::{PairPlaces, change_each, retain_each};
+use ix_slottable::slottable::{Link, SlotTableKey};
+use ix_tables::Table;
 use std::hash::{BuildHasher, Hash};
 
 impl<

@@ -1,8 +1,8 @@
 -- What the items of a map have to be for a map to be read back. No clause of a public call cites this.
 use Rattle.std.specs.Prelude.{◌≡◌, ℕ, List, Result, Ok}
 use Rattle.serde_json.specs.Data.{Data}
-use Rattle.ix_names.specs.JsonTree.{bytes_read}
-use Rattle.ix_names.specs.declared.json.json_fault.JsonFault.{JsonFault}
+use Rattle.ix_json.specs.JsonTree.{bytes_read}
+use Rattle.ix_json.specs.declared.json.json_fault.JsonFault.{JsonFault}
 
 module _ {V : Type 0} where
   -- the key is read as itself, and the value is read back from its tree

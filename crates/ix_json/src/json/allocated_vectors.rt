@@ -2,7 +2,7 @@
 
 use crate::json::lists::{append_items, vector_to_value};
 use crate::json::{JsonFault, JsonFill, JsonItem};
-use ix_cells::PolymorphicVec;
+use ix_vector::PolymorphicVec;
 use serde_json::Value;
 use std::alloc::{Allocator, Global};
 
@@ -13,8 +13,8 @@ use std::alloc::{Allocator, Global};
 /// one. Entries after that one are not read. O(`len`) of what is read, with as many calls of the items' conversion.
 impl<T: JsonItem + Drop, A: Allocator> JsonFill for PolymorphicVec<T, A> {
     ghost use Rattle.std.specs.Prelude.{◌≡◌, []};
-    ghost use Rattle.ix_cells.specs.Bounded.{with_items};
-    ghost use Rattle.ix_names.specs.JsonTree.{list_tree, list_filled};
+    ghost use Rattle.ix_tables.specs.Bounded.{with_items};
+    ghost use Rattle.ix_json.specs.JsonTree.{list_tree, list_filled};
 
     ghost tree = { λ vector. list_tree T.tree vector.items };
 

@@ -2,7 +2,7 @@
 
 use crate::json::lists::{append_items, vector_to_value};
 use crate::json::{JsonFault, JsonForm, JsonItem};
-use ix_cells::StaticVec;
+use ix_vector::StaticVec;
 use serde_json::Value;
 use std::alloc::Global;
 
@@ -13,7 +13,7 @@ use std::alloc::Global;
 /// O(`CAPACITY`), with as many calls of the items' conversion as there are items.
 impl<T: JsonItem + Default + Drop, const CAPACITY: usize> JsonForm for StaticVec<T, CAPACITY> {
     ghost use Rattle.std.specs.Prelude.{◌≡◌, []};
-    ghost use Rattle.ix_names.specs.JsonTree.{list_tree, list_read};
+    ghost use Rattle.ix_json.specs.JsonTree.{list_tree, list_read};
 
     ghost tree = { list_tree T.tree };
 

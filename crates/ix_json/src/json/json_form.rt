@@ -2,8 +2,8 @@
 ghost use Rattle.std.specs.Prelude.{◌≡◌, ◌≢◌, Result, Ok, Err, IfOk, IfErr, IsOk};
 ghost use Rattle.serde_json.specs.Data.{Data, null};
 ghost use Rattle.serde_json.specs.View.{view};
-ghost use Rattle.ix_names.specs.declared.json.json_fault.JsonFault.{JsonFault};
-ghost use Rattle.ix_names.specs.declared.json.json_fault.JsonFault.TheVariants.{OutOfMemory};
+ghost use Rattle.ix_json.specs.declared.json.json_fault.JsonFault.{JsonFault};
+ghost use Rattle.ix_json.specs.declared.json.json_fault.JsonFault.TheVariants.{OutOfMemory};
 
 use crate::json::JsonFault;
 use serde_json::Value;

@@ -1,11 +1,11 @@
 //! What all lists in JSON share: their forms, and how a vector takes in the entries of one.
 ghost use Rattle.std.specs.Prelude.{◌≡◌, ◌≢◌, [], Ok, Err, IfOk, IfErr, IsOk, OnOk, OnErr};
 ghost use Rattle.serde_json.specs.View.{view};
-ghost use Rattle.ix_names.specs.JsonTree.{list_tree, list_read, list_filled};
-ghost use Rattle.ix_names.specs.declared.json.json_fault.JsonFault.TheVariants.{OutOfMemory};
+ghost use Rattle.ix_json.specs.JsonTree.{list_tree, list_read, list_filled};
+ghost use Rattle.ix_json.specs.declared.json.json_fault.JsonFault.TheVariants.{OutOfMemory};
 
 use crate::json::{JsonFault, JsonForm, JsonItem};
-use ix_cells::Vector;
+use ix_vector::Vector;
 use serde_json::Value;
 use std::alloc::Global;
 

@@ -4,16 +4,17 @@ ghost use Rattle.std.specs.Cmp.Lexicographic.{pointwise};
 ghost use Rattle.std.specs.List.{AllByRecursion};
 ghost use Rattle.std.specs.Result.{IsOkAnd, result_map_both};
 ghost use Rattle.serde_json.specs.View.{view, members_view};
-ghost use Rattle.ix_maps.specs.FlatState.{HasDistinctKeys, flat_items};
-ghost use Rattle.ix_names.specs.JsonTree.{bytes_read, object_tree, members_read, new_key, map_with};
-ghost use Rattle.ix_names.specs.inner.Objects.{IsItemReadBack};
-ghost use Rattle.ix_names.specs.declared.json.json_fault.JsonFault.TheVariants.{OutOfMemory};
+ghost use Rattle.ix_flatmap.specs.FlatState.{HasDistinctKeys, flat_items};
+ghost use Rattle.ix_json.specs.JsonTree.{bytes_read, object_tree, members_read, new_key, map_with};
+ghost use Rattle.ix_json.specs.inner.Objects.{IsItemReadBack};
+ghost use Rattle.ix_json.specs.declared.json.json_fault.JsonFault.TheVariants.{OutOfMemory};
 
 use crate::json::texts::{string_from_text, text_from_string};
 use crate::json::{JsonFault, JsonFill, JsonForm, JsonItem};
-use ix_cells::Table;
-use ix_maps::{FixedSizeFlatMap, FlatMap, Link, MetaFlatMap, Pair};
+use ix_flatmap::{FixedSizeFlatMap, FlatMap, MetaFlatMap, Pair};
+use ix_slottable::Link;
 use ix_string::StaticString;
+use ix_tables::Table;
 use serde_json::{Map, Value};
 use std::alloc::{Allocator, Global};
 
@@ -106,8 +107,8 @@ fn insert_members<
 /// O(`CAPACITY`) for each member, with as many calls of the values' conversion as there are keys.
 impl<V: JsonItem + Drop, const N: usize, const CAPACITY: usize> JsonForm
     for FixedSizeFlatMap<StaticString<N>, V, CAPACITY> {
-    ghost use Rattle.ix_maps.specs.SlotState.{slot_new};
-    ghost use Rattle.ix_names.specs.JsonTree.{object_filled, by_key, HasSameEntries};
+    ghost use Rattle.ix_slottable.specs.SlotState.{slot_new};
+    ghost use Rattle.ix_json.specs.JsonTree.{object_filled, by_key, HasSameEntries};
 
     ghost tree = { λ map. object_tree V.tree (flat_items map) };
 
@@ -149,8 +150,8 @@ impl<V: JsonItem + Drop, const N: usize, const CAPACITY: usize> JsonForm
 /// O(capacity) for each member. Writing calls the values' conversion once for each key, and reading twice for each member, since
 /// all are tried before the first is inserted.
 impl<V: JsonItem + Drop, A: Allocator, const N: usize> JsonFill for FlatMap<StaticString<N>, V, A> {
-    ghost use Rattle.ix_maps.specs.SlotState.{slot_new};
-    ghost use Rattle.ix_names.specs.JsonTree.{object_filled, by_key, map_without, HasSameEntries};
+    ghost use Rattle.ix_slottable.specs.SlotState.{slot_new};
+    ghost use Rattle.ix_json.specs.JsonTree.{object_filled, by_key, map_without, HasSameEntries};
 
     ghost tree = { λ map. object_tree V.tree (flat_items map) };
 

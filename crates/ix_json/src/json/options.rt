@@ -1,7 +1,7 @@
 //! Options in JSON.
 
 use crate::json::{JsonFault, JsonForm};
-use crate::relocatable_option::RelocatableOption;
+use ix_relocatable_option::relocatable_option::RelocatableOption;
 use serde_json::Value;
 use std::alloc::Global;
 
@@ -12,8 +12,8 @@ use std::alloc::Global;
 impl<T: JsonForm> JsonForm for RelocatableOption<T> {
     ghost use Rattle.std.specs.Prelude.{◌≢◌, IfSome};
     ghost use Rattle.serde_json.specs.Data.{null};
-    ghost use Rattle.ix_names.specs.JsonTree.{option_tree, option_read};
-    ghost use Rattle.ix_names.specs.Optional.{option_of};
+    ghost use Rattle.ix_json.specs.JsonTree.{option_tree, option_read};
+    ghost use Rattle.ix_relocatable_option.specs.Optional.{option_of};
 
     ghost tree = { option_tree T.tree };
 

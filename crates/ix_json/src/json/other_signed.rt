@@ -6,7 +6,7 @@ use std::alloc::Global;
 
 /// A number. Reads a number in the range of `i8` that is not held as a float, and no other value.
 impl JsonForm for i8 {
-    ghost use Rattle.ix_names.specs.JsonTree.{i64_tree, signed_read};
+    ghost use Rattle.ix_json.specs.JsonTree.{i64_tree, signed_read};
 
     ghost tree = { i64_tree };
 
@@ -32,7 +32,7 @@ impl JsonItem for i8 {
 
 /// A number. Reads a number in the range of `i16` that is not held as a float, and no other value.
 impl JsonForm for i16 {
-    ghost use Rattle.ix_names.specs.JsonTree.{i64_tree, signed_read};
+    ghost use Rattle.ix_json.specs.JsonTree.{i64_tree, signed_read};
 
     ghost tree = { i64_tree };
 
@@ -58,7 +58,7 @@ impl JsonItem for i16 {
 
 /// A number. Reads a number in the range of `i32` that is not held as a float, and no other value.
 impl JsonForm for i32 {
-    ghost use Rattle.ix_names.specs.JsonTree.{i64_tree, signed_read};
+    ghost use Rattle.ix_json.specs.JsonTree.{i64_tree, signed_read};
 
     ghost tree = { i64_tree };
 
@@ -84,7 +84,7 @@ impl JsonItem for i32 {
 
 /// A number. Reads a number in the range of `isize` that is not held as a float, and no other value.
 impl JsonForm for isize {
-    ghost use Rattle.ix_names.specs.JsonTree.{i64_tree, i64_read};
+    ghost use Rattle.ix_json.specs.JsonTree.{i64_tree, i64_read};
 
     ghost tree = { i64_tree };
 

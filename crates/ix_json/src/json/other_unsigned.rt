@@ -6,7 +6,7 @@ use std::alloc::Global;
 
 /// A number. Reads a number in the range of `u8` that is not held as a float, and no other value.
 impl JsonForm for u8 {
-    ghost use Rattle.ix_names.specs.JsonTree.{u64_tree, unsigned_read};
+    ghost use Rattle.ix_json.specs.JsonTree.{u64_tree, unsigned_read};
 
     ghost tree = { u64_tree };
 
@@ -32,7 +32,7 @@ impl JsonItem for u8 {
 
 /// A number. Reads a number in the range of `u16` that is not held as a float, and no other value.
 impl JsonForm for u16 {
-    ghost use Rattle.ix_names.specs.JsonTree.{u64_tree, unsigned_read};
+    ghost use Rattle.ix_json.specs.JsonTree.{u64_tree, unsigned_read};
 
     ghost tree = { u64_tree };
 
@@ -58,7 +58,7 @@ impl JsonItem for u16 {
 
 /// A number. Reads a number in the range of `u32` that is not held as a float, and no other value.
 impl JsonForm for u32 {
-    ghost use Rattle.ix_names.specs.JsonTree.{u64_tree, unsigned_read};
+    ghost use Rattle.ix_json.specs.JsonTree.{u64_tree, unsigned_read};
 
     ghost tree = { u64_tree };
 
@@ -84,7 +84,7 @@ impl JsonItem for u32 {
 
 /// A number. Reads a number in the range of `usize` that is not held as a float, and no other value.
 impl JsonForm for usize {
-    ghost use Rattle.ix_names.specs.JsonTree.{u64_tree, u64_read};
+    ghost use Rattle.ix_json.specs.JsonTree.{u64_tree, u64_read};
 
     ghost tree = { u64_tree };
 

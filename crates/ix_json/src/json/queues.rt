@@ -1,13 +1,13 @@
 //! Queues in JSON.
 ghost use Rattle.std.specs.Prelude.{◌≡◌, ◌≢◌, [], Ok, Err, IfOk, IfErr, IsOk, OnOk, OnErr};
 ghost use Rattle.serde_json.specs.View.{view};
-ghost use Rattle.ix_cells.specs.Bounded.{bounded_new, with_items};
-ghost use Rattle.ix_names.specs.JsonTree.{list_tree, list_read, list_filled};
-ghost use Rattle.ix_names.specs.declared.json.json_fault.JsonFault.TheVariants.{OutOfMemory};
+ghost use Rattle.ix_tables.specs.Bounded.{bounded_new, with_items};
+ghost use Rattle.ix_json.specs.JsonTree.{list_tree, list_read, list_filled};
+ghost use Rattle.ix_json.specs.declared.json.json_fault.JsonFault.TheVariants.{OutOfMemory};
 
 use crate::json::{JsonFault, JsonFill, JsonForm, JsonItem};
-use ix_cells::{InlineTable, Table};
-use ix_maps::{FixedSizeQueue, MetaQueue, Queue};
+use ix_queue::{FixedSizeQueue, MetaQueue, Queue};
+use ix_tables::{InlineTable, Table};
 use serde_json::Value;
 use std::alloc::{Allocator, Global};
 

@@ -1,7 +1,7 @@
 //! Semantic strings in JSON.
 
 use crate::json::{JsonFault, JsonForm};
-use crate::semantic_string::{Rules, Semantic};
+use ix_semantic_string::semantic_string::{Rules, Semantic};
 use ix_string::StaticString;
 use serde_json::Value;
 use std::alloc::Global;
@@ -13,7 +13,7 @@ use std::alloc::Global;
 impl<R: Rules<CAPACITY>, const CAPACITY: usize> JsonForm for Semantic<R, CAPACITY> {
     ghost use Rattle.std.specs.Prelude.{◌≡◌, []};
     ghost use Rattle.serde_json.specs.Data.{string};
-    ghost use Rattle.ix_names.specs.JsonTree.{semantic_read};
+    ghost use Rattle.ix_json.specs.JsonTree.{semantic_read};
 
     ghost tree = { string };
 

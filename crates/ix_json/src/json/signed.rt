@@ -6,7 +6,7 @@ use std::alloc::Global;
 
 /// A number. Reads a number in the range of `i64` that is not held as a float, and no other value.
 impl JsonForm for i64 {
-    ghost use Rattle.ix_names.specs.JsonTree.{i64_tree, i64_read};
+    ghost use Rattle.ix_json.specs.JsonTree.{i64_tree, i64_read};
 
     ghost tree = { i64_tree };
 

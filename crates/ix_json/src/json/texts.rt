@@ -1,7 +1,7 @@
 //! Fixed strings in JSON.
 ghost use Rattle.std.specs.Prelude.{◌≡◌, [], Ok, IfOk, IfErr, IsOk, string_bytes};
-ghost use Rattle.ix_names.specs.JsonTree.{bytes_read};
-ghost use Rattle.ix_names.specs.declared.json.json_fault.JsonFault.TheVariants.{OutOfMemory};
+ghost use Rattle.ix_json.specs.JsonTree.{bytes_read};
+ghost use Rattle.ix_json.specs.declared.json.json_fault.JsonFault.TheVariants.{OutOfMemory};
 
 use crate::json::{JsonFault, JsonForm, JsonItem};
 use ix_string::{StaticString, String, StringModificationError};
@@ -47,7 +47,7 @@ pub(super) fn text_from_string<const CAPACITY: usize>(
 /// than `CAPACITY` bytes, and otherwise [`JsonFault::BadByte`] if one of them is 0 or above 127. O(`len`).
 impl<const CAPACITY: usize> JsonForm for StaticString<CAPACITY> {
     ghost use Rattle.serde_json.specs.Data.{string};
-    ghost use Rattle.ix_names.specs.JsonTree.{text_read};
+    ghost use Rattle.ix_json.specs.JsonTree.{text_read};
 
     ghost tree = { string };
 

@@ -7,7 +7,7 @@ use std::alloc::Global;
 /// `true` or `false`. Reads no other value.
 impl JsonForm for bool {
     ghost use Rattle.serde_json.specs.Data.{boolean};
-    ghost use Rattle.ix_names.specs.JsonTree.{bool_read};
+    ghost use Rattle.ix_json.specs.JsonTree.{bool_read};
 
     ghost tree = { boolean };
 

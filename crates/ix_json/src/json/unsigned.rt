@@ -6,7 +6,7 @@ use std::alloc::Global;
 
 /// A number. Reads a number in the range of `u64` that is not held as a float, and no other value.
 impl JsonForm for u64 {
-    ghost use Rattle.ix_names.specs.JsonTree.{u64_tree, u64_read};
+    ghost use Rattle.ix_json.specs.JsonTree.{u64_tree, u64_read};
 
     ghost tree = { u64_tree };
 

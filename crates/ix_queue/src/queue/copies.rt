@@ -1,12 +1,12 @@
 //! Clones of queues.
 ghost use Rattle.std.specs.Prelude.{◌≡◌, ◌≤◌, [], IsOk, IfOk, OnOk};
 ghost use Rattle.std.specs.List.{AllZip};
-ghost use Rattle.ix_cells.specs.Bounded.{IsWithin};
-ghost use Rattle.ix_cells.specs.Cloning.{AreEqualClones, AreInfallible};
-ghost use Rattle.ix_maps.specs.QueueCopies.{QueueIsClone};
+ghost use Rattle.ix_tables.specs.Bounded.{IsWithin};
+ghost use Rattle.ix_tables.specs.Cloning.{AreEqualClones, AreInfallible};
+ghost use Rattle.ix_queue.specs.QueueCopies.{QueueIsClone};
 
 use crate::queue::{FixedSizeQueue, MetaQueue, Queue};
-use ix_cells::Table;
+use ix_tables::Table;
 use std::alloc::{AllocError, Allocator};
 
 impl<T: Clone, S: Table<T>> MetaQueue<T, S> {

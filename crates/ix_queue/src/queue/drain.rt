@@ -2,10 +2,10 @@
 ghost use Rattle.std.specs.Prelude.{◌≡◌, length, Some, IfSome};
 ghost use Rattle.std.specs.Iterator.{UpTo, at_most, item_count};
 ghost use Rattle.std.specs.Iterator.SizeHint.{IsWithinCount};
-ghost use Rattle.ix_cells.specs.Bounded.{bounded_new};
+ghost use Rattle.ix_tables.specs.Bounded.{bounded_new};
 
 use crate::queue::MetaQueue;
-use ix_cells::Table;
+use ix_tables::Table;
 use std::fmt::{self, Debug, Formatter, Write};
 use std::iter::FusedIterator;
 
@@ -18,7 +18,7 @@ pub struct Drain<'a, T, S: Table<T>> {
 }
 
 impl<T, S: Table<T>> MetaQueue<T, S> {
-    ghost use Rattle.ix_maps.specs.QueueDrain.{drain_items, drain_capacity, drain_lender, DrainKeepsAlong};
+    ghost use Rattle.ix_queue.specs.QueueDrain.{drain_items, drain_capacity, drain_lender, DrainKeepsAlong};
 
     /// Returns an iterator that removes all items, the front item first. What is not taken is dropped with it, and the queue
     /// is empty then. O(1), and O(`len`) for all of its items together.
@@ -38,7 +38,7 @@ impl<T, S: Table<T>> MetaQueue<T, S> {
 
 /// Drops the items that are still to come, the next one first. The queue is empty then. O(the number of items).
 impl<T: Drop, S: Table<T>> Drop for Drain<'_, T, S> {
-    ghost use Rattle.ix_maps.specs.QueueDrain.{drain_capacity};
+    ghost use Rattle.ix_queue.specs.QueueDrain.{drain_capacity};
 
     fn drop(self)
         ensures { self.exit.0.now ≡ bounded_new (drain_capacity self.entry) }
@@ -51,7 +51,7 @@ impl<T: Drop, S: Table<T>> Drop for Drain<'_, T, S> {
 impl<T: Drop, S: Table<T>> Iterator for Drain<'_, T, S> {
     type Item = T;
 
-    ghost use Rattle.ix_maps.specs.QueueDrain.{drain_items, DrainSteps};
+    ghost use Rattle.ix_queue.specs.QueueDrain.{drain_items, DrainSteps};
 
     ghost next_gives = { DrainSteps };
 
@@ -76,7 +76,7 @@ impl<T: Drop, S: Table<T>> Iterator for Drain<'_, T, S> {
 }
 
 impl<T: Drop, S: Table<T>> DoubleEndedIterator for Drain<'_, T, S> {
-    ghost use Rattle.ix_maps.specs.QueueDrain.{DrainStepsBack};
+    ghost use Rattle.ix_queue.specs.QueueDrain.{DrainStepsBack};
 
     ghost next_back_gives = { DrainStepsBack };
 

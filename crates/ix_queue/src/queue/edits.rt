@@ -2,12 +2,12 @@
 ghost use Rattle.std.specs.Prelude.{◌≡◌};
 ghost use Rattle.std.specs.Fn.{CalledAt};
 ghost use Rattle.std.specs.List.Retain.{IsFiltered};
-ghost use Rattle.ix_cells.specs.VectorSteps.{vec_truncate};
-ghost use Rattle.ix_cells.specs.Calls.{IsCallableOnEach};
-ghost use Rattle.ix_maps.specs.QueueCalls.{ChangesInTurn, IsCallableOnEachMut};
+ghost use Rattle.ix_tables.specs.Bounded.{vec_truncate};
+ghost use Rattle.ix_tables.specs.Calls.{IsCallableOnEach};
+ghost use Rattle.ix_queue.specs.QueueCalls.{ChangesInTurn, IsCallableOnEachMut};
 
 use crate::queue::MetaQueue;
-use ix_cells::Table;
+use ix_tables::Table;
 
 impl<T, S: Table<T>> MetaQueue<T, S> {
     /// Keeps the first `len` items, and drops the others, the back item first. Does nothing if there are at most `len`

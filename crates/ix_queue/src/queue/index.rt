@@ -2,7 +2,7 @@
 ghost use Rattle.std.specs.Prelude.{◌≡◌, ◌<◌, length, slice_get, Some};
 
 use crate::queue::MetaQueue;
-use ix_cells::Table;
+use ix_tables::Table;
 use std::ops::Index;
 
 /// `queue[i]` is the item at index `i`, where 0 is the front. `i` is less than the number of items;

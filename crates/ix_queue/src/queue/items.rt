@@ -3,14 +3,14 @@ ghost use Rattle.std.specs.Prelude.{◌≡◌, ◌<◌, ◌↔◌, [], IsSome, I
 ghost use Rattle.std.specs.Borrow.{sem, LendsIf};
 ghost use Rattle.std.specs.List.{list_any};
 ghost use Rattle.std.specs.Option.{option_copied_mut};
-ghost use Rattle.ix_cells.specs.VectorSteps.{vec_last};
-ghost use Rattle.ix_maps.specs.QueueSteps.{queue_set, queue_set_back};
+ghost use Rattle.ix_tables.specs.Bounded.{vec_last};
+ghost use Rattle.ix_queue.specs.QueueSteps.{queue_set, queue_set_back};
 
 use crate::queue::MetaQueue;
-use ix_cells::Table;
+use ix_tables::Table;
 
 impl<T, S: Table<T>> MetaQueue<T, S> {
-    ghost use Rattle.ix_maps.specs.contracts.queue.meta_queue.MetaQueue.{the_row};
+    ghost use Rattle.ix_queue.specs.contracts.queue.meta_queue.MetaQueue.{the_row};
 
     /// Returns a reference to the back item, which is the newest, or `None` if the queue is empty.
     #[inline]

@@ -4,7 +4,7 @@ ghost use Rattle.std.specs.Iterator.{YieldsFirst, YieldsLast, YieldsFirstRef, Yi
 ghost use Rattle.std.specs.Iterator.SizeHint.{IsWithinCount};
 
 use crate::queue::MetaQueue;
-use ix_cells::Table;
+use ix_tables::Table;
 use std::alloc::AllocError;
 use std::fmt::{self, Debug, Formatter, Write};
 use std::iter::FusedIterator;
@@ -23,7 +23,7 @@ pub struct Iter<'a, T, S: Table<T>> {
 
 impl<'a, T, S: Table<T>> Model for Iter<'a, T, S> {
     ghost use Rattle.std.specs.Prelude.{List, slice_range};
-    ghost use Rattle.ix_maps.specs.inner.Ring.{IsIndexRange};
+    ghost use Rattle.ix_queue.specs.inner.Ring.{IsIndexRange};
 
     ghost Value = { List T };
 

@@ -1,11 +1,11 @@
 //! The kinds of queues: stored inline, in memory of an allocator, and made in two steps.
 ghost use Rattle.std.specs.Prelude.{◌≡◌, ℕ, ◌≤◌, IsOk, IfOk};
 ghost use Rattle.std.specs.Mem.{type_size};
-ghost use Rattle.ix_cells.specs.Memory.{no_memory, table_memory};
-ghost use Rattle.ix_cells.specs.Bounded.{bounded_new};
+ghost use Rattle.ix_tables.specs.Memory.{no_memory, table_memory};
+ghost use Rattle.ix_tables.specs.Bounded.{bounded_new};
 
 use crate::queue::MetaQueue;
-use ix_cells::{
+use ix_tables::{
     ContainerFamily, HeapTable, InlineTable, MAX_FIXED_CAPACITY, MemorySize, Table, Uninit,
 };
 use std::alloc::{AllocError, Allocator, Global};
@@ -114,5 +114,5 @@ impl<T: Drop, A: Allocator> ContainerFamily<A> for QueueFamily<T> {
 }
 
 /// An uninitialised queue: a capacity without memory.
-/// [`RelocatableContainer::init`](ix_cells::RelocatableContainer::init) makes it a [`RelocatableQueue`].
+/// [`RelocatableContainer::init`](ix_tables::RelocatableContainer::init) makes it a [`RelocatableQueue`].
 pub type UninitQueue<T> = Uninit<QueueFamily<T>>;

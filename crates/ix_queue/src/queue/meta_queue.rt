@@ -6,14 +6,13 @@ ghost use Rattle.std.specs.Borrow.{sem, Lends, LendsIf};
 ghost use Rattle.std.specs.Cmp.{on_per, on_equiv};
 ghost use Rattle.std.specs.Cmp.Lexicographic.{pointwise, lists_per, lists_equiv};
 ghost use Rattle.std.specs.Option.{option_copied_mut};
-ghost use Rattle.ix_cells.specs.Bounded.{IsWithin, IsFull, has_room, bounded_new, bounded_push, with_items};
-ghost use Rattle.ix_cells.specs.Places.{IsVacant};
-ghost use Rattle.ix_cells.specs.VectorSteps.{vec_last, vec_pop};
-ghost use Rattle.ix_maps.specs.QueueSteps.{queue_overflow, queue_overflow_item, queue_front, queue_pop, queue_set, queue_set_front};
-ghost use Rattle.ix_maps.specs.inner.Ring.{ring_place, ring_next};
+ghost use Rattle.ix_tables.specs.Bounded.{IsWithin, IsFull, has_room, bounded_new, bounded_push, with_items, vec_last, vec_pop};
+ghost use Rattle.ix_tables.specs.Places.{IsVacant};
+ghost use Rattle.ix_queue.specs.QueueSteps.{queue_overflow, queue_overflow_item, queue_front, queue_pop, queue_set, queue_set_front};
+ghost use Rattle.ix_queue.specs.inner.Ring.{ring_place, ring_next};
 
 use crate::queue::Iter;
-use ix_cells::Table;
+use ix_tables::Table;
 use std::fmt::{self, Debug, Formatter, Write};
 use std::marker::{Model, PhantomData};
 
@@ -33,8 +32,8 @@ pub struct MetaQueue<T, S: Table<T>> {
 
 impl<T, S: Table<T>> Model for MetaQueue<T, S> {
     ghost use Rattle.std.specs.Prelude.{length};
-    ghost use Rattle.ix_cells.specs.Bounded.{Bounded, bounded_code};
-    ghost use Rattle.ix_maps.specs.inner.Ring.{ring_row, row_items, IsRing};
+    ghost use Rattle.ix_tables.specs.Bounded.{Bounded, bounded_code};
+    ghost use Rattle.ix_queue.specs.inner.Ring.{ring_row, row_items, IsRing};
 
     ghost Value = { Bounded T };
 
@@ -73,7 +72,7 @@ fn next_after(place: usize, capacity: usize) -> usize
 }
 
 impl<T, S: Table<T>> MetaQueue<T, S> {
-    ghost use Rattle.ix_maps.specs.contracts.queue.meta_queue.MetaQueue.{the_row};
+    ghost use Rattle.ix_queue.specs.contracts.queue.meta_queue.MetaQueue.{the_row};
 
     /// Creates an empty queue over `table`, whose length is the capacity.
     ///

@@ -5,7 +5,7 @@ ghost use Rattle.std.specs.Hash as fed;
 ghost use Rattle.std.specs.Hash.{on_Alike, items_Alike};
 
 use crate::queue::MetaQueue;
-use ix_cells::Table;
+use ix_tables::Table;
 use std::cmp::Ordering;
 use std::hash::{Hash, Hasher};
 

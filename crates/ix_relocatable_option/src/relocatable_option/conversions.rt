@@ -1,6 +1,6 @@
 //! Conversions of options.
 ghost use Rattle.std.specs.Prelude.{◌≡◌};
-ghost use Rattle.ix_names.specs.Optional.{option_of, relocatable_of};
+ghost use Rattle.ix_relocatable_option.specs.Optional.{option_of, relocatable_of};
 
 use crate::relocatable_option::RelocatableOption;
 

@@ -3,7 +3,7 @@ ghost use Rattle.std.specs.Bool.{then_some};
 ghost use Rattle.std.specs.Fn.{FnOnceReturnsAt, FnOnceTakesAt};
 ghost use Rattle.std.specs.Option.{ForSome, MatchOption, option_zip};
 ghost use Rattle.std.specs.Prelude.{◌≡◌, Bool, None, IsFalse, ok_or};
-ghost use Rattle.ix_names.specs.Optional.{option_of};
+ghost use Rattle.ix_relocatable_option.specs.Optional.{option_of};
 
 use crate::relocatable_option::RelocatableOption;
 

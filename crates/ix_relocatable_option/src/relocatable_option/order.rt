@@ -2,7 +2,7 @@
 ghost use Rattle.std.specs.Option.{option_cmp, option_partial_cmp};
 ghost use Rattle.std.specs.Ordering.{on};
 ghost use Rattle.std.proofs.Common.{rules};
-ghost use Rattle.ix_names.specs.Optional.{option_of};
+ghost use Rattle.ix_relocatable_option.specs.Optional.{option_of};
 
 use crate::relocatable_option::RelocatableOption;
 use std::cmp::Ordering;

@@ -19,7 +19,7 @@ use Rattle.ix_run.specs.declared.run.grammar.readers.string.TextName.{TextName}
 use Rattle.ix_run.specs.declared.run.grammar.readers.string.TextName.TheVariants as text_name
 use Rattle.ix_commands.specs.declared.command.TableCommand.{TableCommand}
 use Rattle.ix_commands.specs.declared.command.TableCommand.TheVariants as table
-use Rattle.ix_maps.specs.Generations.{SlotKey}
+use Rattle.ix_slotmap.specs.Generations.{SlotKey}
 use Rattle.ix_run.specs.declared.run.grammar.readers.slotmap.PlainName.{PlainName}
 use Rattle.ix_run.specs.declared.run.grammar.readers.slotmap.PlainName.TheVariants as plain_name
 use Rattle.ix_run.specs.declared.run.grammar.readers.slotmap.KeyName.{KeyName}

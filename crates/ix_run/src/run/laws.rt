@@ -1,8 +1,8 @@
 //! What the definitions of scripts mean, in their users' words. These functions do nothing: their contracts are the laws.
 ghost use Rattle.std.specs.Prelude.{ℕ, ◌≡◌, ◌≢◌, ◌<◌, ◌^◌, ◌++◌, ◌∷◌, ◌⊎◌, List, [], Option, Some, None, All, Contains, decimal, nat_eq};
-ghost use Rattle.ix_cells.specs.Bounded.{Bounded, bounded_new};
-ghost use Rattle.ix_maps.specs.SlotState.{slot_new};
-ghost use Rattle.ix_maps.specs.Generations.{SlotKey, map_new};
+ghost use Rattle.ix_tables.specs.Bounded.{Bounded, bounded_new};
+ghost use Rattle.ix_slottable.specs.SlotState.{slot_new};
+ghost use Rattle.ix_slotmap.specs.Generations.{SlotKey, map_new};
 ghost use Rattle.ix_commands.specs.QueueRun.{queue_reply, queue_after};
 ghost use Rattle.ix_commands.specs.VecRun.{vec_reply, vec_after};
 ghost use Rattle.ix_commands.specs.TableRun.{table_reply, table_after};

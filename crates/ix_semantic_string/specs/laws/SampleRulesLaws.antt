@@ -8,7 +8,7 @@ use Rattle.std.proofs.lemmas.List.{take_all, get_or-reverse, length-reverse}
 use Rattle.std.proofs.lemmas.List.Elements.{All-take}
 use Rattle.std.proofs.lemmas.List.Sums.{prefix_len_stops, suffix_len-take_no}
 use Rattle.ix_string.specs.Text.{IsText, IsTextByte}
-use Rattle.ix_names.specs.SampleRules.{is_slash, without_trailing_slashes}
+use Rattle.ix_semantic_string.specs.SampleRules.{is_slash, without_trailing_slashes}
 
 pub without_trailing_slashes-fits : (text : List ℕ) (capacity : ℕ) → length text ≤ capacity → length (without_trailing_slashes text) ≤ capacity
 without_trailing_slashes-fits text capacity fits = grind (arith, common_steps)

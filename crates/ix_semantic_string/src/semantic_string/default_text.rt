@@ -1,6 +1,6 @@
 //! Rules that name a text which they accept.
 ghost use Rattle.std.specs.Prelude.{◌≡◌, ℕ, List, [], refl};
-ghost use Rattle.ix_names.specs.Rules.{IsAccepted};
+ghost use Rattle.ix_semantic_string.specs.Rules.{IsAccepted};
 
 use crate::semantic_string::{Rules, Semantic, TrailingSlashRules};
 

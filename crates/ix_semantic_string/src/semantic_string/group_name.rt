@@ -1,7 +1,7 @@
 //! Names of groups.
 ghost use Rattle.std.specs.Prelude.{◌≡◌, ◌||◌, not, refl};
 ghost use Rattle.std.specs.Char.{is_ascii_digit, is_ascii_lowercase};
-ghost use Rattle.ix_names.specs.SampleRules.{group_name_rules, is_dash};
+ghost use Rattle.ix_semantic_string.specs.SampleRules.{group_name_rules, is_dash};
 
 use crate::semantic_string::{Rules, Semantic};
 use ix_string::StaticString;

@@ -1,6 +1,6 @@
 //! The trait of rules.
 ghost use Rattle.std.specs.Prelude.{ℕ, ◌≡◌, List, IsTrue};
-ghost use Rattle.ix_names.specs.Rules.{TextRules, IsAccepted};
+ghost use Rattle.ix_semantic_string.specs.Rules.{TextRules, IsAccepted};
 
 use ix_string::StaticString;
 

@@ -2,8 +2,8 @@
 ghost use Rattle.std.specs.Prelude.{◌≡◌, ◌+◌, ◌<◌, ◌≤◌, ◌↔◌, [], ◌∷◌, ◌++◌, length, drop, IsTrue, IsSome, IfSome, IfNone, IfOk, OnSome, string_bytes};
 ghost use Rattle.std.specs.Bool.{OnFalse};
 ghost use Rattle.ix_string.specs.Text.{IsText, IsFirstMatch, IsLastMatch, before_nul};
-ghost use Rattle.ix_names.specs.Rules.{IsAccepted, means_the_same};
-ghost use Rattle.ix_names.specs.SemanticSteps.{SemanticResult};
+ghost use Rattle.ix_semantic_string.specs.Rules.{IsAccepted, means_the_same};
+ghost use Rattle.ix_semantic_string.specs.SemanticSteps.{SemanticResult};
 
 mod changes;
 mod traits;
@@ -29,7 +29,7 @@ pub struct Semantic<R: Rules<CAPACITY>, const CAPACITY: usize> {
 
 impl<R: Rules<CAPACITY>, const CAPACITY: usize> Model for Semantic<R, CAPACITY> {
     ghost use Rattle.std.specs.Prelude.{ℕ, List};
-    ghost use Rattle.ix_names.specs.Rules.{IsAccepted};
+    ghost use Rattle.ix_semantic_string.specs.Rules.{IsAccepted};
 
     ghost Value = { List ℕ };
 

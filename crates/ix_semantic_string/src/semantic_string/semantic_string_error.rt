@@ -1,6 +1,6 @@
 //! The error of a semantic string.
 ghost use Rattle.std.specs.Prelude.{◌≡◌, Some};
-ghost use Rattle.ix_names.specs.ErrorTexts.{semantic_error_of, semantic_error_text};
+ghost use Rattle.ix_semantic_string.specs.ErrorTexts.{semantic_error_of, semantic_error_text};
 
 use ix_string::StringModificationError;
 use std::error::Error;

@@ -1,7 +1,7 @@
 //! Texts whose trailing slashes mean nothing.
 ghost use Rattle.std.specs.Prelude.{◌≡◌, ◌≤◌, length, take, refl};
-ghost use Rattle.ix_names.specs.SampleRules.{trailing_slash_rules, without_trailing_slashes};
-ghost use Rattle.ix_names.specs.laws.SampleRulesLaws.{IsText-without_trailing_slashes, without_trailing_slashes-fits, without_trailing_slashes-twice};
+ghost use Rattle.ix_semantic_string.specs.SampleRules.{trailing_slash_rules, without_trailing_slashes};
+ghost use Rattle.ix_semantic_string.specs.laws.SampleRulesLaws.{IsText-without_trailing_slashes, without_trailing_slashes-fits, without_trailing_slashes-twice};
 
 use crate::semantic_string::Rules;
 use ix_string::{StaticString, String};

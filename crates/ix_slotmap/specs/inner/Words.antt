@@ -1,18 +1,13 @@
 -- How a slot map keeps its generations: in the word of each place, which also says whether a value is there. No clause of a
 -- public call cites this.
 use Rattle.std.specs.Prelude.{◌≡◌, ℕ, ◌+◌, ◌*◌, ◌/◌, ◌<◌, ◌≤◌, List, length, map, nat_eq, if◌then◌else◌, Option, Bool, is_some, count_by, slice_index_or}
-use Rattle.ix_cells.specs.Places.{IsHeldAt}
-use Rattle.ix_maps.specs.SlotState.{SlotState, value_at}
-use Rattle.ix_maps.specs.Generations.{greatest_generation}
-use Rattle.ix_maps.specs.inner.FullTables.{items_in}
+use Rattle.ix_slottable.specs.SlotState.{SlotState, value_at}
+use Rattle.ix_slotmap.specs.Generations.{greatest_generation}
+use Rattle.ix_slottable.specs.inner.FullTables.{items_in}
 
 -- the numbers in the places of a table
 abbrev pub words_in : List (Option ℕ) → List ℕ
 words_in places = items_in 0 places
-
--- every place holds an item
-abbrev pub HasEachPlace : {T : Type 0} → List (Option T) → Type 0
-HasEachPlace places = (place : ℕ) → place < length places → IsHeldAt places place
 
 abbrev pub word_at : List ℕ → ℕ → ℕ
 word_at words place = slice_index_or words place 0

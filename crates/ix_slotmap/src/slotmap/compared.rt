@@ -3,11 +3,11 @@ ghost use Rattle.std.specs.Prelude.{nat_eq, ◌&&◌};
 ghost use Rattle.std.specs.Cmp.{and_per, on_per, on_equiv, partial_equiv_from_equiv};
 ghost use Rattle.std.proofs.lemmas.Cmp.{and_equiv, nat_eq_equiv};
 ghost use Rattle.std.specs.Cmp.Lexicographic.{pointwise, lists_per, lists_equiv};
-ghost use Rattle.ix_maps.specs.Generations.{map_entries};
+ghost use Rattle.ix_slotmap.specs.Generations.{map_entries};
 
 use crate::slotmap::MetaSlotMap;
-use crate::slottable::Link;
-use ix_cells::Table;
+use ix_slottable::slottable::Link;
+use ix_tables::Table;
 
 /// Maps are equal if they have the same held keys, with their generations, with equal values. Their capacities, and the
 /// generations and the order of their free places do not matter.

@@ -9,7 +9,7 @@ pub trait Content {
 }
 
 impl<T> Content for Option<T> {
-    ghost use Rattle.ix_maps.specs.Generations.{is_retired};
+    ghost use Rattle.ix_slotmap.specs.Generations.{is_retired};
 
     ghost is_retired = { is_retired };
 }

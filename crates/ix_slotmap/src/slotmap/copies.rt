@@ -1,10 +1,10 @@
 //! Clones of slot maps.
 ghost use Rattle.std.specs.Prelude.{◌≡◌, length, IsOk, IfOk};
-ghost use Rattle.ix_cells.specs.Cloning.{AreEqualClones};
-ghost use Rattle.ix_maps.specs.SlotMapCopies.{MapIsClone, MapIsInfallible};
+ghost use Rattle.ix_tables.specs.Cloning.{AreEqualClones};
+ghost use Rattle.ix_slotmap.specs.SlotMapCopies.{MapIsClone, MapIsInfallible};
 
 use crate::slotmap::{FixedSizeSlotMap, MetaSlotMap, SlotMap, WordTable};
-use ix_cells::{HeapTable, InlineTable};
+use ix_tables::{HeapTable, InlineTable};
 use std::alloc::{AllocError, Allocator};
 
 impl<T: Clone, const CAPACITY: usize> Clone for FixedSizeSlotMap<T, CAPACITY> {

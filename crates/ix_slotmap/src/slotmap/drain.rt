@@ -2,13 +2,13 @@
 ghost use Rattle.std.specs.Prelude.{◌≡◌, length, drop, Some, IfSome};
 ghost use Rattle.std.specs.Iterator.{UpTo, at_most, item_count};
 ghost use Rattle.std.specs.Iterator.SizeHint.{IsWithinCount};
-ghost use Rattle.ix_maps.specs.SlotState.{entries_from};
-ghost use Rattle.ix_maps.specs.Generations.{map_len, held_entries, map_entries};
-ghost use Rattle.ix_maps.specs.SlotMapSteps.{map_clear};
+ghost use Rattle.ix_slottable.specs.SlotState.{entries_from};
+ghost use Rattle.ix_slotmap.specs.Generations.{map_len, held_entries, map_entries};
+ghost use Rattle.ix_slotmap.specs.SlotMapSteps.{map_clear};
 
 use crate::slotmap::{MetaSlotMap, SlotMapKey};
-use crate::slottable::Link;
-use ix_cells::{Table, Touches};
+use ix_slottable::slottable::Link;
+use ix_tables::{Table, Touches};
 use std::fmt::{self, Debug, Formatter, Write};
 use std::iter::FusedIterator;
 
@@ -25,8 +25,8 @@ pub struct Drain<'a, T, S: Table<Option<T>>, L: Table<Link>, G: Table<u64>> {
 }
 
 impl<T, S: Table<Option<T>>, L: Table<Link>, G: Table<u64>> MetaSlotMap<Option<T>, S, L, G> {
-    ghost use Rattle.ix_maps.specs.Draining.{DrainingKeepsAlong};
-    ghost use Rattle.ix_maps.specs.MapDrain.{drain_items, drain_left, drain_lender};
+    ghost use Rattle.ix_slottable.specs.Draining.{DrainingKeepsAlong};
+    ghost use Rattle.ix_slotmap.specs.MapDrain.{drain_items, drain_left, drain_lender};
 
     /// Returns an iterator that removes all held keys, each with its value, in rising order of the indexes. What is not taken is
     /// dropped with it, and the map is as [`MetaSlotMap::clear`] leaves it then. O(1), and O(capacity) for all of its items
@@ -52,7 +52,7 @@ impl<T, S: Table<Option<T>>, L: Table<Link>, G: Table<u64>> MetaSlotMap<Option<T
 
 /// Drops the values that are still to come, that of the least index first. No key is held then. O(capacity).
 impl<T: Drop, S: Table<Option<T>>, L: Table<Link>, G: Table<u64>> Drop for Drain<'_, T, S, L, G> {
-    ghost use Rattle.ix_maps.specs.MapDrain.{drain_left};
+    ghost use Rattle.ix_slotmap.specs.MapDrain.{drain_left};
 
     fn drop(self)
         ensures { self.exit.0.now ≡ drain_left self.entry }
@@ -66,8 +66,8 @@ impl<T: Drop, S: Table<Option<T>>, L: Table<Link>, G: Table<u64>> Iterator
     for Drain<'_, T, S, L, G> {
     type Item = (SlotMapKey, T);
 
-    ghost use Rattle.ix_maps.specs.Draining.{DrainingSteps};
-    ghost use Rattle.ix_maps.specs.MapDrain.{drain_items, drain_left, drain_lender};
+    ghost use Rattle.ix_slottable.specs.Draining.{DrainingSteps};
+    ghost use Rattle.ix_slotmap.specs.MapDrain.{drain_items, drain_left, drain_lender};
 
     ghost next_gives = { DrainingSteps drain_items drain_lender drain_left };
 

@@ -1,10 +1,10 @@
 //! Values of a slot map by their keys.
 ghost use Rattle.std.specs.Prelude.{◌≡◌, IsSome, Some};
-ghost use Rattle.ix_maps.specs.Generations.{map_value};
+ghost use Rattle.ix_slotmap.specs.Generations.{map_value};
 
 use crate::slotmap::{MetaSlotMap, SlotMapKey};
-use crate::slottable::Link;
-use ix_cells::Table;
+use ix_slottable::slottable::Link;
+use ix_tables::Table;
 use std::ops::Index;
 
 /// `map[key]` is the value of `key`, which is held; [`MetaSlotMap::get`] asks for nothing. O(1).

@@ -1,12 +1,13 @@
 //! The iterator of slot maps.
-ghost use Rattle.std.specs.Prelude.{◌≡◌, length, Some, IfSome};
+ghost use Rattle.std.specs.Prelude.{◌≡◌, length, Some, IfSome, ⊤};
 ghost use Rattle.std.specs.Iterator.{YieldsFirstBy, UpTo, at_most, item_count};
 ghost use Rattle.std.specs.Iterator.SizeHint.{IsWithinCount};
-ghost use Rattle.ix_maps.specs.Generations.{map_entries};
+ghost use Rattle.ix_slotmap.specs.Generations.{map_entries};
 
 use crate::slotmap::{MetaSlotMap, SlotMapKey};
-use crate::slottable::Link;
-use ix_cells::{Table, Touches};
+use ix_slottable::slottable::Link;
+use ix_tables::{Table, Touches};
+use std::alloc::AllocError;
 use std::fmt::{self, Debug, Formatter, Write};
 use std::iter::FusedIterator;
 use std::marker::Model;
@@ -26,8 +27,8 @@ pub struct Iter<'a, T, S: Table<Option<T>>, L: Table<Link>, G: Table<u64>> {
 
 impl<'a, T, S: Table<Option<T>>, L: Table<Link>, G: Table<u64>> Model for Iter<'a, T, S, L, G> {
     ghost use Rattle.std.specs.Prelude.{◌≡◌, List, length, drop};
-    ghost use Rattle.ix_maps.specs.SlotState.{entries_from};
-    ghost use Rattle.ix_maps.specs.Generations.{SlotKey, held_entries};
+    ghost use Rattle.ix_slottable.specs.SlotState.{entries_from};
+    ghost use Rattle.ix_slotmap.specs.Generations.{SlotKey, held_entries};
 
     ghost Value = { List (SlotKey × T) };
 
@@ -107,6 +108,18 @@ impl<'a, T, S: Table<Option<T>>, L: Table<Link>, G: Table<u64>> ExactSizeIterato
 
 impl<'a, T, S: Table<Option<T>>, L: Table<Link>, G: Table<u64>> FusedIterator
     for Iter<'a, T, S, L, G> {}
+
+impl<'a, T, S: Table<Option<T>>, L: Table<Link>, G: Table<u64>> Clone for Iter<'a, T, S, L, G> {
+    ghost is_clone = { λ iter clone. clone ≡ iter };
+
+    ghost is_infallible = { λ _. ⊤ };
+
+    /// Returns an iterator over the items that are still to come. O(1). Never fails.
+    #[inline]
+    fn clone(&self) -> Result<Self, AllocError> {
+        Ok(self.rest())
+    }
+}
 
 /// Prints a list of the items that are still to come, each the index and the generation of its key, and its value.
 /// O(capacity).

@@ -1,12 +1,13 @@
 //! The iterator over the keys of slot maps.
-ghost use Rattle.std.specs.Prelude.{◌≡◌, length, Some, IfSome};
+ghost use Rattle.std.specs.Prelude.{◌≡◌, length, Some, IfSome, ⊤};
 ghost use Rattle.std.specs.Iterator.{YieldsFirstBy, UpTo, at_most, item_count};
 ghost use Rattle.std.specs.Iterator.SizeHint.{IsWithinCount};
 ghost use Rattle.std.specs.Map.{keys_of};
 
 use crate::slotmap::{Iter, SlotMapKey};
-use crate::slottable::Link;
-use ix_cells::Table;
+use ix_slottable::slottable::Link;
+use ix_tables::Table;
+use std::alloc::AllocError;
 use std::fmt::{self, Debug, Formatter, Write};
 use std::iter::FusedIterator;
 use std::marker::Model;
@@ -21,7 +22,7 @@ pub struct Keys<'a, T, S: Table<Option<T>>, L: Table<Link>, G: Table<u64>> {
 impl<'a, T, S: Table<Option<T>>, L: Table<Link>, G: Table<u64>> Model for Keys<'a, T, S, L, G> {
     ghost use Rattle.std.specs.Prelude.{List};
     ghost use Rattle.std.specs.Map.{keys_of};
-    ghost use Rattle.ix_maps.specs.Generations.{SlotKey};
+    ghost use Rattle.ix_slotmap.specs.Generations.{SlotKey};
 
     ghost Value = { List SlotKey };
 
@@ -76,6 +77,20 @@ impl<'a, T, S: Table<Option<T>>, L: Table<Link>, G: Table<u64>> ExactSizeIterato
 
 impl<'a, T, S: Table<Option<T>>, L: Table<Link>, G: Table<u64>> FusedIterator
     for Keys<'a, T, S, L, G> {}
+
+impl<'a, T, S: Table<Option<T>>, L: Table<Link>, G: Table<u64>> Clone for Keys<'a, T, S, L, G> {
+    ghost is_clone = { λ iter clone. clone ≡ iter };
+
+    ghost is_infallible = { λ _. ⊤ };
+
+    /// Returns an iterator over the keys that are still to come. O(1). Never fails.
+    #[inline]
+    fn clone(&self) -> Result<Self, AllocError> {
+        Ok(Keys {
+            items: self.items.rest(),
+        })
+    }
+}
 
 /// Prints a list of the indexes and generations of the keys that are still to come. O(capacity).
 impl<'a, T, S: Table<Option<T>>, L: Table<Link>, G: Table<u64>> Debug for Keys<'a, T, S, L, G> {

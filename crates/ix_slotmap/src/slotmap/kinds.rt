@@ -2,14 +2,14 @@
 ghost use Rattle.std.specs.Prelude.{◌≡◌, ℕ, ◌≤◌, IfOk, IsOk, IfErr};
 ghost use Rattle.std.specs.Borrow.{u64};
 ghost use Rattle.std.specs.Mem.{type_size};
-ghost use Rattle.ix_cells.specs.Memory.{no_memory};
-ghost use Rattle.ix_maps.specs.Memory.{slot_map_memory};
-ghost use Rattle.ix_maps.specs.Generations.{map_new};
-ghost use Rattle.ix_maps.specs.SlotState.{slot_new};
+ghost use Rattle.ix_tables.specs.Memory.{no_memory};
+ghost use Rattle.ix_slottable.specs.Memory.{slot_map_memory};
+ghost use Rattle.ix_slotmap.specs.Generations.{map_new};
+ghost use Rattle.ix_slottable.specs.SlotState.{slot_new};
 
 use crate::slotmap::{MetaSlotMap, WordTable};
-use crate::slottable::{FixedSizeSlotTable, Link, SlotTable};
-use ix_cells::{
+use ix_slottable::slottable::{FixedSizeSlotTable, Link, SlotTable};
+use ix_tables::{
     HeapTable, InitError, InlineTable, MAX_FIXED_CAPACITY, MemorySize, RelocatableContainer,
 };
 use std::alloc::{AllocError, Allocator, Global};
@@ -77,7 +77,7 @@ pub type SlotMap<T, A = Global> = MetaSlotMap<
 
 impl<T: Drop, A: Allocator + Copy> SlotMap<T, A> {
     ghost use Rattle.std.specs.contracts.option.Option as option;
-    ghost use Rattle.ix_maps.specs.contracts.slottable.link.Link as link;
+    ghost use Rattle.ix_slottable.specs.contracts.slottable.link.Link as link;
 
     /// Returns how much memory a map of this capacity takes from its allocator when it is made: that of a table of what the
     /// places hold, each an `Option<T>`, of a table of links and of a table of words. None if the capacity is 0.
@@ -152,7 +152,7 @@ pub struct UninitSlotMap<T> {
 }
 
 impl<T> Model for UninitSlotMap<T> {
-    ghost use Rattle.ix_maps.specs.Generations.{SlotMapStart, slot_map_start_code};
+    ghost use Rattle.ix_slotmap.specs.Generations.{SlotMapStart, slot_map_start_code};
 
     ghost Value = { SlotMapStart };
 

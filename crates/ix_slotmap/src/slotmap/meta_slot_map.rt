@@ -4,15 +4,15 @@ ghost use Rattle.std.specs.Borrow.{sem, Lends, LendsIf};
 ghost use Rattle.std.specs.Map.{lookup};
 ghost use Rattle.std.specs.Option.{option_copied_mut};
 ghost use Rattle.std.specs.contracts.option.Option as option;
-ghost use Rattle.ix_maps.specs.SlotState.{IsFree, entries_from};
-ghost use Rattle.ix_maps.specs.SlotSteps.{SlotInsert};
-ghost use Rattle.ix_maps.specs.Generations.{SlotKey, SlotMapState, greatest_generation, generation_at, key_at, slot_key_eq, place_value, map_value, IsRetired, IsDead, retired_count, map_len, held_entries, map_entries, IsMapFormed, DeadAreNotHeld, KeysRise, ListsExactly};
-ghost use Rattle.ix_maps.specs.SlotMapSteps.{map_set, map_set_at, map_fill, map_replace, map_vacate, map_retire, MapInsert, MapInsertAt, MapRemove};
+ghost use Rattle.ix_slottable.specs.SlotState.{IsFree, entries_from};
+ghost use Rattle.ix_slottable.specs.SlotSteps.{SlotInsert};
+ghost use Rattle.ix_slotmap.specs.Generations.{SlotKey, SlotMapState, greatest_generation, generation_at, key_at, slot_key_eq, place_value, map_value, IsRetired, IsDead, retired_count, map_len, held_entries, map_entries, IsMapFormed, DeadAreNotHeld, KeysRise, ListsExactly};
+ghost use Rattle.ix_slotmap.specs.SlotMapSteps.{map_set, map_set_at, map_fill, map_replace, map_vacate, map_retire, MapInsert, MapInsertAt, MapRemove};
 
 use crate::slotmap::{Content, Iter, RETIRED, SlotMapKey, WordTable};
-use crate::slottable::{Link, MetaSlotTable, SlotTableKey};
-use ix_cells::cells::{item, item_mut};
-use ix_cells::{Table, Touches};
+use ix_slottable::slottable::{Link, MetaSlotTable, SlotTableKey};
+use ix_tables::cells::{item, item_mut};
+use ix_tables::{Table, Touches};
 use std::fmt::{self, Debug, Formatter, Write};
 use std::marker::Model;
 
@@ -41,8 +41,8 @@ pub struct MetaSlotMap<C: Content, S: Table<C>, L: Table<Link>, G: Table<u64>> {
 }
 
 impl<C: Content, S: Table<C>, L: Table<Link>, G: Table<u64>> Model for MetaSlotMap<C, S, L, G> {
-    ghost use Rattle.ix_maps.specs.Generations.{GenerationState, generation_state_code};
-    ghost use Rattle.ix_maps.specs.inner.Words.{word_generations, HasWords};
+    ghost use Rattle.ix_slotmap.specs.Generations.{GenerationState, generation_state_code};
+    ghost use Rattle.ix_slotmap.specs.inner.Words.{word_generations, HasWords};
 
     ghost Value = { GenerationState C };
 
@@ -54,7 +54,7 @@ impl<C: Content, S: Table<C>, L: Table<Link>, G: Table<u64>> Model for MetaSlotM
 }
 
 impl<T, S: Table<Option<T>>, L: Table<Link>, G: Table<u64>> MetaSlotMap<Option<T>, S, L, G> {
-    ghost use Rattle.ix_maps.specs.contracts.slotmap.meta_slot_map.MetaSlotMap.{the_row};
+    ghost use Rattle.ix_slotmap.specs.contracts.slotmap.meta_slot_map.MetaSlotMap.{the_row};
 
     /// Returns the number of places, free, held and retired.
     #[inline]

@@ -1,11 +1,11 @@
 //! The keys of slot maps.
 ghost use Rattle.std.specs.Prelude.{◌≡◌, ◌<◌, ◌⊎◌, ◌↔◌, ◌++◌, IsTrue, Some, codes};
 ghost use Rattle.std.specs.Fmt.{decimal};
-ghost use Rattle.ix_maps.specs.Generations.{IsDead, null_key};
+ghost use Rattle.ix_slotmap.specs.Generations.{IsDead, null_key};
 
 use crate::slotmap::MetaSlotMap;
-use crate::slottable::Link;
-use ix_cells::Table;
+use ix_slottable::slottable::Link;
+use ix_tables::Table;
 use std::fmt;
 use std::marker::Model;
 
@@ -22,7 +22,7 @@ pub struct SlotMapKey {
 }
 
 impl Model for SlotMapKey {
-    ghost use Rattle.ix_maps.specs.Generations.{SlotKey, slot_key_code};
+    ghost use Rattle.ix_slotmap.specs.Generations.{SlotKey, slot_key_code};
 
     ghost Value = { SlotKey };
 

@@ -1,12 +1,12 @@
 //! The calls of a slot map that insert a value and hand back what they don't keep.
 ghost use Rattle.std.specs.Prelude.{◌≡◌, ◌+◌, ◌<◌, IfOk, IsSome, option_map};
 ghost use Rattle.std.specs.Result.{IfErr, result_ok};
-ghost use Rattle.ix_maps.specs.Generations.{greatest_generation, generation_at, place_value};
-ghost use Rattle.ix_maps.specs.SlotMapSteps.{map_replace, MapInsert, MapInsertAt};
+ghost use Rattle.ix_slotmap.specs.Generations.{greatest_generation, generation_at, place_value};
+ghost use Rattle.ix_slotmap.specs.SlotMapSteps.{map_replace, MapInsert, MapInsertAt};
 
 use crate::slotmap::{MetaSlotMap, SlotMapKey};
-use crate::slottable::{Link, SlotTableKey};
-use ix_cells::{Table, Touches};
+use ix_slottable::slottable::{Link, SlotTableKey};
+use ix_tables::{Table, Touches};
 use std::mem;
 
 impl<T, S: Table<Option<T>>, L: Table<Link>, G: Table<u64>> MetaSlotMap<Option<T>, S, L, G> {

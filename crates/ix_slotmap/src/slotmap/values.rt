@@ -1,11 +1,12 @@
 //! The iterator over the values of slot maps.
-ghost use Rattle.std.specs.Prelude.{◌≡◌, length, map, Some, IfSome};
+ghost use Rattle.std.specs.Prelude.{◌≡◌, length, map, Some, IfSome, ⊤};
 ghost use Rattle.std.specs.Iterator.{YieldsFirstBy, UpTo, at_most, item_count};
 ghost use Rattle.std.specs.Iterator.SizeHint.{IsWithinCount};
 
 use crate::slotmap::Iter;
-use crate::slottable::Link;
-use ix_cells::Table;
+use ix_slottable::slottable::Link;
+use ix_tables::Table;
+use std::alloc::AllocError;
 use std::fmt::{self, Debug, Formatter, Write};
 use std::iter::FusedIterator;
 use std::marker::Model;
@@ -74,6 +75,20 @@ impl<'a, T, S: Table<Option<T>>, L: Table<Link>, G: Table<u64>> ExactSizeIterato
 
 impl<'a, T, S: Table<Option<T>>, L: Table<Link>, G: Table<u64>> FusedIterator
     for Values<'a, T, S, L, G> {}
+
+impl<'a, T, S: Table<Option<T>>, L: Table<Link>, G: Table<u64>> Clone for Values<'a, T, S, L, G> {
+    ghost is_clone = { λ iter clone. clone ≡ iter };
+
+    ghost is_infallible = { λ _. ⊤ };
+
+    /// Returns an iterator over the values that are still to come. O(1). Never fails.
+    #[inline]
+    fn clone(&self) -> Result<Self, AllocError> {
+        Ok(Values {
+            items: self.items.rest(),
+        })
+    }
+}
 
 /// Prints a list of the values that are still to come. O(capacity).
 impl<'a, T: Debug, S: Table<Option<T>>, L: Table<Link>, G: Table<u64>> Debug

@@ -2,14 +2,14 @@
 ghost use Rattle.std.specs.Prelude.{◌≡◌, ◌≢◌, ◌<◌, ◌↔◌, ◌⊎◌, ℕ, length, map, None, IsSome};
 ghost use Rattle.std.specs.List.{FoldsTo};
 ghost use Rattle.std.specs.Map.{keys_of};
-ghost use Rattle.ix_maps.specs.SlotState.{value_at};
-ghost use Rattle.ix_maps.specs.Generations.{SlotKey, generation_at, key_at, place_value, map_value, IsDead, map_entries};
-ghost use Rattle.ix_maps.specs.SlotMapSteps.{map_set, map_remove, map_clear, MapRemove};
-ghost use Rattle.ix_maps.specs.SlotCalls.{IsCallableOnEach, ChangesItem, RetainsItem};
+ghost use Rattle.ix_slottable.specs.SlotState.{value_at};
+ghost use Rattle.ix_slotmap.specs.Generations.{SlotKey, generation_at, key_at, place_value, map_value, IsDead, map_entries};
+ghost use Rattle.ix_slotmap.specs.SlotMapSteps.{map_set, map_remove, map_clear, MapRemove};
+ghost use Rattle.ix_slottable.specs.SlotCalls.{IsCallableOnEach, ChangesItem, RetainsItem};
 
 use crate::slotmap::{Keys, MetaSlotMap, SlotMapKey, Values};
-use crate::slottable::Link;
-use ix_cells::{Table, Touches};
+use ix_slottable::slottable::Link;
+use ix_tables::{Table, Touches};
 
 impl<T, S: Table<Option<T>>, L: Table<Link>, G: Table<u64>> MetaSlotMap<Option<T>, S, L, G> {
     /// Removes all values and drops them, that of the least index first. O(capacity).

@@ -1,9 +1,10 @@
 //! A table with a word in each of its places.
-ghost use Rattle.std.specs.Prelude.{◌≡◌, ℕ, ◌+◌, ◌<◌, ◌≤◌, length, replicate, Some, slice_set};
-ghost use Rattle.ix_cells.specs.Places.{place_at, IsVacant};
-ghost use Rattle.ix_maps.specs.inner.Words.{HasEachPlace, word_at};
+ghost use Rattle.std.specs.Prelude.{◌≡◌, ◌+◌, ◌<◌, ◌≤◌, length, replicate, slice_set};
+ghost use Rattle.ix_tables.specs.Places.{IsVacant};
+ghost use Rattle.ix_slotmap.specs.inner.Words.{word_at};
 
-use ix_cells::{Counted, Table, Touches};
+use ix_slottable::full_table::{copy_items, empty, fill};
+use ix_tables::{Counted, Table, Touches};
 use std::marker::Model;
 
 /// The word of each place of a slot map: twice its generation, and one more if a value is there. Contracts see the list of
@@ -18,7 +19,8 @@ pub(crate) const RETIRED: u64 = 8_589_934_592;
 impl<G: Table<u64>> Model for WordTable<G> {
     ghost use Rattle.std.specs.Prelude.{ℕ, List};
     ghost use Rattle.std.specs.Coded.{coded_ℕ, coded_list};
-    ghost use Rattle.ix_maps.specs.inner.Words.{words_in, HasEachPlace};
+    ghost use Rattle.ix_slottable.specs.FullTables.{HasEachPlace};
+    ghost use Rattle.ix_slotmap.specs.inner.Words.{words_in};
 
     ghost Value = { List ℕ };
 
@@ -80,46 +82,5 @@ impl<G: Table<u64>> Drop for WordTable<G> {
         let WordTable { mut words } = self;
         empty(&mut words);
         words.end();
-    }
-}
-
-/// Puts `item` into each place.
-pub(crate) fn fill<T: Copy, G: Table<T>>(table: &mut Counted<G>, item: T)
-    requires { IsVacant (G.places table.old) }
-    ensures len { length (G.places table.new) ≡ length (G.places table.old) }
-    ensures each { (place : ℕ) → place < length (G.places table.old)
-        → place_at (G.places table.new) place ≡ Some item }
-{
-    let mut touches = Touches::new();
-    for place in 0..table.len() {
-        table.put(place, item, &mut touches);
-    }
-}
-
-/// Puts the items of `others` into the places of an empty table, of which there are as many.
-pub(crate) fn copy_items<T: Copy, G: Table<T>, H: Table<T>>(
-    table: &mut Counted<G>,
-    others: &Counted<H>,
-)
-    requires vacant { IsVacant (G.places table.old) }
-    requires len { length (G.places table.old) ≡ length (H.places others.now) }
-    requires each { HasEachPlace (H.places others.now) }
-    ensures { G.places table.new ≡ H.places others.now }
-{
-    let mut touches = Touches::new();
-    for place in 0..table.len() {
-        let item = *others.get(place, &mut touches);
-        table.put(place, item, &mut touches);
-    }
-}
-
-/// Takes the item out of each place.
-pub(crate) fn empty<T: Copy, G: Table<T>>(table: &mut Counted<G>)
-    requires { HasEachPlace (G.places table.old) }
-    ensures { IsVacant (G.places table.new) }
-{
-    let mut touches = Touches::new();
-    for place in 0..table.len() {
-        table.take(place, &mut touches);
     }
 }

@@ -1,8 +1,8 @@
 -- How a slot table keeps its free keys: a doubly linked list in a table of links. No clause of a public call cites this.
 use Rattle.std.specs.Prelude.{◌≡◌, ◌≢◌, ℕ, zero, suc, ◌+◌, ◌-◌, ◌<◌, ◌≤◌, List, [], ◌∷◌, ◌++◌, length, nat_eq, count_by, if◌then◌else◌, Option, Some, None, IsSome, option_map, unwrap_or, ◌⊎◌, slice_set}
-use Rattle.ix_cells.specs.Places.{place_at, IsHeldAt}
-use Rattle.ix_maps.specs.declared.slottable.link.Link.{Link}
-use Rattle.ix_maps.specs.SlotState.{SlotState, held_count, IsWellFormed}
+use Rattle.ix_tables.specs.Places.{place_at, IsHeldAt}
+use Rattle.ix_slottable.specs.declared.slottable.link.Link.{Link}
+use Rattle.ix_slottable.specs.SlotState.{SlotState, held_count, IsWellFormed}
 
 -- the number for no key: no table has so many places
 abbrev pub no_key : ℕ

@@ -3,10 +3,10 @@ ghost use Rattle.std.specs.Prelude.{nat_eq, ◌&&◌};
 ghost use Rattle.std.specs.Cmp.{and_per, on_per, on_equiv, partial_equiv_from_equiv};
 ghost use Rattle.std.proofs.lemmas.Cmp.{and_equiv, nat_eq_equiv};
 ghost use Rattle.std.specs.Cmp.Lexicographic.{pointwise, lists_per, lists_equiv};
-ghost use Rattle.ix_maps.specs.SlotState.{entries};
+ghost use Rattle.ix_slottable.specs.SlotState.{entries};
 
 use crate::slottable::{Link, MetaSlotTable};
-use ix_cells::Table;
+use ix_tables::Table;
 
 /// Maps are equal if they have the same held keys with equal values. Their capacities and the order of their free keys do not
 /// matter.

@@ -1,12 +1,12 @@
 //! Clones of slot tables.
 ghost use Rattle.std.specs.Prelude.{◌≡◌, ◌↔◌, ℕ, length, replicate, None, IsOk, IfOk, OnOk};
-ghost use Rattle.ix_cells.specs.Cloning.{AreEqualClones};
-ghost use Rattle.ix_maps.specs.SlotState.{value_at, IsHeld};
-ghost use Rattle.ix_maps.specs.SlotCopies.{IsCloneAt, SlotIsClone, SlotIsInfallible};
+ghost use Rattle.ix_tables.specs.Cloning.{AreEqualClones};
+ghost use Rattle.ix_slottable.specs.SlotState.{value_at, IsHeld};
+ghost use Rattle.ix_slottable.specs.SlotCopies.{IsCloneAt, SlotIsClone, SlotIsInfallible};
 
 use crate::slottable::free_list::copy_links;
 use crate::slottable::{FixedSizeSlotTable, Link, MetaSlotTable, SlotTable, SlotTableKey};
-use ix_cells::Table;
+use ix_tables::Table;
 use std::alloc::{AllocError, Allocator};
 
 impl<T, S: Table<T>, L: Table<Link>> MetaSlotTable<T, S, L> {
@@ -66,8 +66,9 @@ impl<T, S: Table<T>, L: Table<Link>> MetaSlotTable<T, S, L> {
 
 impl<T: Drop, const CAPACITY: usize> FixedSizeSlotTable<T, CAPACITY> {
     /// Returns the capacity, which is that of the type.
+    #[doc(hidden)]
     #[inline]
-    pub(crate) fn fixed_capacity(&self) -> usize
+    pub fn fixed_capacity(&self) -> usize
         ensures value { result ≡ CAPACITY }
         ensures capacity { length self.now.values ≡ CAPACITY }
     {

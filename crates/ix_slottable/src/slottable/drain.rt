@@ -2,11 +2,11 @@
 ghost use Rattle.std.specs.Prelude.{◌≡◌, length, drop, Some, IfSome};
 ghost use Rattle.std.specs.Iterator.{UpTo, at_most, item_count};
 ghost use Rattle.std.specs.Iterator.SizeHint.{IsWithinCount};
-ghost use Rattle.ix_maps.specs.SlotState.{held_count, entries, entries_from};
-ghost use Rattle.ix_maps.specs.SlotSteps.{slot_clear};
+ghost use Rattle.ix_slottable.specs.SlotState.{held_count, entries, entries_from};
+ghost use Rattle.ix_slottable.specs.SlotSteps.{slot_clear};
 
 use crate::slottable::{Link, MetaSlotTable, SlotTableKey};
-use ix_cells::Table;
+use ix_tables::Table;
 use std::fmt::{self, Debug, Formatter, Write};
 use std::iter::FusedIterator;
 
@@ -23,8 +23,8 @@ pub struct Drain<'a, T, S: Table<T>, L: Table<Link>> {
 }
 
 impl<T, S: Table<T>, L: Table<Link>> MetaSlotTable<T, S, L> {
-    ghost use Rattle.ix_maps.specs.Draining.{DrainingKeepsAlong};
-    ghost use Rattle.ix_maps.specs.SlotDrain.{drain_items, drain_left, drain_lender};
+    ghost use Rattle.ix_slottable.specs.Draining.{DrainingKeepsAlong};
+    ghost use Rattle.ix_slottable.specs.SlotDrain.{drain_items, drain_left, drain_lender};
 
     /// Returns an iterator that removes all values, each with its key, in rising order of the keys. What is not taken is
     /// dropped with it, and the table is as [`MetaSlotTable::clear`] leaves it then. O(1), and O(capacity) for all of its items
@@ -45,7 +45,7 @@ impl<T, S: Table<T>, L: Table<Link>> MetaSlotTable<T, S, L> {
 
 /// Drops the values that are still to come, that of the least key first. The table is empty then. O(capacity).
 impl<T: Drop, S: Table<T>, L: Table<Link>> Drop for Drain<'_, T, S, L> {
-    ghost use Rattle.ix_maps.specs.SlotDrain.{drain_left};
+    ghost use Rattle.ix_slottable.specs.SlotDrain.{drain_left};
 
     fn drop(self)
         ensures { self.exit.0.now ≡ drain_left self.entry }
@@ -58,8 +58,8 @@ impl<T: Drop, S: Table<T>, L: Table<Link>> Drop for Drain<'_, T, S, L> {
 impl<T: Drop, S: Table<T>, L: Table<Link>> Iterator for Drain<'_, T, S, L> {
     type Item = (SlotTableKey, T);
 
-    ghost use Rattle.ix_maps.specs.Draining.{DrainingSteps};
-    ghost use Rattle.ix_maps.specs.SlotDrain.{drain_items, drain_left, drain_lender};
+    ghost use Rattle.ix_slottable.specs.Draining.{DrainingSteps};
+    ghost use Rattle.ix_slottable.specs.SlotDrain.{drain_items, drain_left, drain_lender};
 
     ghost next_gives = { DrainingSteps drain_items drain_lender drain_left };
 

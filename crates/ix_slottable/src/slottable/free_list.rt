@@ -1,12 +1,12 @@
 //! The list of free keys, which is doubly linked: steps on its table of links.
 ghost use Rattle.std.specs.Prelude.{◌≡◌, ◌+◌, ◌<◌, ◌≤◌, length, Some, None, replicate, slice_set};
 ghost use Rattle.std.specs.List.{range_with_len};
-ghost use Rattle.ix_cells.specs.Places.{IsHeldAt};
-ghost use Rattle.ix_maps.specs.inner.FreeList.{no_key, first_or, IsLinkTable, IsKeyOrNone, IsLinkWithin, IsRisingList, links_set_next, links_set_previous, links_remove, links_remove_first, links_insert_first, first_after_remove};
+ghost use Rattle.ix_tables.specs.Places.{IsHeldAt};
+ghost use Rattle.ix_slottable.specs.inner.FreeList.{no_key, first_or, IsLinkTable, IsKeyOrNone, IsLinkWithin, IsRisingList, links_set_next, links_set_previous, links_remove, links_remove_first, links_insert_first, first_after_remove};
 
 use crate::slottable::Link;
 use crate::slottable::link::NO_KEY;
-use ix_cells::{Counted, Table, Touches};
+use ix_tables::{Counted, Table, Touches};
 
 /// Replaces the link of `key`.
 #[inline]

@@ -1,9 +1,9 @@
 //! Values of a slot table by their keys.
 ghost use Rattle.std.specs.Prelude.{◌≡◌, Some};
-ghost use Rattle.ix_maps.specs.SlotState.{IsHeld, value_at};
+ghost use Rattle.ix_slottable.specs.SlotState.{IsHeld, value_at};
 
 use crate::slottable::{Link, MetaSlotTable, SlotTableKey};
-use ix_cells::Table;
+use ix_tables::Table;
 use std::ops::Index;
 
 /// `table[key]` is the value at `key`, which has one; [`MetaSlotTable::get`] asks for nothing. O(1).

@@ -1,11 +1,12 @@
 //! The iterator of slot tables.
-ghost use Rattle.std.specs.Prelude.{◌≡◌, length, Some, IfSome};
+ghost use Rattle.std.specs.Prelude.{◌≡◌, length, Some, IfSome, ⊤};
 ghost use Rattle.std.specs.Iterator.{YieldsFirstBy, UpTo, at_most, item_count};
 ghost use Rattle.std.specs.Iterator.SizeHint.{IsWithinCount};
-ghost use Rattle.ix_maps.specs.SlotState.{entries};
+ghost use Rattle.ix_slottable.specs.SlotState.{entries};
 
 use crate::slottable::{Link, MetaSlotTable, SlotTableKey};
-use ix_cells::Table;
+use ix_tables::Table;
+use std::alloc::AllocError;
 use std::fmt::{self, Debug, Formatter, Write};
 use std::iter::FusedIterator;
 use std::marker::Model;
@@ -25,7 +26,7 @@ pub struct Iter<'a, T, S: Table<T>, L: Table<Link>> {
 
 impl<'a, T, S: Table<T>, L: Table<Link>> Model for Iter<'a, T, S, L> {
     ghost use Rattle.std.specs.Prelude.{◌≡◌, ℕ, List, length, drop};
-    ghost use Rattle.ix_maps.specs.SlotState.{entries_from};
+    ghost use Rattle.ix_slottable.specs.SlotState.{entries_from};
 
     ghost Value = { List (ℕ × T) };
 
@@ -101,6 +102,18 @@ impl<'a, T, S: Table<T>, L: Table<Link>> ExactSizeIterator for Iter<'a, T, S, L>
 }
 
 impl<'a, T, S: Table<T>, L: Table<Link>> FusedIterator for Iter<'a, T, S, L> {}
+
+impl<'a, T, S: Table<T>, L: Table<Link>> Clone for Iter<'a, T, S, L> {
+    ghost is_clone = { λ iter clone. clone ≡ iter };
+
+    ghost is_infallible = { λ _. ⊤ };
+
+    /// Returns an iterator over the items that are still to come. O(1). Never fails.
+    #[inline]
+    fn clone(&self) -> Result<Self, AllocError> {
+        Ok(self.rest())
+    }
+}
 
 /// Prints a list of the items that are still to come, each the number of its key and its value. O(capacity).
 impl<'a, T: Debug, S: Table<T>, L: Table<Link>> Debug for Iter<'a, T, S, L> {

@@ -1,11 +1,12 @@
 //! The iterator over the keys of slot tables.
-ghost use Rattle.std.specs.Prelude.{◌≡◌, length, Some, IfSome};
+ghost use Rattle.std.specs.Prelude.{◌≡◌, length, Some, IfSome, ⊤};
 ghost use Rattle.std.specs.Iterator.{YieldsFirstBy, UpTo, at_most, item_count};
 ghost use Rattle.std.specs.Iterator.SizeHint.{IsWithinCount};
 ghost use Rattle.std.specs.Map.{keys_of};
 
 use crate::slottable::{Iter, Link, SlotTableKey};
-use ix_cells::Table;
+use ix_tables::Table;
+use std::alloc::AllocError;
 use std::fmt::{self, Debug, Formatter, Write};
 use std::iter::FusedIterator;
 use std::marker::Model;
@@ -72,6 +73,20 @@ impl<'a, T, S: Table<T>, L: Table<Link>> ExactSizeIterator for Keys<'a, T, S, L>
 }
 
 impl<'a, T, S: Table<T>, L: Table<Link>> FusedIterator for Keys<'a, T, S, L> {}
+
+impl<'a, T, S: Table<T>, L: Table<Link>> Clone for Keys<'a, T, S, L> {
+    ghost is_clone = { λ iter clone. clone ≡ iter };
+
+    ghost is_infallible = { λ _. ⊤ };
+
+    /// Returns an iterator over the keys that are still to come. O(1). Never fails.
+    #[inline]
+    fn clone(&self) -> Result<Self, AllocError> {
+        Ok(Keys {
+            items: self.items.rest(),
+        })
+    }
+}
 
 /// Prints a list of the numbers of the keys that are still to come. O(capacity).
 impl<'a, T, S: Table<T>, L: Table<Link>> Debug for Keys<'a, T, S, L> {

@@ -1,12 +1,12 @@
 //! The kinds of slot tables: stored inline, in memory of an allocator, and made in two steps.
 ghost use Rattle.std.specs.Prelude.{◌≡◌, ℕ, ◌≤◌, IfOk, IsOk};
 ghost use Rattle.std.specs.Mem.{type_size};
-ghost use Rattle.ix_cells.specs.Memory.{no_memory};
-ghost use Rattle.ix_maps.specs.Memory.{slot_table_memory};
-ghost use Rattle.ix_maps.specs.SlotState.{slot_new};
+ghost use Rattle.ix_tables.specs.Memory.{no_memory};
+ghost use Rattle.ix_slottable.specs.Memory.{slot_table_memory};
+ghost use Rattle.ix_slottable.specs.SlotState.{slot_new};
 
 use crate::slottable::{Link, MetaSlotTable};
-use ix_cells::{
+use ix_tables::{
     ContainerFamily, HeapTable, InlineTable, MAX_FIXED_CAPACITY, MemorySize, Table, Uninit,
 };
 use std::alloc::{AllocError, Allocator, Global};
@@ -48,7 +48,7 @@ impl<T: Drop, const CAPACITY: usize> Default for FixedSizeSlotTable<T, CAPACITY>
 pub type SlotTable<T, A = Global> = MetaSlotTable<T, HeapTable<T, A>, HeapTable<Link, A>>;
 
 impl<T: Drop, A: Allocator + Copy> SlotTable<T, A> {
-    ghost use Rattle.ix_maps.specs.contracts.slottable.link.Link as link;
+    ghost use Rattle.ix_slottable.specs.contracts.slottable.link.Link as link;
 
     /// Returns how much memory a table of this capacity takes from its allocator when it is made: that of a table of values and
     /// of a table of links. None if the capacity is 0.
@@ -103,7 +103,7 @@ impl<T: Drop, A: Allocator + Copy> RelocatableSlotTable<T, A> {
 }
 
 /// An uninitialised slot table: a capacity without memory.
-/// [`RelocatableContainer::init`](ix_cells::RelocatableContainer::init) makes it a [`RelocatableSlotTable`].
+/// [`RelocatableContainer::init`](ix_tables::RelocatableContainer::init) makes it a [`RelocatableSlotTable`].
 pub type UninitSlotTable<T> = Uninit<SlotTableFamily<T>>;
 
 /// The relocatable slot tables of `T`, one type for each allocator.

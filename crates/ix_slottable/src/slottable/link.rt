@@ -1,6 +1,6 @@
 //! Links of the list of free keys.
 ghost use Rattle.std.specs.Prelude.{◌≡◌, ◌≢◌, true, false};
-ghost use Rattle.ix_maps.specs.inner.FreeList.{held_link};
+ghost use Rattle.ix_slottable.specs.inner.FreeList.{held_link};
 
 /// A key's neighbours in the list of free keys of its table.
 ///

@@ -4,17 +4,17 @@ ghost use Rattle.std.specs.List.Sorted.{IsStrictlyIncreasing};
 ghost use Rattle.std.specs.Map.{keys_of, lookup};
 ghost use Rattle.std.specs.Borrow.{sem, Lends, LendsIf};
 ghost use Rattle.std.specs.Option.{option_copied_mut};
-ghost use Rattle.ix_cells.specs.Places.{IsVacant};
-ghost use Rattle.ix_maps.specs.SlotState.{value_at, IsHeld, IsKey, IsFree, IsWellFormed, slot_new, held_count, entries, entries_from};
-ghost use Rattle.ix_maps.specs.SlotSteps.{slot_set, slot_fill, slot_insert, SlotInsert, SlotInsertAt, SlotRemove};
-ghost use Rattle.ix_maps.specs.inner.FreeList.{no_key, IsLinkOf, MatchesLinks};
+ghost use Rattle.ix_tables.specs.Places.{IsVacant};
+ghost use Rattle.ix_slottable.specs.SlotState.{value_at, IsHeld, IsKey, IsFree, IsWellFormed, slot_new, held_count, entries, entries_from};
+ghost use Rattle.ix_slottable.specs.SlotSteps.{slot_set, slot_fill, slot_insert, SlotInsert, SlotInsertAt, SlotRemove};
+ghost use Rattle.ix_slottable.specs.inner.FreeList.{no_key, IsLinkOf, MatchesLinks};
 
 use crate::slottable::free_list::{
     first_after_remove, insert_first, link_all, remove, remove_first,
 };
 use crate::slottable::link::NO_KEY;
 use crate::slottable::{Iter, Link, SlotTableKey};
-use ix_cells::{Counted, Table, Touches};
+use ix_tables::{Counted, Table, Touches};
 use std::fmt::{self, Debug, Formatter, Write};
 use std::marker::{Model, PhantomData};
 
@@ -39,8 +39,8 @@ pub struct MetaSlotTable<T, S: Table<T>, L: Table<Link>> {
 }
 
 impl<T, S: Table<T>, L: Table<Link>> Model for MetaSlotTable<T, S, L> {
-    ghost use Rattle.ix_maps.specs.SlotState.{SlotState, slot_state_code};
-    ghost use Rattle.ix_maps.specs.inner.FreeList.{slots_of, Represents};
+    ghost use Rattle.ix_slottable.specs.SlotState.{SlotState, slot_state_code};
+    ghost use Rattle.ix_slottable.specs.inner.FreeList.{slots_of, Represents};
 
     ghost Value = { SlotState T };
 
@@ -54,7 +54,7 @@ impl<T, S: Table<T>, L: Table<Link>> Model for MetaSlotTable<T, S, L> {
 }
 
 impl<T, S: Table<T>, L: Table<Link>> MetaSlotTable<T, S, L> {
-    ghost use Rattle.ix_maps.specs.contracts.slottable.meta_slot_table.MetaSlotTable.{the_row};
+    ghost use Rattle.ix_slottable.specs.contracts.slottable.meta_slot_table.MetaSlotTable.{the_row};
 
     /// Creates an empty table over two tables of the same length, which is the capacity. O(capacity).
     ///

@@ -1,12 +1,12 @@
 //! The steps of which the calls of a slot table are made.
 ghost use Rattle.std.specs.Prelude.{◌≡◌, ◌≢◌, ◌+◌, ◌<◌, ◌≤◌, [], length, drop, true, false};
-ghost use Rattle.ix_maps.specs.SlotState.{IsHeld, IsKey, IsFree, entries_from};
-ghost use Rattle.ix_maps.specs.SlotSteps.{slot_fill, slot_insert};
-ghost use Rattle.ix_maps.specs.inner.FreeList.{no_key, IsLinkOf};
+ghost use Rattle.ix_slottable.specs.SlotState.{IsHeld, IsKey, IsFree, entries_from};
+ghost use Rattle.ix_slottable.specs.SlotSteps.{slot_fill, slot_insert};
+ghost use Rattle.ix_slottable.specs.inner.FreeList.{IsLinkOf};
 
 use crate::slottable::free_list::{first_after_remove, remove, remove_first};
 use crate::slottable::{Link, MetaSlotTable};
-use ix_cells::{Table, Touches};
+use ix_tables::{Table, Touches};
 
 impl<T, S: Table<T>, L: Table<Link>> MetaSlotTable<T, S, L> {
     /// Returns the link of a key in range.
@@ -33,11 +33,12 @@ impl<T, S: Table<T>, L: Table<Link>> MetaSlotTable<T, S, L> {
     }
 
     /// Returns the least held key that is `start` or greater; there is one.
+    #[doc(hidden)]
     #[inline]
-    pub(crate) fn held_from(&self, start: usize) -> usize
+    pub fn held_from(&self, start: usize) -> usize
         requires { 0 < length (entries_from start (drop start self.now.values)) }
         ensures held { IsHeld self.now result }
-        ensures below { result < no_key }
+        ensures below { result < 18446744073709551615 }
         ensures entries { entries_from result (drop result self.now.values)
             ≡ entries_from start (drop start self.now.values) }
     {

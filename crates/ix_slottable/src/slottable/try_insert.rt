@@ -1,12 +1,12 @@
 //! The calls of a slot table that insert a value and hand back what they don't keep.
 ghost use Rattle.std.specs.Prelude.{◌≡◌, ◌+◌, IfOk, Some};
 ghost use Rattle.std.specs.Result.{IfErr, is_ok, result_ok};
-ghost use Rattle.ix_maps.specs.SlotState.{value_at, IsHeld};
-ghost use Rattle.ix_maps.specs.SlotSteps.{slot_fill, SlotInsert, SlotInsertAt};
+ghost use Rattle.ix_slottable.specs.SlotState.{value_at, IsHeld};
+ghost use Rattle.ix_slottable.specs.SlotSteps.{slot_fill, SlotInsert, SlotInsertAt};
 
 use crate::slottable::link::NO_KEY;
 use crate::slottable::{Link, MetaSlotTable, SlotTableKey};
-use ix_cells::{Table, Touches};
+use ix_tables::{Table, Touches};
 use std::mem;
 
 impl<T, S: Table<T>, L: Table<Link>> MetaSlotTable<T, S, L> {

@@ -1,10 +1,11 @@
 //! The iterator over the values of slot tables.
-ghost use Rattle.std.specs.Prelude.{◌≡◌, length, map, Some, IfSome};
+ghost use Rattle.std.specs.Prelude.{◌≡◌, length, map, Some, IfSome, ⊤};
 ghost use Rattle.std.specs.Iterator.{YieldsFirstBy, UpTo, at_most, item_count};
 ghost use Rattle.std.specs.Iterator.SizeHint.{IsWithinCount};
 
 use crate::slottable::{Iter, Link};
-use ix_cells::Table;
+use ix_tables::Table;
+use std::alloc::AllocError;
 use std::fmt::{self, Debug, Formatter, Write};
 use std::iter::FusedIterator;
 use std::marker::Model;
@@ -70,6 +71,20 @@ impl<'a, T, S: Table<T>, L: Table<Link>> ExactSizeIterator for Values<'a, T, S, 
 }
 
 impl<'a, T, S: Table<T>, L: Table<Link>> FusedIterator for Values<'a, T, S, L> {}
+
+impl<'a, T, S: Table<T>, L: Table<Link>> Clone for Values<'a, T, S, L> {
+    ghost is_clone = { λ iter clone. clone ≡ iter };
+
+    ghost is_infallible = { λ _. ⊤ };
+
+    /// Returns an iterator over the values that are still to come. O(1). Never fails.
+    #[inline]
+    fn clone(&self) -> Result<Self, AllocError> {
+        Ok(Values {
+            items: self.items.rest(),
+        })
+    }
+}
 
 /// Prints a list of the values that are still to come. O(capacity).
 impl<'a, T: Debug, S: Table<T>, L: Table<Link>> Debug for Values<'a, T, S, L> {

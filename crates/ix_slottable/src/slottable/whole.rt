@@ -2,12 +2,12 @@
 ghost use Rattle.std.specs.Prelude.{◌≡◌, ◌↔◌, ℕ, length, map, replicate, None};
 ghost use Rattle.std.specs.List.{FoldsTo};
 ghost use Rattle.std.specs.Map.{keys_of};
-ghost use Rattle.ix_maps.specs.SlotState.{IsHeld, entries};
-ghost use Rattle.ix_maps.specs.SlotSteps.{slot_set, slot_remove, slot_clear};
-ghost use Rattle.ix_maps.specs.SlotCalls.{IsCallableOnEach, ChangesItem, RetainsItem};
+ghost use Rattle.ix_slottable.specs.SlotState.{IsHeld, entries};
+ghost use Rattle.ix_slottable.specs.SlotSteps.{slot_set, slot_remove, slot_clear};
+ghost use Rattle.ix_slottable.specs.SlotCalls.{IsCallableOnEach, ChangesItem, RetainsItem};
 
 use crate::slottable::{Keys, Link, MetaSlotTable, SlotTableKey, Values};
-use ix_cells::Table;
+use ix_tables::Table;
 
 impl<T, S: Table<T>, L: Table<Link>> MetaSlotTable<T, S, L> {
     /// Removes all values and drops them, that of the least key first. Every key is free then. O(capacity).

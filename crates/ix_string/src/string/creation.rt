@@ -1,11 +1,12 @@
 //! Strings that are made of bytes, in memory of an allocator, and how much of it a string takes.
 ghost use Rattle.std.specs.Prelude.{◌≡◌, ℕ, ◌≤◌};
-ghost use Rattle.ix_cells.specs.Memory.{items_memory, no_memory};
+ghost use Rattle.ix_tables.specs.Memory.{items_memory, no_memory};
 ghost use Rattle.ix_string.specs.Creation.{HeapStringFromBytes};
 
 use crate::string::text::is_text;
 use crate::string::{HeapString, HeapStringKind, String, StringCreationError};
-use ix_cells::{MemorySize, PolymorphicVec};
+use ix_tables::MemorySize;
+use ix_vector::PolymorphicVec;
 use std::alloc::Allocator;
 
 impl<K: HeapStringKind, A: Allocator> HeapString<K, A> {

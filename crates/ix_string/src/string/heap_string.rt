@@ -14,7 +14,7 @@ ghost use Rattle.ix_string.specs.Escape.{escaped_text};
 use crate::string::escape::Escaped;
 use crate::string::vector_text::{insert_into, remove_from, retain_in};
 use crate::string::{HeapStringKind, String};
-use ix_cells::{PolymorphicVec, Vector};
+use ix_vector::{PolymorphicVec, Vector};
 use std::alloc::{Allocator, Global};
 use std::cmp::Ordering;
 use std::fmt;
@@ -35,7 +35,7 @@ pub struct HeapString<K, A: Allocator = Global> {
 impl<K, A: Allocator> Model for HeapString<K, A> {
     ghost use Rattle.std.specs.Prelude.{ℕ};
     ghost use Rattle.std.specs.Coded.{coded_ℕ};
-    ghost use Rattle.ix_cells.specs.Bounded.{Bounded, bounded_code};
+    ghost use Rattle.ix_tables.specs.Bounded.{Bounded, bounded_code};
     ghost use Rattle.ix_string.specs.Text.{IsText};
 
     ghost Value = { Bounded ℕ };

@@ -1,6 +1,6 @@
 //! Heap strings as texts: what is written to them, and what they lend.
 ghost use Rattle.std.specs.Prelude.{◌≡◌, ◌↔◌, length, IsOk, OnErr};
-ghost use Rattle.ix_cells.specs.VectorSteps.{HasRoomFor, vec_extend};
+ghost use Rattle.ix_vector.specs.VectorSteps.{HasRoomFor, vec_extend};
 ghost use Rattle.ix_string.specs.Text.{IsText};
 
 use crate::string::writing::write_to;

@@ -1,9 +1,10 @@
 //! The kinds of heap strings: made in one step, and made in two.
 ghost use Rattle.std.specs.Prelude.{◌≡◌, ℕ, List, codes, IsOk, IfOk};
-ghost use Rattle.ix_cells.specs.Bounded.{bounded_new};
+ghost use Rattle.ix_tables.specs.Bounded.{bounded_new};
 
 use crate::string::heap_string::HeapString;
-use ix_cells::{ContainerFamily, PolymorphicVec, Uninit};
+use ix_tables::{ContainerFamily, Uninit};
+use ix_vector::PolymorphicVec;
 use std::alloc::{AllocError, Allocator, Global};
 use std::marker::PhantomData;
 
@@ -112,5 +113,5 @@ impl<A: Allocator> ContainerFamily<A> for StringFamily {
 }
 
 /// An uninitialised string: a capacity, and no memory yet.
-/// [`RelocatableContainer::init`](ix_cells::RelocatableContainer::init) makes it a [`RelocatableString`].
+/// [`RelocatableContainer::init`](ix_tables::RelocatableContainer::init) makes it a [`RelocatableString`].
 pub type UninitString = Uninit<StringFamily>;

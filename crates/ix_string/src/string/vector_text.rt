@@ -1,13 +1,13 @@
 //! The changes of a text in a vector of bytes.
 ghost use Rattle.std.specs.Prelude.{◌≡◌, ◌+◌, ◌≤◌, ◌-◌, length, slice_range};
-ghost use Rattle.ix_cells.specs.VectorSteps.{HasRoomFor, vec_extend};
+ghost use Rattle.ix_vector.specs.VectorSteps.{HasRoomFor, vec_extend};
 ghost use Rattle.ix_string.specs.Retain.{IsCallableAtText, Retains};
 ghost use Rattle.ix_string.specs.Text.{IsText};
 ghost use Rattle.ix_string.specs.TextSteps.{text_insert_slice, text_remove_range};
 
 use crate::string::gaps::{close_gap, open_gap};
 use crate::string::retaining::move_kept_back;
-use ix_cells::Vector;
+use ix_vector::Vector;
 
 /// Inserts `bytes` at index `idx`, shifting all later bytes to the right. Writes each byte once.
 pub(crate) fn insert_into<V: Vector<u8>>(vector: &mut V, idx: usize, bytes: &[u8])

@@ -1,6 +1,6 @@
 //! Pieces of formatted text that are written to strings.
 ghost use Rattle.std.specs.Prelude.{◌≡◌, ◌↔◌, length, IsOk, OnErr};
-ghost use Rattle.ix_cells.specs.VectorSteps.{HasRoomFor, vec_extend};
+ghost use Rattle.ix_vector.specs.VectorSteps.{HasRoomFor, vec_extend};
 ghost use Rattle.ix_string.specs.Text.{IsText};
 
 use crate::string::String;

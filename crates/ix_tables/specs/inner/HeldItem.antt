@@ -2,7 +2,7 @@
 use Rattle.std.specs.Prelude.{Option, Some}
 use Rattle.std.specs.contracts.option.Option as option
 use Rattle.std.specs.Borrow.{Fml, RattleType, MutBor, Lends}
-use Rattle.ix_cells.specs.contracts.cells.maybe_moved.MaybeMoved as maybe_moved
+use Rattle.ix_tables.specs.contracts.cells.maybe_moved.MaybeMoved as maybe_moved
 
 -- as it was, with the last value behind the reference r
 abbrev pub option_lends : (T : RattleType) → MutBor (Option T.Denot) → MutBor T.Denot → Fml

@@ -1,9 +1,9 @@
 -- The parts of a row of places in raw memory.
 use Rattle.std.specs.Prelude.{◌≡◌, ℕ, Bool, List, map, length, replicate, Option, Some, None, is_some}
 use denote.RawPtr.{Ptr}
-use Rattle.ix_cells.specs.declared.cells.raw_row.RowPtr.{RowPtr}
-use Rattle.ix_cells.specs.declared.cells.raw_row.RowOwner.{RowOwner}
-use Rattle.ix_cells.specs.declared.cells.raw_row.RowGrant.{RowGrant}
+use Rattle.ix_tables.specs.declared.cells.raw_row.RowPtr.{RowPtr}
+use Rattle.ix_tables.specs.declared.cells.raw_row.RowOwner.{RowOwner}
+use Rattle.ix_tables.specs.declared.cells.raw_row.RowGrant.{RowGrant}
 
 module _ {T : Type 0} where
   -- the row with other places

@@ -1,7 +1,7 @@
 //! A table that counts the calls on it.
 ghost use Rattle.std.specs.Prelude.{◌≡◌, ℕ, ◌+◌, length, Some, None, codes, slice_set};
 ghost use Rattle.std.specs.Borrow.{ftrue, sem};
-ghost use Rattle.ix_cells.specs.Places.{place_at, IsEmptyAt, IsHeldAt, IsVacant};
+ghost use Rattle.ix_tables.specs.Places.{place_at, IsEmptyAt, IsHeldAt, IsVacant};
 
 use crate::cells::{InlineTable, Table};
 use std::fmt;
@@ -119,7 +119,7 @@ impl<T: Drop, const CAP: usize> Counted<InlineTable<T, CAP>> {
 }
 
 impl<S> Counted<S> {
-    ghost use Rattle.ix_cells.specs.Lending.{counted_lends};
+    ghost use Rattle.ix_tables.specs.Lending.{counted_lends};
 
     /// Wraps `table`.
     #[inline]

@@ -4,8 +4,8 @@ ghost use Rattle.std.specs.Prelude.{◌≡◌, ◌+◌, ◌<◌, ◌≤◌, All,
 ghost use Rattle.std.specs.List.{AllZip, AppendsClones};
 ghost use Rattle.std.specs.Borrow.{sem};
 ghost use Rattle.arrayvec.specs.ArrayVec.{array_vec_len};
-ghost use Rattle.ix_cells.specs.Cloning.{AreInfallible};
-ghost use Rattle.ix_cells.specs.inner.FullArrays.{array_vec_lends_front, array_vec_lends_place, slice_lends_place};
+ghost use Rattle.ix_tables.specs.Cloning.{AreInfallible};
+ghost use Rattle.ix_tables.specs.FullArrays.{array_vec_lends_front, array_vec_lends_place, slice_lends_place};
 
 use arrayvec::ArrayVec;
 use std::alloc::AllocError;
@@ -22,7 +22,7 @@ pub(crate) fn place<T, const CAP: usize>(array: &ArrayVec<T, CAP>, i: usize) -> 
 
 /// Overwrites place `i`, dropping its old content.
 #[inline]
-pub(crate) fn put<T: Drop, const CAP: usize>(array: &mut ArrayVec<T, CAP>, i: usize, value: T)
+pub fn put<T: Drop, const CAP: usize>(array: &mut ArrayVec<T, CAP>, i: usize, value: T)
     requires { i < array_vec_len array.old }
     ensures { array.new.items ≡ slice_set array.old.items i value }
 {
@@ -31,7 +31,7 @@ pub(crate) fn put<T: Drop, const CAP: usize>(array: &mut ArrayVec<T, CAP>, i: us
 
 /// Overwrites place `i` and returns its old content.
 #[inline]
-pub(crate) fn replace<T, const CAP: usize>(array: &mut ArrayVec<T, CAP>, i: usize, value: T) -> T
+pub fn replace<T, const CAP: usize>(array: &mut ArrayVec<T, CAP>, i: usize, value: T) -> T
     requires { i < array_vec_len array.old }
     ensures value { result ≡ slice_index_or array.old.items i result }
     ensures places { array.new.items ≡ slice_set array.old.items i value }
@@ -41,7 +41,7 @@ pub(crate) fn replace<T, const CAP: usize>(array: &mut ArrayVec<T, CAP>, i: usiz
 
 /// Overwrites the places `start..end` with defaults, the last one first.
 #[inline]
-pub(crate) fn put_defaults<T: Default + Drop, const CAP: usize>(
+pub fn put_defaults<T: Default + Drop, const CAP: usize>(
     array: &mut ArrayVec<T, CAP>,
     start: usize,
     end: usize,
@@ -60,7 +60,7 @@ pub(crate) fn put_defaults<T: Default + Drop, const CAP: usize>(
 /// Overwrites the places from `start` on with clones of the items. If cloning fails, drops the clones already made and
 /// leaves defaults there.
 #[inline(always)]
-pub(crate) fn put_clones<T: Default + Clone + Drop, const CAP: usize>(
+pub fn put_clones<T: Default + Clone + Drop, const CAP: usize>(
     array: &mut ArrayVec<T, CAP>,
     start: usize,
     items: &[T],
@@ -123,7 +123,7 @@ pub(crate) fn place_mut<T, const CAP: usize>(array: &mut ArrayVec<T, CAP>, i: us
 
 /// Returns the first `len` places as a mutable slice.
 #[inline]
-pub(crate) fn front_mut<T, const CAP: usize>(array: &mut ArrayVec<T, CAP>, len: usize) -> &mut [T]
+pub fn front_mut<T, const CAP: usize>(array: &mut ArrayVec<T, CAP>, len: usize) -> &mut [T]
     requires { len ≤ array_vec_len array.old }
     ensures* writes_back { sem 𝓛 (array_vec_lends_front T.row CAP.row array.entry result) }
     ensures value { result.now ≡ take len array.old.items }

@@ -1,7 +1,7 @@
 //! A table in memory of an allocator.
 ghost use Rattle.std.specs.Prelude.{◌≡◌, ℕ, ◌≤◌, Some, None, IsOk, IfOk, slice_set, replicate, refl};
 ghost use Rattle.std.specs.Mem.{type_size};
-ghost use Rattle.ix_cells.specs.Memory.{no_memory, table_memory};
+ghost use Rattle.ix_tables.specs.Memory.{no_memory, table_memory};
 
 use crate::cells::{MemorySize, RawSlots, Table};
 use std::alloc::{AllocError, Allocator, Global};

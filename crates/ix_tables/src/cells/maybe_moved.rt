@@ -1,7 +1,7 @@
 //! An item that may have been moved out of its place.
 ghost use Rattle.std.specs.Prelude.{◌≡◌, Some, None, IsSome};
 ghost use Rattle.std.specs.Borrow.{sem};
-ghost use Rattle.ix_cells.specs.inner.HeldItem.{moved_lends};
+ghost use Rattle.ix_tables.specs.inner.HeldItem.{moved_lends};
 
 use std::marker::{Move, Owns, Send, Sync};
 use std::mem::ManuallyDrop;
@@ -16,7 +16,7 @@ impl<T> Owns for MaybeMoved<T> {
     ghost use Rattle.std.specs.Prelude.{Option};
     ghost use denote.Memory.{shared_of};
     ghost use denote.RawPtr.{block_of, count_of};
-    ghost use Rattle.ix_cells.specs.inner.MaybeMoved.{shares_item};
+    ghost use Rattle.ix_tables.specs.inner.MaybeMoved.{shares_item};
 
     ghost Value = { Option T };
 
@@ -25,7 +25,7 @@ impl<T> Owns for MaybeMoved<T> {
 }
 
 impl<T> Move for MaybeMoved<T> {
-    ghost use Rattle.ix_cells.specs.inner.MaybeMoved.{owns_item};
+    ghost use Rattle.ix_tables.specs.inner.MaybeMoved.{owns_item};
 
     ghost own_val = { λ held vs. owns_item (λ x. Fields.own_val (record { item = x }) vs) held };
 }

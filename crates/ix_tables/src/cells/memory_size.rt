@@ -1,7 +1,7 @@
 //! How much memory is taken.
 ghost use Rattle.std.specs.Prelude.{◌≡◌};
 ghost use Rattle.std.specs.Mem.{type_size};
-ghost use Rattle.ix_cells.specs.Memory.{saturated, items_memory, memory_plus};
+ghost use Rattle.ix_tables.specs.Memory.{saturated, items_memory, memory_plus};
 
 use std::mem::size_of;
 

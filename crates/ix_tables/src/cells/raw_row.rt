@@ -7,8 +7,8 @@ ghost use Rattle.std.specs.Borrow.{ftrue, sem};
 ghost use Rattle.std.specs.Mem.{type_size};
 ghost use Rattle.std.specs.Vec.Ownership.{FitsInBlock};
 ghost use denote.RawPtr.{Ptr};
-ghost use Rattle.ix_cells.specs.Places.{place_at, IsEmptyAt, IsHeldAt, IsVacant};
-ghost use Rattle.ix_cells.specs.inner.RawMemory.{row_owns, row_shares, grant_owns};
+ghost use Rattle.ix_tables.specs.Places.{place_at, IsEmptyAt, IsHeldAt, IsVacant};
+ghost use Rattle.ix_tables.specs.inner.RawMemory.{row_owns, row_shares, grant_owns};
 
 use std::alloc::{AllocError, Allocator};
 use std::marker::{Model, PhantomData, Send, Sync};
@@ -80,7 +80,7 @@ unsafe impl<T, A: Allocator + Send> Send for RowGrant<T, A> {}
 unsafe impl<T, A: Allocator> Sync for RowGrant<T, A> {}
 
 impl<T, A: Allocator> RowGrant<T, A> {
-    ghost use Rattle.ix_cells.specs.inner.RawRows.{IsVacantRow, IsGrantFor};
+    ghost use Rattle.ix_tables.specs.inner.RawRows.{IsVacantRow, IsGrantFor};
 
     /// Allocates a row of `len` empty places.
     pub(crate) fn allocate(
@@ -122,8 +122,8 @@ impl<T, A: Allocator> RowGrant<T, A> {
 }
 
 impl<T> RowOwner<T> {
-    ghost use Rattle.ix_cells.specs.inner.RawLending.{row_lends};
-    ghost use Rattle.ix_cells.specs.inner.RawRows.{with_places, IsVacantRow};
+    ghost use Rattle.ix_tables.specs.inner.RawLending.{row_lends};
+    ghost use Rattle.ix_tables.specs.inner.RawRows.{with_places, IsVacantRow};
 
     /// Returns a row of `len` empty places that have no bytes. Does not allocate.
     // The address is never dereferenced; it has to be aligned and not null.

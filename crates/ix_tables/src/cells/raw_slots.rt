@@ -2,8 +2,8 @@
 ghost use Rattle.std.specs.Prelude.{◌≡◌, ℕ, ◌≤◌, ◌*◌, length, replicate, Some, None, false, slice_set, IfOk, IsOk};
 ghost use Rattle.std.specs.Borrow.{sem};
 ghost use Rattle.std.specs.Mem.{type_size};
-ghost use Rattle.ix_cells.specs.Memory.{no_memory, table_memory};
-ghost use Rattle.ix_cells.specs.Places.{place_at, IsEmptyAt, IsHeldAt, IsVacant};
+ghost use Rattle.ix_tables.specs.Memory.{no_memory, table_memory};
+ghost use Rattle.ix_tables.specs.Places.{place_at, IsEmptyAt, IsHeldAt, IsVacant};
 
 use crate::cells::MemorySize;
 use crate::cells::raw_row::{RowGrant, RowOwner, RowPtr};
@@ -28,7 +28,7 @@ pub struct RawSlots<T, A: Allocator = Global> {
 impl<T, A: Allocator> Model for RawSlots<T, A> {
     ghost use Rattle.std.specs.Prelude.{List, Option};
     ghost use Rattle.std.specs.Vec.{vec_allocator};
-    ghost use Rattle.ix_cells.specs.inner.RawRows.{AreParts};
+    ghost use Rattle.ix_tables.specs.inner.RawRows.{AreParts};
 
     ghost Value = { List (Option T) };
 
@@ -39,7 +39,7 @@ impl<T, A: Allocator> Model for RawSlots<T, A> {
 }
 
 impl<T, A: Allocator> RawSlots<T, A> {
-    ghost use Rattle.ix_cells.specs.Lending.{raw_slots_lends};
+    ghost use Rattle.ix_tables.specs.Lending.{raw_slots_lends};
 
     /// Returns how much memory a row of `len` places takes from its allocator when it is made: a block of the places, if
     /// they have bytes, and a block of their marks. None if `len` is 0. An allocator that rounds each block up takes more than

@@ -1,8 +1,8 @@
 //! The trait of all tables.
 ghost use Rattle.std.specs.Prelude.{◌≡◌, ℕ, List, length, Option, Some, None, slice_set};
 ghost use Rattle.std.specs.Borrow.{sem};
-ghost use Rattle.ix_cells.specs.Lending.{table_lends};
-ghost use Rattle.ix_cells.specs.Places.{place_at, IsEmptyAt, IsHeldAt, IsVacant};
+ghost use Rattle.ix_tables.specs.Lending.{table_lends};
+ghost use Rattle.ix_tables.specs.Places.{place_at, IsEmptyAt, IsHeldAt, IsVacant};
 
 /// The greatest capacity of a container that is stored inline, in items.
 pub const MAX_FIXED_CAPACITY: usize = 4_294_967_295;

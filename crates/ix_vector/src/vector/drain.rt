@@ -2,8 +2,8 @@
 ghost use Rattle.std.specs.Prelude.{◌≡◌, length, Some, IfSome};
 ghost use Rattle.std.specs.Iterator.{UpTo, at_most, item_count};
 ghost use Rattle.std.specs.Iterator.SizeHint.{IsWithinCount};
-ghost use Rattle.ix_cells.specs.Bounded.{bounded_new};
-ghost use Rattle.ix_cells.specs.VectorDrain.{drain_items, drain_capacity, DrainSteps};
+ghost use Rattle.ix_tables.specs.Bounded.{bounded_new};
+ghost use Rattle.ix_vector.specs.VectorDrain.{drain_items, drain_capacity, DrainSteps};
 
 use crate::vector::Vector;
 use std::fmt::{self, Debug, Formatter, Write};
@@ -21,7 +21,7 @@ pub struct Drain<'a, T: Drop, V: Vector<T>> {
 }
 
 impl<'a, T: Drop, V: Vector<T>> Drain<'a, T, V> {
-    ghost use Rattle.ix_cells.specs.VectorDrain.{drain_lender, DrainKeepsAlong};
+    ghost use Rattle.ix_vector.specs.VectorDrain.{drain_lender, DrainKeepsAlong};
 
     /// Returns an iterator that removes all items of `vector`, from the first to the last.
     #[inline]

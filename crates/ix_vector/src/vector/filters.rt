@@ -3,7 +3,7 @@ ghost use Rattle.std.specs.Prelude.{◌≡◌, ◌-◌, ◌<◌, ◌≤◌, List
 ghost use Rattle.std.specs.Fn.{CalledAt};
 ghost use Rattle.std.specs.List.{dedup};
 ghost use Rattle.std.specs.List.Retain.{IsFiltered};
-ghost use Rattle.ix_cells.specs.Calls.{IsCallableOnEach};
+ghost use Rattle.ix_tables.specs.Calls.{IsCallableOnEach};
 
 /// Calls `f` with each item in turn, and moves those for which it returns `true` to the front, in their order. Returns how
 /// many they are. The others follow them.

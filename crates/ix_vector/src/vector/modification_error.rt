@@ -18,7 +18,7 @@ pub enum VectorModificationError {
 }
 
 impl fmt::Display for VectorModificationError {
-    ghost use Rattle.ix_cells.specs.ErrorTexts.{vec_error_text};
+    ghost use Rattle.ix_vector.specs.ErrorTexts.{vec_error_text};
 
     ghost output = { λ error. Some (vec_error_text error) };
 

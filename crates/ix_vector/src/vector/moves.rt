@@ -1,6 +1,6 @@
 //! Items that move from one vector to another.
 ghost use Rattle.std.specs.Prelude.{◌≡◌, ◌-◌, ◌≤◌, ◌++◌, length, take, drop, reverse};
-ghost use Rattle.ix_cells.specs.VectorSteps.{HasRoomFor, vec_extend, vec_truncate};
+ghost use Rattle.ix_vector.specs.VectorSteps.{HasRoomFor, vec_extend, vec_truncate};
 
 use crate::vector::Vector;
 

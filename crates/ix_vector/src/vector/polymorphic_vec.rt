@@ -4,15 +4,15 @@ ghost use Rattle.std.specs.Cmp.{on_per, on_equiv};
 ghost use Rattle.std.specs.Cmp.Lexicographic.{pointwise, lists_per, lists_equiv};
 ghost use Rattle.std.proofs.Common.{arith, ap};
 ghost use Rattle.std.proofs.lemmas.Grind.{common_steps};
-ghost use Rattle.ix_cells.specs.Bounded.{bounded_new, with_items, IsFull};
-ghost use Rattle.ix_cells.specs.Calls.{IsCallableBelow, ResultsFrom};
-ghost use Rattle.ix_cells.specs.Cloning.{AreEqualClones};
-ghost use Rattle.ix_cells.specs.Memory.{items_memory, no_memory};
+ghost use Rattle.ix_tables.specs.Bounded.{bounded_new, with_items, IsFull};
+ghost use Rattle.ix_tables.specs.Calls.{IsCallableBelow, ResultsFrom};
+ghost use Rattle.ix_tables.specs.Cloning.{AreEqualClones};
+ghost use Rattle.ix_tables.specs.Memory.{items_memory, no_memory};
 ghost use Rattle.std.specs.Mem.{type_size};
-ghost use Rattle.ix_cells.specs.VectorSteps.{vec_refill};
+ghost use Rattle.ix_vector.specs.VectorSteps.{vec_refill};
 
-use crate::cells::MemorySize;
 use crate::vector::Vector;
+use ix_tables::cells::MemorySize;
 use std::alloc::{AllocError, Allocator, Global};
 use std::marker::Model;
 use std::{fmt, slice, vec};
@@ -30,7 +30,7 @@ pub struct PolymorphicVec<T, A: Allocator = Global> {
 
 impl<T, A: Allocator> Model for PolymorphicVec<T, A> {
     ghost use Rattle.std.specs.Prelude.{length, ◌≤◌, vec_capacity};
-    ghost use Rattle.ix_cells.specs.Bounded.{Bounded, bounded_code};
+    ghost use Rattle.ix_tables.specs.Bounded.{Bounded, bounded_code};
 
     ghost Value = { Bounded T };
 
@@ -188,7 +188,7 @@ impl<'a, T: Drop, A: Allocator> IntoIterator for &'a PolymorphicVec<T, A> {
 
     type IntoIter = slice::Iter<'a, T>;
 
-    ghost use Rattle.ix_cells.specs.Iterating.{YieldsRefsTo};
+    ghost use Rattle.ix_vector.specs.Iterating.{YieldsRefsTo};
 
     ghost into_iter_gives = { λ vector it. YieldsRefsTo vector.now.items it };
 
@@ -204,7 +204,7 @@ impl<'a, T: Drop, A: Allocator> IntoIterator for &'a mut PolymorphicVec<T, A> {
     type IntoIter = slice::IterMut<'a, T>;
 
     ghost use Rattle.std.specs.Borrow.{sem};
-    ghost use Rattle.ix_cells.specs.Iterating.{YieldsMutRefsTo, polymorphic_vec_lends_iter};
+    ghost use Rattle.ix_vector.specs.Iterating.{YieldsMutRefsTo, polymorphic_vec_lends_iter};
 
     ghost into_iter_gives = { λ vector it. YieldsMutRefsTo vector.now.items it };
 

@@ -1,9 +1,9 @@
 //! The vector that is made in two steps.
 ghost use Rattle.std.specs.Prelude.{◌≡◌};
-ghost use Rattle.ix_cells.specs.Bounded.{bounded_new};
+ghost use Rattle.ix_tables.specs.Bounded.{bounded_new};
 
-use crate::cells::{ContainerFamily, Uninit};
 use crate::vector::PolymorphicVec;
+use ix_tables::cells::{ContainerFamily, Uninit};
 use std::alloc::{AllocError, Allocator, Global};
 use std::marker::PhantomData;
 

@@ -1,7 +1,7 @@
 //! The calls of slices on vectors.
 ghost use Rattle.std.specs.Prelude.{◌≡◌};
 ghost use Rattle.std.specs.Borrow.{sem};
-ghost use Rattle.ix_cells.specs.Lending.{polymorphic_vec_lends, static_vec_lends};
+ghost use Rattle.ix_vector.specs.Lending.{polymorphic_vec_lends, static_vec_lends};
 
 use crate::vector::{PolymorphicVec, StaticVec, Vector};
 use std::alloc::Allocator;

@@ -3,18 +3,18 @@ ghost use Rattle.std.specs.Prelude.{◌≡◌, ◌+◌, ◌<◌, ◌≤◌, [], 
 ghost use Rattle.std.specs.List.{AllZip, AppendsClones, refill};
 ghost use Rattle.std.specs.Iterator.{IsFiniteIterable};
 ghost use Rattle.std.specs.Cmp.Lexicographic.{pointwise, lists_per, lists_equiv};
-ghost use Rattle.ix_cells.specs.Bounded.{bounded_new};
-ghost use Rattle.ix_cells.specs.Cloning.{AreInfallible};
-ghost use Rattle.ix_cells.specs.Iterating.{AreItemsOf, YieldsMoreThanFit};
-ghost use Rattle.ix_cells.specs.declared.vector.modification_error.VectorModificationError.TheVariants.{InsertWouldExceedCapacity, OutOfBounds};
+ghost use Rattle.ix_tables.specs.Bounded.{bounded_new};
+ghost use Rattle.ix_tables.specs.Cloning.{AreInfallible};
+ghost use Rattle.ix_vector.specs.Iterating.{AreItemsOf, YieldsMoreThanFit};
+ghost use Rattle.ix_vector.specs.declared.vector.modification_error.VectorModificationError.TheVariants.{InsertWouldExceedCapacity, OutOfBounds};
 ghost use Rattle.std.proofs.Common.{arith, ap};
 ghost use Rattle.std.proofs.lemmas.Grind.{common_steps};
 
-use crate::cells::MAX_FIXED_CAPACITY;
-use crate::cells::full_array::{front_mut, put, put_clones, put_defaults, replace};
 use crate::vector::moves::move_tail;
 use crate::vector::{Vector, VectorModificationError};
 use arrayvec::ArrayVec;
+use ix_tables::cells::MAX_FIXED_CAPACITY;
+use ix_tables::cells::full_array::{front_mut, put, put_clones, put_defaults, replace};
 use std::alloc::AllocError;
 use std::marker::Model;
 use std::{fmt, mem, slice};
@@ -35,7 +35,7 @@ pub struct StaticVec<T: Default, const CAPACITY: usize> {
 impl<T: Default, const CAPACITY: usize> Model for StaticVec<T, CAPACITY> {
     ghost use Rattle.std.specs.Prelude.{List, take};
     ghost use Rattle.std.specs.Coded.{coded_list};
-    ghost use Rattle.ix_cells.specs.inner.FullArrays.{IsFront};
+    ghost use Rattle.ix_tables.specs.FullArrays.{IsFront};
 
     ghost Value = { List T };
 
@@ -254,7 +254,7 @@ impl<'a, T: Default + Drop, const CAPACITY: usize> IntoIterator for &'a StaticVe
 
     type IntoIter = slice::Iter<'a, T>;
 
-    ghost use Rattle.ix_cells.specs.Iterating.{YieldsRefsTo};
+    ghost use Rattle.ix_vector.specs.Iterating.{YieldsRefsTo};
 
     ghost into_iter_gives = { λ vector it. YieldsRefsTo vector.now it };
 
@@ -270,7 +270,7 @@ impl<'a, T: Default + Drop, const CAPACITY: usize> IntoIterator for &'a mut Stat
     type IntoIter = slice::IterMut<'a, T>;
 
     ghost use Rattle.std.specs.Borrow.{sem};
-    ghost use Rattle.ix_cells.specs.Iterating.{YieldsMutRefsTo, static_vec_lends_iter};
+    ghost use Rattle.ix_vector.specs.Iterating.{YieldsMutRefsTo, static_vec_lends_iter};
 
     ghost into_iter_gives = { λ vector it. YieldsMutRefsTo vector.now it };
 
@@ -286,7 +286,7 @@ impl<'a, T: Default + Drop, const CAPACITY: usize> IntoIterator for &'a mut Stat
 impl<T: Default + Clone, const CAPACITY: usize> TryFrom<&[T]> for StaticVec<T, CAPACITY> {
     type Error = VectorModificationError;
 
-    ghost use Rattle.ix_cells.specs.Conversions.{StaticVecFromSlice};
+    ghost use Rattle.ix_vector.specs.Conversions.{StaticVecFromSlice};
 
     ghost try_from_gives = { λ items result.
         StaticVecFromSlice CAPACITY T.is_clone T.is_infallible items.now result };
@@ -315,7 +315,7 @@ impl<T: Default + Clone, const CAPACITY: usize, const N: usize> TryFrom<&[T; N]>
     for StaticVec<T, CAPACITY> {
     type Error = VectorModificationError;
 
-    ghost use Rattle.ix_cells.specs.Conversions.{StaticVecFromSlice};
+    ghost use Rattle.ix_vector.specs.Conversions.{StaticVecFromSlice};
 
     ghost try_from_gives = { λ items result.
         StaticVecFromSlice CAPACITY T.is_clone T.is_infallible items.now result };
@@ -330,7 +330,7 @@ impl<T: Default + Drop, const CAPACITY: usize, const N: usize> TryFrom<[T; N]>
     for StaticVec<T, CAPACITY> {
     type Error = [T; N];
 
-    ghost use Rattle.ix_cells.specs.Conversions.{StaticVecFromArray};
+    ghost use Rattle.ix_vector.specs.Conversions.{StaticVecFromArray};
 
     ghost try_from_gives = { λ items result. StaticVecFromArray CAPACITY items result };
 

@@ -1,5 +1,5 @@
 use Rattle.std.proofs.Common.{◌≡◌, ◌≤◌, ◌+◌, length, take}
-use Rattle.ix_cells.specs.VectorSteps.{vec_extend}
+use Rattle.ix_vector.specs.VectorSteps.{vec_extend}
 use Rattle.ix_commands.proofs.vector.extend_by_copies.Given as goal
 
 abbrev pub invariant-loop-item : goal.invariant-loop-item

@@ -1,14 +1,13 @@
 use Rattle.std.proofs.Common.{◌+◌, sym, ap, ◌∙◌, subst, arith}
 use Rattle.std.proofs.lemmas.Bool.{iff_false}
-use Rattle.ix_cells.proofs.Places.{held_item}
-use Rattle.ix_maps.specs.SlotState.{value_at}
-use Rattle.ix_maps.specs.SlotCalls.{ChangesItem}
-use Rattle.ix_maps.specs.FlatSteps.{flat_set}
-use Rattle.ix_maps.specs.FlatCalls.{CallAtKey, TakesKey}
-use Rattle.ix_maps.proofs.Generations.{none_of_not_some}
-use Rattle.ix_maps.proofs.SlotCalls.{Settles-slot_set, Visited, Visited-free, Visited-held}
-use Rattle.ix_maps.proofs.FlatCalls.{AtPlace, SameKeys-set, SameKeys-both, flat_keys-same, flat_set-at, Visited-bounded, Visited-takes}
-use Rattle.ix_maps.proofs.pair_places.change_each.Goals as goal
+use Rattle.ix_tables.proofs.Places.{held_item, none_of_not_some}
+use Rattle.ix_slottable.specs.SlotState.{value_at}
+use Rattle.ix_slottable.specs.SlotCalls.{ChangesItem}
+use Rattle.ix_flatmap.specs.FlatSteps.{flat_set}
+use Rattle.ix_flatmap.specs.FlatCalls.{CallAtKey, TakesKey}
+use Rattle.ix_slottable.proofs.SlotCalls.{Settles-slot_set, Visited, Visited-free, Visited-held}
+use Rattle.ix_flatmap.proofs.FlatCalls.{AtPlace, SameKeys-set, SameKeys-both, flat_keys-same, flat_set-at, Visited-bounded, Visited-takes}
+use Rattle.ix_flatmap.proofs.pair_places.change_each.Goals as goal
 
 pub loop-number-preserved-then-not-has_pair : goal.loop-number-preserved-then-not-has_pair
 loop-number-preserved-then-not-has_pair g c =

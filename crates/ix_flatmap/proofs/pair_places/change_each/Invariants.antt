@@ -1,11 +1,11 @@
 use Rattle.std.proofs.Common.{◌≡◌}
-use Rattle.ix_maps.specs.FlatState.{HasDistinctKeys}
-use Rattle.ix_maps.specs.FlatSteps.{flat_set}
-use Rattle.ix_maps.specs.FlatCalls.{CallAtKey}
-use Rattle.ix_maps.specs.SlotCalls.{ChangesItem}
-use Rattle.ix_maps.proofs.SlotCalls.{Visited}
-use Rattle.ix_maps.proofs.FlatCalls.{AtPlace, SameKeys}
-use Rattle.ix_maps.proofs.pair_places.change_each.Given as goal
+use Rattle.ix_flatmap.specs.FlatState.{HasDistinctKeys}
+use Rattle.ix_flatmap.specs.FlatSteps.{flat_set}
+use Rattle.ix_flatmap.specs.FlatCalls.{CallAtKey}
+use Rattle.ix_slottable.specs.SlotCalls.{ChangesItem}
+use Rattle.ix_slottable.proofs.SlotCalls.{Visited}
+use Rattle.ix_flatmap.proofs.FlatCalls.{AtPlace, SameKeys}
+use Rattle.ix_flatmap.proofs.pair_places.change_each.Given as goal
 
 abbrev pub invariant-loop-number : goal.invariant-loop-number
 invariant-loop-number g l = record {

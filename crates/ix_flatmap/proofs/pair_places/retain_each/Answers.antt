@@ -1,19 +1,18 @@
 use Rattle.std.proofs.Common.{◌≡◌, ◌+◌, refl, sym, ap, ◌∙◌, subst, arith}
 use Rattle.std.proofs.lemmas.Bool.{iff_false}
-use Rattle.ix_cells.proofs.Places.{held_item}
+use Rattle.ix_tables.proofs.Places.{held_item, none_of_not_some}
 use Rattle.std.specs.Prelude.{if◌then◌else◌, Bool}
-use Rattle.ix_maps.specs.SlotState.{SlotState, value_at}
-use Rattle.ix_maps.specs.SlotSteps.{slot_set, slot_remove}
-use Rattle.ix_maps.specs.FlatState.{HasDistinctKeys}
-use Rattle.ix_maps.specs.declared.flatmap.pair.Pair.{Pair}
-use Rattle.ix_maps.specs.SlotCalls.{RetainsItem}
-use Rattle.ix_maps.specs.FlatSteps.{flat_set, flat_remove}
-use Rattle.ix_maps.specs.FlatCalls.{CallAtKey, TakesKey}
-use Rattle.ix_maps.proofs.Generations.{none_of_not_some}
-use Rattle.ix_maps.proofs.SlotCalls.{slot_remove-slot_set, Settles-retained, Visited, Visited-free, Visited-held}
-use Rattle.ix_maps.proofs.FlatCalls.{AtPlace, SameKeys-set, KeysWere, KeysWere-same, KeysWere-vacated, KeysWere-both, IsSome-flat_value, flat_retained, Visited-bounded, Visited-takes}
-use Rattle.ix_maps.proofs.pair_places.retain_each.Goals.{then-not-call_at, else-not-call_at}
-use Rattle.ix_maps.proofs.pair_places.retain_each.Goals as goal
+use Rattle.ix_slottable.specs.SlotState.{SlotState, value_at}
+use Rattle.ix_slottable.specs.SlotSteps.{slot_set, slot_remove}
+use Rattle.ix_flatmap.specs.FlatState.{HasDistinctKeys}
+use Rattle.ix_flatmap.specs.declared.flatmap.pair.Pair.{Pair}
+use Rattle.ix_slottable.specs.SlotCalls.{RetainsItem}
+use Rattle.ix_flatmap.specs.FlatSteps.{flat_set, flat_remove}
+use Rattle.ix_flatmap.specs.FlatCalls.{CallAtKey, TakesKey}
+use Rattle.ix_slottable.proofs.SlotCalls.{slot_remove-slot_set, Settles-retained, Visited, Visited-free, Visited-held}
+use Rattle.ix_flatmap.proofs.FlatCalls.{AtPlace, SameKeys-set, KeysWere, KeysWere-same, KeysWere-vacated, KeysWere-both, IsSome-flat_value, flat_retained, Visited-bounded, Visited-takes}
+use Rattle.ix_flatmap.proofs.pair_places.retain_each.Goals.{then-not-call_at, else-not-call_at}
+use Rattle.ix_flatmap.proofs.pair_places.retain_each.Goals as goal
 
 pub loop-number-init : goal.loop-number-init
 loop-number-init g c = record {

@@ -1,10 +1,10 @@
-use Rattle.ix_maps.specs.FlatState.{HasDistinctKeys}
-use Rattle.ix_maps.specs.FlatSteps.{flat_set, flat_remove}
-use Rattle.ix_maps.specs.FlatCalls.{CallAtKey}
-use Rattle.ix_maps.specs.SlotCalls.{RetainsItem}
-use Rattle.ix_maps.proofs.SlotCalls.{Visited}
-use Rattle.ix_maps.proofs.FlatCalls.{AtPlace, KeysWere}
-use Rattle.ix_maps.proofs.pair_places.retain_each.Given as goal
+use Rattle.ix_flatmap.specs.FlatState.{HasDistinctKeys}
+use Rattle.ix_flatmap.specs.FlatSteps.{flat_set, flat_remove}
+use Rattle.ix_flatmap.specs.FlatCalls.{CallAtKey}
+use Rattle.ix_slottable.specs.SlotCalls.{RetainsItem}
+use Rattle.ix_slottable.proofs.SlotCalls.{Visited}
+use Rattle.ix_flatmap.proofs.FlatCalls.{AtPlace, KeysWere}
+use Rattle.ix_flatmap.proofs.pair_places.retain_each.Given as goal
 
 abbrev pub invariant-loop-number : goal.invariant-loop-number
 invariant-loop-number g l = record {

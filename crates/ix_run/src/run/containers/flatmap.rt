@@ -5,17 +5,16 @@ use crate::run::devices::ReplyWriter;
 use crate::run::replies::append_items;
 use crate::run::{Reply, Runs, ScriptFault, read_flat_command};
 use bumpalo::Bump;
-use ix_cells::{RelocatableContainer, Table};
-use ix_maps::{
-    FixedSizeFlatMap, FlatMap, Link, MetaFlatMap, Pair, RelocatableFlatMap, UninitFlatMap,
-};
+use ix_flatmap::{FixedSizeFlatMap, FlatMap, MetaFlatMap, Pair, RelocatableFlatMap, UninitFlatMap};
+use ix_slottable::Link;
+use ix_tables::{RelocatableContainer, Table};
 use std::alloc::Global;
 use std::io::Write;
 
 impl<S: Table<Pair<u64, u64>>, L: Table<Link>> Served for MetaFlatMap<Pair<u64, u64>, S, L> {
     ghost use Rattle.std.specs.Prelude.{ℕ, nat_eq};
-    ghost use Rattle.ix_maps.specs.SlotState.{SlotState};
-    ghost use Rattle.ix_maps.specs.declared.flatmap.pair.Pair.{Pair};
+    ghost use Rattle.ix_slottable.specs.SlotState.{SlotState};
+    ghost use Rattle.ix_flatmap.specs.declared.flatmap.pair.Pair.{Pair};
     ghost use Rattle.ix_commands.specs.FlatRun.{flat_reply, flat_after};
     ghost use Rattle.ix_run.specs.Forms.{flat_forms};
     ghost use Rattle.ix_run.specs.Script.{spelled_reply, spelled_after, flat_shown};

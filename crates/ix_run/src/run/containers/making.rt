@@ -1,6 +1,6 @@
 //! The container that a header asks for.
 ghost use Rattle.std.specs.Prelude.{◌≤◌, IfSome};
-ghost use Rattle.ix_cells.specs.declared.cells.table.TheConstants.{MAX_FIXED_CAPACITY};
+ghost use Rattle.ix_tables.specs.declared.cells.table.TheConstants.{MAX_FIXED_CAPACITY};
 ghost use Rattle.ix_run.specs.Headers.{capacity_of, fixed_capacity};
 ghost use Rattle.ix_run.specs.inner.Input.{lines_to_come};
 ghost use Rattle.ix_run.specs.inner.Progress.{ReplyResult};

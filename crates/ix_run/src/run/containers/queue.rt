@@ -5,14 +5,14 @@ use crate::run::devices::ReplyWriter;
 use crate::run::replies::append_items;
 use crate::run::{Reply, Runs, ScriptFault, read_queue_command};
 use bumpalo::Bump;
-use ix_cells::{RelocatableContainer, Table};
-use ix_maps::{FixedSizeQueue, MetaQueue, Queue, RelocatableQueue, UninitQueue};
+use ix_queue::{FixedSizeQueue, MetaQueue, Queue, RelocatableQueue, UninitQueue};
+use ix_tables::{RelocatableContainer, Table};
 use std::alloc::Global;
 use std::io::Write;
 
 impl<S: Table<u64>> Served for MetaQueue<u64, S> {
     ghost use Rattle.std.specs.Prelude.{ℕ};
-    ghost use Rattle.ix_cells.specs.Bounded.{Bounded};
+    ghost use Rattle.ix_tables.specs.Bounded.{Bounded};
     ghost use Rattle.ix_commands.specs.QueueRun.{queue_reply, queue_after};
     ghost use Rattle.ix_run.specs.Forms.{queue_forms};
     ghost use Rattle.ix_run.specs.Script.{spelled_reply, spelled_after, list_shown};

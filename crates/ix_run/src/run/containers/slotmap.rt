@@ -9,10 +9,11 @@ use crate::run::devices::{ReplyBuffer, ReplyWriter};
 use crate::run::replies::{ListedItem, ReplyKey, append_items};
 use crate::run::{Reply, Runs, ScriptFault, read_slot_command};
 use bumpalo::Bump;
-use ix_cells::{RelocatableContainer, Table};
-use ix_maps::{
-    FixedSizeSlotMap, Link, MetaSlotMap, RelocatableSlotMap, SlotMap, SlotMapKey, UninitSlotMap,
+use ix_slotmap::{
+    FixedSizeSlotMap, MetaSlotMap, RelocatableSlotMap, SlotMap, SlotMapKey, UninitSlotMap,
 };
+use ix_slottable::Link;
+use ix_tables::{RelocatableContainer, Table};
 use std::alloc::Global;
 use std::io::Write;
 
@@ -31,7 +32,7 @@ impl<'a> ListedItem for (SlotMapKey, &'a u64) {
 impl<S: Table<Option<u64>>, L: Table<Link>, G: Table<u64>> Served
     for MetaSlotMap<Option<u64>, S, L, G> {
     ghost use Rattle.std.specs.Prelude.{ℕ};
-    ghost use Rattle.ix_maps.specs.Generations.{SlotMapState};
+    ghost use Rattle.ix_slotmap.specs.Generations.{SlotMapState};
     ghost use Rattle.ix_run.specs.Script.{slot_line_reply, slot_line_after, slot_shown};
 
     type Key = SlotMapKey;

@@ -7,11 +7,11 @@ use crate::run::devices::{ReplyBuffer, ReplyWriter};
 use crate::run::replies::{ListedItem, append_items};
 use crate::run::{Reply, Runs, ScriptFault, read_table_command};
 use bumpalo::Bump;
-use ix_cells::{RelocatableContainer, Table};
-use ix_maps::{
+use ix_slottable::{
     FixedSizeSlotTable, Link, MetaSlotTable, RelocatableSlotTable, SlotTable, SlotTableKey,
     UninitSlotTable,
 };
+use ix_tables::{RelocatableContainer, Table};
 use std::alloc::Global;
 use std::io::Write;
 
@@ -29,7 +29,7 @@ impl<'a> ListedItem for (SlotTableKey, &'a u64) {
 
 impl<S: Table<u64>, L: Table<Link>> Served for MetaSlotTable<u64, S, L> {
     ghost use Rattle.std.specs.Prelude.{ℕ};
-    ghost use Rattle.ix_maps.specs.SlotState.{SlotState};
+    ghost use Rattle.ix_slottable.specs.SlotState.{SlotState};
     ghost use Rattle.ix_commands.specs.TableRun.{table_reply, table_after};
     ghost use Rattle.ix_run.specs.Forms.{table_forms};
     ghost use Rattle.ix_run.specs.Script.{spelled_reply, spelled_after, table_shown};

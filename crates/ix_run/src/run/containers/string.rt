@@ -8,10 +8,10 @@ use crate::run::containers::served::Served;
 use crate::run::devices::{MAX_NUMBERS, ReplyBuffer, ReplyPart, ReplyWriter};
 use crate::run::{Reply, Runs, ScriptFault, read_text_command};
 use bumpalo::Bump;
-use ix_cells::RelocatableContainer;
 use ix_string::{
     PolymorphicString, RelocatableString, StaticString, String, UninitString, escape_byte,
 };
+use ix_tables::RelocatableContainer;
 use std::alloc::Global;
 use std::io::Write;
 
@@ -110,7 +110,7 @@ fn append_quoted<W: Write>(
 
 impl<S: String> Served for StringLines<S> {
     ghost use Rattle.std.specs.Prelude.{ℕ};
-    ghost use Rattle.ix_cells.specs.Bounded.{Bounded};
+    ghost use Rattle.ix_tables.specs.Bounded.{Bounded};
     ghost use Rattle.ix_commands.specs.TextRun.{text_reply, text_after};
     ghost use Rattle.ix_run.specs.Forms.{text_forms};
     ghost use Rattle.ix_run.specs.Script.{spelled_reply, spelled_after, text_shown};

@@ -7,9 +7,8 @@ use crate::run::devices::{MAX_NUMBERS, ReplyWriter};
 use crate::run::replies::append_items;
 use crate::run::{Reply, Runs, ScriptFault, read_vec_command};
 use bumpalo::Bump;
-use ix_cells::{
-    PolymorphicVec, RelocatableContainer, RelocatableVec, StaticVec, UninitVec, Vector,
-};
+use ix_tables::RelocatableContainer;
+use ix_vector::{PolymorphicVec, RelocatableVec, StaticVec, UninitVec, Vector};
 use std::alloc::Global;
 use std::io::Write;
 
@@ -33,7 +32,7 @@ impl<V: Vector<u64>> VecLines<V> {
 
 impl<V: Vector<u64>> Served for VecLines<V> {
     ghost use Rattle.std.specs.Prelude.{ℕ};
-    ghost use Rattle.ix_cells.specs.Bounded.{Bounded};
+    ghost use Rattle.ix_tables.specs.Bounded.{Bounded};
     ghost use Rattle.ix_commands.specs.VecRun.{vec_reply, vec_after};
     ghost use Rattle.ix_run.specs.Forms.{vec_forms};
     ghost use Rattle.ix_run.specs.Script.{spelled_reply, spelled_after, list_shown};

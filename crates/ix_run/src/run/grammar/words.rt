@@ -9,7 +9,7 @@ ghost use Rattle.ix_run.specs.Words.{takes_none, takes_one, takes_two, one_byte,
 ghost use Rattle.ix_run.specs.inner.LineRest.{words_after, len_after, byte_of};
 
 use crate::run::grammar::reading::number_in;
-use ix_maps::SlotMapKey;
+use ix_slotmap::SlotMapKey;
 
 /// Returns the number of bytes before the first `separator`.
 #[inline(always)]

@@ -6,7 +6,7 @@ ghost use Rattle.ix_run.specs.declared.run.devices.limits.TheConstants.{BUFFER_L
 
 use crate::run::devices::{ReplyBuffer, ReplyPart};
 use crate::run::{Reply, ReplyError};
-use ix_maps::SlotMapKey;
+use ix_slotmap::SlotMapKey;
 
 /// Returns the line that names an error.
 fn error_line(error: ReplyError) -> &'static [u8]

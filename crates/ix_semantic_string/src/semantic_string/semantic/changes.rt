@@ -6,8 +6,8 @@ ghost use Rattle.std.specs.Prelude.{◌≡◌, ◌-◌, ◌≤◌, [], ◌∷◌
 ghost use Rattle.std.specs.List.{insert_slice};
 ghost use Rattle.ix_string.specs.Retain.{IsCallableAtText, Retains};
 ghost use Rattle.ix_string.specs.Text.{MatchesAt, EndsWith};
-ghost use Rattle.ix_names.specs.Rules.{IsAccepted};
-ghost use Rattle.ix_names.specs.SemanticSteps.{SemanticResult, text_without_range};
+ghost use Rattle.ix_semantic_string.specs.Rules.{IsAccepted};
+ghost use Rattle.ix_semantic_string.specs.SemanticSteps.{SemanticResult, text_without_range};
 
 use crate::semantic_string::semantic::judge;
 use crate::semantic_string::{Rules, Semantic, SemanticStringError};

@@ -6,8 +6,8 @@ ghost use Rattle.std.specs.Cmp.Rules.{comparing, hashing};
 ghost use Rattle.std.specs.Ordering.{as_partial_cmp};
 ghost use Rattle.std.proofs.Common.{rules};
 ghost use Rattle.ix_string.specs.Escape.{escaped_text};
-ghost use Rattle.ix_names.specs.Rules.{means_the_same, compare_meanings};
-ghost use Rattle.ix_names.specs.SemanticSteps.{SemanticResult};
+ghost use Rattle.ix_semantic_string.specs.Rules.{means_the_same, compare_meanings};
+ghost use Rattle.ix_semantic_string.specs.SemanticSteps.{SemanticResult};
 
 use crate::semantic_string::{Rules, Semantic, SemanticStringError};
 use ix_string::String;

@@ -1,6 +1,6 @@
 use Rattle.std.proofs.Common.{arith}
-use Rattle.ix_maps.proofs.SlotCopies.{places_same}
-use Rattle.ix_maps.proofs.slotmap.word_table.copy_items.Goals as goal
+use Rattle.ix_slottable.proofs.SlotCopies.{places_same}
+use Rattle.ix_slottable.proofs.full_table.copy_items.Goals as goal
 
 pub returns : goal.returns
 returns g c =

@@ -1,6 +1,6 @@
 use Rattle.std.proofs.Common.{◌≡◌, ℕ, ◌<◌, ◌≤◌, length, None}
-use Rattle.ix_cells.specs.Places.{place_at}
-use Rattle.ix_maps.proofs.slotmap.word_table.copy_items.Given as goal
+use Rattle.ix_tables.specs.Places.{place_at}
+use Rattle.ix_slottable.proofs.full_table.copy_items.Given as goal
 
 -- the items so far are copied, and the other places are still empty
 abbrev pub invariant-loop-place : goal.invariant-loop-place

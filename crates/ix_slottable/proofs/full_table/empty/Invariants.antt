@@ -1,6 +1,6 @@
 use Rattle.std.proofs.Common.{◌≡◌, ℕ, ◌<◌, ◌≤◌, length, None}
-use Rattle.ix_cells.specs.Places.{place_at, IsHeldAt}
-use Rattle.ix_maps.proofs.slotmap.word_table.empty.Given as goal
+use Rattle.ix_tables.specs.Places.{place_at, IsHeldAt}
+use Rattle.ix_slottable.proofs.full_table.empty.Given as goal
 
 -- nothing is left in the places so far, and the others still hold a number
 abbrev pub invariant-loop-place : goal.invariant-loop-place

@@ -1,6 +1,6 @@
 use Rattle.std.proofs.Common.{◌≡◌, ℕ, ◌<◌, ◌≤◌, length, Some, None}
-use Rattle.ix_cells.specs.Places.{place_at}
-use Rattle.ix_maps.proofs.slotmap.word_table.fill.Given as goal
+use Rattle.ix_tables.specs.Places.{place_at}
+use Rattle.ix_slottable.proofs.full_table.fill.Given as goal
 
 -- the places so far are filled, and the others are still empty
 abbrev pub invariant-loop-place : goal.invariant-loop-place

@@ -1,4 +1,4 @@
-use Rattle.ix_maps.proofs.QueueCalls.{IsCallableOnEachMut-always}
+use Rattle.ix_queue.proofs.QueueCalls.{IsCallableOnEachMut-always}
 use Rattle.tests_queues.proofs.replacing.change_each.Goals as goal
 
 pub for_each_mut-requires : goal.for_each_mut-requires

@@ -1,4 +1,4 @@
-use Rattle.ix_maps.proofs.QueueCalls.{IsCallableOnEach-always}
+use Rattle.ix_queue.proofs.QueueCalls.{IsCallableOnEach-always}
 use Rattle.tests_queues.proofs.replacing.keep_passing.Goals as goal
 
 pub retain-requires : goal.retain-requires

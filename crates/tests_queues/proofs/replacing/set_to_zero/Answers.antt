@@ -1,5 +1,5 @@
 use Rattle.std.proofs.Common.{rules}
-use Rattle.ix_maps.proofs.QueueCalls.{ChangesInTurn-map}
+use Rattle.ix_queue.proofs.QueueCalls.{ChangesInTurn-map}
 use Rattle.tests_queues.proofs.replacing.set_to_zero.Goals as goal
 
 pub returns-clause-items : goal.returns-clause-items

@@ -1,10 +1,10 @@
 use Rattle.std.proofs.Common.{ℕ, ◌<◌, length, sym, ap, ◌∙◌, subst}
-use Rattle.ix_maps.specs.SlotState.{value_at, IsHeld}
-use Rattle.ix_maps.specs.inner.HashChains.{chain_from, LeadsToKey}
-use Rattle.ix_maps.proofs.FlatEntries.{flat_entry-IsEntry}
-use Rattle.ix_maps.proofs.HashChains.{on_chain-first}
-use Rattle.ix_maps.proofs.HashSteps.{LeadsToKey-held, LeadsToKey-next, LeadsToKey-shorter, LeadsToKey-end}
-use Rattle.ix_maps.proofs.hashmap.search.find_from.Goals as goal
+use Rattle.ix_slottable.specs.SlotState.{value_at, IsHeld}
+use Rattle.ix_hashmap.specs.inner.HashChains.{chain_from, LeadsToKey}
+use Rattle.ix_flatmap.proofs.FlatEntries.{flat_entry-IsEntry}
+use Rattle.ix_hashmap.proofs.HashChains.{on_chain-first}
+use Rattle.ix_hashmap.proofs.HashSteps.{LeadsToKey-held, LeadsToKey-next, LeadsToKey-shorter, LeadsToKey-end}
+use Rattle.ix_hashmap.proofs.hashmap.search.find_from.Goals as goal
 
 pub get_unchecked-pair-requires : goal.get_unchecked-pair-requires
 get_unchecked-pair-requires g c =

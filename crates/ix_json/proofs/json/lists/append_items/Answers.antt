@@ -1,7 +1,7 @@
 use Rattle.std.proofs.Common.{◌≡◌, ◌<◌, ◌≤◌, ◌+◌, ◌-◌, ◌∷◌, [], ◌++◌, length, take, drop, arith}
 use Rattle.std.proofs.lemmas.Grind.{common_steps}
-use Rattle.ix_names.proofs.Filling.{IsFilledWith-push, IsFilledWith-all, list_filled-fault, list_filled-too_long}
-use Rattle.ix_names.proofs.json.lists.append_items.Goals as goal
+use Rattle.ix_json.proofs.Filling.{IsFilledWith-push, IsFilledWith-all, list_filled-fault, list_filled-too_long}
+use Rattle.ix_json.proofs.json.lists.append_items.Goals as goal
 
 pub returns-then-len-remaining_capacity-clause-fault : goal.returns-then-len-remaining_capacity-clause-fault
 returns-then-len-remaining_capacity-clause-fault g c =

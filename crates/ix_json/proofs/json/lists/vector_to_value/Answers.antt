@@ -4,8 +4,8 @@ use Rattle.serde_json.proofs.Views.{view-Array}
 use Rattle.serde_json.specs.Data.{array}
 use Rattle.serde_json.specs.Find.{as_array}
 use Rattle.serde_json.specs.View.{items_of}
-use Rattle.ix_names.proofs.Entries.{AreForms-push, list_read-AreForms}
-use Rattle.ix_names.proofs.json.lists.vector_to_value.Goals as goal
+use Rattle.ix_json.proofs.Entries.{AreForms-push, list_read-AreForms}
+use Rattle.ix_json.proofs.json.lists.vector_to_value.Goals as goal
 
 pub loop-item-preserved : goal.loop-item-preserved
 loop-item-preserved g c =

@@ -1,8 +1,8 @@
 use Rattle.std.proofs.Common.{◌≡◌}
 use Rattle.serde_json.specs.View.{members_view}
-use Rattle.ix_names.specs.JsonTree.{bytes_read, new_key}
-use Rattle.ix_names.proofs.Objects.{members_make, read_so}
-use Rattle.ix_names.proofs.json.maps.check_members.Given as goal
+use Rattle.ix_json.specs.JsonTree.{bytes_read, new_key}
+use Rattle.ix_json.proofs.Objects.{members_make, read_so}
+use Rattle.ix_json.proofs.json.maps.check_members.Given as goal
 
 -- the members that are still to come have the fault that all have
 abbrev pub invariant-loop-name : goal.invariant-loop-name

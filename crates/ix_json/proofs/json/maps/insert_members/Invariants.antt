@@ -1,8 +1,8 @@
 use Rattle.std.proofs.Common.{◌≡◌}
 use Rattle.serde_json.specs.View.{members_view}
-use Rattle.ix_names.specs.JsonTree.{bytes_read, map_with}
-use Rattle.ix_names.proofs.Objects.{members_make}
-use Rattle.ix_names.proofs.json.maps.insert_members.Given as goal
+use Rattle.ix_json.specs.JsonTree.{bytes_read, map_with}
+use Rattle.ix_json.proofs.Objects.{members_make}
+use Rattle.ix_json.proofs.json.maps.insert_members.Given as goal
 
 -- the members that are still to come make of the map what all make of the first one
 abbrev pub invariant-loop-name : goal.invariant-loop-name

@@ -3,8 +3,8 @@ use Rattle.std.specs.List.{AllByRecursion, fold}
 use Rattle.serde_json.proofs.Views.{members_view-insert_entry}
 use Rattle.serde_json.specs.Data.{put}
 use Rattle.serde_json.specs.View.{members_view}
-use Rattle.ix_names.specs.inner.Objects.{IsItemReadBack}
-use Rattle.ix_names.proofs.json.maps.map_to_value.Goals as goal
+use Rattle.ix_json.specs.inner.Objects.{IsItemReadBack}
+use Rattle.ix_json.proofs.json.maps.map_to_value.Goals as goal
 
 pub loop-key-preserved : goal.loop-key-preserved
 loop-key-preserved g c =

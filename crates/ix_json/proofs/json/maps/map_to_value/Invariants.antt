@@ -2,10 +2,10 @@ use Rattle.std.proofs.Common.{◌≡◌}
 use Rattle.std.specs.List.{AllByRecursion, fold}
 use Rattle.serde_json.specs.Data.{put}
 use Rattle.serde_json.specs.View.{members_view}
-use Rattle.ix_maps.specs.FlatState.{flat_items}
-use Rattle.ix_names.specs.JsonTree.{item_members}
-use Rattle.ix_names.specs.inner.Objects.{IsItemReadBack}
-use Rattle.ix_names.proofs.json.maps.map_to_value.Given as goal
+use Rattle.ix_flatmap.specs.FlatState.{flat_items}
+use Rattle.ix_json.specs.JsonTree.{item_members}
+use Rattle.ix_json.specs.inner.Objects.{IsItemReadBack}
+use Rattle.ix_json.proofs.json.maps.map_to_value.Given as goal
 
 -- with the items that are still to come the members are those of the map, and all items are read back if these are
 abbrev pub invariant-loop-key : goal.invariant-loop-key

@@ -1,8 +1,8 @@
 use Rattle.std.proofs.Common.{◌≡◌, ◌<◌, ◌≤◌, ◌+◌, ◌-◌, ◌∷◌, [], ◌++◌, length, take, drop, arith, true}
 use Rattle.std.proofs.lemmas.Grind.{common_steps}
-use Rattle.ix_cells.specs.Bounded.{has_room, with_items}
-use Rattle.ix_names.proofs.Filling.{IsFilledWith-push, IsFilledWith-all, list_filled-fault, list_filled-too_long}
-use Rattle.ix_names.proofs.json.queues.push_items.Goals as goal
+use Rattle.ix_tables.specs.Bounded.{has_room, with_items}
+use Rattle.ix_json.proofs.Filling.{IsFilledWith-push, IsFilledWith-all, list_filled-fault, list_filled-too_long}
+use Rattle.ix_json.proofs.json.queues.push_items.Goals as goal
 
 pub returns-then-len-capacity-clause-fault : goal.returns-then-len-capacity-clause-fault
 returns-then-len-capacity-clause-fault g c =

@@ -2,8 +2,8 @@ use Rattle.std.proofs.Common.{◌≡◌, ◌∙◌, ◌∷◌, [], ◌++◌, ap,
 use Rattle.std.proofs.lemmas.Grind.{common_steps}
 use Rattle.serde_json.proofs.Views.{view-Array}
 use Rattle.serde_json.specs.Find.{as_array}
-use Rattle.ix_names.proofs.Entries.{AreForms-push, list_read-AreForms}
-use Rattle.ix_names.proofs.json.queues.queue_to_value.Goals as goal
+use Rattle.ix_json.proofs.Entries.{AreForms-push, list_read-AreForms}
+use Rattle.ix_json.proofs.json.queues.queue_to_value.Goals as goal
 
 pub loop-item-preserved : goal.loop-item-preserved
 loop-item-preserved g c =

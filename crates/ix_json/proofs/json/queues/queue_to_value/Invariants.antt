@@ -1,6 +1,6 @@
 use Rattle.std.proofs.Common.{◌≡◌, ◌++◌, List}
-use Rattle.ix_names.proofs.Entries.{AreForms}
-use Rattle.ix_names.proofs.json.queues.queue_to_value.Given as goal
+use Rattle.ix_json.proofs.Entries.{AreForms}
+use Rattle.ix_json.proofs.json.queues.queue_to_value.Given as goal
 
 -- the items so far, and those that are still to come
 abbrev pub invariant-loop-item : goal.invariant-loop-item

@@ -1,6 +1,6 @@
 use Rattle.std.proofs.Common.{sym}
-use Rattle.ix_names.proofs.TextTrees.{bytes_read-fits}
-use Rattle.ix_names.proofs.json.texts.string_from_text.Goals as goal
+use Rattle.ix_json.proofs.TextTrees.{bytes_read-fits}
+use Rattle.ix_json.proofs.json.texts.string_from_text.Goals as goal
 
 pub returns-in-Ok : goal.returns-in-Ok
 returns-in-Ok g c =

@@ -1,8 +1,8 @@
 use Rattle.std.proofs.Common.{◌≡◌, arith}
 use Rattle.std.proofs.lemmas.Grind.{common_steps}
 use Rattle.ix_string.proofs.Texts.{IsUtf8-text}
-use Rattle.ix_names.proofs.TextTrees.{bytes_read-fits}
-use Rattle.ix_names.proofs.json.texts.text_from_string.Goals as goal
+use Rattle.ix_json.proofs.TextTrees.{bytes_read-fits}
+use Rattle.ix_json.proofs.json.texts.text_from_string.Goals as goal
 
 pub from_utf8_unchecked-requires : goal.from_utf8_unchecked-requires
 from_utf8_unchecked-requires g c =

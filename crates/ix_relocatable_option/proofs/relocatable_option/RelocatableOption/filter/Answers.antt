@@ -1,5 +1,5 @@
 use Rattle.std.proofs.Common.{refl, true, false}
-use Rattle.ix_names.proofs.relocatable_option.RelocatableOption.filter.Goals as goal
+use Rattle.ix_relocatable_option.proofs.relocatable_option.RelocatableOption.filter.Goals as goal
 
 pub returns-then-predicate : goal.returns-then-predicate
 returns-then-predicate g c =

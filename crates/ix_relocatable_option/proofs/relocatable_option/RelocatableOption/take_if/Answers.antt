@@ -1,6 +1,6 @@
 use Rattle.std.proofs.Common.{refl, inl, inr, ap}
-use Rattle.ix_names.specs.Optional.{option_of}
-use Rattle.ix_names.proofs.relocatable_option.RelocatableOption.take_if.Goals as goal
+use Rattle.ix_relocatable_option.specs.Optional.{option_of}
+use Rattle.ix_relocatable_option.proofs.relocatable_option.RelocatableOption.take_if.Goals as goal
 
 pub returns-then-predicate : goal.returns-then-predicate
 returns-then-predicate g c =

@@ -1,7 +1,7 @@
 use Rattle.std.proofs.Common.{refl, nat_eq}
-use Rattle.ix_cells.specs.Bounded.{bounded_new}
-use Rattle.ix_maps.specs.SlotState.{slot_new}
-use Rattle.ix_maps.specs.Generations.{map_new}
+use Rattle.ix_tables.specs.Bounded.{bounded_new}
+use Rattle.ix_slottable.specs.SlotState.{slot_new}
+use Rattle.ix_slotmap.specs.Generations.{map_new}
 use Rattle.ix_commands.specs.SlotRun.{slot_reply, slot_after}
 use Rattle.ix_commands.specs.QueueRun.{queue_reply, queue_after}
 use Rattle.ix_commands.specs.VecRun.{vec_reply, vec_after}

@@ -8,7 +8,7 @@ ghost use Rattle.ix_run.specs.inner.NameTables.{constant_rows, first_word, IsNam
 use crate::run::SlotCommand;
 use crate::run::grammar::name_table::{Takes, read_by_table, read_numbers, split_name};
 use crate::run::grammar::words::{key_in, split_word};
-use ix_maps::SlotMapKey;
+use ix_slotmap::SlotMapKey;
 
 /// The name of a command without a key.
 #[derive(Clone, Copy)]

@@ -1,8 +1,8 @@
 use Rattle.std.proofs.Common.{◌-◌, ◌≡◌, ◌≤◌, length, take, ◌+◌}
 use Rattle.std.specs.List.{suffix_len}
 use Rattle.std.specs.Prelude.{min}
-use Rattle.ix_names.specs.SampleRules.{is_slash}
-use Rattle.ix_names.proofs.semantic_string.trailing_slash.meaning_len.Given as goal
+use Rattle.ix_semantic_string.specs.SampleRules.{is_slash}
+use Rattle.ix_semantic_string.proofs.semantic_string.trailing_slash.meaning_len.Given as goal
 
 -- the bytes from len on are slashes
 abbrev pub invariant-loop-len : goal.invariant-loop-len

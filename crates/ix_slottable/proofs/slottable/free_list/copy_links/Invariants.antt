@@ -1,6 +1,6 @@
 use Rattle.std.proofs.Common.{◌≡◌, ℕ, ◌<◌, length}
-use Rattle.ix_cells.specs.Places.{place_at, IsHeldAt}
-use Rattle.ix_maps.proofs.slottable.free_list.copy_links.Given as goal
+use Rattle.ix_tables.specs.Places.{place_at, IsHeldAt}
+use Rattle.ix_slottable.proofs.slottable.free_list.copy_links.Given as goal
 
 -- the links before the key are copied
 abbrev pub invariant-loop-key : goal.invariant-loop-key

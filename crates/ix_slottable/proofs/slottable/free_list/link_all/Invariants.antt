@@ -1,8 +1,8 @@
 use Rattle.std.proofs.Common.{◌≡◌, ℕ, ◌+◌, ◌-◌, ◌<◌, ◌≤◌, length, Some, None}
 use Rattle.std.specs.Prelude.{nat_eq, if◌then◌else◌}
-use Rattle.ix_cells.specs.Places.{place_at}
-use Rattle.ix_maps.specs.inner.FreeList.{no_key, free_link}
-use Rattle.ix_maps.proofs.slottable.free_list.link_all.Given as goal
+use Rattle.ix_tables.specs.Places.{place_at}
+use Rattle.ix_slottable.specs.inner.FreeList.{no_key, free_link}
+use Rattle.ix_slottable.proofs.slottable.free_list.link_all.Given as goal
 
 -- the keys so far are linked, and the others are not yet
 abbrev pub invariant-loop-key : goal.invariant-loop-key

@@ -1,7 +1,7 @@
 use Rattle.std.proofs.Common.{◌≡◌, ℕ, ◌<◌, ◌≤◌, length, None}
-use Rattle.ix_cells.specs.Places.{place_at}
-use Rattle.ix_maps.specs.inner.FreeList.{MatchesLink}
-use Rattle.ix_maps.proofs.slottable.meta_slot_table.drop_all.Given as goal
+use Rattle.ix_tables.specs.Places.{place_at}
+use Rattle.ix_slottable.specs.inner.FreeList.{MatchesLink}
+use Rattle.ix_slottable.proofs.slottable.meta_slot_table.drop_all.Given as goal
 
 -- nothing is left before the key, and from there on all is as it was
 abbrev pub invariant-loop-key : goal.invariant-loop-key

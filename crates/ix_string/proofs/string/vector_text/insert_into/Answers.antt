@@ -2,8 +2,8 @@ use Rattle.std.proofs.Common.{ℕ, ◌≡◌, ◌+◌, ◌-◌, ◌++◌, ◌∙
 use Rattle.std.specs.List.{insert_slice}
 use Rattle.std.proofs.lemmas.Grind.{common_steps}
 use Rattle.std.proofs.lemmas.List.{length-take-le, take_rest}
-use Rattle.ix_cells.specs.Bounded.{Bounded, with_items}
-use Rattle.ix_cells.specs.VectorSteps.{vec_extend}
+use Rattle.ix_tables.specs.Bounded.{Bounded, with_items}
+use Rattle.ix_vector.specs.VectorSteps.{vec_extend}
 use Rattle.ix_string.proofs.Insertions.{insert_slice-parts}
 use Rattle.ix_string.proofs.string.vector_text.insert_into.Goals as goal
 

@@ -1,6 +1,6 @@
 use Rattle.std.proofs.Common.{ℕ, ◌≡◌, ◌∙◌, slice_range, get_or, ap, arith}
 use Rattle.std.proofs.lemmas.List.{get_or_append_left}
-use Rattle.ix_cells.specs.Bounded.{Bounded}
+use Rattle.ix_tables.specs.Bounded.{Bounded}
 use Rattle.ix_string.proofs.Insertions.{vec_extend-more}
 use Rattle.ix_string.proofs.string.vector_text.push_again.Goals as goal
 

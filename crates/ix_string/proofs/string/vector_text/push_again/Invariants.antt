@@ -1,5 +1,5 @@
 use Rattle.std.proofs.Common.{◌≡◌, slice_range}
-use Rattle.ix_cells.specs.VectorSteps.{vec_extend}
+use Rattle.ix_vector.specs.VectorSteps.{vec_extend}
 use Rattle.ix_string.proofs.string.vector_text.push_again.Given as goal
 
 abbrev pub invariant-loop-idx : goal.invariant-loop-idx

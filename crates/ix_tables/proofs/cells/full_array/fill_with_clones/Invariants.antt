@@ -1,6 +1,6 @@
 use Rattle.std.proofs.Common.{◌≡◌, length, take}
 use Rattle.std.specs.List.{AllZip}
-use Rattle.ix_cells.proofs.cells.full_array.fill_with_clones.Given as goal
+use Rattle.ix_tables.proofs.cells.full_array.fill_with_clones.Given as goal
 
 abbrev pub invariant-loop-i : goal.invariant-loop-i
 invariant-loop-i g l = record {

@@ -1,5 +1,5 @@
 use Rattle.std.proofs.Common.{◌≡◌, All, length, drop}
-use Rattle.ix_cells.proofs.cells.full_array.fill_with_defaults.Given as goal
+use Rattle.ix_tables.proofs.cells.full_array.fill_with_defaults.Given as goal
 
 -- the number of places stays, and those from i on are defaults
 abbrev pub invariant-loop-i : goal.invariant-loop-i

@@ -33,13 +33,13 @@ use denote.Triple.Entry.{alive}
 use denote.Triple.Spec.{triple_of}
 use denote.Triple.Table.{framed}
 use denote.Triple.Walked.{says, Goes-dropped, Goes-spent_ref, walk_of, ends_at}
-use Rattle.ix_cells.proofs.Fronts.{lent, lends}
-use Rattle.ix_cells.proofs.Loans.{args, R, S, Slice, ends, lent_on, stayed, AllLent}
-use Rattle.ix_cells.proofs.cells.full_array.all_mut.Met.{met}
-use Rattle.ix_cells.proofs.cells.full_array.front_mut.Statement.{statement}
-use Rattle.ix_cells.proofs.cells.full_array.front_mut.Code as code
-use Rattle.ix_cells.specs.contracts.cells.full_array.all_mut as g
-use Rattle.ix_cells.specs.contracts.cells.full_array.front_mut as f
+use Rattle.ix_tables.proofs.Fronts.{lent, lends}
+use Rattle.ix_tables.proofs.Loans.{args, R, S, Slice, ends, lent_on, stayed, AllLent}
+use Rattle.ix_tables.proofs.cells.full_array.all_mut.Met.{met}
+use Rattle.ix_tables.proofs.cells.full_array.front_mut.Statement.{statement}
+use Rattle.ix_tables.proofs.cells.full_array.front_mut.Code as code
+use Rattle.ix_tables.specs.contracts.cells.full_array.all_mut as g
+use Rattle.ix_tables.specs.contracts.cells.full_array.front_mut as f
 
 module _ (X : RattleType) (cap : ℕ) where
   abbrev function : Fn
@@ -66,7 +66,7 @@ front_mut_spec 𝓤 𝓛 𝓜 𝓡 wired X cap L fits =
     move ! (1 ∷ 0 ∷ []) $ use2 𝓛 (raw (G.pre z)) (id⊢ 𝓤 _) $ keep ! (0 ∷ []) $
     enter ! _ _ _ _ _ $ alloc_all ! (λ l. pass_all ! refl ((tt, tt), ((tt, record { fits = are.1.0.1 }), tt)) $
     sets ! (addr ! (through ! refl (stop !))) refl (tt, tt) $
-    calls_at ! (framed 𝓤 𝓛.H 𝓜 (tables 𝓤 𝓛.H 𝓜 𝓡 𝓡.env)) G (met 𝓤 𝓛 𝓜 𝓡 (code.calls-ix_cells::cells::full_array::all_mut 𝓡.env wired) X cap L fits) z
+    calls_at ! (framed 𝓤 𝓛.H 𝓜 (tables 𝓤 𝓛.H 𝓜 𝓡 𝓡.env)) G (met 𝓤 𝓛 𝓜 𝓡 (code.calls-ix_tables::cells::full_array::all_mut 𝓡.env wired) X cap L fits) z
     (and_then ! (get ! refl) (no_more !)) (λ v.
     use1 𝓛 (AllLent X cap 𝓛 κs qs r v) (id⊢ 𝓤 _) $
     await ! tt $ pick ! (λ all. split ! $ split ! $ move ! (2 ∷ []) $ pick ! (λ ws. split3 ! $ drop ! $ move ! (1 ∷ []) $ heard ! _ (λ same.

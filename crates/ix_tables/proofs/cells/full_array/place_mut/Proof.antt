@@ -37,14 +37,14 @@ use denote.Triple.Entry.{alive}
 use denote.Triple.Spec.{triple_of}
 use denote.Triple.Table.{framed}
 use denote.Triple.Walked.{says, Goes-dropped, Goes-spent_ref, walk_of, ends_at}
-use Rattle.ix_cells.proofs.Loans.{args, R, S, Slice, ends, lent_on, stayed, AllLent, states}
-use Rattle.ix_cells.proofs.cells.full_array.all_mut.Met.{met as all_met}
-use Rattle.ix_cells.proofs.cells.full_array.place_of.Met.{met as place_met}
-use Rattle.ix_cells.proofs.cells.full_array.place_mut.Statement.{statement}
-use Rattle.ix_cells.proofs.cells.full_array.place_mut.Code as code
-use Rattle.ix_cells.specs.contracts.cells.full_array.all_mut as g
-use Rattle.ix_cells.specs.contracts.cells.full_array.place_of as h
-use Rattle.ix_cells.specs.contracts.cells.full_array.place_mut as f
+use Rattle.ix_tables.proofs.Loans.{args, R, S, Slice, ends, lent_on, stayed, AllLent, states}
+use Rattle.ix_tables.proofs.cells.full_array.all_mut.Met.{met as all_met}
+use Rattle.ix_tables.proofs.cells.full_array.place_of.Met.{met as place_met}
+use Rattle.ix_tables.proofs.cells.full_array.place_mut.Statement.{statement}
+use Rattle.ix_tables.proofs.cells.full_array.place_mut.Code as code
+use Rattle.ix_tables.specs.contracts.cells.full_array.all_mut as g
+use Rattle.ix_tables.specs.contracts.cells.full_array.place_of as h
+use Rattle.ix_tables.specs.contracts.cells.full_array.place_mut as f
 
 module _ (X : RattleType) (cap : ℕ) where
   abbrev function : Fn
@@ -87,7 +87,7 @@ place_mut_spec 𝓤 𝓛 𝓜 𝓡 wired X cap L fits =
     move ! (1 ∷ 0 ∷ []) $ use2 𝓛 (raw (G.pre z)) (id⊢ 𝓤 _) $ keep ! (0 ∷ 1 ∷ []) $
     enter ! _ _ _ _ _ $ alloc_all ! (λ l. pass_all ! refl ((tt, tt), ((tt, record { fits = are.1.0.1 }), tt)) $
     sets ! (addr ! (through ! refl (stop !))) refl (tt, tt) $
-    calls_at ! (framed 𝓤 𝓛.H 𝓜 (tables 𝓤 𝓛.H 𝓜 𝓡 𝓡.env)) G (all_met 𝓤 𝓛 𝓜 𝓡 (code.calls-ix_cells::cells::full_array::all_mut 𝓡.env wired) X cap L fits) z
+    calls_at ! (framed 𝓤 𝓛.H 𝓜 (tables 𝓤 𝓛.H 𝓜 𝓡 𝓡.env)) G (all_met 𝓤 𝓛 𝓜 𝓡 (code.calls-ix_tables::cells::full_array::all_mut 𝓡.env wired) X cap L fits) z
     (and_then ! (get ! refl) (no_more !)) (λ v.
     use1 𝓛 (AllLent X cap 𝓛 κs qs r v) (id⊢ 𝓤 _) $
     await ! tt $ pick ! (λ all. split ! $ split ! $ move ! (2 ∷ []) $ pick ! (λ ws. split3 ! $ drop ! $ move ! (1 ∷ []) $ heard ! _ (λ same.
@@ -103,7 +103,7 @@ place_mut_spec 𝓤 𝓛 𝓜 𝓡 wired X cap L fits =
     move ! (0 ∷ 2 ∷ []) $ join ! $
     let inside : i < length all.now = omega (arith, ap length same) in states ! inside $ states ! outlives $ join ! $
     move ! (1 ∷ 0 ∷ []) $ use2 𝓛 (raw (H.pre z')) (id⊢ 𝓤 _) $
-    calls_at ! (framed 𝓤 𝓛.H 𝓜 (tables 𝓤 𝓛.H 𝓜 𝓡 𝓡.env)) H (place_met 𝓤 𝓛 𝓜 𝓡 (code.calls-ix_cells::cells::full_array::place_of 𝓡.env wired) X L) z'
+    calls_at ! (framed 𝓤 𝓛.H 𝓜 (tables 𝓤 𝓛.H 𝓜 𝓡 𝓡.env)) H (place_met 𝓤 𝓛 𝓜 𝓡 (code.calls-ix_tables::cells::full_array::place_of 𝓡.env wired) X L) z'
     (and_then ! (get ! refl) (and_then ! (get ! refl) (no_more !))) (λ w.
     use1 𝓛 (PlaceLent X cap 𝓛 short_κs short_qs all i w) (id⊢ 𝓤 _) $
     await ! tt $ pick ! (λ place. split ! $ split ! $ move ! (2 ∷ []) $ pick ! (λ ws'. split3 ! $ drop ! $ move ! (1 ∷ []) $ heard ! _ (λ holds.

@@ -1,6 +1,6 @@
 use Rattle.std.proofs.Common.{◌+◌, ◌≤◌, length, arith}
-use Rattle.ix_cells.proofs.FullArrays.{length-refill, take-refill, AppendsClones-refill}
-use Rattle.ix_cells.proofs.cells.full_array.put_clones.Goals as goal
+use Rattle.ix_tables.proofs.FullArrays.{length-refill, take-refill, AppendsClones-refill}
+use Rattle.ix_tables.proofs.cells.full_array.put_clones.Goals as goal
 
 pub returns : goal.returns
 returns g c =

@@ -1,5 +1,5 @@
-use Rattle.ix_cells.proofs.FullArrays.{length-refill, take-refill, between-refill, drop-refill}
-use Rattle.ix_cells.proofs.cells.full_array.put_defaults.Goals as goal
+use Rattle.ix_tables.proofs.FullArrays.{length-refill, take-refill, between-refill, drop-refill}
+use Rattle.ix_tables.proofs.cells.full_array.put_defaults.Goals as goal
 
 pub returns : goal.returns
 returns g c =

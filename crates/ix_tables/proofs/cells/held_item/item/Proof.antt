@@ -1,18 +1,18 @@
 -- `item` shows the item of a held place. Assumes `Logic`.
-use Rattle.ix_cells.proofs.RawNames.{◌≡◌, ℕ, List, [], ◌∷◌, Some, refl, proved, leaves, SProp, emp, ftrue, flft, Fn, named, inst_fn}
-use Rattle.ix_cells.proofs.RawNames.{Val, vptr, ◌⊑◌, fact, fact_i, tables, ‵, raw, ◌⊛◌, at_ret, ◌$◌, ◌∵◌, !, qed, by, move, keep}
-use Rattle.ix_cells.proofs.RawNames.{drop, use0, split, rewrite, fsplit, fjoin, feq_i, stop, addr, of_opd, bin, align_word, first}
-use Rattle.ix_cells.proofs.RawNames.{blocks, exec, returns, enter, alloc_all, pass_all, free_all, look_at, get, through, sets}
-use Rattle.ix_cells.proofs.RawNames.{sets_last, env, RefOf, yes, hide, unhide, layout, owns, shr_vals, shr_Tells, plain, types_at}
-use Rattle.ix_cells.proofs.RawNames.{nothing, heard, Stays, stay_dropped, walk_of, Goes-dropped, after}
+use Rattle.ix_tables.proofs.RawNames.{◌≡◌, ℕ, List, [], ◌∷◌, Some, refl, proved, leaves, SProp, emp, ftrue, flft, Fn, named, inst_fn}
+use Rattle.ix_tables.proofs.RawNames.{Val, vptr, ◌⊑◌, fact, fact_i, tables, ‵, raw, ◌⊛◌, at_ret, ◌$◌, ◌∵◌, !, qed, by, move, keep}
+use Rattle.ix_tables.proofs.RawNames.{drop, use0, split, rewrite, fsplit, fjoin, feq_i, stop, addr, of_opd, bin, align_word, first}
+use Rattle.ix_tables.proofs.RawNames.{blocks, exec, returns, enter, alloc_all, pass_all, free_all, look_at, get, through, sets}
+use Rattle.ix_tables.proofs.RawNames.{sets_last, env, RefOf, yes, hide, unhide, layout, owns, shr_vals, shr_Tells, plain, types_at}
+use Rattle.ix_tables.proofs.RawNames.{nothing, heard, Stays, stay_dropped, walk_of, Goes-dropped, after}
 use Rattle.std.specs.Prelude.{IsSome}
 use denote.Ref.{Bor}
-use Rattle.ix_cells.specs.contracts.cells.held_item.item as f
-use Rattle.ix_cells.proofs.HeldItems.{Item, Place, behind, lies_behind}
-use Rattle.ix_cells.proofs.Places.{held_item}
-use Rattle.ix_cells.proofs.RawSteps.{inst}
-use Rattle.ix_cells.proofs.cells.held_item.item.Statement.{statement}
-use Rattle.ix_cells.proofs.cells.held_item.item.Code as code
+use Rattle.ix_tables.specs.contracts.cells.held_item.item as f
+use Rattle.ix_tables.proofs.HeldItems.{Item, Place, behind, lies_behind}
+use Rattle.ix_tables.proofs.Places.{held_item}
+use Rattle.ix_tables.proofs.RawSteps.{inst}
+use Rattle.ix_tables.proofs.cells.held_item.item.Statement.{statement}
+use Rattle.ix_tables.proofs.cells.held_item.item.Code as code
 
 pub item_spec : {M : Type 1} → statement M
 item_spec 𝓤 𝓛 𝓜 𝓡 wired T L =

@@ -1,22 +1,22 @@
 -- `item_mut` lends the item of a held place, which stays held. Assumes `Logic`.
-use Rattle.ix_cells.proofs.RawNames.{◌≡◌, [], ◌∷◌, Some, refl, proved, leaves, full_share, SProp, emp, id⊢}
-use Rattle.ix_cells.proofs.RawNames.{GName, ftrue, flft, Fn, named, inst_fn, Val, vptr, ◌⊑◌, fact, fact_i, tables}
-use Rattle.ix_cells.proofs.RawNames.{‵, raw, ◌⊛◌, some, later, at_ret, ◌$◌, ◌∵◌, !, qed, by, move, keep, drop, pick, await, use0, use1}
-use Rattle.ix_cells.proofs.RawNames.{split, split3, join, group, rewrite, fsplit, fsplit3, fjoin, stop, addr, of_opd, bin, align_word}
-use Rattle.ix_cells.proofs.RawNames.{first, blocks, exec, returns, enter, alloc_all, pass_all, free_all, look_at, get, through, sets}
-use Rattle.ix_cells.proofs.RawNames.{sets_last, env, no, mem, layout, owns, MutBor, MutRef, mut_vals, plain, types_at, mut_ref_to}
-use Rattle.ix_cells.proofs.RawNames.{nothing, heard, Stays, stay_dropped, walk_of, Goes-spent_ref, after}
+use Rattle.ix_tables.proofs.RawNames.{◌≡◌, [], ◌∷◌, Some, refl, proved, leaves, full_share, SProp, emp, id⊢}
+use Rattle.ix_tables.proofs.RawNames.{GName, ftrue, flft, Fn, named, inst_fn, Val, vptr, ◌⊑◌, fact, fact_i, tables}
+use Rattle.ix_tables.proofs.RawNames.{‵, raw, ◌⊛◌, some, later, at_ret, ◌$◌, ◌∵◌, !, qed, by, move, keep, drop, pick, await, use0, use1}
+use Rattle.ix_tables.proofs.RawNames.{split, split3, join, group, rewrite, fsplit, fsplit3, fjoin, stop, addr, of_opd, bin, align_word}
+use Rattle.ix_tables.proofs.RawNames.{first, blocks, exec, returns, enter, alloc_all, pass_all, free_all, look_at, get, through, sets}
+use Rattle.ix_tables.proofs.RawNames.{sets_last, env, no, mem, layout, owns, MutBor, MutRef, mut_vals, plain, types_at, mut_ref_to}
+use Rattle.ix_tables.proofs.RawNames.{nothing, heard, Stays, stay_dropped, walk_of, Goes-spent_ref, after}
 use Rattle.std.specs.Prelude.{IsSome}
 use types.Mut.{open_ref}
 use denote.Follow.{follows, Part, lends_Part}
 use denote.Memory.{part_at}
 use denote.Ref.{mut_Tells}
-use Rattle.ix_cells.specs.contracts.cells.held_item.item_mut as f
-use Rattle.ix_cells.proofs.HeldItems.{Item, Place, behind, left, item_apart, item_back}
-use Rattle.ix_cells.proofs.Places.{held_item}
-use Rattle.ix_cells.proofs.RawSteps.{inst}
-use Rattle.ix_cells.proofs.cells.held_item.item_mut.Statement.{statement}
-use Rattle.ix_cells.proofs.cells.held_item.item_mut.Code as code
+use Rattle.ix_tables.specs.contracts.cells.held_item.item_mut as f
+use Rattle.ix_tables.proofs.HeldItems.{Item, Place, behind, left, item_apart, item_back}
+use Rattle.ix_tables.proofs.Places.{held_item}
+use Rattle.ix_tables.proofs.RawSteps.{inst}
+use Rattle.ix_tables.proofs.cells.held_item.item_mut.Statement.{statement}
+use Rattle.ix_tables.proofs.cells.held_item.item_mut.Code as code
 
 pub item_mut_spec : {M : Type 1} → statement M
 item_mut_spec 𝓤 𝓛 𝓜 𝓡 wired T L =

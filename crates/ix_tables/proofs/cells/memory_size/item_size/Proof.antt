@@ -1,5 +1,5 @@
 -- `item_size` returns the size of its type, or the greatest number if that is greater. Assumes `Logic`.
-use Rattle.ix_cells.proofs.RawNames.{ℕ, List, [], ◌∷◌, refl, proved, ftrue, flft, Fn, inst_fn, Val, ‵, raw, ◌⊛◌, ◌$◌, ◌∵◌, !, qed, split, move, drop, keep, fjoin, feq_i, of_opd, returns, enter, alloc_all, pass_all, free_all, look_at, sets, layout, nothing, Stays, walk_of}
+use Rattle.ix_tables.proofs.RawNames.{ℕ, List, [], ◌∷◌, refl, proved, ftrue, flft, Fn, inst_fn, Val, ‵, raw, ◌⊛◌, ◌$◌, ◌∵◌, !, qed, split, move, drop, keep, fjoin, feq_i, of_opd, returns, enter, alloc_all, pass_all, free_all, look_at, sets, layout, nothing, Stays, walk_of}
 use Prim.Native.Nat.{◌^◌}
 use mir.Syntax.{w64}
 use mir.Val.{vint}
@@ -8,11 +8,11 @@ use prog.Capped.{capped_fits}
 use types.Kit.{suffices, done, join, flt_i}
 use types.Run.{size_word}
 use denote.Triple.Walked.{says, ends_at}
-use Rattle.ix_cells.specs.contracts.cells.memory_size.item_size as f
-use Rattle.ix_cells.proofs.Memory.{capped-is_saturated}
-use Rattle.ix_cells.proofs.RawSteps.{inst}
-use Rattle.ix_cells.proofs.cells.memory_size.item_size.Statement.{statement}
-use Rattle.ix_cells.proofs.cells.memory_size.item_size.Code as code
+use Rattle.ix_tables.specs.contracts.cells.memory_size.item_size as f
+use Rattle.ix_tables.proofs.Memory.{capped-is_saturated}
+use Rattle.ix_tables.proofs.RawSteps.{inst}
+use Rattle.ix_tables.proofs.cells.memory_size.item_size.Statement.{statement}
+use Rattle.ix_tables.proofs.cells.memory_size.item_size.Code as code
 
 pub item_size_spec : {M : Type 1} → statement M
 item_size_spec 𝓤 𝓛 𝓜 𝓡 wired T L =

@@ -1,6 +1,6 @@
 use Rattle.std.proofs.Common.{◌≡◌, length, false, ◌≤◌, vec_capacity}
 use Rattle.std.specs.Prelude.{replicate}
-use Rattle.ix_cells.proofs.cells.raw_slots.unmarked.Given as goal
+use Rattle.ix_tables.proofs.cells.raw_slots.unmarked.Given as goal
 
 abbrev pub invariant-loop-i : goal.invariant-loop-i
 invariant-loop-i g l = record {

@@ -1,9 +1,9 @@
 use Rattle.std.proofs.Common.{◌≡◌, ◌-◌, ◌≤◌, ◌∙◌, ◌++◌, [], ◌∷◌, length, take, refl, sym, ap, arith, append-nil, append_assoc, length-append}
 use Rattle.std.proofs.lemmas.Grind.{common_steps}
-use Rattle.ix_cells.specs.Bounded.{with_items}
-use Rattle.ix_cells.specs.VectorSteps.{vec_extend, vec_pop, vec_last}
-use Rattle.ix_cells.proofs.Tails.{no_last, popped-next, popped-count, popped-items, popped-moved}
-use Rattle.ix_cells.proofs.vector.moves.pop_into.Goals as goal
+use Rattle.ix_tables.specs.Bounded.{with_items}
+use Rattle.ix_vector.specs.VectorSteps.{vec_extend, vec_pop, vec_last}
+use Rattle.ix_vector.proofs.Tails.{no_last, popped-next, popped-count, popped-items, popped-moved}
+use Rattle.ix_vector.proofs.vector.moves.pop_into.Goals as goal
 
 pub loop-from-init : goal.loop-from-init
 loop-from-init g c =

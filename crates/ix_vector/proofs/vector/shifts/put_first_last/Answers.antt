@@ -1,8 +1,8 @@
 use Rattle.std.proofs.Common.{◌≡◌, ◌+◌, ◌-◌, ◌∙◌, length, sym, ap, arith}
 use Rattle.std.proofs.Math.ListN.{get_or}
 use Rattle.std.proofs.lemmas.List.{get_or-set_same, get_or-set_other}
-use Rattle.ix_cells.proofs.Shifts.{is_first_last}
-use Rattle.ix_cells.proofs.vector.shifts.put_first_last.Goals as goal
+use Rattle.ix_vector.proofs.Shifts.{is_first_last}
+use Rattle.ix_vector.proofs.vector.shifts.put_first_last.Goals as goal
 
 pub returns-clause-items : goal.returns-clause-items
 returns-clause-items g c =

@@ -1,8 +1,8 @@
 use Rattle.std.proofs.Common.{sym, subst}
-use Rattle.ix_maps.specs.SlotCopies.{SlotIsInfallible}
-use Rattle.ix_maps.specs.FlatCopies.{PairIsClone, PairIsInfallible}
-use Rattle.ix_maps.proofs.FlatCopies.{IsBound-clone, HasDistinctKeys-clone}
-use Rattle.ix_maps.proofs.flatmap.copies.FixedSizeFlatMapClone.clone.Goals as goal
+use Rattle.ix_slottable.specs.SlotCopies.{SlotIsInfallible}
+use Rattle.ix_flatmap.specs.FlatCopies.{PairIsClone, PairIsInfallible}
+use Rattle.ix_flatmap.proofs.FlatCopies.{IsBound-clone, HasDistinctKeys-clone}
+use Rattle.ix_flatmap.proofs.flatmap.copies.FixedSizeFlatMapClone.clone.Goals as goal
 
 pub invariant_of-result : goal.invariant_of-result
 invariant_of-result g c = (

@@ -1,8 +1,8 @@
 use Rattle.std.proofs.Common.{sym, subst}
-use Rattle.ix_maps.specs.FlatState.{HasDistinctKeys}
-use Rattle.ix_maps.specs.inner.FlatSearch.{IsBound}
-use Rattle.ix_maps.proofs.FlatCopies.{AreEqualClones-pair}
-use Rattle.ix_maps.proofs.flatmap.copies.FlatMap+K+V+A.try_clone_in.Goals as goal
+use Rattle.ix_flatmap.specs.FlatState.{HasDistinctKeys}
+use Rattle.ix_flatmap.specs.inner.FlatSearch.{IsBound}
+use Rattle.ix_flatmap.proofs.FlatCopies.{AreEqualClones-pair}
+use Rattle.ix_flatmap.proofs.flatmap.copies.FlatMap+K+V+A.try_clone_in.Goals as goal
 
 pub try_clone_in-requires : goal.try_clone_in-requires
 try_clone_in-requires g c = AreEqualClones-pair g.K.PartialEq.eq g.K.Clone.is_clone g.V.Clone.is_clone c.requires.keys c.requires.values

@@ -1,10 +1,10 @@
 use Rattle.std.proofs.Common.{◌≡◌, ℕ, List, [], ◌∷◌, Some, None, IsSome, inl, refl, sym, ap, ◌∙◌, subst}
 use Rattle.std.specs.Prelude.{option_map, slice_get}
 use Rattle.std.specs.Option.{UnwrapsOrElse}
-use Rattle.ix_maps.specs.FlatState.{flat_value}
-use Rattle.ix_maps.proofs.FlatEntries.{flat_entry-place, flat_entry-without_place}
-use Rattle.ix_maps.proofs.FlatSteps.{flat_replace-found, pair_set-found, flat_replace-full, value_at-new, flat_replace-new, flat_value-flat_set, flat_value-flat_set_other, flat_value-replace_new, flat_value-replace_new_other}
-use Rattle.ix_maps.proofs.flatmap.insertions.MetaFlatMap+Pair+K+V+S+L.get_or_insert_with.Goals as goal
+use Rattle.ix_flatmap.specs.FlatState.{flat_value}
+use Rattle.ix_flatmap.proofs.FlatEntries.{flat_entry-place, flat_entry-without_place}
+use Rattle.ix_flatmap.proofs.FlatSteps.{flat_replace-found, pair_set-found, flat_replace-full, value_at-new, flat_replace-new, flat_value-flat_set, flat_value-flat_set_other, flat_value-replace_new, flat_value-replace_new_other}
+use Rattle.ix_flatmap.proofs.flatmap.insertions.MetaFlatMap+Pair+K+V+S+L.get_or_insert_with.Goals as goal
 
 pub value_mut-requires : goal.value_mut-requires
 value_mut-requires g c =

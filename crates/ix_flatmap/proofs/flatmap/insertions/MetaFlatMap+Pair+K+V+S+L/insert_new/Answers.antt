@@ -1,11 +1,11 @@
 use Rattle.std.proofs.Common.{◌≡◌, Bool, None, refl, sym, ap, ◌∙◌, subst, arith}
-use Rattle.ix_maps.specs.SlotState.{SlotState}
-use Rattle.ix_maps.specs.FlatState.{flat_entry, flat_value}
-use Rattle.ix_maps.specs.inner.FlatSearch.{IsBound, bound_with}
-use Rattle.ix_maps.specs.declared.flatmap.pair.Pair.{Pair}
-use Rattle.ix_maps.proofs.FlatBounds.{IsBound-inserted}
-use Rattle.ix_maps.proofs.FlatSteps.{HasDistinctKeys-inserted, flat_value-inserted, flat_value-inserted_other}
-use Rattle.ix_maps.proofs.flatmap.insertions.MetaFlatMap+Pair+K+V+S+L.insert_new.Goals as goal
+use Rattle.ix_slottable.specs.SlotState.{SlotState}
+use Rattle.ix_flatmap.specs.FlatState.{flat_entry, flat_value}
+use Rattle.ix_flatmap.specs.inner.FlatSearch.{IsBound, bound_with}
+use Rattle.ix_flatmap.specs.declared.flatmap.pair.Pair.{Pair}
+use Rattle.ix_flatmap.proofs.FlatBounds.{IsBound-inserted}
+use Rattle.ix_flatmap.proofs.FlatSteps.{HasDistinctKeys-inserted, flat_value-inserted, flat_value-inserted_other}
+use Rattle.ix_flatmap.proofs.flatmap.insertions.MetaFlatMap+Pair+K+V+S+L.insert_new.Goals as goal
 
 fresh : {K V : Type 0} (eq : K → K → Bool) (inside s : SlotState (Pair K V)) (key : K) → inside ≡ s → flat_entry eq s key ≡ None → flat_entry eq inside key ≡ None
 fresh {K} {V} eq inside s key is absent = subst (λ (s : SlotState (Pair K V)). flat_entry eq s key ≡ None) (sym is) absent

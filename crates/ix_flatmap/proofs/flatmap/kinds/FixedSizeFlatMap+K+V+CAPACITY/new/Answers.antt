@@ -1,6 +1,6 @@
-use Rattle.ix_maps.proofs.FlatBounds.{IsBound-slot_new}
-use Rattle.ix_maps.proofs.FlatEntries.{HasDistinctKeys-slot_new}
-use Rattle.ix_maps.proofs.flatmap.kinds.FixedSizeFlatMap+K+V+CAPACITY.new.Goals as goal
+use Rattle.ix_flatmap.proofs.FlatBounds.{IsBound-slot_new}
+use Rattle.ix_flatmap.proofs.FlatEntries.{HasDistinctKeys-slot_new}
+use Rattle.ix_flatmap.proofs.flatmap.kinds.FixedSizeFlatMap+K+V+CAPACITY.new.Goals as goal
 
 pub invariant_of-result : goal.invariant_of-result
 invariant_of-result g c =

@@ -1,10 +1,10 @@
 use Rattle.std.proofs.Common.{IsSome, refl, sym, ap, ◌∙◌, inl, subst}
 use Rattle.std.specs.Prelude.{option_map}
 use Rattle.std.specs.Option.{option_map_or}
-use Rattle.ix_maps.specs.FlatSteps.{pair_set}
-use Rattle.ix_maps.proofs.FlatEntries.{flat_entry-place, flat_value-none}
-use Rattle.ix_maps.proofs.FlatSteps.{flat_value-flat_set, flat_value-flat_set_other}
-use Rattle.ix_maps.proofs.flatmap.meta_flat_map.MetaFlatMap+Pair+K+V+S+L.get_mut_ref.Goals as goal
+use Rattle.ix_flatmap.specs.FlatSteps.{pair_set}
+use Rattle.ix_flatmap.proofs.FlatEntries.{flat_entry-place, flat_value-none}
+use Rattle.ix_flatmap.proofs.FlatSteps.{flat_value-flat_set, flat_value-flat_set_other}
+use Rattle.ix_flatmap.proofs.flatmap.meta_flat_map.MetaFlatMap+Pair+K+V+S+L.get_mut_ref.Goals as goal
 
 pub value_mut-requires : goal.value_mut-requires
 value_mut-requires g c =

@@ -1,9 +1,9 @@
 use Rattle.std.proofs.Common.{IsSome, refl, sym, ap, ◌∙◌, subst}
 use Rattle.std.specs.Prelude.{option_map}
-use Rattle.ix_maps.specs.FlatState.{flat_item}
-use Rattle.ix_maps.proofs.FlatEntries.{flat_entry-place}
-use Rattle.ix_maps.proofs.FlatSteps.{flat_value-removed, flat_value-removed_other}
-use Rattle.ix_maps.proofs.flatmap.meta_flat_map.MetaFlatMap+Pair+K+V+S+L.remove_entry.Goals as goal
+use Rattle.ix_flatmap.specs.FlatState.{flat_item}
+use Rattle.ix_flatmap.proofs.FlatEntries.{flat_entry-place}
+use Rattle.ix_flatmap.proofs.FlatSteps.{flat_value-removed, flat_value-removed_other}
+use Rattle.ix_flatmap.proofs.flatmap.meta_flat_map.MetaFlatMap+Pair+K+V+S+L.remove_entry.Goals as goal
 
 pub remove_at-pair-requires : goal.remove_at-pair-requires
 remove_at-pair-requires g c =

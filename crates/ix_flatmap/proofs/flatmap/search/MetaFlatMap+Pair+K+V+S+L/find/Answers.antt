@@ -1,7 +1,7 @@
 use Rattle.std.proofs.Common.{sym, ◌∙◌, subst}
-use Rattle.ix_maps.specs.SlotState.{IsHeld}
-use Rattle.ix_maps.proofs.Entries.{IsHeld-front}
-use Rattle.ix_maps.proofs.flatmap.search.MetaFlatMap+Pair+K+V+S+L.find.Goals as goal
+use Rattle.ix_slottable.specs.SlotState.{IsHeld}
+use Rattle.ix_slottable.proofs.Entries.{IsHeld-front}
+use Rattle.ix_flatmap.proofs.flatmap.search.MetaFlatMap+Pair+K+V+S+L.find.Goals as goal
 
 pub find_in_front-requires-clause-held : goal.find_in_front-requires-clause-held
 find_in_front-requires-clause-held g c place below =

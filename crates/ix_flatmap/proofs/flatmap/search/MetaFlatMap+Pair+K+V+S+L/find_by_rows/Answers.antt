@@ -1,9 +1,9 @@
 use Rattle.std.proofs.Common.{◌≡◌, ◌+◌, ◌*◌, subst, sym, ap, ◌∙◌, refl, arith}
-use Rattle.ix_maps.specs.SlotState.{value_at}
-use Rattle.ix_maps.specs.FlatState.{HasDistinctKeys}
-use Rattle.ix_maps.specs.inner.FlatSearch.{is_key_at, HasNoKeyIn}
-use Rattle.ix_maps.proofs.FlatEntries.{flat_entry-is_key_at, HasNoKeyIn-more}
-use Rattle.ix_maps.proofs.flatmap.search.MetaFlatMap+Pair+K+V+S+L.find_by_rows.Goals as goal
+use Rattle.ix_slottable.specs.SlotState.{value_at}
+use Rattle.ix_flatmap.specs.FlatState.{HasDistinctKeys}
+use Rattle.ix_flatmap.specs.inner.FlatSearch.{is_key_at, HasNoKeyIn}
+use Rattle.ix_flatmap.proofs.FlatEntries.{flat_entry-is_key_at, HasNoKeyIn-more}
+use Rattle.ix_flatmap.proofs.flatmap.search.MetaFlatMap+Pair+K+V+S+L.find_by_rows.Goals as goal
 
 pub returns-in-Some-clause-value : goal.returns-in-Some-clause-value
 returns-in-Some-clause-value g c =

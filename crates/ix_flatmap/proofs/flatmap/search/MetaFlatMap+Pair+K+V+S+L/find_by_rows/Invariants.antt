@@ -1,7 +1,7 @@
 use Rattle.std.proofs.Common.{◌*◌}
-use Rattle.ix_maps.specs.inner.FlatSearch.{HasNoKeyIn}
-use Rattle.ix_maps.specs.declared.flatmap.search.TheConstants.{ROW_LEN}
-use Rattle.ix_maps.proofs.flatmap.search.MetaFlatMap+Pair+K+V+S+L.find_by_rows.Given as goal
+use Rattle.ix_flatmap.specs.inner.FlatSearch.{HasNoKeyIn}
+use Rattle.ix_flatmap.specs.declared.flatmap.search.TheConstants.{ROW_LEN}
+use Rattle.ix_flatmap.proofs.flatmap.search.MetaFlatMap+Pair+K+V+S+L.find_by_rows.Given as goal
 
 -- no place of the rows so far has the key
 abbrev pub invariant-loop-row : goal.invariant-loop-row

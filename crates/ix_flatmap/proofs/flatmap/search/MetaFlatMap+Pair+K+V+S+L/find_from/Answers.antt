@@ -1,7 +1,7 @@
 use Rattle.std.proofs.Common.{arith}
-use Rattle.ix_maps.proofs.FlatBounds.{flat_entry-ended}
-use Rattle.ix_maps.proofs.FlatEntries.{flat_entry_from}
-use Rattle.ix_maps.proofs.flatmap.search.MetaFlatMap+Pair+K+V+S+L.find_from.Goals as goal
+use Rattle.ix_flatmap.proofs.FlatBounds.{flat_entry-ended}
+use Rattle.ix_flatmap.proofs.FlatEntries.{flat_entry_from}
+use Rattle.ix_flatmap.proofs.flatmap.search.MetaFlatMap+Pair+K+V+S+L.find_from.Goals as goal
 
 pub loop-place-init : goal.loop-place-init
 loop-place-init g c = flat_entry_from g.K.PartialEq.eq c.args.self.now c.args.key.now c.args.start c.requires

@@ -1,8 +1,8 @@
 use Rattle.std.proofs.Common.{◌≡◌, drop}
 use Rattle.std.specs.List.{find}
-use Rattle.ix_maps.specs.SlotState.{entries_from}
-use Rattle.ix_maps.specs.FlatState.{flat_entry}
-use Rattle.ix_maps.proofs.flatmap.search.MetaFlatMap+Pair+K+V+S+L.find_from.Given as goal
+use Rattle.ix_slottable.specs.SlotState.{entries_from}
+use Rattle.ix_flatmap.specs.FlatState.{flat_entry}
+use Rattle.ix_flatmap.proofs.flatmap.search.MetaFlatMap+Pair+K+V+S+L.find_from.Given as goal
 
 -- what is found from this place on is what is found in all
 abbrev pub invariant-loop-place : goal.invariant-loop-place

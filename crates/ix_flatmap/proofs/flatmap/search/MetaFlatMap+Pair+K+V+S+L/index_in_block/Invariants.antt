@@ -1,6 +1,6 @@
-use Rattle.ix_maps.specs.inner.FlatSearch.{IsFoundIn}
-use Rattle.ix_maps.specs.declared.flatmap.search.TheConstants.{BLOCK_LEN}
-use Rattle.ix_maps.proofs.flatmap.search.MetaFlatMap+Pair+K+V+S+L.index_in_block.Given as goal
+use Rattle.ix_flatmap.specs.inner.FlatSearch.{IsFoundIn}
+use Rattle.ix_flatmap.specs.declared.flatmap.search.TheConstants.{BLOCK_LEN}
+use Rattle.ix_flatmap.proofs.flatmap.search.MetaFlatMap+Pair+K+V+S+L.index_in_block.Given as goal
 
 -- the place found has the key, or no place so far has it
 abbrev pub invariant-loop-i : goal.invariant-loop-i

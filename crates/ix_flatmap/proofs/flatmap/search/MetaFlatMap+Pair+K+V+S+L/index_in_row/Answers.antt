@@ -1,6 +1,6 @@
 use Rattle.std.proofs.Common.{◌+◌, arith}
-use Rattle.ix_maps.proofs.FlatEntries.{HasNoKeyIn-both}
-use Rattle.ix_maps.proofs.flatmap.search.MetaFlatMap+Pair+K+V+S+L.index_in_row.Goals as goal
+use Rattle.ix_flatmap.proofs.FlatEntries.{HasNoKeyIn-both}
+use Rattle.ix_flatmap.proofs.flatmap.search.MetaFlatMap+Pair+K+V+S+L.index_in_row.Goals as goal
 
 pub returns-then-min-eq-BLOCK_LEN-clause-absent : goal.returns-then-min-eq-BLOCK_LEN-clause-absent
 returns-then-min-eq-BLOCK_LEN-clause-absent g c none =

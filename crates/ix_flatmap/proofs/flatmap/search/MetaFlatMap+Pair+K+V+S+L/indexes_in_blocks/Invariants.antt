@@ -1,7 +1,7 @@
 use Rattle.std.proofs.Common.{◌+◌}
-use Rattle.ix_maps.specs.inner.FlatSearch.{IsFoundIn}
-use Rattle.ix_maps.specs.declared.flatmap.search.TheConstants.{BLOCK_LEN}
-use Rattle.ix_maps.proofs.flatmap.search.MetaFlatMap+Pair+K+V+S+L.indexes_in_blocks.Given as goal
+use Rattle.ix_flatmap.specs.inner.FlatSearch.{IsFoundIn}
+use Rattle.ix_flatmap.specs.declared.flatmap.search.TheConstants.{BLOCK_LEN}
+use Rattle.ix_flatmap.proofs.flatmap.search.MetaFlatMap+Pair+K+V+S+L.indexes_in_blocks.Given as goal
 
 -- the place found has the key, or no place so far has it, of either block
 abbrev pub invariant-loop-i : goal.invariant-loop-i

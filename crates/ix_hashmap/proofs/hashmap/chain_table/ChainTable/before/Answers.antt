@@ -1,8 +1,8 @@
 use Rattle.std.proofs.Common.{[], ◌∷◌, ◌++◌, length, sym, ap, ◌∙◌, arith}
 use Rattle.std.proofs.lemmas.List.{append_assoc}
-use Rattle.ix_maps.specs.inner.HashChains.{chain_from}
-use Rattle.ix_maps.proofs.HashChains.{first_within, IsFollowed-from, IsBefore-from}
-use Rattle.ix_maps.proofs.hashmap.chain_table.ChainTable.before.Goals as goal
+use Rattle.ix_hashmap.specs.inner.HashChains.{chain_from}
+use Rattle.ix_hashmap.proofs.HashChains.{first_within, IsFollowed-from, IsBefore-from}
+use Rattle.ix_hashmap.proofs.hashmap.chain_table.ChainTable.before.Goals as goal
 
 pub next-next-requires : goal.next-next-requires
 next-next-requires g c = first_within c.args.self.now c.args.first c.args.place c.requires.chain c.requires.has

@@ -1,6 +1,6 @@
 use Rattle.std.proofs.Common.{◌≡◌, ◌≢◌, List, ℕ, ◌++◌, length}
-use Rattle.ix_maps.specs.inner.HashChains.{next_at, chain_from, IsChainFrom, IsOnChain}
-use Rattle.ix_maps.proofs.hashmap.chain_table.ChainTable.before.Given as goal
+use Rattle.ix_hashmap.specs.inner.HashChains.{next_at, chain_from, IsChainFrom, IsOnChain}
+use Rattle.ix_hashmap.proofs.hashmap.chain_table.ChainTable.before.Given as goal
 
 -- the place comes later than `previous`, up to which the chain was walked
 abbrev pub invariant-loop-next : goal.invariant-loop-next

@@ -1,8 +1,8 @@
 use Rattle.std.proofs.Common.{◌≡◌, ℕ, ◌<◌, length, Some}
-use Rattle.ix_cells.specs.Places.{place_at}
-use Rattle.ix_maps.specs.inner.Words.{HasEachPlace}
-use Rattle.ix_maps.specs.inner.HashChains.{no_link}
-use Rattle.ix_maps.proofs.hashmap.chain_table.ChainTable.clear.Given as goal
+use Rattle.ix_tables.specs.Places.{place_at}
+use Rattle.ix_slottable.specs.FullTables.{HasEachPlace}
+use Rattle.ix_hashmap.specs.inner.HashChains.{no_link}
+use Rattle.ix_hashmap.proofs.hashmap.chain_table.ChainTable.clear.Given as goal
 
 -- the buckets so far are empty
 abbrev pub invariant-loop-number : goal.invariant-loop-number

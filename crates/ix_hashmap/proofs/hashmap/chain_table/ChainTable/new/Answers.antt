@@ -1,8 +1,8 @@
 use Rattle.std.proofs.Common.{◌<◌, length, ap, ◌∙◌, subst}
 use Rattle.std.specs.Prelude.{replicate}
-use Rattle.ix_maps.specs.inner.HashChains.{no_link}
-use Rattle.ix_maps.proofs.WordTables.{items_in-filled}
-use Rattle.ix_maps.proofs.hashmap.chain_table.ChainTable.new.Goals as goal
+use Rattle.ix_hashmap.specs.inner.HashChains.{no_link}
+use Rattle.ix_slottable.proofs.FullTables.{items_in-filled}
+use Rattle.ix_hashmap.proofs.hashmap.chain_table.ChainTable.new.Goals as goal
 
 pub returns : goal.returns
 returns g c =

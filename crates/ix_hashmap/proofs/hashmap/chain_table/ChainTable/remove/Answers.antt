@@ -1,7 +1,7 @@
 use Rattle.std.proofs.Common.{ℕ, sym, ap, ◌∙◌, subst}
-use Rattle.ix_maps.specs.inner.HashChains.{links_set_head, links_set_next, head_at, IsBefore}
-use Rattle.ix_maps.proofs.HashChains.{IsUnlinked-first, IsUnlinked-later, IsBefore-within}
-use Rattle.ix_maps.proofs.hashmap.chain_table.ChainTable.remove.Goals as goal
+use Rattle.ix_hashmap.specs.inner.HashChains.{links_set_head, links_set_next, head_at, IsBefore}
+use Rattle.ix_hashmap.proofs.HashChains.{IsUnlinked-first, IsUnlinked-later, IsBefore-within}
+use Rattle.ix_hashmap.proofs.hashmap.chain_table.ChainTable.remove.Goals as goal
 
 pub next-next-requires : goal.next-next-requires
 next-next-requires g c = c.requires.chain.within c.args.place c.requires.has

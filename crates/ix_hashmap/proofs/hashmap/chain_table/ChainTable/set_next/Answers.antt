@@ -1,8 +1,8 @@
 use Rattle.std.proofs.Common.{List, set, get_or, sym, ap, ◌∙◌}
-use Rattle.ix_maps.specs.declared.hashmap.chain_link.ChainLink.{ChainLink}
-use Rattle.ix_maps.specs.inner.HashChains.{no_link, links_in}
-use Rattle.ix_maps.proofs.WordTables.{items_in-at, items_in-set}
-use Rattle.ix_maps.proofs.hashmap.chain_table.ChainTable.set_next.Goals as goal
+use Rattle.ix_hashmap.specs.declared.hashmap.chain_link.ChainLink.{ChainLink}
+use Rattle.ix_hashmap.specs.inner.HashChains.{no_link, links_in}
+use Rattle.ix_slottable.proofs.FullTables.{items_in-at, items_in-set}
+use Rattle.ix_hashmap.proofs.hashmap.chain_table.ChainTable.set_next.Goals as goal
 
 pub returns : goal.returns
 returns g c =

@@ -1,10 +1,10 @@
 use Rattle.std.proofs.Common.{List, ℕ, sym, ap, subst}
-use Rattle.ix_maps.specs.SlotCopies.{SlotIsInfallible}
-use Rattle.ix_maps.specs.FlatCopies.{PairIsClone, PairIsInfallible}
-use Rattle.ix_maps.specs.inner.HashChains.{hash_of, IsHashed}
-use Rattle.ix_maps.proofs.FlatCopies.{HasDistinctKeys-clone}
-use Rattle.ix_maps.proofs.HashSteps.{IsHashed-clone}
-use Rattle.ix_maps.proofs.hashmap.copies.FixedSizeHashMapClone.clone.Goals as goal
+use Rattle.ix_slottable.specs.SlotCopies.{SlotIsInfallible}
+use Rattle.ix_flatmap.specs.FlatCopies.{PairIsClone, PairIsInfallible}
+use Rattle.ix_hashmap.specs.inner.HashChains.{hash_of, IsHashed}
+use Rattle.ix_flatmap.proofs.FlatCopies.{HasDistinctKeys-clone}
+use Rattle.ix_hashmap.proofs.HashSteps.{IsHashed-clone}
+use Rattle.ix_hashmap.proofs.hashmap.copies.FixedSizeHashMapClone.clone.Goals as goal
 
 pub invariant_of-result : goal.invariant_of-result
 invariant_of-result g c = (

@@ -1,8 +1,8 @@
 use Rattle.std.proofs.Common.{sym, subst}
-use Rattle.ix_maps.specs.FlatState.{HasDistinctKeys}
-use Rattle.ix_maps.proofs.FlatCopies.{AreEqualClones-pair}
-use Rattle.ix_maps.proofs.HashSteps.{IsHashed-equal}
-use Rattle.ix_maps.proofs.hashmap.copies.HashMap+K+V+A+B.try_clone_in.Goals as goal
+use Rattle.ix_flatmap.specs.FlatState.{HasDistinctKeys}
+use Rattle.ix_flatmap.proofs.FlatCopies.{AreEqualClones-pair}
+use Rattle.ix_hashmap.proofs.HashSteps.{IsHashed-equal}
+use Rattle.ix_hashmap.proofs.hashmap.copies.HashMap+K+V+A+B.try_clone_in.Goals as goal
 
 pub try_clone_in-requires : goal.try_clone_in-requires
 try_clone_in-requires g c = AreEqualClones-pair g.K.PartialEq.eq g.K.Clone.is_clone g.V.Clone.is_clone c.requires.keys c.requires.values

@@ -1,13 +1,13 @@
 use Rattle.std.proofs.Common.{◌≡◌, ℕ, ◌*◌, ◌<◌, Some, None, IsSome, inl, refl, sym, ap, ◌∙◌, subst}
 use Rattle.std.specs.Prelude.{option_map, slice_get}
 use Rattle.std.specs.Option.{UnwrapsOrElse}
-use Rattle.ix_maps.specs.SlotState.{IsFree}
-use Rattle.ix_maps.specs.FlatState.{HasDistinctKeys, flat_entry, flat_value}
-use Rattle.ix_maps.specs.FlatSteps.{flat_insert}
-use Rattle.ix_maps.proofs.FlatEntries.{flat_entry-place, flat_entry-without_place}
-use Rattle.ix_maps.proofs.FlatSteps.{flat_insert-fresh, HasDistinctKeys-inserted, flat_value-inserted, flat_value-inserted_other, flat_replace-found, pair_set-found, value_at-new, flat_replace-new, flat_value-flat_set, flat_value-flat_set_other, flat_value-replace_new, flat_value-replace_new_other}
-use Rattle.ix_maps.proofs.HashSteps.{bucket_of-counted, IsHashed-tried}
-use Rattle.ix_maps.proofs.hashmap.insertions.MetaHashMap+Pair+K+V+S+L+C+B.get_or_insert_with.Goals as goal
+use Rattle.ix_slottable.specs.SlotState.{IsFree}
+use Rattle.ix_flatmap.specs.FlatState.{HasDistinctKeys, flat_entry, flat_value}
+use Rattle.ix_flatmap.specs.FlatSteps.{flat_insert}
+use Rattle.ix_flatmap.proofs.FlatEntries.{flat_entry-place, flat_entry-without_place}
+use Rattle.ix_flatmap.proofs.FlatSteps.{flat_insert-fresh, HasDistinctKeys-inserted, flat_value-inserted, flat_value-inserted_other, flat_replace-found, pair_set-found, value_at-new, flat_replace-new, flat_value-flat_set, flat_value-flat_set_other, flat_value-replace_new, flat_value-replace_new_other}
+use Rattle.ix_hashmap.proofs.HashSteps.{bucket_of-counted, IsHashed-tried}
+use Rattle.ix_hashmap.proofs.hashmap.insertions.MetaHashMap+Pair+K+V+S+L+C+B.get_or_insert_with.Goals as goal
 
 pub value_mut-requires : goal.value_mut-requires
 value_mut-requires g c =

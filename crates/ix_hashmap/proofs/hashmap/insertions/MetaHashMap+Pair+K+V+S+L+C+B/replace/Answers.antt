@@ -1,12 +1,12 @@
 use Rattle.std.proofs.Common.{◌≡◌, ℕ, ◌*◌, ◌<◌, Some, None, IsSome, IsOk, refl, sym, ap, ◌∙◌, subst}
 use Rattle.std.specs.Prelude.{option_map}
-use Rattle.ix_maps.specs.FlatState.{HasDistinctKeys, flat_entry, flat_value}
-use Rattle.ix_maps.specs.FlatSteps.{pair_set}
-use Rattle.ix_maps.proofs.FlatEntries.{flat_entry-place, flat_entry-unplaced}
-use Rattle.ix_maps.proofs.FlatSteps.{first_free, HasDistinctKeys-inserted, flat_value-inserted, flat_value-inserted_other, pair_set-place, flat_value-flat_set, flat_value-flat_set_other}
-use Rattle.ix_maps.proofs.HashSteps.{bucket_of-counted, IsHashed-tried}
-use Rattle.ix_maps.proofs.hashmap.insertions.MetaHashMap+Pair+K+V+S+L+C+B.replace.Goals.{in-Ok, in-Err}
-use Rattle.ix_maps.proofs.hashmap.insertions.MetaHashMap+Pair+K+V+S+L+C+B.replace.Goals as goal
+use Rattle.ix_flatmap.specs.FlatState.{HasDistinctKeys, flat_entry, flat_value}
+use Rattle.ix_flatmap.specs.FlatSteps.{pair_set}
+use Rattle.ix_flatmap.proofs.FlatEntries.{flat_entry-place, flat_entry-unplaced}
+use Rattle.ix_flatmap.proofs.FlatSteps.{first_free, HasDistinctKeys-inserted, flat_value-inserted, flat_value-inserted_other, pair_set-place, flat_value-flat_set, flat_value-flat_set_other}
+use Rattle.ix_hashmap.proofs.HashSteps.{bucket_of-counted, IsHashed-tried}
+use Rattle.ix_hashmap.proofs.hashmap.insertions.MetaHashMap+Pair+K+V+S+L+C+B.replace.Goals.{in-Ok, in-Err}
+use Rattle.ix_hashmap.proofs.hashmap.insertions.MetaHashMap+Pair+K+V+S+L+C+B.replace.Goals as goal
 
 pub value_mut-requires : goal.value_mut-requires
 value_mut-requires g c =

@@ -1,10 +1,10 @@
 use Rattle.std.proofs.Common.{ℕ, ◌*◌, ◌<◌, IsOk, sym, ap, ◌∙◌, subst}
-use Rattle.ix_maps.specs.FlatState.{flat_value}
-use Rattle.ix_maps.proofs.FlatEntries.{flat_entry-unplaced}
-use Rattle.ix_maps.proofs.FlatSteps.{first_free, HasDistinctKeys-inserted, flat_value-inserted, flat_value-inserted_other}
-use Rattle.ix_maps.proofs.HashSteps.{bucket_of-counted, IsHashed-tried}
-use Rattle.ix_maps.proofs.hashmap.insertions.MetaHashMap+Pair+K+V+S+L+C+B.try_insert.Goals.{in-Ok, in-Err}
-use Rattle.ix_maps.proofs.hashmap.insertions.MetaHashMap+Pair+K+V+S+L+C+B.try_insert.Goals as goal
+use Rattle.ix_flatmap.specs.FlatState.{flat_value}
+use Rattle.ix_flatmap.proofs.FlatEntries.{flat_entry-unplaced}
+use Rattle.ix_flatmap.proofs.FlatSteps.{first_free, HasDistinctKeys-inserted, flat_value-inserted, flat_value-inserted_other}
+use Rattle.ix_hashmap.proofs.HashSteps.{bucket_of-counted, IsHashed-tried}
+use Rattle.ix_hashmap.proofs.hashmap.insertions.MetaHashMap+Pair+K+V+S+L+C+B.try_insert.Goals.{in-Ok, in-Err}
+use Rattle.ix_hashmap.proofs.hashmap.insertions.MetaHashMap+Pair+K+V+S+L+C+B.try_insert.Goals as goal
 
 pub invariant_of-self : goal.invariant_of-self
 invariant_of-self g c =

@@ -1,7 +1,7 @@
 use Rattle.std.proofs.Common.{ap₂, ◌∙◌}
-use Rattle.ix_cells.specs.Memory.{memory_plus}
-use Rattle.ix_maps.proofs.Memory.{memory_plus-none, slot_map_memory-rises}
-use Rattle.ix_maps.proofs.hashmap.kinds.HashMap+K+V+A+B.memory_size.Goals as goal
+use Rattle.ix_tables.specs.Memory.{memory_plus}
+use Rattle.ix_slottable.proofs.Memory.{memory_plus-none, slot_map_memory-rises}
+use Rattle.ix_hashmap.proofs.hashmap.kinds.HashMap+K+V+A+B.memory_size.Goals as goal
 
 pub returns-clause-value : goal.returns-clause-value
 returns-clause-value g c = c.saturating_add.ensures ∙ ap₂ memory_plus c.memory_size-pairs.ensures.value c.memory_size-chains.ensures.value

@@ -1,10 +1,10 @@
 use Rattle.std.proofs.Common.{◌≡◌, ℕ, length, None, sym, ap, ◌∙◌}
 use Rattle.std.proofs.lemmas.List.{length-replicate}
-use Rattle.ix_cells.specs.Places.{place_at}
-use Rattle.ix_maps.specs.SlotState.{value_at}
-use Rattle.ix_maps.proofs.HashSteps.{IsHashed-empty}
-use Rattle.ix_maps.proofs.VacantTables.{place_at-replicate}
-use Rattle.ix_maps.proofs.hashmap.meta_hash_map.MetaHashMap+Pair+K+V+S+L+C+B.clear.Goals as goal
+use Rattle.ix_tables.specs.Places.{place_at}
+use Rattle.ix_slottable.specs.SlotState.{value_at}
+use Rattle.ix_hashmap.proofs.HashSteps.{IsHashed-empty}
+use Rattle.ix_tables.proofs.VacantTables.{place_at-replicate}
+use Rattle.ix_hashmap.proofs.hashmap.meta_hash_map.MetaHashMap+Pair+K+V+S+L+C+B.clear.Goals as goal
 
 pub invariant_of-self : goal.invariant_of-self
 invariant_of-self g c =

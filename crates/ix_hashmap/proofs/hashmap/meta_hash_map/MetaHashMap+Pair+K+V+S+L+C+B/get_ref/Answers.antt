@@ -1,7 +1,7 @@
 use Rattle.std.proofs.Common.{ap, ◌∙◌}
 use Rattle.std.specs.Prelude.{option_map}
-use Rattle.ix_maps.proofs.FlatEntries.{flat_value-IsEntry, IsNone-flat_value}
-use Rattle.ix_maps.proofs.hashmap.meta_hash_map.MetaHashMap+Pair+K+V+S+L+C+B.get_ref.Goals as goal
+use Rattle.ix_flatmap.proofs.FlatEntries.{flat_value-IsEntry, IsNone-flat_value}
+use Rattle.ix_hashmap.proofs.hashmap.meta_hash_map.MetaHashMap+Pair+K+V+S+L+C+B.get_ref.Goals as goal
 
 pub returns-in-Some-clause-found : goal.returns-in-Some-clause-found
 returns-in-Some-clause-found g c place pair at equal =

@@ -1,9 +1,9 @@
 use Rattle.std.proofs.Common.{map, ap, ◌∙◌}
 use Rattle.std.specs.Map.{keys_of, lookup}
-use Rattle.ix_maps.specs.SlotState.{entries}
-use Rattle.ix_maps.specs.FlatState.{flat_item}
-use Rattle.ix_maps.proofs.FlatEntries.{keys_of-flat_items, lookup-flat_items}
-use Rattle.ix_maps.proofs.hashmap.meta_hash_map.MetaHashMap+Pair+K+V+S+L+C+B.iter.Goals as goal
+use Rattle.ix_slottable.specs.SlotState.{entries}
+use Rattle.ix_flatmap.specs.FlatState.{flat_item}
+use Rattle.ix_flatmap.proofs.FlatEntries.{keys_of-flat_items, lookup-flat_items}
+use Rattle.ix_hashmap.proofs.hashmap.meta_hash_map.MetaHashMap+Pair+K+V+S+L+C+B.iter.Goals as goal
 
 pub returns-clause-keys : goal.returns-clause-keys
 returns-clause-keys g c =

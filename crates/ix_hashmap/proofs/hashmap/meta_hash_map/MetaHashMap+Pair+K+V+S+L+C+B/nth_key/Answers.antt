@@ -1,6 +1,6 @@
 use Rattle.std.proofs.lemmas.Iterator.Consumers.{nth_from_yields_List, YieldsList-from_first}
-use Rattle.ix_maps.specs.FlatState.{flat_keys}
-use Rattle.ix_maps.proofs.hashmap.meta_hash_map.MetaHashMap+Pair+K+V+S+L+C+B.nth_key.Goals as goal
+use Rattle.ix_flatmap.specs.FlatState.{flat_keys}
+use Rattle.ix_hashmap.proofs.hashmap.meta_hash_map.MetaHashMap+Pair+K+V+S+L+C+B.nth_key.Goals as goal
 
 pub returns : goal.returns
 returns g c =

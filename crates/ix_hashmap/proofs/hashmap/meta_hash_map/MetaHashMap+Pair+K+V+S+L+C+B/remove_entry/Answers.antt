@@ -1,11 +1,11 @@
 use Rattle.std.proofs.Common.{ℕ, List, length, IsSome, refl, sym, ap, ◌∙◌, subst}
 use Rattle.std.specs.Prelude.{option_map}
-use Rattle.ix_maps.specs.FlatState.{flat_entry, flat_value, flat_item}
-use Rattle.ix_maps.specs.inner.HashChains.{bucket_of, hash_of, head_at, IsOnChain, IsUnlinked}
-use Rattle.ix_maps.proofs.FlatEntries.{flat_entry-place}
-use Rattle.ix_maps.proofs.FlatSteps.{HasDistinctKeys-removed, flat_value-removed, flat_value-removed_other, removed_entry}
-use Rattle.ix_maps.proofs.HashSteps.{bucket_of-counted, on_chain-held, IsHashed-removed}
-use Rattle.ix_maps.proofs.hashmap.meta_hash_map.MetaHashMap+Pair+K+V+S+L+C+B.remove_entry.Goals as goal
+use Rattle.ix_flatmap.specs.FlatState.{flat_entry, flat_value, flat_item}
+use Rattle.ix_hashmap.specs.inner.HashChains.{bucket_of, hash_of, head_at, IsOnChain, IsUnlinked}
+use Rattle.ix_flatmap.proofs.FlatEntries.{flat_entry-place}
+use Rattle.ix_flatmap.proofs.FlatSteps.{HasDistinctKeys-removed, flat_value-removed, flat_value-removed_other, removed_entry}
+use Rattle.ix_hashmap.proofs.HashSteps.{bucket_of-counted, on_chain-held, IsHashed-removed}
+use Rattle.ix_hashmap.proofs.hashmap.meta_hash_map.MetaHashMap+Pair+K+V+S+L+C+B.remove_entry.Goals as goal
 
 pub remove-requires-clause-has : goal.remove-requires-clause-has
 remove-requires-clause-has g c =

@@ -1,11 +1,11 @@
 use Rattle.std.proofs.Common.{length, sym, ap, ◌∙◌, arith}
 use Rattle.std.proofs.lemmas.List.{length-replicate}
 use Rattle.std.specs.Prelude.{None}
-use Rattle.ix_maps.specs.SlotState.{value_at}
-use Rattle.ix_maps.proofs.FlatEntries.{AreDistinctBy-slot_new}
-use Rattle.ix_maps.proofs.HashSteps.{IsHashed-empty}
-use Rattle.ix_maps.proofs.VacantTables.{place_at-replicate}
-use Rattle.ix_maps.proofs.hashmap.meta_hash_map.MetaHashMap.over.Goals as goal
+use Rattle.ix_slottable.specs.SlotState.{value_at}
+use Rattle.ix_flatmap.proofs.FlatEntries.{AreDistinctBy-slot_new}
+use Rattle.ix_hashmap.proofs.HashSteps.{IsHashed-empty}
+use Rattle.ix_tables.proofs.VacantTables.{place_at-replicate}
+use Rattle.ix_hashmap.proofs.hashmap.meta_hash_map.MetaHashMap.over.Goals as goal
 
 pub invariant_of-result : goal.invariant_of-result
 invariant_of-result g c =

@@ -1,6 +1,6 @@
 use Rattle.std.proofs.Common.{refl}
-use Rattle.ix_maps.proofs.FlatCalls.{called_at_place}
-use Rattle.ix_maps.proofs.hashmap.whole.MetaHashMapPairPairPlaces.call_at.Goals as goal
+use Rattle.ix_flatmap.proofs.FlatCalls.{called_at_place}
+use Rattle.ix_hashmap.proofs.hashmap.whole.MetaHashMapPairPairPlaces.call_at.Goals as goal
 
 pub returns-clause-called : goal.returns-clause-called
 returns-clause-called g c pair at =

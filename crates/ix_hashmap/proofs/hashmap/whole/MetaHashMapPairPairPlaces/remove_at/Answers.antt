@@ -1,9 +1,9 @@
 use Rattle.std.proofs.Common.{◌≡◌, ℕ, length, Some, sym, ap, ◌∙◌, subst, arith}
-use Rattle.ix_cells.proofs.Places.{place_at_within}
-use Rattle.ix_maps.specs.inner.HashChains.{bucket_of, hash_of, head_at, IsOnChain, IsUnlinked}
-use Rattle.ix_maps.proofs.FlatSteps.{HasDistinctKeys-vacated}
-use Rattle.ix_maps.proofs.HashSteps.{bucket_of-counted, on_chain-held, IsHashed-removed}
-use Rattle.ix_maps.proofs.hashmap.whole.MetaHashMapPairPairPlaces.remove_at.Goals as goal
+use Rattle.ix_tables.proofs.Places.{place_at_within}
+use Rattle.ix_hashmap.specs.inner.HashChains.{bucket_of, hash_of, head_at, IsOnChain, IsUnlinked}
+use Rattle.ix_flatmap.proofs.FlatSteps.{HasDistinctKeys-vacated}
+use Rattle.ix_hashmap.proofs.HashSteps.{bucket_of-counted, on_chain-held, IsHashed-removed}
+use Rattle.ix_hashmap.proofs.hashmap.whole.MetaHashMapPairPairPlaces.remove_at.Goals as goal
 
 pub bucket_of-bucket-requires : goal.bucket_of-bucket-requires
 bucket_of-bucket-requires g c =

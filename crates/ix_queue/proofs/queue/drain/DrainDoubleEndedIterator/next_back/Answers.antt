@@ -1,6 +1,6 @@
 use Rattle.std.proofs.Common.{refl, ap}
-use Rattle.ix_maps.proofs.Backs.{YieldsLast-back}
-use Rattle.ix_maps.proofs.queue.drain.DrainDoubleEndedIterator.next_back.Goals as goal
+use Rattle.ix_queue.proofs.Backs.{YieldsLast-back}
+use Rattle.ix_queue.proofs.queue.drain.DrainDoubleEndedIterator.next_back.Goals as goal
 
 pub returns-clause-steps : goal.returns-clause-steps
 returns-clause-steps g c = (

@@ -1,7 +1,7 @@
 use Rattle.std.proofs.Common.{List, ap, subst}
 use Rattle.std.specs.Iterator.{YieldsLast}
-use Rattle.ix_maps.proofs.Backs.{YieldsLast-back}
-use Rattle.ix_maps.proofs.queue.iter.IntoIterDoubleEndedIterator.next_back.Goals as goal
+use Rattle.ix_queue.proofs.Backs.{YieldsLast-back}
+use Rattle.ix_queue.proofs.queue.iter.IntoIterDoubleEndedIterator.next_back.Goals as goal
 
 pub returns-clause-steps : goal.returns-clause-steps
 returns-clause-steps g c =

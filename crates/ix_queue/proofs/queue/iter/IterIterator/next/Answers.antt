@@ -1,6 +1,6 @@
 use Rattle.std.proofs.Common.{sym, ◌∙◌}
-use Rattle.ix_maps.proofs.Ranges.{slice_range-first}
-use Rattle.ix_maps.proofs.queue.iter.IterIterator.next.Goals as goal
+use Rattle.ix_queue.proofs.Ranges.{slice_range-first}
+use Rattle.ix_queue.proofs.queue.iter.IterIterator.next.Goals as goal
 
 pub returns-clause-steps : goal.returns-clause-steps
 returns-clause-steps g c =

@@ -1,5 +1,5 @@
-use Rattle.ix_maps.proofs.Rings.{IsEmptyAt-end, Shows-push}
-use Rattle.ix_maps.proofs.queue.meta_queue.MetaQueue.append.Goals as goal
+use Rattle.ix_queue.proofs.Rings.{IsEmptyAt-end, Shows-push}
+use Rattle.ix_queue.proofs.queue.meta_queue.MetaQueue.append.Goals as goal
 
 pub put-requires : goal.put-requires
 put-requires g c =

@@ -1,5 +1,5 @@
 use Rattle.std.proofs.Common.{◌≡◌, length}
-use Rattle.ix_maps.proofs.queue.meta_queue.MetaQueue.clear.Given as goal
+use Rattle.ix_queue.proofs.queue.meta_queue.MetaQueue.clear.Given as goal
 
 abbrev pub invariant-loop-item : goal.invariant-loop-item
 invariant-loop-item g l = l.self.capacity ≡ l.initial.self.capacity

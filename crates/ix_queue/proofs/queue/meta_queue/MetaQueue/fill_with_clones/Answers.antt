@@ -1,7 +1,7 @@
 use Rattle.std.proofs.Common.{arith, rules}
 use Rattle.std.proofs.lemmas.Grind.{common_steps}
-use Rattle.ix_maps.proofs.QueueClones.{AllZip-next}
-use Rattle.ix_maps.proofs.queue.meta_queue.MetaQueue.fill_with_clones.Goals as goal
+use Rattle.ix_queue.proofs.QueueClones.{AllZip-next}
+use Rattle.ix_queue.proofs.queue.meta_queue.MetaQueue.fill_with_clones.Goals as goal
 
 pub loop-i-preserved : goal.loop-i-preserved
 loop-i-preserved g c =

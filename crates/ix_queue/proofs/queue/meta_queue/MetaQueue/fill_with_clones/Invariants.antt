@@ -1,6 +1,6 @@
 use Rattle.std.proofs.Common.{◌≡◌, length, take}
 use Rattle.std.specs.List.{AllZip}
-use Rattle.ix_maps.proofs.queue.meta_queue.MetaQueue.fill_with_clones.Given as goal
+use Rattle.ix_queue.proofs.queue.meta_queue.MetaQueue.fill_with_clones.Given as goal
 
 abbrev pub invariant-loop-i : goal.invariant-loop-i
 invariant-loop-i g l = record {

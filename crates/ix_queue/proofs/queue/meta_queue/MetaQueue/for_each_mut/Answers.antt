@@ -1,10 +1,10 @@
 use Rattle.std.proofs.Common.{◌≡◌, ◌∷◌, ◌++◌, [], List, length-set, take, drop, refl, sym, subst, ◌∙◌, arith, of_calls, append-nil}
 use Rattle.std.specs.Fn.{CalledAtMut}
 use Rattle.std.proofs.lemmas.List.{drop_all, take_all}
-use Rattle.ix_cells.proofs.Calls.{Callable-now, Callable-on}
-use Rattle.ix_maps.specs.QueueCalls.{ChangesInTurn}
-use Rattle.ix_maps.proofs.QueueCalls.{items_left, items_left-set, items_before-set}
-use Rattle.ix_maps.proofs.queue.meta_queue.MetaQueue.for_each_mut.Goals as goal
+use Rattle.ix_tables.proofs.Calls.{Callable-now, Callable-on}
+use Rattle.ix_queue.specs.QueueCalls.{ChangesInTurn}
+use Rattle.ix_queue.proofs.QueueCalls.{items_left, items_left-set, items_before-set}
+use Rattle.ix_queue.proofs.queue.meta_queue.MetaQueue.for_each_mut.Goals as goal
 
 pub f-requires : goal.f-requires
 f-requires g c =

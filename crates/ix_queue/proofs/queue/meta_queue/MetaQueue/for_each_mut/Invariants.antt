@@ -1,6 +1,6 @@
 use Rattle.std.proofs.Common.{◌≡◌, ◌++◌, List, length, take, drop}
-use Rattle.ix_maps.specs.QueueCalls.{ChangesInTurn, IsCallableOnEachMut}
-use Rattle.ix_maps.proofs.queue.meta_queue.MetaQueue.for_each_mut.Given as goal
+use Rattle.ix_queue.specs.QueueCalls.{ChangesInTurn, IsCallableOnEachMut}
+use Rattle.ix_queue.proofs.queue.meta_queue.MetaQueue.for_each_mut.Given as goal
 
 -- where the calls with the items that are left lead, the calls with all items lead
 abbrev pub invariant-loop-i : goal.invariant-loop-i

@@ -1,5 +1,5 @@
-use Rattle.ix_maps.proofs.Rings.{Shows-bounded_new}
-use Rattle.ix_maps.proofs.queue.meta_queue.MetaQueue.from_table.Goals as goal
+use Rattle.ix_queue.proofs.Rings.{Shows-bounded_new}
+use Rattle.ix_queue.proofs.queue.meta_queue.MetaQueue.from_table.Goals as goal
 
 pub invariant_of-result : goal.invariant_of-result
 invariant_of-result g c = (Shows-bounded_new _ _ c.requires).sound

@@ -1,5 +1,5 @@
-use Rattle.ix_maps.proofs.Rings.{IsHeldAt-front, len_not_zero, Shows-queue_set_front}
-use Rattle.ix_maps.proofs.queue.meta_queue.MetaQueue.front_mut.Goals as goal
+use Rattle.ix_queue.proofs.Rings.{IsHeldAt-front, len_not_zero, Shows-queue_set_front}
+use Rattle.ix_queue.proofs.queue.meta_queue.MetaQueue.front_mut.Goals as goal
 
 pub get_mut-requires : goal.get_mut-requires
 get_mut-requires g c =

@@ -1,6 +1,6 @@
 use Rattle.std.proofs.Common.{sym, ◌∙◌}
-use Rattle.ix_maps.proofs.Rings.{IsHeldAt-item, place_at-item}
-use Rattle.ix_maps.proofs.queue.meta_queue.MetaQueue.item_at.Goals as goal
+use Rattle.ix_queue.proofs.Rings.{IsHeldAt-item, place_at-item}
+use Rattle.ix_queue.proofs.queue.meta_queue.MetaQueue.item_at.Goals as goal
 
 pub get-requires : goal.get-requires
 get-requires g c =

@@ -1,6 +1,6 @@
 use Rattle.std.proofs.Common.{refl, sym, ◌∙◌}
-use Rattle.ix_maps.proofs.Rings.{IsHeldAt-item, Shows-queue_set, place_at-item}
-use Rattle.ix_maps.proofs.queue.meta_queue.MetaQueue.item_at_mut.Goals as goal
+use Rattle.ix_queue.proofs.Rings.{IsHeldAt-item, Shows-queue_set, place_at-item}
+use Rattle.ix_queue.proofs.queue.meta_queue.MetaQueue.item_at_mut.Goals as goal
 
 pub get_mut-requires : goal.get_mut-requires
 get_mut-requires g c =

@@ -1,5 +1,5 @@
-use Rattle.ix_maps.proofs.Rings.{IsHeldAt-front, Shows-queue_pop}
-use Rattle.ix_maps.proofs.queue.meta_queue.MetaQueue.pop.Goals as goal
+use Rattle.ix_queue.proofs.Rings.{IsHeldAt-front, Shows-queue_pop}
+use Rattle.ix_queue.proofs.queue.meta_queue.MetaQueue.pop.Goals as goal
 
 pub take-item-requires : goal.take-item-requires
 take-item-requires g c = IsHeldAt-front _ _ _ _ (record { sound = c.self.invariant; is = c.self.view_is }) c.if-len-eq0.false

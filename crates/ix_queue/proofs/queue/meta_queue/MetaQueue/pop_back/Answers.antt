@@ -1,6 +1,6 @@
 use Rattle.std.proofs.Common.{sym, ◌∙◌}
-use Rattle.ix_maps.proofs.Rings.{IsHeldAt-back, Shows-vec_pop, place_at-back}
-use Rattle.ix_maps.proofs.queue.meta_queue.MetaQueue.pop_back.Goals as goal
+use Rattle.ix_queue.proofs.Rings.{IsHeldAt-back, Shows-vec_pop, place_at-back}
+use Rattle.ix_queue.proofs.queue.meta_queue.MetaQueue.pop_back.Goals as goal
 
 pub take-item-requires : goal.take-item-requires
 take-item-requires g c =

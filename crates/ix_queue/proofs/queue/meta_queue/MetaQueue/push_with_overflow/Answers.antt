@@ -1,6 +1,6 @@
 use Rattle.std.proofs.Common.{arith}
-use Rattle.ix_maps.proofs.Rings.{IsHeldAt-front, Shows-queue_overflow}
-use Rattle.ix_maps.proofs.queue.meta_queue.MetaQueue.push_with_overflow.Goals as goal
+use Rattle.ix_queue.proofs.Rings.{IsHeldAt-front, Shows-queue_overflow}
+use Rattle.ix_queue.proofs.queue.meta_queue.MetaQueue.push_with_overflow.Goals as goal
 
 pub take-front-requires : goal.take-front-requires
 take-front-requires g c =

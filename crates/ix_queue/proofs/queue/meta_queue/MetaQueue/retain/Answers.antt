@@ -2,10 +2,10 @@ use Rattle.std.proofs.Common.{◌<◌, true, false, length, sym, refl, ap, arith
 use Rattle.std.proofs.lemmas.Fn.{called_at}
 use Rattle.std.proofs.lemmas.Grind.{common_steps}
 use Rattle.std.specs.Fn.{CalledAt}
-use Rattle.ix_cells.proofs.Calls.{Callable-now, Callable-on}
-use Rattle.ix_maps.proofs.QueueCalls.{Asked-start, Asked-next, Asked-item, Asked-more, Asked-end}
-use Rattle.ix_maps.proofs.queue.meta_queue.MetaQueue.retain.Goals.{in-Some+then-f, in-Some+else-f, in_default}
-use Rattle.ix_maps.proofs.queue.meta_queue.MetaQueue.retain.Goals as goal
+use Rattle.ix_tables.proofs.Calls.{Callable-now, Callable-on}
+use Rattle.ix_queue.proofs.QueueCalls.{Asked-start, Asked-next, Asked-item, Asked-more, Asked-end}
+use Rattle.ix_queue.proofs.queue.meta_queue.MetaQueue.retain.Goals.{in-Some+then-f, in-Some+else-f, in_default}
+use Rattle.ix_queue.proofs.queue.meta_queue.MetaQueue.retain.Goals as goal
 
 pub f-requires : goal.f-requires
 f-requires g c =

@@ -1,8 +1,8 @@
 use Rattle.std.proofs.Common.{◌≡◌, ◌≤◌, length, drop}
 use Rattle.std.specs.Fn.{CalledAt}
-use Rattle.ix_cells.specs.Calls.{IsCallableOnEach}
-use Rattle.ix_maps.proofs.QueueCalls.{Asked}
-use Rattle.ix_maps.proofs.queue.meta_queue.MetaQueue.retain.Given as goal
+use Rattle.ix_tables.specs.Calls.{IsCallableOnEach}
+use Rattle.ix_queue.proofs.QueueCalls.{Asked}
+use Rattle.ix_queue.proofs.queue.meta_queue.MetaQueue.retain.Given as goal
 
 -- the closure was asked for the first items, and may be called with the others
 abbrev pub invariant-loop-i : goal.invariant-loop-i

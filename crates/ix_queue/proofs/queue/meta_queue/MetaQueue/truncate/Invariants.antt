@@ -1,5 +1,5 @@
 use Rattle.std.proofs.Common.{◌≡◌, length, take}
-use Rattle.ix_maps.proofs.queue.meta_queue.MetaQueue.truncate.Given as goal
+use Rattle.ix_queue.proofs.queue.meta_queue.MetaQueue.truncate.Given as goal
 
 -- no item of the first `len` is removed
 abbrev pub invariant-loop-self : goal.invariant-loop-self

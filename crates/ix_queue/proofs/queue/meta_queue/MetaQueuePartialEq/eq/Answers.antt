@@ -1,7 +1,7 @@
 use Rattle.std.proofs.Common.{sym}
 use Rattle.std.proofs.lemmas.Bool.{not-true, not-false}
-use Rattle.ix_maps.proofs.Pairs.{pointwise-next, pointwise-false}
-use Rattle.ix_maps.proofs.queue.meta_queue.MetaQueuePartialEq.eq.Goals as goal
+use Rattle.ix_queue.proofs.Pairs.{pointwise-next, pointwise-false}
+use Rattle.ix_queue.proofs.queue.meta_queue.MetaQueuePartialEq.eq.Goals as goal
 
 pub returns-then-ne : goal.returns-then-ne
 returns-then-ne g c =

@@ -1,7 +1,7 @@
 use Rattle.std.proofs.Common.{◌≡◌}
 use Rattle.std.specs.List.{fold, flat_map}
 use Rattle.std.specs.Hash as fed
-use Rattle.ix_maps.proofs.queue.order.MetaQueueHash.hash.Given as goal
+use Rattle.ix_queue.proofs.queue.order.MetaQueueHash.hash.Given as goal
 
 -- feeding the items that are left, too, feeds all
 abbrev pub invariant-loop-item : goal.invariant-loop-item

@@ -1,7 +1,7 @@
 use Rattle.std.proofs.Common.{◌≡◌, ◌∙◌, List, refl}
 use Rattle.std.proofs.lemmas.Iterator.Search.{cmp_from_yields_List}
 use Rattle.std.proofs.lemmas.Iterator.Consumers.{YieldsList-from_first}
-use Rattle.ix_maps.proofs.queue.order.MetaQueueOrd.cmp.Goals as goal
+use Rattle.ix_queue.proofs.queue.order.MetaQueueOrd.cmp.Goals as goal
 
 pub returns : goal.returns
 returns g c =

@@ -1,5 +1,5 @@
-use Rattle.ix_maps.proofs.QueueOrders.{slice_partial_cmp-compared}
-use Rattle.ix_maps.proofs.queue.order.MetaQueuePartialOrd.partial_cmp.Goals as goal
+use Rattle.ix_queue.proofs.QueueOrders.{slice_partial_cmp-compared}
+use Rattle.ix_queue.proofs.queue.order.MetaQueuePartialOrd.partial_cmp.Goals as goal
 
 pub returns : goal.returns
 returns g c =

@@ -1,6 +1,6 @@
 use Rattle.std.proofs.Common.{rules, ◌∙◌, ◌/◌, length, sym}
-use Rattle.ix_names.proofs.Eights.{list_any-chunk, list_any-rest}
-use Rattle.ix_names.proofs.semantic_string.group_name.GroupNameRulesRules31.invalid_characters.Goals as goal
+use Rattle.ix_semantic_string.proofs.Eights.{list_any-chunk, list_any-rest}
+use Rattle.ix_semantic_string.proofs.semantic_string.group_name.GroupNameRulesRules31.invalid_characters.Goals as goal
 
 pub returns-then-is_invalid_eight : goal.returns-then-is_invalid_eight
 returns-then-is_invalid_eight c =

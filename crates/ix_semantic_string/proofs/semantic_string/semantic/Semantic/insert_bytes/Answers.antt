@@ -1,11 +1,11 @@
 use Rattle.std.proofs.Common.{ℕ, length, arith, Err, ◌+◌, ◌≤◌, ◌≡◌, ◌∙◌, ap, sym, rules}
 use Rattle.std.specs.List.{insert_slice, remove_range}
 use Rattle.std.proofs.lemmas.Grind.{common_steps}
-use Rattle.ix_cells.specs.Bounded.{Bounded}
-use Rattle.ix_names.specs.ErrorTexts.{semantic_error_of}
-use Rattle.ix_names.proofs.Judging.{SemanticResult-refused, length-insert_slice, text_insert-ok}
-use Rattle.ix_names.proofs.Undoing.{remove_range-insert_slice}
-use Rattle.ix_names.proofs.semantic_string.semantic.Semantic.insert_bytes.Goals as goal
+use Rattle.ix_tables.specs.Bounded.{Bounded}
+use Rattle.ix_semantic_string.specs.ErrorTexts.{semantic_error_of}
+use Rattle.ix_semantic_string.proofs.Judging.{SemanticResult-refused, length-insert_slice, text_insert-ok}
+use Rattle.ix_semantic_string.proofs.Undoing.{remove_range-insert_slice}
+use Rattle.ix_semantic_string.proofs.semantic_string.semantic.Semantic.insert_bytes.Goals as goal
 
 pub returns-in_err-insert_bytes-clause-value : goal.returns-in_err-insert_bytes-clause-value
 returns-in_err-insert_bytes-clause-value g c =

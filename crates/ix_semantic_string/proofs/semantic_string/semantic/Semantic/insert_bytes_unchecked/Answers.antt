@@ -1,6 +1,6 @@
 use Rattle.std.proofs.Common.{length, ◌+◌, ◌≤◌, arith, rules}
-use Rattle.ix_names.proofs.Judging.{IsText-inserted, length-insert_slice}
-use Rattle.ix_names.proofs.semantic_string.semantic.Semantic.insert_bytes_unchecked.Goals as goal
+use Rattle.ix_semantic_string.proofs.Judging.{IsText-inserted, length-insert_slice}
+use Rattle.ix_semantic_string.proofs.semantic_string.semantic.Semantic.insert_bytes_unchecked.Goals as goal
 
 pub insert_bytes_unchecked-requires : goal.insert_bytes_unchecked-requires
 insert_bytes_unchecked-requires g c =

@@ -1,8 +1,8 @@
 use Rattle.std.proofs.Common.{ℕ, List, [], ◌∷◌, ◌∙◌, ap, rules}
 use Rattle.std.specs.List.{insert_slice}
-use Rattle.ix_cells.specs.Bounded.{Bounded}
-use Rattle.ix_names.proofs.Undoing.{insert_slice-remove}
-use Rattle.ix_names.proofs.semantic_string.semantic.Semantic.remove.Goals as goal
+use Rattle.ix_tables.specs.Bounded.{Bounded}
+use Rattle.ix_semantic_string.proofs.Undoing.{insert_slice-remove}
+use Rattle.ix_semantic_string.proofs.semantic_string.semantic.Semantic.remove.Goals as goal
 
 pub returns-in-Err-clause-refused : goal.returns-in-Err-clause-refused
 returns-in-Err-clause-refused g c =

@@ -1,8 +1,8 @@
 use Rattle.std.proofs.Common.{ℕ, length, ◌+◌, ◌≤◌, ◌≡◌, ap, rules}
 use Rattle.std.specs.List.{remove_range}
-use Rattle.ix_cells.specs.Bounded.{Bounded}
-use Rattle.ix_names.proofs.Undoing.{IsText-prefix, room-prefix}
-use Rattle.ix_names.proofs.semantic_string.semantic.Semantic.strip_prefix.Goals as goal
+use Rattle.ix_tables.specs.Bounded.{Bounded}
+use Rattle.ix_semantic_string.proofs.Undoing.{IsText-prefix, room-prefix}
+use Rattle.ix_semantic_string.proofs.semantic_string.semantic.Semantic.strip_prefix.Goals as goal
 
 pub insert_bytes_unchecked-requires : goal.insert_bytes_unchecked-requires
 insert_bytes_unchecked-requires g c =

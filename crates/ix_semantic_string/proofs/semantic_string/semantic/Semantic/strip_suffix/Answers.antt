@@ -1,7 +1,7 @@
 use Rattle.std.proofs.Common.{ℕ, length, take, ◌+◌, ◌-◌, ◌≤◌, ◌≡◌, ap, rules}
-use Rattle.ix_cells.specs.Bounded.{Bounded}
-use Rattle.ix_names.proofs.Undoing.{IsText-suffix, room-suffix}
-use Rattle.ix_names.proofs.semantic_string.semantic.Semantic.strip_suffix.Goals as goal
+use Rattle.ix_tables.specs.Bounded.{Bounded}
+use Rattle.ix_semantic_string.proofs.Undoing.{IsText-suffix, room-suffix}
+use Rattle.ix_semantic_string.proofs.semantic_string.semantic.Semantic.strip_suffix.Goals as goal
 
 pub insert_bytes_unchecked-requires : goal.insert_bytes_unchecked-requires
 insert_bytes_unchecked-requires g c =

@@ -1,8 +1,8 @@
 use Rattle.std.proofs.Common.{nat_eq, ◌≡◌}
 use Rattle.std.specs.Prelude.{◌&&◌}
 use Rattle.std.specs.Cmp.Lexicographic.{pointwise}
-use Rattle.ix_maps.specs.Generations.{map_entries}
-use Rattle.ix_maps.proofs.slotmap.compared.MetaSlotMapOptionPartialEq.eq.Given as goal
+use Rattle.ix_slotmap.specs.Generations.{map_entries}
+use Rattle.ix_slotmap.proofs.slotmap.compared.MetaSlotMapOptionPartialEq.eq.Given as goal
 
 -- the maps are equal if what is left of them is
 abbrev pub invariant-loop-key : goal.invariant-loop-key

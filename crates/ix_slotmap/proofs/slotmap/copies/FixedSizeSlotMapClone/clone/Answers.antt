@@ -1,9 +1,9 @@
 use Rattle.std.proofs.Common.{rules, ap, sym, subst}
-use Rattle.ix_maps.specs.Generations.{SlotMapState}
-use Rattle.ix_maps.specs.SlotMapCopies.{MapIsClone, MapIsInfallible}
-use Rattle.ix_maps.specs.inner.Words.{word_generations}
-use Rattle.ix_maps.proofs.SlotMapCopies.{SlotIsClone-contents, HasWords-clone, SlotIsInfallible-contents}
-use Rattle.ix_maps.proofs.slotmap.copies.FixedSizeSlotMapClone.clone.Goals as goal
+use Rattle.ix_slotmap.specs.Generations.{SlotMapState}
+use Rattle.ix_slotmap.specs.SlotMapCopies.{MapIsClone, MapIsInfallible}
+use Rattle.ix_slotmap.specs.inner.Words.{word_generations}
+use Rattle.ix_slotmap.proofs.SlotMapCopies.{SlotIsClone-contents, HasWords-clone, SlotIsInfallible-contents}
+use Rattle.ix_slotmap.proofs.slotmap.copies.FixedSizeSlotMapClone.clone.Goals as goal
 
 pub invariant_of-result : goal.invariant_of-result
 invariant_of-result g c =

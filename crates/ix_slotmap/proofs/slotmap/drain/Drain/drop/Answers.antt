@@ -1,5 +1,5 @@
-use Rattle.ix_maps.proofs.MapDrains.{counted-cleared}
-use Rattle.ix_maps.proofs.slotmap.drain.Drain.drop.Goals as goal
+use Rattle.ix_slotmap.proofs.MapDrains.{counted-cleared}
+use Rattle.ix_slotmap.proofs.slotmap.drain.Drain.drop.Goals as goal
 
 pub invariant_of-self : goal.invariant_of-self
 invariant_of-self g c = record { counted = counted-cleared c.clear.new.self c.args.self.index c.clear.ensures.empty }

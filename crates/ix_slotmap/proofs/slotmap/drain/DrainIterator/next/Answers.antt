@@ -1,9 +1,9 @@
 use Rattle.std.proofs.Common.{◌+◌, ◌∷◌, drop, refl, sym, ap, ◌∙◌}
-use Rattle.ix_maps.specs.SlotState.{entries_from}
-use Rattle.ix_maps.specs.Generations.{held_entries}
-use Rattle.ix_maps.proofs.MapEntries.{count_by-held}
-use Rattle.ix_maps.proofs.MapDrains.{next_key, map_clear-next, counted-next}
-use Rattle.ix_maps.proofs.slotmap.drain.DrainIterator.next.Goals as goal
+use Rattle.ix_slottable.specs.SlotState.{entries_from}
+use Rattle.ix_slotmap.specs.Generations.{held_entries}
+use Rattle.ix_slotmap.proofs.MapEntries.{count_by-held}
+use Rattle.ix_slotmap.proofs.MapDrains.{next_key, map_clear-next, counted-next}
+use Rattle.ix_slotmap.proofs.slotmap.drain.DrainIterator.next.Goals as goal
 
 pub invariant_of-self-2 : goal.invariant_of-self-2
 invariant_of-self-2 g c =

@@ -1,7 +1,7 @@
-use Rattle.ix_maps.specs.MapDrain.{drain_items, drain_left, drain_lender}
-use Rattle.ix_maps.proofs.Draining.{Draining-keeps_along}
-use Rattle.ix_maps.proofs.MapEntries.{count_by-held}
-use Rattle.ix_maps.proofs.slotmap.drain.MetaSlotMap+Option+T+S+L+G.drain.Goals as goal
+use Rattle.ix_slotmap.specs.MapDrain.{drain_items, drain_left, drain_lender}
+use Rattle.ix_slottable.proofs.Draining.{Draining-keeps_along}
+use Rattle.ix_slotmap.proofs.MapEntries.{count_by-held}
+use Rattle.ix_slotmap.proofs.slotmap.drain.MetaSlotMap+Option+T+S+L+G.drain.Goals as goal
 
 pub invariant_of-result : goal.invariant_of-result
 invariant_of-result g c = record { counted = count_by-held c.args.self.now 0 c.args.self.now.slots.values }

@@ -1,6 +1,6 @@
 use Rattle.std.proofs.Common.{◌∙◌}
-use Rattle.ix_maps.proofs.MapEntries.{count_by-held}
-use Rattle.ix_maps.proofs.slotmap.iter.Iter.new.Goals as goal
+use Rattle.ix_slotmap.proofs.MapEntries.{count_by-held}
+use Rattle.ix_slotmap.proofs.slotmap.iter.Iter.new.Goals as goal
 
 pub invariant_of-result : goal.invariant_of-result
 invariant_of-result g c = c.len.ensures.value ∙ count_by-held c.args.map.now 0 c.args.map.now.slots.values

@@ -1,7 +1,7 @@
 use Rattle.std.proofs.Common.{length, ap, ◌∙◌, arith}
 use Rattle.std.proofs.lemmas.List.{length-replicate}
-use Rattle.ix_maps.proofs.Words.{HasWords-new, new_state}
-use Rattle.ix_maps.proofs.slotmap.kinds.FixedSizeSlotMapDefault.default.Goals as goal
+use Rattle.ix_slotmap.proofs.Words.{HasWords-new, new_state}
+use Rattle.ix_slotmap.proofs.slotmap.kinds.FixedSizeSlotMapDefault.default.Goals as goal
 
 pub invariant_of-result : goal.invariant_of-result
 invariant_of-result g c =

@@ -1,7 +1,7 @@
 use Rattle.std.proofs.Common.{ap₂, ◌∙◌}
-use Rattle.ix_cells.specs.Memory.{memory_plus}
-use Rattle.ix_maps.proofs.Memory.{memory_plus-none, slot_map_memory-rises}
-use Rattle.ix_maps.proofs.slotmap.kinds.SlotMap+T+A.memory_size.Goals as goal
+use Rattle.ix_tables.specs.Memory.{memory_plus}
+use Rattle.ix_slottable.proofs.Memory.{memory_plus-none, slot_map_memory-rises}
+use Rattle.ix_slotmap.proofs.slotmap.kinds.SlotMap+T+A.memory_size.Goals as goal
 
 pub returns-clause-value : goal.returns-clause-value
 returns-clause-value g c = c.saturating_add.ensures ∙ ap₂ memory_plus c.memory_size-slots.ensures.value c.memory_size-words.ensures.value

@@ -1,7 +1,7 @@
 use Rattle.std.proofs.Common.{length, ap, ◌∙◌, arith}
 use Rattle.std.proofs.lemmas.List.{length-replicate}
-use Rattle.ix_maps.proofs.Words.{HasWords-new, new_state}
-use Rattle.ix_maps.proofs.slotmap.kinds.SlotMap+T+A.starting_at.Goals as goal
+use Rattle.ix_slotmap.proofs.Words.{HasWords-new, new_state}
+use Rattle.ix_slotmap.proofs.slotmap.kinds.SlotMap+T+A.starting_at.Goals as goal
 
 pub invariant_of-result : goal.invariant_of-result
 invariant_of-result g c =

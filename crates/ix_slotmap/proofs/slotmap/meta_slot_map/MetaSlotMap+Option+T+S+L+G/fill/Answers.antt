@@ -1,8 +1,8 @@
 use Rattle.std.proofs.Common.{sym, subst, arith}
-use Rattle.ix_maps.specs.SlotState.{IsFree}
-use Rattle.ix_maps.specs.Generations.{SlotMapState}
-use Rattle.ix_maps.proofs.Words.{word_within, fills}
-use Rattle.ix_maps.proofs.slotmap.meta_slot_map.MetaSlotMap+Option+T+S+L+G.fill.Goals as goal
+use Rattle.ix_slottable.specs.SlotState.{IsFree}
+use Rattle.ix_slotmap.specs.Generations.{SlotMapState}
+use Rattle.ix_slotmap.proofs.Words.{word_within, fills}
+use Rattle.ix_slotmap.proofs.slotmap.meta_slot_map.MetaSlotMap+Option+T+S+L+G.fill.Goals as goal
 
 pub raise-requires-clause-fits : goal.raise-requires-clause-fits
 raise-requires-clause-fits g c =

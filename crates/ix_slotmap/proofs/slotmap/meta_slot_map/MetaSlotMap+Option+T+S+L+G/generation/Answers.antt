@@ -1,7 +1,7 @@
 use Rattle.std.proofs.Common.{◌<◌, ◌/◌, length, sym, ap, ◌∙◌, subst, arith}
-use Rattle.ix_maps.specs.Generations.{SlotMapState, generation_at, IsRetired}
-use Rattle.ix_maps.proofs.Words.{generation_by_word}
-use Rattle.ix_maps.proofs.slotmap.meta_slot_map.MetaSlotMap+Option+T+S+L+G.generation.Goals as goal
+use Rattle.ix_slotmap.specs.Generations.{SlotMapState, generation_at, IsRetired}
+use Rattle.ix_slotmap.proofs.Words.{generation_by_word}
+use Rattle.ix_slotmap.proofs.slotmap.meta_slot_map.MetaSlotMap+Option+T+S+L+G.generation.Goals as goal
 
 pub overflow_cast-result : goal.overflow_cast-result
 overflow_cast-result g c =

@@ -1,7 +1,7 @@
 use Rattle.std.proofs.Common.{refl, sym}
 use Rattle.std.proofs.lemmas.Bool.{iff_false}
-use Rattle.ix_maps.proofs.Generations.{none_of_not_some}
-use Rattle.ix_maps.proofs.slotmap.meta_slot_map.MetaSlotMap+Option+T+S+L+G.get_mut.Goals as goal
+use Rattle.ix_tables.proofs.Places.{none_of_not_some}
+use Rattle.ix_slotmap.proofs.slotmap.meta_slot_map.MetaSlotMap+Option+T+S+L+G.get_mut.Goals as goal
 
 pub returns-else-contains : goal.returns-else-contains
 returns-else-contains g c = (

@@ -1,7 +1,7 @@
 use Rattle.std.proofs.Common.{◌≡◌, ◌-◌, length, drop}
-use Rattle.ix_maps.specs.SlotState.{entries_from}
-use Rattle.ix_maps.specs.Generations.{held_entries}
-use Rattle.ix_maps.proofs.slotmap.meta_slot_map.MetaSlotMap+Option+T+S+L+G.held_from.Given as goal
+use Rattle.ix_slottable.specs.SlotState.{entries_from}
+use Rattle.ix_slotmap.specs.Generations.{held_entries}
+use Rattle.ix_slotmap.proofs.slotmap.meta_slot_map.MetaSlotMap+Option+T+S+L+G.held_from.Given as goal
 
 -- no value was passed
 abbrev pub invariant-loop-touches : goal.invariant-loop-touches

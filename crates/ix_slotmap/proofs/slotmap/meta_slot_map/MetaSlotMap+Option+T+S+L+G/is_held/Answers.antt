@@ -1,9 +1,9 @@
 use Rattle.std.proofs.Common.{◌<◌, ◌↔◌, ◌+◌, ◌*◌, ℕ, length, nat_eq, IsSome, sym, ap, ◌∙◌, subst}
 use Rattle.std.specs.Prelude.{IsTrue}
-use Rattle.ix_maps.specs.Generations.{SlotMapState, map_value}
-use Rattle.ix_maps.specs.inner.Words.{word_at}
-use Rattle.ix_maps.proofs.Words.{state_of, key_by_word}
-use Rattle.ix_maps.proofs.slotmap.meta_slot_map.MetaSlotMap+Option+T+S+L+G.is_held.Goals as goal
+use Rattle.ix_slotmap.specs.Generations.{SlotMapState, map_value}
+use Rattle.ix_slotmap.specs.inner.Words.{word_at}
+use Rattle.ix_slotmap.proofs.Words.{state_of, key_by_word}
+use Rattle.ix_slotmap.proofs.slotmap.meta_slot_map.MetaSlotMap+Option+T+S+L+G.is_held.Goals as goal
 
 pub returns-then-index-capacity-clause-value : goal.returns-then-index-capacity-clause-value
 returns-then-index-capacity-clause-value g c =

@@ -1,9 +1,9 @@
 use Rattle.std.proofs.Common.{◌<◌, ◌↔◌, ℕ, length, nat_eq, sym, subst}
 use Rattle.std.specs.Prelude.{IsTrue}
-use Rattle.ix_maps.specs.Generations.{SlotMapState, IsRetired}
-use Rattle.ix_maps.specs.inner.Words.{retired_word}
-use Rattle.ix_maps.proofs.Words.{state_of, retired_by_word}
-use Rattle.ix_maps.proofs.slotmap.meta_slot_map.MetaSlotMap+Option+T+S+L+G.is_retired.Goals as goal
+use Rattle.ix_slotmap.specs.Generations.{SlotMapState, IsRetired}
+use Rattle.ix_slotmap.specs.inner.Words.{retired_word}
+use Rattle.ix_slotmap.proofs.Words.{state_of, retired_by_word}
+use Rattle.ix_slotmap.proofs.slotmap.meta_slot_map.MetaSlotMap+Option+T+S+L+G.is_retired.Goals as goal
 
 pub returns-clause-value : goal.returns-clause-value
 returns-clause-value g c =

@@ -1,9 +1,9 @@
 use Rattle.std.proofs.Common.{◌≡◌, None, sym, subst, ◌∙◌}
 use Rattle.std.specs.Map.{lookup}
-use Rattle.ix_maps.specs.Generations.{slot_key_eq, KeysRise, ListsExactly}
-use Rattle.ix_maps.proofs.Generations.{map_value-dead}
-use Rattle.ix_maps.proofs.MapEntries.{KeysRise-map_entries, ListsExactly-map_entries}
-use Rattle.ix_maps.proofs.slotmap.meta_slot_map.MetaSlotMap+Option+T+S+L+G.iter.Goals as goal
+use Rattle.ix_slotmap.specs.Generations.{slot_key_eq, KeysRise, ListsExactly}
+use Rattle.ix_slotmap.proofs.Generations.{map_value-dead}
+use Rattle.ix_slotmap.proofs.MapEntries.{KeysRise-map_entries, ListsExactly-map_entries}
+use Rattle.ix_slotmap.proofs.slotmap.meta_slot_map.MetaSlotMap+Option+T+S+L+G.iter.Goals as goal
 
 pub returns-clause-rising : goal.returns-clause-rising
 returns-clause-rising g c = subst KeysRise (sym c.new.ensures) (KeysRise-map_entries c.args.self.now)

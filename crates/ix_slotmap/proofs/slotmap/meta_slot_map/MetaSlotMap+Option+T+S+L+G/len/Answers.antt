@@ -1,8 +1,8 @@
 use Rattle.std.proofs.Common.{◌≡◌, ◌+◌, length, ap, subst, arith}
-use Rattle.ix_maps.specs.Generations.{SlotMapState, retired_count, map_len, IsMapFormed}
-use Rattle.ix_maps.proofs.Generations.{held_count-parts}
-use Rattle.ix_maps.proofs.Words.{IsMapFormed-words}
-use Rattle.ix_maps.proofs.slotmap.meta_slot_map.MetaSlotMap+Option+T+S+L+G.len.Goals as goal
+use Rattle.ix_slotmap.specs.Generations.{SlotMapState, retired_count, map_len, IsMapFormed}
+use Rattle.ix_slotmap.proofs.Generations.{held_count-parts}
+use Rattle.ix_slotmap.proofs.Words.{IsMapFormed-words}
+use Rattle.ix_slotmap.proofs.slotmap.meta_slot_map.MetaSlotMap+Option+T+S+L+G.len.Goals as goal
 
 pub overflow_sub-result : goal.overflow_sub-result
 overflow_sub-result g c =

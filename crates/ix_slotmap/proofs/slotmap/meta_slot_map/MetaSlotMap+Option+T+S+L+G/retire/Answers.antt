@@ -1,8 +1,8 @@
 use Rattle.std.proofs.Common.{ap, length, sym, subst, IsSome, arith}
-use Rattle.ix_maps.specs.SlotSteps.{slot_set}
-use Rattle.ix_maps.specs.Generations.{SlotMapState, place_value}
-use Rattle.ix_maps.proofs.Words.{retires, room_to_retire}
-use Rattle.ix_maps.proofs.slotmap.meta_slot_map.MetaSlotMap+Option+T+S+L+G.retire.Goals as goal
+use Rattle.ix_slottable.specs.SlotSteps.{slot_set}
+use Rattle.ix_slotmap.specs.Generations.{SlotMapState, place_value}
+use Rattle.ix_slotmap.proofs.Words.{retires, room_to_retire}
+use Rattle.ix_slotmap.proofs.slotmap.meta_slot_map.MetaSlotMap+Option+T+S+L+G.retire.Goals as goal
 
 pub overflow_add-self : goal.overflow_add-self
 overflow_add-self g c =

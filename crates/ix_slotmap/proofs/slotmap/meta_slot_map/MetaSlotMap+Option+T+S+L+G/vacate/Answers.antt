@@ -1,7 +1,7 @@
 use Rattle.std.proofs.Common.{ap}
-use Rattle.ix_maps.specs.Generations.{SlotMapState}
-use Rattle.ix_maps.proofs.Words.{vacates, reads_raised, state_of}
-use Rattle.ix_maps.proofs.slotmap.meta_slot_map.MetaSlotMap+Option+T+S+L+G.vacate.Goals as goal
+use Rattle.ix_slotmap.specs.Generations.{SlotMapState}
+use Rattle.ix_slotmap.proofs.Words.{vacates, reads_raised, state_of}
+use Rattle.ix_slotmap.proofs.slotmap.meta_slot_map.MetaSlotMap+Option+T+S+L+G.vacate.Goals as goal
 
 pub invariant_of-self : goal.invariant_of-self
 invariant_of-self g c =

@@ -1,8 +1,8 @@
 use Rattle.std.proofs.Common.{Some, ap}
-use Rattle.ix_maps.specs.SlotSteps.{slot_set}
-use Rattle.ix_maps.specs.Generations.{SlotMapState}
-use Rattle.ix_maps.proofs.Words.{replaces, reads_raised, state_of}
-use Rattle.ix_maps.proofs.slotmap.try_insert.MetaSlotMap+Option+T+S+L+G.exchange.Goals as goal
+use Rattle.ix_slottable.specs.SlotSteps.{slot_set}
+use Rattle.ix_slotmap.specs.Generations.{SlotMapState}
+use Rattle.ix_slotmap.proofs.Words.{replaces, reads_raised, state_of}
+use Rattle.ix_slotmap.proofs.slotmap.try_insert.MetaSlotMap+Option+T+S+L+G.exchange.Goals as goal
 
 pub invariant_of-self : goal.invariant_of-self
 invariant_of-self g c =

@@ -1,11 +1,11 @@
 use Rattle.std.proofs.Common.{inl, inr, IsSome, sym, ap, ◌∙◌, subst, arith}
 use Rattle.std.specs.Option.{option_flatten}
 use Rattle.std.proofs.lemmas.Bool.{cases_eq}
-use Rattle.ix_maps.specs.Generations.{SlotKey, SlotMapState, place_value, key_at, IsDead}
-use Rattle.ix_maps.specs.SlotMapSteps.{map_remove_at}
-use Rattle.ix_maps.proofs.SlotCalls.{fold-range_with_len}
-use Rattle.ix_maps.proofs.SlotMapCalls.{SettlesPlace-map_remove_at, held_key}
-use Rattle.ix_maps.proofs.slotmap.whole.MetaSlotMap+Option+T+S+L+G.clear.Goals as goal
+use Rattle.ix_slotmap.specs.Generations.{SlotKey, SlotMapState, place_value, key_at, IsDead}
+use Rattle.ix_slotmap.specs.SlotMapSteps.{map_remove_at}
+use Rattle.ix_slottable.proofs.SlotCalls.{fold-range_with_len}
+use Rattle.ix_slotmap.proofs.SlotMapCalls.{SettlesPlace-map_remove_at, held_key}
+use Rattle.ix_slotmap.proofs.slotmap.whole.MetaSlotMap+Option+T+S+L+G.clear.Goals as goal
 
 pub loop-place-preserved : goal.loop-place-preserved
 loop-place-preserved g c =

@@ -1,8 +1,8 @@
 use Rattle.std.proofs.Common.{◌≡◌, ℕ, ◌<◌, ◌≤◌, length, IsSome, None}
 use Rattle.std.specs.List.{fold, range_with_len}
-use Rattle.ix_maps.specs.Generations.{SlotKey, place_value, map_value, IsDead}
-use Rattle.ix_maps.specs.SlotMapSteps.{map_remove_at}
-use Rattle.ix_maps.proofs.slotmap.whole.MetaSlotMap+Option+T+S+L+G.clear.Given as goal
+use Rattle.ix_slotmap.specs.Generations.{SlotKey, place_value, map_value, IsDead}
+use Rattle.ix_slotmap.specs.SlotMapSteps.{map_remove_at}
+use Rattle.ix_slotmap.proofs.slotmap.whole.MetaSlotMap+Option+T+S+L+G.clear.Given as goal
 
 -- the keys of the places so far are removed
 abbrev pub invariant-loop-place : goal.invariant-loop-place

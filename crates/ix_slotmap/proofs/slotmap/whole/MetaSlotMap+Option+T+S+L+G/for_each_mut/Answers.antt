@@ -1,11 +1,11 @@
 use Rattle.std.proofs.Common.{refl, subst, arith}
 use Rattle.std.proofs.lemmas.Bool.{iff_false}
-use Rattle.ix_maps.specs.SlotMapSteps.{map_set}
-use Rattle.ix_maps.specs.SlotCalls.{CalledOn, ChangesItem}
-use Rattle.ix_maps.proofs.Generations.{none_of_not_some}
-use Rattle.ix_maps.proofs.SlotCalls.{CalledOn-from_step}
-use Rattle.ix_maps.proofs.SlotMapCalls.{held-map_set_at, IsDead-map_set_at, SettlesPlace-map_set_at, VisitedPlaces-without, VisitedPlaces-with, VisitedPlaces-callable}
-use Rattle.ix_maps.proofs.slotmap.whole.MetaSlotMap+Option+T+S+L+G.for_each_mut.Goals as goal
+use Rattle.ix_slotmap.specs.SlotMapSteps.{map_set}
+use Rattle.ix_slottable.specs.SlotCalls.{CalledOn, ChangesItem}
+use Rattle.ix_tables.proofs.Places.{none_of_not_some}
+use Rattle.ix_slottable.proofs.SlotCalls.{CalledOn-from_step}
+use Rattle.ix_slotmap.proofs.SlotMapCalls.{held-map_set_at, IsDead-map_set_at, SettlesPlace-map_set_at, VisitedPlaces-without, VisitedPlaces-with, VisitedPlaces-callable}
+use Rattle.ix_slotmap.proofs.slotmap.whole.MetaSlotMap+Option+T+S+L+G.for_each_mut.Goals as goal
 
 pub loop-index-preserved-then-not-has_value : goal.loop-index-preserved-then-not-has_value
 loop-index-preserved-then-not-has_value g c =

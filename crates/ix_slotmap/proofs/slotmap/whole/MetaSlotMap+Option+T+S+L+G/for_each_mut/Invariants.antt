@@ -1,9 +1,9 @@
 use Rattle.std.proofs.Common.{◌≡◌, ◌↔◌, IsSome}
-use Rattle.ix_maps.specs.Generations.{SlotKey, map_value, IsDead}
-use Rattle.ix_maps.specs.SlotMapSteps.{map_set}
-use Rattle.ix_maps.specs.SlotCalls.{ChangesItem}
-use Rattle.ix_maps.proofs.SlotMapCalls.{VisitedPlaces}
-use Rattle.ix_maps.proofs.slotmap.whole.MetaSlotMap+Option+T+S+L+G.for_each_mut.Given as goal
+use Rattle.ix_slotmap.specs.Generations.{SlotKey, map_value, IsDead}
+use Rattle.ix_slotmap.specs.SlotMapSteps.{map_set}
+use Rattle.ix_slottable.specs.SlotCalls.{ChangesItem}
+use Rattle.ix_slotmap.proofs.SlotMapCalls.{VisitedPlaces}
+use Rattle.ix_slotmap.proofs.slotmap.whole.MetaSlotMap+Option+T+S+L+G.for_each_mut.Given as goal
 
 abbrev pub invariant-loop-index : goal.invariant-loop-index
 invariant-loop-index g l = record {

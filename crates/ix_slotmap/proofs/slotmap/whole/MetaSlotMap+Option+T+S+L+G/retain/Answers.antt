@@ -1,13 +1,13 @@
 use Rattle.std.proofs.Common.{◌≡◌, IsSome, inl, inr, refl, sym, ap, ◌∙◌, subst, arith}
 use Rattle.std.specs.Prelude.{if◌then◌else◌, Bool}
 use Rattle.std.proofs.lemmas.Bool.{iff_false}
-use Rattle.ix_maps.specs.SlotMapSteps.{map_set_at, map_set, map_remove, map_remove_at}
-use Rattle.ix_maps.specs.SlotCalls.{CalledOn, RetainsItem}
-use Rattle.ix_maps.proofs.Generations.{none_of_not_some}
-use Rattle.ix_maps.proofs.SlotCalls.{CalledOn-from_step}
-use Rattle.ix_maps.proofs.SlotMapCalls.{place_value-map_set_at_same, map_remove_at-map_set_at, SettlesPlace-retained, VisitedPlaces-without, VisitedPlaces-with, VisitedPlaces-callable, Outlives, Outlives-map_set_at, Outlives-removed, Outlives-both}
-use Rattle.ix_maps.proofs.slotmap.whole.MetaSlotMap+Option+T+S+L+G.retain.Goals.{then-not-f, else-not-f}
-use Rattle.ix_maps.proofs.slotmap.whole.MetaSlotMap+Option+T+S+L+G.retain.Goals as goal
+use Rattle.ix_slotmap.specs.SlotMapSteps.{map_set_at, map_set, map_remove, map_remove_at}
+use Rattle.ix_slottable.specs.SlotCalls.{CalledOn, RetainsItem}
+use Rattle.ix_tables.proofs.Places.{none_of_not_some}
+use Rattle.ix_slottable.proofs.SlotCalls.{CalledOn-from_step}
+use Rattle.ix_slotmap.proofs.SlotMapCalls.{place_value-map_set_at_same, map_remove_at-map_set_at, SettlesPlace-retained, VisitedPlaces-without, VisitedPlaces-with, VisitedPlaces-callable, Outlives, Outlives-map_set_at, Outlives-removed, Outlives-both}
+use Rattle.ix_slotmap.proofs.slotmap.whole.MetaSlotMap+Option+T+S+L+G.retain.Goals.{then-not-f, else-not-f}
+use Rattle.ix_slotmap.proofs.slotmap.whole.MetaSlotMap+Option+T+S+L+G.retain.Goals as goal
 
 pub loop-index-preserved-then-not-has_value : goal.loop-index-preserved-then-not-has_value
 loop-index-preserved-then-not-has_value g c =

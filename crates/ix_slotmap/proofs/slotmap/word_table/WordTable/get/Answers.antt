@@ -1,6 +1,6 @@
 use Rattle.std.proofs.Common.{ℕ, List, get_or, sym, ap, ◌∙◌}
-use Rattle.ix_maps.proofs.WordTables.{words_in-at, words_in-within}
-use Rattle.ix_maps.proofs.slotmap.word_table.WordTable.get.Goals as goal
+use Rattle.ix_slotmap.proofs.WordTables.{words_in-at, words_in-within}
+use Rattle.ix_slotmap.proofs.slotmap.word_table.WordTable.get.Goals as goal
 
 pub get-requires : goal.get-requires
 get-requires g c = c.self.invariant c.args.place (words_in-within _ _ c.args.place c.self.view_is c.requires)

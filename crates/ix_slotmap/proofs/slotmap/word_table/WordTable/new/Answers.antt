@@ -1,7 +1,8 @@
 use Rattle.std.proofs.Common.{◌<◌, length, ap, ◌∙◌, subst}
 use Rattle.std.specs.Prelude.{replicate}
-use Rattle.ix_maps.proofs.WordTables.{words_in-filled, HasEachPlace-filled}
-use Rattle.ix_maps.proofs.slotmap.word_table.WordTable.new.Goals as goal
+use Rattle.ix_slotmap.proofs.WordTables.{words_in-filled}
+use Rattle.ix_slottable.proofs.FullTables.{HasEachPlace-filled}
+use Rattle.ix_slotmap.proofs.slotmap.word_table.WordTable.new.Goals as goal
 
 pub invariant_of-result : goal.invariant_of-result
 invariant_of-result g c =

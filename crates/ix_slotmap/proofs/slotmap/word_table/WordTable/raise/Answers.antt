@@ -1,7 +1,7 @@
 use Rattle.std.proofs.Common.{ℕ, ◌+◌, List, set, get_or, sym, ap, ◌∙◌}
-use Rattle.ix_maps.specs.inner.Words.{words_in}
-use Rattle.ix_maps.proofs.WordTables.{words_in-at, words_in-set}
-use Rattle.ix_maps.proofs.slotmap.word_table.WordTable.raise.Goals as goal
+use Rattle.ix_slotmap.specs.inner.Words.{words_in}
+use Rattle.ix_slotmap.proofs.WordTables.{words_in-at, words_in-set}
+use Rattle.ix_slotmap.proofs.slotmap.word_table.WordTable.raise.Goals as goal
 
 pub returns-clause-table : goal.returns-clause-table
 returns-clause-table g c =

@@ -1,8 +1,8 @@
 use Rattle.std.proofs.Common.{◌+◌, ◌∷◌, drop, Some, refl, sym, ap, ◌∙◌, subst}
-use Rattle.ix_maps.specs.SlotState.{entries_from}
-use Rattle.ix_maps.specs.SlotSteps.{SlotRemove}
-use Rattle.ix_maps.proofs.SlotDrains.{next_item, slot_clear-next}
-use Rattle.ix_maps.proofs.slottable.drain.DrainIterator.next.Goals as goal
+use Rattle.ix_slottable.specs.SlotState.{entries_from}
+use Rattle.ix_slottable.specs.SlotSteps.{SlotRemove}
+use Rattle.ix_slottable.proofs.SlotDrains.{next_item, slot_clear-next}
+use Rattle.ix_slottable.proofs.slottable.drain.DrainIterator.next.Goals as goal
 
 pub returns-clause-steps : goal.returns-clause-steps
 returns-clause-steps g c =

@@ -1,5 +1,5 @@
-use Rattle.ix_maps.proofs.VacantTables.{IsVacant-replicate, replicate-same_length}
-use Rattle.ix_maps.proofs.slottable.kinds.SlotTable+T+A.new.Goals as goal
+use Rattle.ix_tables.proofs.VacantTables.{IsVacant-replicate, replicate-same_length}
+use Rattle.ix_slottable.proofs.slottable.kinds.SlotTable+T+A.new.Goals as goal
 
 pub from_tables-requires-clause-values : goal.from_tables-requires-clause-values
 from_tables-requires-clause-values g c = IsVacant-replicate _ c.in_ok-values.ensures.value

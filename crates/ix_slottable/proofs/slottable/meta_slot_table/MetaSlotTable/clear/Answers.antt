@@ -1,11 +1,11 @@
 use Rattle.std.proofs.Common.{length, inl, inr, None, sym, ap, ◌∙◌, arith}
 use Rattle.std.specs.Prelude.{replicate}
 use Rattle.std.proofs.lemmas.Bool.{cases_eq}
-use Rattle.ix_maps.specs.SlotState.{SlotState, value_at}
-use Rattle.ix_maps.specs.SlotSteps.{slot_remove}
-use Rattle.ix_maps.proofs.SlotTables.{IsVacant-from_places}
-use Rattle.ix_maps.proofs.SlotCalls.{fold-range_with_len, length-slot_remove}
-use Rattle.ix_maps.proofs.slottable.meta_slot_table.MetaSlotTable.clear.Goals as goal
+use Rattle.ix_slottable.specs.SlotState.{SlotState, value_at}
+use Rattle.ix_slottable.specs.SlotSteps.{slot_remove}
+use Rattle.ix_slottable.proofs.SlotTables.{IsVacant-from_places}
+use Rattle.ix_slottable.proofs.SlotCalls.{fold-range_with_len, length-slot_remove}
+use Rattle.ix_slottable.proofs.slottable.meta_slot_table.MetaSlotTable.clear.Goals as goal
 
 pub loop-key-preserved : goal.loop-key-preserved
 loop-key-preserved g c =

@@ -1,8 +1,8 @@
 use Rattle.std.proofs.Common.{◌≡◌, ℕ, ◌<◌, length, None}
 use Rattle.std.specs.List.{fold, range_with_len}
-use Rattle.ix_maps.specs.SlotState.{value_at}
-use Rattle.ix_maps.specs.SlotSteps.{slot_remove}
-use Rattle.ix_maps.proofs.slottable.meta_slot_table.MetaSlotTable.clear.Given as goal
+use Rattle.ix_slottable.specs.SlotState.{value_at}
+use Rattle.ix_slottable.specs.SlotSteps.{slot_remove}
+use Rattle.ix_slottable.proofs.slottable.meta_slot_table.MetaSlotTable.clear.Given as goal
 
 -- the keys so far are removed
 abbrev pub invariant-loop-key : goal.invariant-loop-key

@@ -1,10 +1,10 @@
 use Rattle.std.proofs.Common.{◌↔◌, List, Option, length, sym, ap, ◌∙◌, subst}
-use Rattle.ix_maps.specs.SlotState.{SlotState, IsHeld}
-use Rattle.ix_maps.specs.inner.FreeList.{slots_of, Represents}
-use Rattle.ix_maps.specs.declared.slottable.link.Link.{Link}
-use Rattle.ix_maps.proofs.SlotTables.{IsLinkTable-shown}
-use Rattle.ix_maps.proofs.SlotCopies.{Represents-same_keys}
-use Rattle.ix_maps.proofs.slottable.meta_slot_table.MetaSlotTable.copy_free_keys.Goals as goal
+use Rattle.ix_slottable.specs.SlotState.{SlotState, IsHeld}
+use Rattle.ix_slottable.specs.inner.FreeList.{slots_of, Represents}
+use Rattle.ix_slottable.specs.declared.slottable.link.Link.{Link}
+use Rattle.ix_slottable.proofs.SlotTables.{IsLinkTable-shown}
+use Rattle.ix_slottable.proofs.SlotCopies.{Represents-same_keys}
+use Rattle.ix_slottable.proofs.slottable.meta_slot_table.MetaSlotTable.copy_free_keys.Goals as goal
 
 pub copy_links-requires-clause-links : goal.copy_links-requires-clause-links
 copy_links-requires-clause-links g c = IsLinkTable-shown _ _ _ _ _ (record { sound = c.self.invariant; is = c.self.view_is })

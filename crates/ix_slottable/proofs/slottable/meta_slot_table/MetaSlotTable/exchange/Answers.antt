@@ -1,6 +1,6 @@
 use Rattle.std.proofs.Common.{ap, set, Some, ◌∙◌}
-use Rattle.ix_maps.proofs.SlotSteps.{Shows-slot_set}
-use Rattle.ix_maps.proofs.slottable.meta_slot_table.MetaSlotTable.exchange.Goals as goal
+use Rattle.ix_slottable.proofs.SlotSteps.{Shows-slot_set}
+use Rattle.ix_slottable.proofs.slottable.meta_slot_table.MetaSlotTable.exchange.Goals as goal
 
 pub invariant_of-self : goal.invariant_of-self
 invariant_of-self g c =

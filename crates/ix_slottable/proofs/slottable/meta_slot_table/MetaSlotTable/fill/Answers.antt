@@ -1,8 +1,8 @@
 use Rattle.std.proofs.Common.{subst}
-use Rattle.ix_maps.specs.inner.FreeList.{IsLinkWithin}
-use Rattle.ix_maps.proofs.SlotTables.{IsLinkTable-shown, key_within, IsLinkWithin-shown, place_at-free, IsEmptyAt-free}
-use Rattle.ix_maps.proofs.SlotSteps.{Shows-slot_fill}
-use Rattle.ix_maps.proofs.slottable.meta_slot_table.MetaSlotTable.fill.Goals as goal
+use Rattle.ix_slottable.specs.inner.FreeList.{IsLinkWithin}
+use Rattle.ix_slottable.proofs.SlotTables.{IsLinkTable-shown, key_within, IsLinkWithin-shown, place_at-free, IsEmptyAt-free}
+use Rattle.ix_slottable.proofs.SlotSteps.{Shows-slot_fill}
+use Rattle.ix_slottable.proofs.slottable.meta_slot_table.MetaSlotTable.fill.Goals as goal
 
 pub remove-requires-clause-links : goal.remove-requires-clause-links
 remove-requires-clause-links g c = IsLinkTable-shown _ _ _ _ _ (record { sound = c.self.invariant; is = c.self.view_is })

@@ -1,6 +1,6 @@
-use Rattle.ix_maps.proofs.SlotTables.{IsLinkTable-shown, key_within}
-use Rattle.ix_maps.proofs.SlotSteps.{first_is_free, next_within, Shows-slot_insert}
-use Rattle.ix_maps.proofs.slottable.meta_slot_table.MetaSlotTable.fill_first.Goals as goal
+use Rattle.ix_slottable.proofs.SlotTables.{IsLinkTable-shown, key_within}
+use Rattle.ix_slottable.proofs.SlotSteps.{first_is_free, next_within, Shows-slot_insert}
+use Rattle.ix_slottable.proofs.slottable.meta_slot_table.MetaSlotTable.fill_first.Goals as goal
 
 pub remove_first-requires-clause-links : goal.remove_first-requires-clause-links
 remove_first-requires-clause-links g c = IsLinkTable-shown _ _ _ _ _ (record { sound = c.self.invariant; is = c.self.view_is })

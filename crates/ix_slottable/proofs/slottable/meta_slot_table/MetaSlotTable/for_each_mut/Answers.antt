@@ -1,11 +1,11 @@
 use Rattle.std.proofs.Common.{◌+◌, refl, sym, ap, ◌∙◌, subst, arith}
 use Rattle.std.proofs.lemmas.Bool.{iff_false}
-use Rattle.ix_maps.specs.SlotState.{value_at}
-use Rattle.ix_maps.specs.SlotSteps.{slot_set}
-use Rattle.ix_maps.specs.SlotCalls.{ChangesItem}
-use Rattle.ix_maps.proofs.Generations.{none_of_not_some}
-use Rattle.ix_maps.proofs.SlotCalls.{CalledOn-from_step, IsHeld-slot_set, Settles-slot_set, Visited, Visited-free, Visited-held, Visited-callable}
-use Rattle.ix_maps.proofs.slottable.meta_slot_table.MetaSlotTable.for_each_mut.Goals as goal
+use Rattle.ix_slottable.specs.SlotState.{value_at}
+use Rattle.ix_slottable.specs.SlotSteps.{slot_set}
+use Rattle.ix_slottable.specs.SlotCalls.{ChangesItem}
+use Rattle.ix_tables.proofs.Places.{none_of_not_some}
+use Rattle.ix_slottable.proofs.SlotCalls.{CalledOn-from_step, IsHeld-slot_set, Settles-slot_set, Visited, Visited-free, Visited-held, Visited-callable}
+use Rattle.ix_slottable.proofs.slottable.meta_slot_table.MetaSlotTable.for_each_mut.Goals as goal
 
 pub loop-number-preserved-then-not-contains : goal.loop-number-preserved-then-not-contains
 loop-number-preserved-then-not-contains g c =

@@ -1,9 +1,9 @@
 use Rattle.std.proofs.Common.{◌≡◌, ◌↔◌, ℕ}
-use Rattle.ix_maps.specs.SlotState.{IsHeld}
-use Rattle.ix_maps.specs.SlotSteps.{slot_set}
-use Rattle.ix_maps.specs.SlotCalls.{ChangesItem}
-use Rattle.ix_maps.proofs.SlotCalls.{Visited}
-use Rattle.ix_maps.proofs.slottable.meta_slot_table.MetaSlotTable.for_each_mut.Given as goal
+use Rattle.ix_slottable.specs.SlotState.{IsHeld}
+use Rattle.ix_slottable.specs.SlotSteps.{slot_set}
+use Rattle.ix_slottable.specs.SlotCalls.{ChangesItem}
+use Rattle.ix_slottable.proofs.SlotCalls.{Visited}
+use Rattle.ix_slottable.proofs.slottable.meta_slot_table.MetaSlotTable.for_each_mut.Given as goal
 
 abbrev pub invariant-loop-number : goal.invariant-loop-number
 invariant-loop-number g l = record {

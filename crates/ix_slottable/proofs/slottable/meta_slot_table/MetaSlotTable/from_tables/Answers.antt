@@ -1,8 +1,8 @@
 use Rattle.std.proofs.Common.{length, None, sym, ap, ◌∙◌, arith}
 use Rattle.std.specs.Prelude.{replicate}
-use Rattle.ix_maps.specs.SlotState.{slot_new}
-use Rattle.ix_maps.proofs.SlotSteps.{Shows-slot_new}
-use Rattle.ix_maps.proofs.slottable.meta_slot_table.MetaSlotTable.from_tables.Goals as goal
+use Rattle.ix_slottable.specs.SlotState.{slot_new}
+use Rattle.ix_slottable.proofs.SlotSteps.{Shows-slot_new}
+use Rattle.ix_slottable.proofs.slottable.meta_slot_table.MetaSlotTable.from_tables.Goals as goal
 
 pub invariant_of-result : goal.invariant_of-result
 invariant_of-result g c =

@@ -1,7 +1,7 @@
 use Rattle.std.proofs.Common.{sym, subst}
-use Rattle.ix_maps.specs.SlotState.{IsHeld}
-use Rattle.ix_maps.proofs.SlotSteps.{Shows-slot_set}
-use Rattle.ix_maps.proofs.slottable.meta_slot_table.MetaSlotTable.get_unchecked_mut_counted.Goals as goal
+use Rattle.ix_slottable.specs.SlotState.{IsHeld}
+use Rattle.ix_slottable.proofs.SlotSteps.{Shows-slot_set}
+use Rattle.ix_slottable.proofs.slottable.meta_slot_table.MetaSlotTable.get_unchecked_mut_counted.Goals as goal
 
 pub invariant_of-self-lent : goal.invariant_of-self-lent
 invariant_of-self-lent g c value =

@@ -1,6 +1,6 @@
 use Rattle.std.proofs.Common.{◌≡◌, ◌-◌, length, drop}
-use Rattle.ix_maps.specs.SlotState.{entries_from}
-use Rattle.ix_maps.proofs.slottable.meta_slot_table.MetaSlotTable.held_from.Given as goal
+use Rattle.ix_slottable.specs.SlotState.{entries_from}
+use Rattle.ix_slottable.proofs.slottable.meta_slot_table.MetaSlotTable.held_from.Given as goal
 
 -- only free keys were passed
 abbrev pub invariant-loop-touches : goal.invariant-loop-touches

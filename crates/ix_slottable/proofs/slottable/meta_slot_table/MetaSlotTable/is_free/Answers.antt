@@ -1,5 +1,5 @@
-use Rattle.ix_maps.proofs.SlotTables.{free_by_link, held_by_link, link_held}
-use Rattle.ix_maps.proofs.slottable.meta_slot_table.MetaSlotTable.is_free.Goals as goal
+use Rattle.ix_slottable.proofs.SlotTables.{free_by_link, held_by_link, link_held}
+use Rattle.ix_slottable.proofs.slottable.meta_slot_table.MetaSlotTable.is_free.Goals as goal
 
 pub get-requires : goal.get-requires
 get-requires g c = link_held _ _ _ _ _ c.args.key (record { sound = c.self.invariant; is = c.self.view_is }) c.requires

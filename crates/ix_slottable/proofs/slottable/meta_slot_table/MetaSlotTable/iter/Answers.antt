@@ -1,8 +1,8 @@
 use Rattle.std.proofs.Common.{nat_eq, sym, ap, ◌∙◌, subst}
 use Rattle.std.specs.List.Sorted.{IsStrictlyIncreasing}
 use Rattle.std.specs.Map.{keys_of, lookup}
-use Rattle.ix_maps.proofs.Entries.{IsStrictlyIncreasing-entries, lookup-entries}
-use Rattle.ix_maps.proofs.slottable.meta_slot_table.MetaSlotTable.iter.Goals as goal
+use Rattle.ix_slottable.proofs.Entries.{IsStrictlyIncreasing-entries, lookup-entries}
+use Rattle.ix_slottable.proofs.slottable.meta_slot_table.MetaSlotTable.iter.Goals as goal
 
 pub returns-clause-rising : goal.returns-clause-rising
 returns-clause-rising g c =

@@ -1,7 +1,7 @@
 use Rattle.std.proofs.Common.{◌+◌, sym, ap, ◌∙◌, subst, arith}
-use Rattle.ix_maps.specs.SlotState.{value_at}
-use Rattle.ix_maps.proofs.SlotCopies.{CopiesBelow, CopiesBelow-none, CopiesBelow-free, CopiesBelow-held, CopiesBelow-all}
-use Rattle.ix_maps.proofs.slottable.meta_slot_table.MetaSlotTable.put_clones.Goals as goal
+use Rattle.ix_slottable.specs.SlotState.{value_at}
+use Rattle.ix_slottable.proofs.SlotCopies.{CopiesBelow, CopiesBelow-none, CopiesBelow-free, CopiesBelow-held, CopiesBelow-all}
+use Rattle.ix_slottable.proofs.slottable.meta_slot_table.MetaSlotTable.put_clones.Goals as goal
 
 pub loop-number-init : goal.loop-number-init
 loop-number-init g c = CopiesBelow-none g.T.Clone.is_clone c.args.other.now c.args.self.now c.requires

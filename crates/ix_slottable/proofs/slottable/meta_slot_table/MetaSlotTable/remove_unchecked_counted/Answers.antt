@@ -1,9 +1,9 @@
 use Rattle.std.proofs.Common.{◌≡◌, Some, refl, sym, ap, ◌∙◌, subst}
-use Rattle.ix_maps.specs.SlotState.{SlotState, value_at, IsHeld}
-use Rattle.ix_maps.specs.SlotSteps.{slot_vacate}
-use Rattle.ix_maps.proofs.SlotTables.{IsLinkTable-shown, IsKeyOrNone-shown_first}
-use Rattle.ix_maps.proofs.SlotSteps.{Shows-slot_vacate, SlotRemove-vacated}
-use Rattle.ix_maps.proofs.slottable.meta_slot_table.MetaSlotTable.remove_unchecked_counted.Goals as goal
+use Rattle.ix_slottable.specs.SlotState.{SlotState, value_at, IsHeld}
+use Rattle.ix_slottable.specs.SlotSteps.{slot_vacate}
+use Rattle.ix_slottable.proofs.SlotTables.{IsLinkTable-shown, IsKeyOrNone-shown_first}
+use Rattle.ix_slottable.proofs.SlotSteps.{Shows-slot_vacate, SlotRemove-vacated}
+use Rattle.ix_slottable.proofs.slottable.meta_slot_table.MetaSlotTable.remove_unchecked_counted.Goals as goal
 
 pub insert_first-requires-clause-links : goal.insert_first-requires-clause-links
 insert_first-requires-clause-links g c = IsLinkTable-shown _ _ _ _ _ (record { sound = c.self.invariant; is = c.self.view_is })

@@ -1,5 +1,5 @@
-use Rattle.ix_maps.proofs.SlotSteps.{Shows-slot_set}
-use Rattle.ix_maps.proofs.slottable.meta_slot_table.MetaSlotTable.replace.Goals as goal
+use Rattle.ix_slottable.proofs.SlotSteps.{Shows-slot_set}
+use Rattle.ix_slottable.proofs.slottable.meta_slot_table.MetaSlotTable.replace.Goals as goal
 
 pub invariant_of-self : goal.invariant_of-self
 invariant_of-self g c =

@@ -1,13 +1,13 @@
 use Rattle.std.proofs.Common.{◌≡◌, ◌+◌, sym, ap, ◌∙◌, subst, arith}
 use Rattle.std.specs.Prelude.{if◌then◌else◌, Bool}
 use Rattle.std.proofs.lemmas.Bool.{iff_false}
-use Rattle.ix_maps.specs.SlotState.{value_at}
-use Rattle.ix_maps.specs.SlotSteps.{slot_set, slot_remove}
-use Rattle.ix_maps.specs.SlotCalls.{RetainsItem}
-use Rattle.ix_maps.proofs.Generations.{none_of_not_some}
-use Rattle.ix_maps.proofs.SlotCalls.{CalledOn-from_step, slot_remove-slot_set, Settles-retained, Visited, Visited-free, Visited-held, Visited-callable}
-use Rattle.ix_maps.proofs.slottable.meta_slot_table.MetaSlotTable.retain.Goals.{then-not-f, else-not-f}
-use Rattle.ix_maps.proofs.slottable.meta_slot_table.MetaSlotTable.retain.Goals as goal
+use Rattle.ix_slottable.specs.SlotState.{value_at}
+use Rattle.ix_slottable.specs.SlotSteps.{slot_set, slot_remove}
+use Rattle.ix_slottable.specs.SlotCalls.{RetainsItem}
+use Rattle.ix_tables.proofs.Places.{none_of_not_some}
+use Rattle.ix_slottable.proofs.SlotCalls.{CalledOn-from_step, slot_remove-slot_set, Settles-retained, Visited, Visited-free, Visited-held, Visited-callable}
+use Rattle.ix_slottable.proofs.slottable.meta_slot_table.MetaSlotTable.retain.Goals.{then-not-f, else-not-f}
+use Rattle.ix_slottable.proofs.slottable.meta_slot_table.MetaSlotTable.retain.Goals as goal
 
 pub loop-number-preserved-then-not-contains : goal.loop-number-preserved-then-not-contains
 loop-number-preserved-then-not-contains g c =

@@ -1,7 +1,7 @@
 use Rattle.std.proofs.Common.{Some, sym, subst}
-use Rattle.ix_maps.specs.SlotSteps.{SlotInsert}
-use Rattle.ix_maps.proofs.SlotSteps.{SlotInsert-refused, SlotInsert-filled}
-use Rattle.ix_maps.proofs.slottable.meta_slot_table.MetaSlotTable.try_insert.Goals as goal
+use Rattle.ix_slottable.specs.SlotSteps.{SlotInsert}
+use Rattle.ix_slottable.proofs.SlotSteps.{SlotInsert-refused, SlotInsert-filled}
+use Rattle.ix_slottable.proofs.slottable.meta_slot_table.MetaSlotTable.try_insert.Goals as goal
 
 pub returns-then-self-clause-step : goal.returns-then-self-clause-step
 returns-then-self-clause-step g c = SlotInsert-refused _ _ _ _ _ c.args.value (record { sound = c.self.invariant; is = c.self.view_is }) c.if-self.true

@@ -14,11 +14,11 @@ use denote.Signature.{Slot, plain, types_at}
 use denote.Steps.{nothing}
 use denote.Triple.Entry.{alive}
 use denote.Triple.Walked.{Stays, says, stay_dropped, Goes-dropped, walk_of, ends_at}
-use Rattle.ix_cells.proofs.Counts.{no_bytes, count_made}
-use Rattle.ix_cells.specs.contracts.cells.counted.Count as count
-use Rattle.ix_cells.specs.contracts.cells.counted.Count.successor as f
-use Rattle.ix_cells.proofs.cells.counted.Count.successor.Statement.{statement}
-use Rattle.ix_cells.proofs.cells.counted.Count.successor.Code as code
+use Rattle.ix_tables.proofs.Counts.{no_bytes, count_made}
+use Rattle.ix_tables.specs.contracts.cells.counted.Count as count
+use Rattle.ix_tables.specs.contracts.cells.counted.Count.successor as f
+use Rattle.ix_tables.proofs.cells.counted.Count.successor.Statement.{statement}
+use Rattle.ix_tables.proofs.cells.counted.Count.successor.Code as code
 
 -- the `&self`
 abbrev lent : Slot 1

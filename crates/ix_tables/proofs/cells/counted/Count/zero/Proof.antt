@@ -8,10 +8,10 @@ use types.ByLocal.{alloc_all, pass_all, free_all, look_at, sets}
 use denote.Steps.{nothing}
 use denote.Triple.Entry.{on_entry}
 use denote.Triple.Walked.{Stays, says, walk_of, ends_at}
-use Rattle.ix_cells.proofs.Counts.{no_bytes, count_made}
-use Rattle.ix_cells.specs.contracts.cells.counted.Count.zero as f
-use Rattle.ix_cells.proofs.cells.counted.Count.zero.Statement.{statement}
-use Rattle.ix_cells.proofs.cells.counted.Count.zero.Code as code
+use Rattle.ix_tables.proofs.Counts.{no_bytes, count_made}
+use Rattle.ix_tables.specs.contracts.cells.counted.Count.zero as f
+use Rattle.ix_tables.proofs.cells.counted.Count.zero.Statement.{statement}
+use Rattle.ix_tables.proofs.cells.counted.Count.zero.Code as code
 
 abbrev stayed : Stays f.ended.signature.params f.ended.kept
 stayed = tt

@@ -1,6 +1,6 @@
 use Rattle.std.proofs.Common.{rules, ◌∙◌}
-use Rattle.ix_cells.proofs.Places.{shown_within, content_held, place_at-item, item_held}
-use Rattle.ix_cells.proofs.cells.inline_table.InlineTableTable.get.Goals as goal
+use Rattle.ix_tables.proofs.Places.{shown_within, content_held, place_at-item, item_held}
+use Rattle.ix_tables.proofs.cells.inline_table.InlineTableTable.get.Goals as goal
 
 pub place-requires : goal.place-requires
 place-requires g c = (search rules, shown_within c.self.inside.places.items c.self.view_is c.args.i c.requires)

@@ -1,7 +1,7 @@
 use Rattle.std.proofs.Common.{rules, ◌∙◌, Some, refl}
 use Rattle.std.proofs.Math.ListN.{length-set}
-use Rattle.ix_cells.proofs.Places.{shown_within, shown_set, content_held, place_at-item, item_held}
-use Rattle.ix_cells.proofs.cells.inline_table.InlineTableTable.get_mut.Goals as goal
+use Rattle.ix_tables.proofs.Places.{shown_within, shown_set, content_held, place_at-item, item_held}
+use Rattle.ix_tables.proofs.cells.inline_table.InlineTableTable.get_mut.Goals as goal
 
 pub place_mut-requires : goal.place_mut-requires
 place_mut-requires g c = (search rules, shown_within c.self.inside.places.items c.self.view_is c.args.i c.requires)

@@ -2,8 +2,8 @@ use Rattle.std.proofs.Common.{rules, arith, ◌∙◌, Option, Some, length, map
 use Rattle.std.specs.Prelude.{slice_set}
 use Rattle.std.specs.Option.{option_flatten}
 use Rattle.std.proofs.Math.ListN.{length-set}
-use Rattle.ix_cells.proofs.Places.{shown_length, shown_set}
-use Rattle.ix_cells.proofs.cells.inline_table.InlineTableTable.put.Goals as goal
+use Rattle.ix_tables.proofs.Places.{shown_length, shown_set}
+use Rattle.ix_tables.proofs.cells.inline_table.InlineTableTable.put.Goals as goal
 
 pub put-requires : goal.put-requires
 put-requires g c = (search rules, omega (arith, shown_length c.self.inside.places.items c.self.view_is, c.requires.0))

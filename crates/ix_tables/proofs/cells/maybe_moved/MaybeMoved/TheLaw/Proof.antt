@@ -10,9 +10,9 @@ use denote.Shares.{SharesAt}
 use denote.Sharing.{ShrLaws}
 use denote.SharingLaws.{nothing_shr_laws}
 use denote.Struct.Lending.{Lends-nothing}
-use Rattle.ix_cells.specs.contracts.cells.maybe_moved.MaybeMoved.{the_written}
-use Rattle.ix_cells.proofs.cells.maybe_moved.MaybeMoved.TheInside.TheLaws.{the_row_laws}
-use Rattle.ix_cells.proofs.cells.maybe_moved.MaybeMoved.TheLaw.Statement.{statement}
+use Rattle.ix_tables.specs.contracts.cells.maybe_moved.MaybeMoved.{the_written}
+use Rattle.ix_tables.proofs.cells.maybe_moved.MaybeMoved.TheInside.TheLaws.{the_row_laws}
+use Rattle.ix_tables.proofs.cells.maybe_moved.MaybeMoved.TheLaw.Statement.{statement}
 
 module _ (T : RattleType) (L : Laws T) where
   copied : (held : Option T.Denot) (b o : ℕ) → ShrLaws ((the_written T).shr_at held b o)

@@ -1,17 +1,17 @@
 -- `get` shows the item. Assumes `Logic`.
-use Rattle.ix_cells.proofs.RawNames.{◌≡◌, List, [], ◌∷◌, Some, refl, proved, leaves, SProp, emp, ftrue, flft, Fn, named, inst_fn, Val}
-use Rattle.ix_cells.proofs.RawNames.{vptr, ◌⊑◌, fact, fact_i, tables, ‵, raw, ◌⊛◌, ◌$◌, ◌∵◌, !, qed, by, move, keep, drop, use0}
-use Rattle.ix_cells.proofs.RawNames.{split, rewrite, fsplit, fjoin, feq_i, stop, fld, addr, returns, enter, alloc_all, pass_all}
-use Rattle.ix_cells.proofs.RawNames.{free_all, look_at, through, sets, RefOf, yes, hide, unhide, owns, shr_vals, shr_Tells, plain}
-use Rattle.ix_cells.proofs.RawNames.{types_at, nothing, heard, Stays, stay_dropped, walk_of, Goes-dropped}
+use Rattle.ix_tables.proofs.RawNames.{◌≡◌, List, [], ◌∷◌, Some, refl, proved, leaves, SProp, emp, ftrue, flft, Fn, named, inst_fn, Val}
+use Rattle.ix_tables.proofs.RawNames.{vptr, ◌⊑◌, fact, fact_i, tables, ‵, raw, ◌⊛◌, ◌$◌, ◌∵◌, !, qed, by, move, keep, drop, use0}
+use Rattle.ix_tables.proofs.RawNames.{split, rewrite, fsplit, fjoin, feq_i, stop, fld, addr, returns, enter, alloc_all, pass_all}
+use Rattle.ix_tables.proofs.RawNames.{free_all, look_at, through, sets, RefOf, yes, hide, unhide, owns, shr_vals, shr_Tells, plain}
+use Rattle.ix_tables.proofs.RawNames.{types_at, nothing, heard, Stays, stay_dropped, walk_of, Goes-dropped}
 use Rattle.std.specs.Prelude.{IsSome}
 use denote.Ref.{Bor}
-use Rattle.ix_cells.specs.contracts.cells.maybe_moved.MaybeMoved.get as f
-use Rattle.ix_cells.proofs.MovedItems.{Moved, item_place}
-use Rattle.ix_cells.proofs.Places.{held_item}
-use Rattle.ix_cells.proofs.RawSteps.{inst}
-use Rattle.ix_cells.proofs.cells.maybe_moved.MaybeMoved.get.Statement.{statement}
-use Rattle.ix_cells.proofs.cells.maybe_moved.MaybeMoved.get.Code as code
+use Rattle.ix_tables.specs.contracts.cells.maybe_moved.MaybeMoved.get as f
+use Rattle.ix_tables.proofs.MovedItems.{Moved, item_place}
+use Rattle.ix_tables.proofs.Places.{held_item}
+use Rattle.ix_tables.proofs.RawSteps.{inst}
+use Rattle.ix_tables.proofs.cells.maybe_moved.MaybeMoved.get.Statement.{statement}
+use Rattle.ix_tables.proofs.cells.maybe_moved.MaybeMoved.get.Code as code
 
 pub get_spec : {M : Type 1} → statement M
 get_spec 𝓤 𝓛 𝓜 𝓡 wired T L =

@@ -1,21 +1,21 @@
 -- `get_mut` lends the item, which stays. Assumes `Logic`.
-use Rattle.ix_cells.proofs.RawNames.{◌≡◌, [], ◌∷◌, Some, refl, proved, leaves, full_share, SProp, emp, id⊢, GName, ftrue, flft}
-use Rattle.ix_cells.proofs.RawNames.{Fn, named, inst_fn, Val, vptr, ◌⊑◌, fact, fact_i, tables, ‵, raw, ◌⊛◌, some, given, later}
-use Rattle.ix_cells.proofs.RawNames.{◌$◌, ◌∵◌, !, qed, by, move, keep, drop, pick, learn, await, use0, use1, use2, split, split3, join}
-use Rattle.ix_cells.proofs.RawNames.{group, rewrite, fsplit, fsplit3, fjoin, stop, fld, addr, returns, enter, alloc_all, pass_all}
-use Rattle.ix_cells.proofs.RawNames.{free_all, look_at, through, sets, no, mem, fat, owns, MutBor, MutRef, mut_vals, plain, types_at}
-use Rattle.ix_cells.proofs.RawNames.{mut_ref_to, nothing, heard, Stays, stay_dropped, walk_of, Goes-spent_ref, Good}
+use Rattle.ix_tables.proofs.RawNames.{◌≡◌, [], ◌∷◌, Some, refl, proved, leaves, full_share, SProp, emp, id⊢, GName, ftrue, flft}
+use Rattle.ix_tables.proofs.RawNames.{Fn, named, inst_fn, Val, vptr, ◌⊑◌, fact, fact_i, tables, ‵, raw, ◌⊛◌, some, given, later}
+use Rattle.ix_tables.proofs.RawNames.{◌$◌, ◌∵◌, !, qed, by, move, keep, drop, pick, learn, await, use0, use1, use2, split, split3, join}
+use Rattle.ix_tables.proofs.RawNames.{group, rewrite, fsplit, fsplit3, fjoin, stop, fld, addr, returns, enter, alloc_all, pass_all}
+use Rattle.ix_tables.proofs.RawNames.{free_all, look_at, through, sets, no, mem, fat, owns, MutBor, MutRef, mut_vals, plain, types_at}
+use Rattle.ix_tables.proofs.RawNames.{mut_ref_to, nothing, heard, Stays, stay_dropped, walk_of, Goes-spent_ref, Good}
 use Rattle.std.specs.Prelude.{IsSome}
 use types.Mut.{open_ref}
 use denote.Follow.{follows, Part, lends_Part}
 use denote.Memory.{part_at}
 use denote.Ref.{mut_Tells}
-use Rattle.ix_cells.specs.contracts.cells.maybe_moved.MaybeMoved.get_mut as f
-use Rattle.ix_cells.proofs.MovedItems.{Moved, item_place, left, item_apart, item_back}
-use Rattle.ix_cells.proofs.Places.{held_item}
-use Rattle.ix_cells.proofs.RawSteps.{P, τ, inst, E, item_in}
-use Rattle.ix_cells.proofs.cells.maybe_moved.MaybeMoved.get_mut.Statement.{statement}
-use Rattle.ix_cells.proofs.cells.maybe_moved.MaybeMoved.get_mut.Code as code
+use Rattle.ix_tables.specs.contracts.cells.maybe_moved.MaybeMoved.get_mut as f
+use Rattle.ix_tables.proofs.MovedItems.{Moved, item_place, left, item_apart, item_back}
+use Rattle.ix_tables.proofs.Places.{held_item}
+use Rattle.ix_tables.proofs.RawSteps.{P, τ, inst, E, item_in}
+use Rattle.ix_tables.proofs.cells.maybe_moved.MaybeMoved.get_mut.Statement.{statement}
+use Rattle.ix_tables.proofs.cells.maybe_moved.MaybeMoved.get_mut.Code as code
 
 pub get_mut_spec : {M : Type 1} → statement M
 get_mut_spec 𝓤 𝓛 𝓜 𝓡 wired T L =

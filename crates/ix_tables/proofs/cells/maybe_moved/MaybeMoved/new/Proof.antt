@@ -1,15 +1,15 @@
 -- `new` makes the struct around the item. Assumes `Logic`.
-use Rattle.ix_cells.proofs.RawNames.{◌≡◌, List, [], ◌∷◌, Some, refl, sym, subst, proved_at, leaves, SProp, ent, emp, ftrue, flft}
-use Rattle.ix_cells.proofs.RawNames.{Fn, inst_fn, Val, WpFn, fact, fact_i, tables, ‵, raw, ◌⊛◌, ◌$◌, ◌∵◌, !, qed, by, move, keep}
-use Rattle.ix_cells.proofs.RawNames.{drop, use0, use1, split, fsplit, fjoin, agg, of_opd, and_then, no_more, returns, enter}
-use Rattle.ix_cells.proofs.RawNames.{alloc_all, pass_all, free_all, look_at, get, sets, no, owns, plain, types_at, nothing, Stays}
-use Rattle.ix_cells.proofs.RawNames.{stay_dropped, walk_of, Goes-dropped, one, lawful}
+use Rattle.ix_tables.proofs.RawNames.{◌≡◌, List, [], ◌∷◌, Some, refl, sym, subst, proved_at, leaves, SProp, ent, emp, ftrue, flft}
+use Rattle.ix_tables.proofs.RawNames.{Fn, inst_fn, Val, WpFn, fact, fact_i, tables, ‵, raw, ◌⊛◌, ◌$◌, ◌∵◌, !, qed, by, move, keep}
+use Rattle.ix_tables.proofs.RawNames.{drop, use0, use1, split, fsplit, fjoin, agg, of_opd, and_then, no_more, returns, enter}
+use Rattle.ix_tables.proofs.RawNames.{alloc_all, pass_all, free_all, look_at, get, sets, no, owns, plain, types_at, nothing, Stays}
+use Rattle.ix_tables.proofs.RawNames.{stay_dropped, walk_of, Goes-dropped, one, lawful}
 use Rattle.core.proofs.cell.Inside.{round, Good-round}
-use Rattle.ix_cells.specs.contracts.cells.maybe_moved.MaybeMoved.new as f
-use Rattle.ix_cells.proofs.MovedItems.{Moved, moved_made}
-use Rattle.ix_cells.proofs.RawSteps.{P, τ, inst, E}
-use Rattle.ix_cells.proofs.cells.maybe_moved.MaybeMoved.new.Statement.{statement}
-use Rattle.ix_cells.proofs.cells.maybe_moved.MaybeMoved.new.Code as code
+use Rattle.ix_tables.specs.contracts.cells.maybe_moved.MaybeMoved.new as f
+use Rattle.ix_tables.proofs.MovedItems.{Moved, moved_made}
+use Rattle.ix_tables.proofs.RawSteps.{P, τ, inst, E}
+use Rattle.ix_tables.proofs.cells.maybe_moved.MaybeMoved.new.Statement.{statement}
+use Rattle.ix_tables.proofs.cells.maybe_moved.MaybeMoved.new.Code as code
 
 pub new_spec : {M : Type 1} → statement M
 new_spec 𝓤 𝓛 𝓜 𝓡 wired T L =

@@ -1,21 +1,21 @@
 -- `take` moves the item out, and leaves its bytes. Assumes `Logic`.
-use Rattle.ix_cells.proofs.RawNames.{◌≡◌, List, [], ◌∷◌, Some, None, refl, proved, leaves, full_share, SProp, emp, ftrue, fat, flft}
-use Rattle.ix_cells.proofs.RawNames.{Fn, named, inst_fn, Val, ◌⊑◌, fact, fact_i, tables, ‵, raw, ◌⊛◌, some, given, at_ret}
-use Rattle.ix_cells.proofs.RawNames.{◌$◌, ◌∵◌, !, qed, by, move, keep, drop, pick, learn, use0, use1, use2, split, split3, join, rewrite}
-use Rattle.ix_cells.proofs.RawNames.{fsplit, fsplit3, fjoin, fjoin3, feq_i, stop, fld, addr, load, look, of_opd, first, blocks, exec}
-use Rattle.ix_cells.proofs.RawNames.{returns, enter, alloc_all, pass_all, free_all, look_at, get, through, sets, sets_last, env}
-use Rattle.ix_cells.proofs.RawNames.{mem, owns, MutBor, mut_vals, plain, types_at, nothing, heard, Stays, stay_ref, walk_of}
-use Rattle.ix_cells.proofs.RawNames.{Goes-ref, after, Good}
+use Rattle.ix_tables.proofs.RawNames.{◌≡◌, List, [], ◌∷◌, Some, None, refl, proved, leaves, full_share, SProp, emp, ftrue, fat, flft}
+use Rattle.ix_tables.proofs.RawNames.{Fn, named, inst_fn, Val, ◌⊑◌, fact, fact_i, tables, ‵, raw, ◌⊛◌, some, given, at_ret}
+use Rattle.ix_tables.proofs.RawNames.{◌$◌, ◌∵◌, !, qed, by, move, keep, drop, pick, learn, use0, use1, use2, split, split3, join, rewrite}
+use Rattle.ix_tables.proofs.RawNames.{fsplit, fsplit3, fjoin, fjoin3, feq_i, stop, fld, addr, load, look, of_opd, first, blocks, exec}
+use Rattle.ix_tables.proofs.RawNames.{returns, enter, alloc_all, pass_all, free_all, look_at, get, through, sets, sets_last, env}
+use Rattle.ix_tables.proofs.RawNames.{mem, owns, MutBor, mut_vals, plain, types_at, nothing, heard, Stays, stay_ref, walk_of}
+use Rattle.ix_tables.proofs.RawNames.{Goes-ref, after, Good}
 use Rattle.std.specs.Prelude.{IsSome}
 use types.Mut.{open_ref, close_ref}
 use denote.Memory.{part_at}
 use denote.Ref.{mut_Tells}
-use Rattle.ix_cells.specs.contracts.cells.maybe_moved.MaybeMoved.take as f
-use Rattle.ix_cells.proofs.MovedItems.{Moved, item_place, left, item_apart, item_gone}
-use Rattle.ix_cells.proofs.Places.{held_item}
-use Rattle.ix_cells.proofs.RawSteps.{τ, inst, E}
-use Rattle.ix_cells.proofs.cells.maybe_moved.MaybeMoved.take.Statement.{statement}
-use Rattle.ix_cells.proofs.cells.maybe_moved.MaybeMoved.take.Code as code
+use Rattle.ix_tables.specs.contracts.cells.maybe_moved.MaybeMoved.take as f
+use Rattle.ix_tables.proofs.MovedItems.{Moved, item_place, left, item_apart, item_gone}
+use Rattle.ix_tables.proofs.Places.{held_item}
+use Rattle.ix_tables.proofs.RawSteps.{τ, inst, E}
+use Rattle.ix_tables.proofs.cells.maybe_moved.MaybeMoved.take.Statement.{statement}
+use Rattle.ix_tables.proofs.cells.maybe_moved.MaybeMoved.take.Code as code
 
 pub take_spec : {M : Type 1} → statement M
 take_spec 𝓤 𝓛 𝓜 𝓡 wired T L =

@@ -8,8 +8,8 @@ use denote.Struct.Laws.{field_copy}
 use denote.Struct.Lending.{of_Lends, Lends-nothing}
 use Rattle.std.specs.declared.alloc.Allocator.{Ghosts}
 use Rattle.std.specs.contracts.marker.PhantomData as marker
-use Rattle.ix_cells.specs.contracts.cells.raw_row.RowGrant as grant
-use Rattle.ix_cells.proofs.cells.raw_row.RowGrant.TheLaw.Statement.{statement}
+use Rattle.ix_tables.specs.contracts.cells.raw_row.RowGrant as grant
+use Rattle.ix_tables.proofs.cells.raw_row.RowGrant.TheLaw.Statement.{statement}
 
 pub shares : (T A : RattleType) (g : Ghosts A.Denot) (L : Laws T) (LA : Laws A) → statement T A g L LA
 shares T A g L LA =

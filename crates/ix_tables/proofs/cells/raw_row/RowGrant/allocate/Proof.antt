@@ -1,16 +1,16 @@
 -- `allocate` makes empty places of a new block, and keeps the right to deallocate it. Assumes `Logic`.
-use Rattle.ix_cells.proofs.RawNames.{◌≡◌, ℕ, ◌*◌, ◌^◌, ◌<◌, [], ◌∷◌, length, replicate, None, Ok, Err, refl, sym, ap, subst, lit<}
-use Rattle.ix_cells.proofs.RawNames.{arith, proved, leaves, SProp, ent, emp, ftrue, flft, Fn, Body, named, w64, ty_array}
-use Rattle.ix_cells.proofs.RawNames.{inst_fn, Val, vint, vstruct, vcons, vnil, Env, Wp, after_seq, at_return, ◌⊑◌, Incl-trans}
-use Rattle.ix_cells.proofs.RawNames.{fact, fact_i, tables, Item, ‵, raw, ◌⊛◌, later, at_ret, ◌$◌, ◌∵◌, !, qed, by, move, keep}
-use Rattle.ix_cells.proofs.RawNames.{drop, await, use0, use1, use2, use3, split, split3, join, fsplit, fjoin, flt_i, whole, agg}
-use Rattle.ix_cells.proofs.RawNames.{stop, fld, lit, of_opd, bin, size_word, align_word, and_then, no_more, first, switches_on}
-use Rattle.ix_cells.proofs.RawNames.{exec, returns, enter, alloc_all, pass_all, free_all, look_at, get, get_in, get_tag, sets}
-use Rattle.ix_cells.proofs.RawNames.{sets_last, lands_as, is, env, usize, RefOf, yes, layout, param, uint_vals, uint_Tells}
-use Rattle.ix_cells.proofs.RawNames.{RattleType, owns, Ptr, block_ptr, shr_vals, shr_Tells, plain, types_at, nothing, heard}
-use Rattle.ix_cells.proofs.RawNames.{Stays, stay_dropped, walk_of, Goes-dropped, after, word, word-Good, as_written, calls_at}
-use Rattle.ix_cells.proofs.RawNames.{framed, align, capped, capped_fits, FitsInBlock, Al, uncapped, block_ty, block_size}
-use Rattle.ix_cells.proofs.RawNames.{block_align, args}
+use Rattle.ix_tables.proofs.RawNames.{◌≡◌, ℕ, ◌*◌, ◌^◌, ◌<◌, [], ◌∷◌, length, replicate, None, Ok, Err, refl, sym, ap, subst, lit<}
+use Rattle.ix_tables.proofs.RawNames.{arith, proved, leaves, SProp, ent, emp, ftrue, flft, Fn, Body, named, w64, ty_array}
+use Rattle.ix_tables.proofs.RawNames.{inst_fn, Val, vint, vstruct, vcons, vnil, Env, Wp, after_seq, at_return, ◌⊑◌, Incl-trans}
+use Rattle.ix_tables.proofs.RawNames.{fact, fact_i, tables, Item, ‵, raw, ◌⊛◌, later, at_ret, ◌$◌, ◌∵◌, !, qed, by, move, keep}
+use Rattle.ix_tables.proofs.RawNames.{drop, await, use0, use1, use2, use3, split, split3, join, fsplit, fjoin, flt_i, whole, agg}
+use Rattle.ix_tables.proofs.RawNames.{stop, fld, lit, of_opd, bin, size_word, align_word, and_then, no_more, first, switches_on}
+use Rattle.ix_tables.proofs.RawNames.{exec, returns, enter, alloc_all, pass_all, free_all, look_at, get, get_in, get_tag, sets}
+use Rattle.ix_tables.proofs.RawNames.{sets_last, lands_as, is, env, usize, RefOf, yes, layout, param, uint_vals, uint_Tells}
+use Rattle.ix_tables.proofs.RawNames.{RattleType, owns, Ptr, block_ptr, shr_vals, shr_Tells, plain, types_at, nothing, heard}
+use Rattle.ix_tables.proofs.RawNames.{Stays, stay_dropped, walk_of, Goes-dropped, after, word, word-Good, as_written, calls_at}
+use Rattle.ix_tables.proofs.RawNames.{framed, align, capped, capped_fits, FitsInBlock, Al, uncapped, block_ty, block_size}
+use Rattle.ix_tables.proofs.RawNames.{block_align, args}
 use types.Kit.{⋆, any_q, Post as After}
 use types.Match.{live, vrt, in_variant}
 use denote.Laws.{Is}
@@ -26,14 +26,14 @@ use Rattle.core.proofs.alloc.Calls.{Takes, at_takes, Takes-goes, Takes-gives, An
 use Rattle.std_alloc.proofs.VecSteps.Shapes.{head, arm_body}
 use Rattle.std_alloc.proofs.ResultValues.{ok_of, err_of}
 use Rattle.std_alloc.proofs.RcSteps.{Good, first_Good}
-use Rattle.ix_cells.specs.inner.RawMemory.{places_own}
-use Rattle.ix_cells.specs.inner.RawRows.{IsVacantRow, IsGrantFor}
-use Rattle.ix_cells.specs.contracts.cells.raw_row.RowGrant as grant
-use Rattle.ix_cells.specs.contracts.cells.raw_row.RowGrant.allocate as f
-use Rattle.ix_cells.proofs.RawSteps.{P, τ, s, E, Owner, Start, Mark, bytes_none, mark_made, start_made, three_val, three_made}
-use Rattle.ix_cells.proofs.RawSteps.{room_out}
-use Rattle.ix_cells.proofs.cells.raw_row.RowGrant.allocate.Statement.{statement}
-use Rattle.ix_cells.proofs.cells.raw_row.RowGrant.allocate.Code as code
+use Rattle.ix_tables.specs.inner.RawMemory.{places_own}
+use Rattle.ix_tables.specs.inner.RawRows.{IsVacantRow, IsGrantFor}
+use Rattle.ix_tables.specs.contracts.cells.raw_row.RowGrant as grant
+use Rattle.ix_tables.specs.contracts.cells.raw_row.RowGrant.allocate as f
+use Rattle.ix_tables.proofs.RawSteps.{P, τ, s, E, Owner, Start, Mark, bytes_none, mark_made, start_made, three_val, three_made}
+use Rattle.ix_tables.proofs.RawSteps.{room_out}
+use Rattle.ix_tables.proofs.cells.raw_row.RowGrant.allocate.Statement.{statement}
+use Rattle.ix_tables.proofs.cells.raw_row.RowGrant.allocate.Code as code
 
 pub allocate_spec : {M : Type 1} → statement M
 allocate_spec 𝓤 𝓛 𝓜 𝓡 wired T A L LA g d drops met _ =

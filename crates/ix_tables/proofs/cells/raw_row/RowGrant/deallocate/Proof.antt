@@ -1,30 +1,30 @@
 -- `deallocate` makes one block of the empty places, and hands it back with the allocator's token. Assumes `Logic`.
-use Rattle.ix_cells.proofs.RawNames.{◌≡◌, ℕ, ◌*◌, ◌^◌, ◌<◌, List, [], ◌∷◌, replicate, None, refl, sym, ap, subst, ◌∙◌, arith}
-use Rattle.ix_cells.proofs.RawNames.{proved_at, leaves, SProp, ent, never, id⊢, ftrue, froom, flft, Fn, w64, ty_array, ty_unit}
-use Rattle.ix_cells.proofs.RawNames.{inst_fn, Val, vint, vunit, WpFn, ◌⊑◌, Incl-trans, fact, tables, Item, ‵, raw, ◌⊛◌, given}
-use Rattle.ix_cells.proofs.RawNames.{later, at_ret, ◌$◌, ◌∵◌, !, qed, by, move, keep, drop, learn, await, use1, split, split3}
-use Rattle.ix_cells.proofs.RawNames.{join, group, rewrite, fsplit, fjoin, feq_i, flt_l, whole, sub, stop, fld, unit_lit, of_opd}
-use Rattle.ix_cells.proofs.RawNames.{bin, size_word, align_word, and_then, no_more, first, blocks, exec, returns, enter}
-use Rattle.ix_cells.proofs.RawNames.{alloc_all, pass_all, free_all, look_at, get, get_in, sets, lands_last, is, env, usize}
-use Rattle.ix_cells.proofs.RawNames.{RefOf, yes, no, param, param_laws, RattleType, owns, Ptr, in_a_block, shr_vals, plain}
-use Rattle.ix_cells.proofs.RawNames.{types_at, nothing, heard, Stays, stay_dropped, walk_of, Goes-dropped, after, word}
-use Rattle.ix_cells.proofs.RawNames.{word-Good, as_raw, calls_at_last, framed, align, capped, capped_fits, Al, token, uncapped}
-use Rattle.ix_cells.proofs.RawNames.{block_ty, block_size, block_align, args}
+use Rattle.ix_tables.proofs.RawNames.{◌≡◌, ℕ, ◌*◌, ◌^◌, ◌<◌, List, [], ◌∷◌, replicate, None, refl, sym, ap, subst, ◌∙◌, arith}
+use Rattle.ix_tables.proofs.RawNames.{proved_at, leaves, SProp, ent, never, id⊢, ftrue, froom, flft, Fn, w64, ty_array, ty_unit}
+use Rattle.ix_tables.proofs.RawNames.{inst_fn, Val, vint, vunit, WpFn, ◌⊑◌, Incl-trans, fact, tables, Item, ‵, raw, ◌⊛◌, given}
+use Rattle.ix_tables.proofs.RawNames.{later, at_ret, ◌$◌, ◌∵◌, !, qed, by, move, keep, drop, learn, await, use1, split, split3}
+use Rattle.ix_tables.proofs.RawNames.{join, group, rewrite, fsplit, fjoin, feq_i, flt_l, whole, sub, stop, fld, unit_lit, of_opd}
+use Rattle.ix_tables.proofs.RawNames.{bin, size_word, align_word, and_then, no_more, first, blocks, exec, returns, enter}
+use Rattle.ix_tables.proofs.RawNames.{alloc_all, pass_all, free_all, look_at, get, get_in, sets, lands_last, is, env, usize}
+use Rattle.ix_tables.proofs.RawNames.{RefOf, yes, no, param, param_laws, RattleType, owns, Ptr, in_a_block, shr_vals, plain}
+use Rattle.ix_tables.proofs.RawNames.{types_at, nothing, heard, Stays, stay_dropped, walk_of, Goes-dropped, after, word}
+use Rattle.ix_tables.proofs.RawNames.{word-Good, as_raw, calls_at_last, framed, align, capped, capped_fits, Al, token, uncapped}
+use Rattle.ix_tables.proofs.RawNames.{block_ty, block_size, block_align, args}
 use lib.Dec.{T as IsT}
 use mir.Val.{has_ty, WT}
 use denote.RawPtr.{ptr_val}
 use Rattle.std.proofs.lemmas.List.{length-replicate}
 use Rattle.core.proofs.alloc.Calls.{Gives, at_gives, Gives-goes, Gives-Gives, Goes-blank}
-use Rattle.ix_cells.specs.inner.RawMemory.{row_owns, grant_owns}
-use Rattle.ix_cells.specs.inner.RawRows.{IsVacantRow, IsGrantFor}
-use Rattle.ix_cells.specs.contracts.cells.raw_row.RowGrant as grant
-use Rattle.ix_cells.specs.contracts.cells.raw_row.RowGrant.deallocate as f
-use Rattle.ix_cells.proofs.RawSteps.{P, τ, s, Place, E, Owner, Start, bytes_none, room_in}
-use Rattle.ix_cells.proofs.cells.raw_row.RowPtr.TheLaws.{lowers as start_lowers}
-use Rattle.ix_cells.proofs.cells.raw_row.RowOwner.TheLaws.{lowers as owner_lowers}
-use Rattle.ix_cells.proofs.cells.raw_row.RowGrant.TheLaws.{lowers as grant_lowers}
-use Rattle.ix_cells.proofs.cells.raw_row.RowGrant.deallocate.Statement.{statement}
-use Rattle.ix_cells.proofs.cells.raw_row.RowGrant.deallocate.Code as code
+use Rattle.ix_tables.specs.inner.RawMemory.{row_owns, grant_owns}
+use Rattle.ix_tables.specs.inner.RawRows.{IsVacantRow, IsGrantFor}
+use Rattle.ix_tables.specs.contracts.cells.raw_row.RowGrant as grant
+use Rattle.ix_tables.specs.contracts.cells.raw_row.RowGrant.deallocate as f
+use Rattle.ix_tables.proofs.RawSteps.{P, τ, s, Place, E, Owner, Start, bytes_none, room_in}
+use Rattle.ix_tables.proofs.cells.raw_row.RowPtr.TheLaws.{lowers as start_lowers}
+use Rattle.ix_tables.proofs.cells.raw_row.RowOwner.TheLaws.{lowers as owner_lowers}
+use Rattle.ix_tables.proofs.cells.raw_row.RowGrant.TheLaws.{lowers as grant_lowers}
+use Rattle.ix_tables.proofs.cells.raw_row.RowGrant.deallocate.Statement.{statement}
+use Rattle.ix_tables.proofs.cells.raw_row.RowGrant.deallocate.Code as code
 
 pub deallocate_spec : {M : Type 1} → statement M
 deallocate_spec 𝓤 𝓛 𝓜 𝓡 wired T A L LA g d drops met _ =

@@ -9,9 +9,9 @@ use denote.Param.Shared.{copy_shared}
 use denote.Struct.Laws.{field_copy}
 use denote.Struct.Lending.{of_Lends}
 use Rattle.std.specs.contracts.marker.PhantomData as marker
-use Rattle.ix_cells.specs.contracts.cells.raw_row.RowOwner as owner
-use Rattle.ix_cells.proofs.RawSharing.{row_copied, row_lent}
-use Rattle.ix_cells.proofs.cells.raw_row.RowOwner.TheLaw.Statement.{statement}
+use Rattle.ix_tables.specs.contracts.cells.raw_row.RowOwner as owner
+use Rattle.ix_tables.proofs.RawSharing.{row_copied, row_lent}
+use Rattle.ix_tables.proofs.cells.raw_row.RowOwner.TheLaw.Statement.{statement}
 
 pub shares : (T : RattleType) (L : Laws T) → statement T L
 shares T L =

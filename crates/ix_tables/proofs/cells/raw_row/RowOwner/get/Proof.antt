@@ -1,21 +1,21 @@
 -- `get` shows an item that the row lends. Assumes `Logic`.
-use Rattle.ix_cells.proofs.RawNames.{◌≡◌, ℕ, ◌+◌, ◌*◌, List, [], ◌∷◌, length, get_or, Some, None, refl, sym, subst, ◌∙◌}
-use Rattle.ix_cells.proofs.RawNames.{proved_at, leaves, full_share, SProp, ent, emp, never, id⊢, ftrue, fat, flft, Fn, w64}
-use Rattle.ix_cells.proofs.RawNames.{inst_fn, Val, vint, vptr, WpFn, ◌⊑◌, fact, fact_i, tables, ‵, raw, ◌⊛◌, at_ret, ◌$◌, ◌∵◌}
-use Rattle.ix_cells.proofs.RawNames.{ !, qed, by, move, keep, drop, use0, use1, split, split3, rewrite, fsplit, fjoin, feq_i}
-use Rattle.ix_cells.proofs.RawNames.{flt_l, whole, sub, stop, fld, addr, of_opd, bin, size_lit, first, blocks, exec, returns}
-use Rattle.ix_cells.proofs.RawNames.{enter, alloc_all, pass_all, free_all, look_at, get, get_in, through, sets, sets_last}
-use Rattle.ix_cells.proofs.RawNames.{take_at, give_at, env, usize, RefOf, yes, no, hide, unhide, layout, param_laws, owns, Ptr}
-use Rattle.ix_cells.proofs.RawNames.{in_a_block, shr_vals, plain, types_at, nothing, heard, Stays, stay_dropped, walk_of}
-use Rattle.ix_cells.proofs.RawNames.{Goes-dropped, after, word, word-Good}
-use Rattle.ix_cells.specs.Places.{IsHeldAt}
-use Rattle.ix_cells.specs.inner.RawMemory.{place_shares, row_shares}
-use Rattle.ix_cells.specs.contracts.cells.raw_row.RowOwner.get as f
-use Rattle.ix_cells.proofs.Places.{held_item, held_within}
-use Rattle.ix_cells.proofs.RawSteps.{P, inst, s, Place, Owner, Start, offset_fits, place_seen}
-use Rattle.ix_cells.proofs.cells.raw_row.RowPtr.TheLaws.{lowers as start_lowers}
-use Rattle.ix_cells.proofs.cells.raw_row.RowOwner.get.Statement.{statement}
-use Rattle.ix_cells.proofs.cells.raw_row.RowOwner.get.Code as code
+use Rattle.ix_tables.proofs.RawNames.{◌≡◌, ℕ, ◌+◌, ◌*◌, List, [], ◌∷◌, length, get_or, Some, None, refl, sym, subst, ◌∙◌}
+use Rattle.ix_tables.proofs.RawNames.{proved_at, leaves, full_share, SProp, ent, emp, never, id⊢, ftrue, fat, flft, Fn, w64}
+use Rattle.ix_tables.proofs.RawNames.{inst_fn, Val, vint, vptr, WpFn, ◌⊑◌, fact, fact_i, tables, ‵, raw, ◌⊛◌, at_ret, ◌$◌, ◌∵◌}
+use Rattle.ix_tables.proofs.RawNames.{ !, qed, by, move, keep, drop, use0, use1, split, split3, rewrite, fsplit, fjoin, feq_i}
+use Rattle.ix_tables.proofs.RawNames.{flt_l, whole, sub, stop, fld, addr, of_opd, bin, size_lit, first, blocks, exec, returns}
+use Rattle.ix_tables.proofs.RawNames.{enter, alloc_all, pass_all, free_all, look_at, get, get_in, through, sets, sets_last}
+use Rattle.ix_tables.proofs.RawNames.{take_at, give_at, env, usize, RefOf, yes, no, hide, unhide, layout, param_laws, owns, Ptr}
+use Rattle.ix_tables.proofs.RawNames.{in_a_block, shr_vals, plain, types_at, nothing, heard, Stays, stay_dropped, walk_of}
+use Rattle.ix_tables.proofs.RawNames.{Goes-dropped, after, word, word-Good}
+use Rattle.ix_tables.specs.Places.{IsHeldAt}
+use Rattle.ix_tables.specs.inner.RawMemory.{place_shares, row_shares}
+use Rattle.ix_tables.specs.contracts.cells.raw_row.RowOwner.get as f
+use Rattle.ix_tables.proofs.Places.{held_item, held_within}
+use Rattle.ix_tables.proofs.RawSteps.{P, inst, s, Place, Owner, Start, offset_fits, place_seen}
+use Rattle.ix_tables.proofs.cells.raw_row.RowPtr.TheLaws.{lowers as start_lowers}
+use Rattle.ix_tables.proofs.cells.raw_row.RowOwner.get.Statement.{statement}
+use Rattle.ix_tables.proofs.cells.raw_row.RowOwner.get.Code as code
 
 pub get_spec : {M : Type 1} → statement M
 get_spec 𝓤 𝓛 𝓜 𝓡 wired T L =

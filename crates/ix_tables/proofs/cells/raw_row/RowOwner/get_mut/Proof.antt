@@ -1,30 +1,30 @@
 -- `get_mut` lends an item, and the row follows it. Assumes `Logic`.
-use Rattle.ix_cells.proofs.RawNames.{◌≡◌, ℕ, ◌+◌, ◌*◌, ◌^◌, ◌<◌, List, [], ◌∷◌, length, length-set, get_or, set, Some, None}
-use Rattle.ix_cells.proofs.RawNames.{refl, sym, subst, ◌∙◌, proved_at, leaves, full_share, SProp, ent, sep, emp, never, id⊢}
-use Rattle.ix_cells.proofs.RawNames.{GName, Fml, ftrue, fsep, fat, flft, Fn, named, w64, inst_fn, Val, vint, vptr, WpFn, ◌⊑◌}
-use Rattle.ix_cells.proofs.RawNames.{fact, fact_i, tables, ‵, raw, ◌⊛◌, some, later, at_ret, ◌$◌, ◌∵◌, !, qed, done, by, move}
-use Rattle.ix_cells.proofs.RawNames.{keep, drop, pick, await, use0, use1, use2, split, split3, join, group, rewrite, fsplit}
-use Rattle.ix_cells.proofs.RawNames.{fsplit3, fjoin, fjoin3, fpack, flt_l, flt_i, sem, whole, sub, stop, fld, addr, of_opd, bin}
-use Rattle.ix_cells.proofs.RawNames.{size_lit, first, blocks, exec, returns, enter, alloc_all, pass_all, free_all, look_at, get}
-use Rattle.ix_cells.proofs.RawNames.{get_in, through, sets, sets_last, take_at, give_at, env, usize, no, yes, cell_at, mem}
-use Rattle.ix_cells.proofs.RawNames.{layout, param_laws, owns, Ptr, block_ptr, in_a_block, MutRef, mut_vals, plain, types_at}
-use Rattle.ix_cells.proofs.RawNames.{mut_ref_to, nothing, heard, opens, Stays, stay_dropped, walk_of, Goes-dropped}
-use Rattle.ix_cells.proofs.RawNames.{Goes-spent_ref, after, word, word-Good}
+use Rattle.ix_tables.proofs.RawNames.{◌≡◌, ℕ, ◌+◌, ◌*◌, ◌^◌, ◌<◌, List, [], ◌∷◌, length, length-set, get_or, set, Some, None}
+use Rattle.ix_tables.proofs.RawNames.{refl, sym, subst, ◌∙◌, proved_at, leaves, full_share, SProp, ent, sep, emp, never, id⊢}
+use Rattle.ix_tables.proofs.RawNames.{GName, Fml, ftrue, fsep, fat, flft, Fn, named, w64, inst_fn, Val, vint, vptr, WpFn, ◌⊑◌}
+use Rattle.ix_tables.proofs.RawNames.{fact, fact_i, tables, ‵, raw, ◌⊛◌, some, later, at_ret, ◌$◌, ◌∵◌, !, qed, done, by, move}
+use Rattle.ix_tables.proofs.RawNames.{keep, drop, pick, await, use0, use1, use2, split, split3, join, group, rewrite, fsplit}
+use Rattle.ix_tables.proofs.RawNames.{fsplit3, fjoin, fjoin3, fpack, flt_l, flt_i, sem, whole, sub, stop, fld, addr, of_opd, bin}
+use Rattle.ix_tables.proofs.RawNames.{size_lit, first, blocks, exec, returns, enter, alloc_all, pass_all, free_all, look_at, get}
+use Rattle.ix_tables.proofs.RawNames.{get_in, through, sets, sets_last, take_at, give_at, env, usize, no, yes, cell_at, mem}
+use Rattle.ix_tables.proofs.RawNames.{layout, param_laws, owns, Ptr, block_ptr, in_a_block, MutRef, mut_vals, plain, types_at}
+use Rattle.ix_tables.proofs.RawNames.{mut_ref_to, nothing, heard, opens, Stays, stay_dropped, walk_of, Goes-dropped}
+use Rattle.ix_tables.proofs.RawNames.{Goes-spent_ref, after, word, word-Good}
 use denote.Follow.{follows, Part, lends_Part}
 use denote.Memory.{part_of}
 use seplogic.Ra.Ura.{Ura}
 use types.Logic.{Logic}
 use denote.RattleType.{RattleType}
-use Rattle.ix_cells.specs.Places.{IsHeldAt}
-use Rattle.ix_cells.specs.inner.RawMemory.{place_owns, places_own, row_owns}
-use Rattle.ix_cells.specs.inner.RawRows.{with_places}
-use Rattle.ix_cells.specs.contracts.cells.raw_row.RowOwner.get_mut as f
-use Rattle.ix_cells.proofs.Places.{held_item, held_within}
-use Rattle.ix_cells.proofs.RawSteps.{P, inst, s, Place, Owner, Start, Mark, offset_fits, others}
-use Rattle.ix_cells.proofs.RawSteps.{place_out, place_in}
-use Rattle.ix_cells.proofs.cells.raw_row.RowPtr.TheLaws.{lowers as start_lowers}
-use Rattle.ix_cells.proofs.cells.raw_row.RowOwner.get_mut.Statement.{statement}
-use Rattle.ix_cells.proofs.cells.raw_row.RowOwner.get_mut.Code as code
+use Rattle.ix_tables.specs.Places.{IsHeldAt}
+use Rattle.ix_tables.specs.inner.RawMemory.{place_owns, places_own, row_owns}
+use Rattle.ix_tables.specs.inner.RawRows.{with_places}
+use Rattle.ix_tables.specs.contracts.cells.raw_row.RowOwner.get_mut as f
+use Rattle.ix_tables.proofs.Places.{held_item, held_within}
+use Rattle.ix_tables.proofs.RawSteps.{P, inst, s, Place, Owner, Start, Mark, offset_fits, others}
+use Rattle.ix_tables.proofs.RawSteps.{place_out, place_in}
+use Rattle.ix_tables.proofs.cells.raw_row.RowPtr.TheLaws.{lowers as start_lowers}
+use Rattle.ix_tables.proofs.cells.raw_row.RowOwner.get_mut.Statement.{statement}
+use Rattle.ix_tables.proofs.cells.raw_row.RowOwner.get_mut.Code as code
 
 module _ (T : RattleType) {M : Type 1} {𝓤 : Ura M} (𝓛 : Logic 𝓤) (d : (Owner T).Denot) (i : ℕ) where
   -- the row with the item w at place i

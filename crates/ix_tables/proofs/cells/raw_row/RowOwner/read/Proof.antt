@@ -1,24 +1,24 @@
 -- `read` moves the item out of its place, which is empty then. Assumes `Logic`.
-use Rattle.ix_cells.proofs.RawNames.{◌≡◌, ℕ, ◌+◌, ◌*◌, ◌^◌, ◌<◌, List, [], ◌∷◌, length, length-set, get_or, set, Some, None}
-use Rattle.ix_cells.proofs.RawNames.{refl, sym, subst, ◌∙◌, proved_at, leaves, full_share, SProp, ent, emp, never, id⊢, ftrue}
-use Rattle.ix_cells.proofs.RawNames.{fat, froom, flft, Fn, w64, inst_fn, Val, vint, WpFn, ◌⊑◌, fact, fact_i, tables, ‵, raw}
-use Rattle.ix_cells.proofs.RawNames.{◌⊛◌, some, given, at_ret, ◌$◌, ◌∵◌, !, qed, by, move, keep, drop, pick, learn, use0, use1}
-use Rattle.ix_cells.proofs.RawNames.{use2, split, split3, join, rewrite, fsplit, fsplit3, fjoin, fjoin3, feq_i, flt_l, flt_i}
-use Rattle.ix_cells.proofs.RawNames.{whole, sub, stop, fld, load, look, of_opd, bin, size_lit, first, blocks, exec, returns}
-use Rattle.ix_cells.proofs.RawNames.{enter, alloc_all, pass_all, free_all, look_at, get, get_in, through, sets, sets_last}
-use Rattle.ix_cells.proofs.RawNames.{take_at, give_at, env, usize, yes, no, layout, param_laws, owns, Ptr, in_a_block, mut_vals}
-use Rattle.ix_cells.proofs.RawNames.{plain, types_at, nothing, heard, opens, closes, Stays, stay_dropped, stay_ref, walk_of}
-use Rattle.ix_cells.proofs.RawNames.{Goes-dropped, Goes-ref, after, word, word-Good, as_raw, Good}
-use Rattle.ix_cells.specs.Places.{IsHeldAt}
-use Rattle.ix_cells.specs.inner.RawMemory.{place_owns, places_own, row_owns}
-use Rattle.ix_cells.specs.inner.RawRows.{with_places}
-use Rattle.ix_cells.specs.contracts.cells.raw_row.RowOwner.read as f
-use Rattle.ix_cells.proofs.Places.{held_item, held_within}
-use Rattle.ix_cells.proofs.RawSteps.{P, τ, inst, s, Place, Owner, Start, E, offset_fits, others}
-use Rattle.ix_cells.proofs.RawSteps.{place_out, place_in, item_out}
-use Rattle.ix_cells.proofs.cells.raw_row.RowPtr.TheLaws.{lowers as start_lowers}
-use Rattle.ix_cells.proofs.cells.raw_row.RowOwner.read.Statement.{statement}
-use Rattle.ix_cells.proofs.cells.raw_row.RowOwner.read.Code as code
+use Rattle.ix_tables.proofs.RawNames.{◌≡◌, ℕ, ◌+◌, ◌*◌, ◌^◌, ◌<◌, List, [], ◌∷◌, length, length-set, get_or, set, Some, None}
+use Rattle.ix_tables.proofs.RawNames.{refl, sym, subst, ◌∙◌, proved_at, leaves, full_share, SProp, ent, emp, never, id⊢, ftrue}
+use Rattle.ix_tables.proofs.RawNames.{fat, froom, flft, Fn, w64, inst_fn, Val, vint, WpFn, ◌⊑◌, fact, fact_i, tables, ‵, raw}
+use Rattle.ix_tables.proofs.RawNames.{◌⊛◌, some, given, at_ret, ◌$◌, ◌∵◌, !, qed, by, move, keep, drop, pick, learn, use0, use1}
+use Rattle.ix_tables.proofs.RawNames.{use2, split, split3, join, rewrite, fsplit, fsplit3, fjoin, fjoin3, feq_i, flt_l, flt_i}
+use Rattle.ix_tables.proofs.RawNames.{whole, sub, stop, fld, load, look, of_opd, bin, size_lit, first, blocks, exec, returns}
+use Rattle.ix_tables.proofs.RawNames.{enter, alloc_all, pass_all, free_all, look_at, get, get_in, through, sets, sets_last}
+use Rattle.ix_tables.proofs.RawNames.{take_at, give_at, env, usize, yes, no, layout, param_laws, owns, Ptr, in_a_block, mut_vals}
+use Rattle.ix_tables.proofs.RawNames.{plain, types_at, nothing, heard, opens, closes, Stays, stay_dropped, stay_ref, walk_of}
+use Rattle.ix_tables.proofs.RawNames.{Goes-dropped, Goes-ref, after, word, word-Good, as_raw, Good}
+use Rattle.ix_tables.specs.Places.{IsHeldAt}
+use Rattle.ix_tables.specs.inner.RawMemory.{place_owns, places_own, row_owns}
+use Rattle.ix_tables.specs.inner.RawRows.{with_places}
+use Rattle.ix_tables.specs.contracts.cells.raw_row.RowOwner.read as f
+use Rattle.ix_tables.proofs.Places.{held_item, held_within}
+use Rattle.ix_tables.proofs.RawSteps.{P, τ, inst, s, Place, Owner, Start, E, offset_fits, others}
+use Rattle.ix_tables.proofs.RawSteps.{place_out, place_in, item_out}
+use Rattle.ix_tables.proofs.cells.raw_row.RowPtr.TheLaws.{lowers as start_lowers}
+use Rattle.ix_tables.proofs.cells.raw_row.RowOwner.read.Statement.{statement}
+use Rattle.ix_tables.proofs.cells.raw_row.RowOwner.read.Code as code
 
 pub read_spec : {M : Type 1} → statement M
 read_spec 𝓤 𝓛 𝓜 𝓡 wired T L =

@@ -1,19 +1,19 @@
 -- `without_bytes` makes places of no bytes, at an address that is never read. Assumes `Logic`.
-use Rattle.ix_cells.proofs.RawNames.{◌≡◌, ℕ, ◌*◌, ◌^◌, ◌<◌, [], ◌∷◌, length, replicate, None, refl, sym, subst, lit<, proved}
-use Rattle.ix_cells.proofs.RawNames.{leaves, SProp, emp, ftrue, flft, Fn, w64, inst_fn, Val, vint, ◌⊑◌, fact, fact_i, tables, ‵}
-use Rattle.ix_cells.proofs.RawNames.{raw, ◌⊛◌, ◌$◌, ◌∵◌, !, qed, by, move, keep, drop, use0, use2, split, join, fjoin, flt_i, agg}
-use Rattle.ix_cells.proofs.RawNames.{stop, from, addr, and_then, no_more, returns, enter, alloc_all, pass_all}
-use Rattle.ix_cells.proofs.RawNames.{free_all, look_at, get, sets, usize, yes, owns, Ptr, block_ptr, plain, types_at, nothing}
-use Rattle.ix_cells.proofs.RawNames.{heard, Stays, stay_dropped, walk_of, Goes-dropped, word, word-Good, uint_vals, uint_Tells}
+use Rattle.ix_tables.proofs.RawNames.{◌≡◌, ℕ, ◌*◌, ◌^◌, ◌<◌, [], ◌∷◌, length, replicate, None, refl, sym, subst, lit<, proved}
+use Rattle.ix_tables.proofs.RawNames.{leaves, SProp, emp, ftrue, flft, Fn, w64, inst_fn, Val, vint, ◌⊑◌, fact, fact_i, tables, ‵}
+use Rattle.ix_tables.proofs.RawNames.{raw, ◌⊛◌, ◌$◌, ◌∵◌, !, qed, by, move, keep, drop, use0, use2, split, join, fjoin, flt_i, agg}
+use Rattle.ix_tables.proofs.RawNames.{stop, from, addr, and_then, no_more, returns, enter, alloc_all, pass_all}
+use Rattle.ix_tables.proofs.RawNames.{free_all, look_at, get, sets, usize, yes, owns, Ptr, block_ptr, plain, types_at, nothing}
+use Rattle.ix_tables.proofs.RawNames.{heard, Stays, stay_dropped, walk_of, Goes-dropped, word, word-Good, uint_vals, uint_Tells}
 use denote.Struct.Tuple.{Tuple}
 use Rattle.std.proofs.lemmas.List.{length-replicate}
 use Rattle.std_alloc.proofs.Pairs.{pair_val, pair_of}
-use Rattle.ix_cells.specs.inner.RawMemory.{places_own}
-use Rattle.ix_cells.specs.inner.RawRows.{IsVacantRow}
-use Rattle.ix_cells.specs.contracts.cells.raw_row.RowOwner.without_bytes as f
-use Rattle.ix_cells.proofs.RawSteps.{P, inst, s, Owner, Start, Mark, bytes_none, mark_made, start_made, bare_places}
-use Rattle.ix_cells.proofs.cells.raw_row.RowOwner.without_bytes.Statement.{statement}
-use Rattle.ix_cells.proofs.cells.raw_row.RowOwner.without_bytes.Code as code
+use Rattle.ix_tables.specs.inner.RawMemory.{places_own}
+use Rattle.ix_tables.specs.inner.RawRows.{IsVacantRow}
+use Rattle.ix_tables.specs.contracts.cells.raw_row.RowOwner.without_bytes as f
+use Rattle.ix_tables.proofs.RawSteps.{P, inst, s, Owner, Start, Mark, bytes_none, mark_made, start_made, bare_places}
+use Rattle.ix_tables.proofs.cells.raw_row.RowOwner.without_bytes.Statement.{statement}
+use Rattle.ix_tables.proofs.cells.raw_row.RowOwner.without_bytes.Code as code
 
 pub without_bytes_spec : {M : Type 1} → statement M
 without_bytes_spec 𝓤 𝓛 𝓜 𝓡 wired T L =

@@ -1,22 +1,22 @@
 -- `write` fills an empty place. Assumes `Logic`.
-use Rattle.ix_cells.proofs.RawNames.{◌≡◌, ℕ, ◌+◌, ◌*◌, ◌^◌, ◌<◌, List, [], ◌∷◌, length, length-set, get_or, set, Some, None}
-use Rattle.ix_cells.proofs.RawNames.{refl, sym, subst, ◌∙◌, proved_at, leaves, full_share, SProp, ent, emp, never, id⊢, ftrue}
-use Rattle.ix_cells.proofs.RawNames.{fat, flft, Fn, w64, inst_fn, Val, vint, vunit, WpFn, ◌⊑◌, fact, fact_i, tables, ‵, raw}
-use Rattle.ix_cells.proofs.RawNames.{◌⊛◌, at_ret, ◌$◌, ◌∵◌, !, qed, by, move, keep, drop, use0, use1, use2, split, split3, join}
-use Rattle.ix_cells.proofs.RawNames.{rewrite, fsplit, fsplit3, fjoin, fjoin3, feq_i, flt_l, flt_i, whole, sub, stop, fld, init}
-use Rattle.ix_cells.proofs.RawNames.{unit_lit, of_opd, bin, size_lit, assigns_last, first, blocks, exec, returns, enter}
-use Rattle.ix_cells.proofs.RawNames.{alloc_all, pass_all, free_all, look_at, get, get_in, through, sets, take_at, give_at, env}
-use Rattle.ix_cells.proofs.RawNames.{usize, yes, no, layout, param_laws, owns, Ptr, in_a_block, mut_vals, plain, types_at}
-use Rattle.ix_cells.proofs.RawNames.{nothing, heard, opens, closes, Stays, stay_dropped, stay_ref, walk_of, Goes-dropped}
-use Rattle.ix_cells.proofs.RawNames.{Goes-ref, after, word, word-Good, as_written, one, lawful}
-use Rattle.ix_cells.specs.Places.{IsEmptyAt}
-use Rattle.ix_cells.specs.inner.RawMemory.{place_owns, places_own, row_owns}
-use Rattle.ix_cells.specs.inner.RawRows.{with_places}
-use Rattle.ix_cells.specs.contracts.cells.raw_row.RowOwner.write as f
-use Rattle.ix_cells.proofs.RawSteps.{P, τ, inst, s, Place, Owner, Start, E, offset_fits, others, place_out, place_in, item_in}
-use Rattle.ix_cells.proofs.cells.raw_row.RowPtr.TheLaws.{lowers as start_lowers}
-use Rattle.ix_cells.proofs.cells.raw_row.RowOwner.write.Statement.{statement}
-use Rattle.ix_cells.proofs.cells.raw_row.RowOwner.write.Code as code
+use Rattle.ix_tables.proofs.RawNames.{◌≡◌, ℕ, ◌+◌, ◌*◌, ◌^◌, ◌<◌, List, [], ◌∷◌, length, length-set, get_or, set, Some, None}
+use Rattle.ix_tables.proofs.RawNames.{refl, sym, subst, ◌∙◌, proved_at, leaves, full_share, SProp, ent, emp, never, id⊢, ftrue}
+use Rattle.ix_tables.proofs.RawNames.{fat, flft, Fn, w64, inst_fn, Val, vint, vunit, WpFn, ◌⊑◌, fact, fact_i, tables, ‵, raw}
+use Rattle.ix_tables.proofs.RawNames.{◌⊛◌, at_ret, ◌$◌, ◌∵◌, !, qed, by, move, keep, drop, use0, use1, use2, split, split3, join}
+use Rattle.ix_tables.proofs.RawNames.{rewrite, fsplit, fsplit3, fjoin, fjoin3, feq_i, flt_l, flt_i, whole, sub, stop, fld, init}
+use Rattle.ix_tables.proofs.RawNames.{unit_lit, of_opd, bin, size_lit, assigns_last, first, blocks, exec, returns, enter}
+use Rattle.ix_tables.proofs.RawNames.{alloc_all, pass_all, free_all, look_at, get, get_in, through, sets, take_at, give_at, env}
+use Rattle.ix_tables.proofs.RawNames.{usize, yes, no, layout, param_laws, owns, Ptr, in_a_block, mut_vals, plain, types_at}
+use Rattle.ix_tables.proofs.RawNames.{nothing, heard, opens, closes, Stays, stay_dropped, stay_ref, walk_of, Goes-dropped}
+use Rattle.ix_tables.proofs.RawNames.{Goes-ref, after, word, word-Good, as_written, one, lawful}
+use Rattle.ix_tables.specs.Places.{IsEmptyAt}
+use Rattle.ix_tables.specs.inner.RawMemory.{place_owns, places_own, row_owns}
+use Rattle.ix_tables.specs.inner.RawRows.{with_places}
+use Rattle.ix_tables.specs.contracts.cells.raw_row.RowOwner.write as f
+use Rattle.ix_tables.proofs.RawSteps.{P, τ, inst, s, Place, Owner, Start, E, offset_fits, others, place_out, place_in, item_in}
+use Rattle.ix_tables.proofs.cells.raw_row.RowPtr.TheLaws.{lowers as start_lowers}
+use Rattle.ix_tables.proofs.cells.raw_row.RowOwner.write.Statement.{statement}
+use Rattle.ix_tables.proofs.cells.raw_row.RowOwner.write.Code as code
 
 pub write_spec : {M : Type 1} → statement M
 write_spec 𝓤 𝓛 𝓜 𝓡 wired T L =

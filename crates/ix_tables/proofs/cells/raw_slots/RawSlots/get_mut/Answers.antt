@@ -1,8 +1,8 @@
 use Rattle.std.proofs.Common.{sym, subst}
 use Rattle.std.specs.Vec.{vec_allocator}
-use Rattle.ix_cells.specs.Places.{IsHeldAt}
-use Rattle.ix_cells.proofs.RawParts.{parts_lent}
-use Rattle.ix_cells.proofs.cells.raw_slots.RawSlots.get_mut.Goals as goal
+use Rattle.ix_tables.specs.Places.{IsHeldAt}
+use Rattle.ix_tables.proofs.RawParts.{parts_lent}
+use Rattle.ix_tables.proofs.cells.raw_slots.RawSlots.get_mut.Goals as goal
 
 pub invariant_of-self-lent : goal.invariant_of-self-lent
 invariant_of-self-lent g c w =

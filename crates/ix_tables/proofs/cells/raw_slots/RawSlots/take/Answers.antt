@@ -1,7 +1,7 @@
 use Rattle.std.proofs.Common.{None}
 use Rattle.std.specs.Vec.{vec_allocator}
-use Rattle.ix_cells.proofs.RawParts.{parts_set}
-use Rattle.ix_cells.proofs.cells.raw_slots.RawSlots.take.Goals as goal
+use Rattle.ix_tables.proofs.RawParts.{parts_set}
+use Rattle.ix_tables.proofs.cells.raw_slots.RawSlots.take.Goals as goal
 
 pub invariant_of-self : goal.invariant_of-self
 invariant_of-self g c =

@@ -1,7 +1,7 @@
 use Rattle.std.proofs.Common.{None}
 use Rattle.std.specs.Vec.{vec_allocator}
-use Rattle.ix_cells.proofs.RawParts.{parts_made}
-use Rattle.ix_cells.proofs.cells.raw_slots.RawSlots.without_bytes.Goals as goal
+use Rattle.ix_tables.proofs.RawParts.{parts_made}
+use Rattle.ix_tables.proofs.cells.raw_slots.RawSlots.without_bytes.Goals as goal
 
 pub invariant_of-result : goal.invariant_of-result
 invariant_of-result g c =

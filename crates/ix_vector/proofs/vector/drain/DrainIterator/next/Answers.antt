@@ -1,6 +1,6 @@
 use Rattle.std.proofs.Common.{refl, ap}
-use Rattle.ix_cells.proofs.VectorDrains.{YieldsFirst-last}
-use Rattle.ix_cells.proofs.vector.drain.DrainIterator.next.Goals as goal
+use Rattle.ix_vector.proofs.VectorDrains.{YieldsFirst-last}
+use Rattle.ix_vector.proofs.vector.drain.DrainIterator.next.Goals as goal
 
 pub returns-clause-steps : goal.returns-clause-steps
 returns-clause-steps g c = (

@@ -1,6 +1,6 @@
 use Rattle.std.proofs.Common.{of_calls, arith, refl, ◌+◌, ap, [], ◌∷◌, ◌++◌, ◌≡◌, length, length-append}
-use Rattle.ix_cells.proofs.Calls.{ResultsFrom-push, Callable-now, Callable-on}
-use Rattle.ix_cells.proofs.vector.polymorphic_vec.PolymorphicVec.from_fn.Goals as goal
+use Rattle.ix_tables.proofs.Calls.{ResultsFrom-push, Callable-now, Callable-on}
+use Rattle.ix_vector.proofs.vector.polymorphic_vec.PolymorphicVec.from_fn.Goals as goal
 
 pub f-requires : goal.f-requires
 f-requires g c = Callable-now c.loop-n.invariant.callable c.loop-n.n (c.loop-n.n + 1) (c.loop-n-test.true, refl, refl)

@@ -1,8 +1,8 @@
 use Rattle.std.proofs.Common.{◌≡◌, length}
 use Rattle.std.specs.Array.{index_steps}
 use Rattle.std.specs.Iterator.{CallableAtEachTurn}
-use Rattle.ix_cells.specs.Calls.{ResultsFrom}
-use Rattle.ix_cells.proofs.vector.polymorphic_vec.PolymorphicVec.from_fn.Given as goal
+use Rattle.ix_tables.specs.Calls.{ResultsFrom}
+use Rattle.ix_vector.proofs.vector.polymorphic_vec.PolymorphicVec.from_fn.Given as goal
 
 abbrev pub invariant-loop-n : goal.invariant-loop-n
 invariant-loop-n g l = record {

@@ -1,7 +1,7 @@
 use Rattle.std.proofs.Common.{rules, arith, ◌+◌, ◌∙◌, List, length, take, subst}
 use Rattle.std.specs.List.{AppendsClones}
-use Rattle.ix_cells.proofs.FullArrays.{length-front}
-use Rattle.ix_cells.proofs.vector.static_vec.StaticVec.append_clones.Goals as goal
+use Rattle.ix_tables.proofs.FullArrays.{length-front}
+use Rattle.ix_vector.proofs.vector.static_vec.StaticVec.append_clones.Goals as goal
 
 pub put_clones-requires : goal.put_clones-requires
 put_clones-requires g c =

@@ -1,6 +1,6 @@
 use Rattle.std.proofs.Common.{◌++◌, ◌∙◌, ap}
 use Rattle.std.proofs.lemmas.Result.{err_from_is_err_and}
-use Rattle.ix_cells.proofs.vector.static_vec.StaticVec.try_from_iter.Goals as goal
+use Rattle.ix_vector.proofs.vector.static_vec.StaticVec.try_from_iter.Goals as goal
 
 pub returns-clause-vector : goal.returns-clause-vector
 returns-clause-vector g c =

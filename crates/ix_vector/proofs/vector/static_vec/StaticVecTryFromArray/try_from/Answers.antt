@@ -1,7 +1,7 @@
 use Rattle.std.proofs.Common.{◌≡◌, ℕ, suc, ◌+◌, ◌<◌, List, ◌∷◌, [], ◌++◌, length, take, drop, ap, sym, ◌∙◌, arith, rules, get_or}
 use Rattle.std.proofs.lemmas.List.{drop_more, drop-set-lt}
 use Rattle.std.proofs.Math.Seq.{take-suc}
-use Rattle.ix_cells.proofs.vector.static_vec.StaticVecTryFromArray.try_from.Goals as goal
+use Rattle.ix_vector.proofs.vector.static_vec.StaticVecTryFromArray.try_from.Goals as goal
 
 -- lists with the same rest from i on have the same item there, and the same rest behind it
 same_rest : {T : Type 0} (xs ys : List T) (i : ℕ) (d : T) → i < length xs → i < length ys → drop i xs ≡ drop i ys → (get_or xs i d ≡ get_or ys i d) × (drop (i + 1) xs ≡ drop (i + 1) ys)

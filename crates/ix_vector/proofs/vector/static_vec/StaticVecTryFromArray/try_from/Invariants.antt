@@ -1,5 +1,5 @@
 use Rattle.std.proofs.Common.{◌≡◌, take, drop}
-use Rattle.ix_cells.proofs.vector.static_vec.StaticVecTryFromArray.try_from.Given as goal
+use Rattle.ix_vector.proofs.vector.static_vec.StaticVecTryFromArray.try_from.Given as goal
 
 -- the items in front are in the vector, and the others are where they were
 abbrev pub invariant-loop-i : goal.invariant-loop-i

@@ -1,7 +1,7 @@
 use Rattle.std.proofs.Common.{List, refl, arith, rules}
 use Rattle.std.specs.List.{length_refill}
-use Rattle.ix_cells.proofs.Lists.{take-refill}
-use Rattle.ix_cells.proofs.vector.static_vec.StaticVecVector.as_mut_slice.Goals as goal
+use Rattle.ix_vector.proofs.Lists.{take-refill}
+use Rattle.ix_vector.proofs.vector.static_vec.StaticVecVector.as_mut_slice.Goals as goal
 
 pub invariant_of-self-lent : goal.invariant_of-self-lent
 invariant_of-self-lent g c w =

@@ -1,6 +1,6 @@
 use Rattle.std.proofs.lemmas.List.Elements.{same_from_all_zip}
 use Rattle.std.proofs.lemmas.Result.{on_ok_weaker, on_err_weaker}
-use Rattle.ix_cells.proofs.vector.static_vec.StaticVecVector.extend_from_slice_unchecked.Goals as goal
+use Rattle.ix_vector.proofs.vector.static_vec.StaticVecVector.extend_from_slice_unchecked.Goals as goal
 
 pub returns-clause-vector : goal.returns-clause-vector
 returns-clause-vector g c =

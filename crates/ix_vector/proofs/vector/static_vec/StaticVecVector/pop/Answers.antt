@@ -1,6 +1,6 @@
 use Rattle.std.proofs.Common.{rules, arith, ◌∙◌, length, ap}
 use Rattle.std.proofs.Math.ListN.{length-set}
-use Rattle.ix_cells.proofs.vector.static_vec.StaticVecVector.pop.Goals as goal
+use Rattle.ix_vector.proofs.vector.static_vec.StaticVecVector.pop.Goals as goal
 
 pub replace-item-requires : goal.replace-item-requires
 replace-item-requires g c = (search rules, omega (arith, c.self.invariant.within, c.self.invariant.whole))

@@ -1,8 +1,8 @@
 use Rattle.std.proofs.Common.{rules, arith, ◌<◌, ◌+◌, ◌∙◌, ◌++◌, [], ◌∷◌, List, length, take, ap}
 use Rattle.std.proofs.Math.ListN.{length-set}
 use Rattle.std.proofs.lemmas.List.{take_more_set}
-use Rattle.ix_cells.proofs.FullArrays.{length-front}
-use Rattle.ix_cells.proofs.vector.static_vec.StaticVecVector.push_unchecked.Goals as goal
+use Rattle.ix_tables.proofs.FullArrays.{length-front}
+use Rattle.ix_vector.proofs.vector.static_vec.StaticVecVector.push_unchecked.Goals as goal
 
 pub put-requires : goal.put-requires
 put-requires g c =

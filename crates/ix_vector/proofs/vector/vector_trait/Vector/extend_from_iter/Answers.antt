@@ -1,9 +1,9 @@
 use Rattle.std.proofs.Common.{◌≡◌, List, sym, ap, append-nil}
 use Rattle.std.specs.Iterator.{Drains}
 use Rattle.std.proofs.iter.runs.Consumers.{total_runs}
-use Rattle.ix_cells.specs.Bounded.{with_items}
-use Rattle.ix_cells.specs.VectorSteps.{vec_extend}
-use Rattle.ix_cells.proofs.vector.vector_trait.Vector.extend_from_iter.Goals as goal
+use Rattle.ix_tables.specs.Bounded.{with_items}
+use Rattle.ix_vector.specs.VectorSteps.{vec_extend}
+use Rattle.ix_vector.proofs.vector.vector_trait.Vector.extend_from_iter.Goals as goal
 
 pub loop-item-init : goal.loop-item-init
 loop-item-init g c =

@@ -1,8 +1,8 @@
 use Rattle.std.proofs.Common.{◌≡◌, suc, ◌-◌, None, sym, add-one, length, arith, rules}
 use Rattle.std.specs.Prelude.{slice_get}
 use Rattle.std.proofs.lemmas.Option.{slice_get_past}
-use Rattle.ix_cells.proofs.Lists.{slice_get-move_to_end}
-use Rattle.ix_cells.proofs.vector.vector_trait.Vector.remove.Goals as goal
+use Rattle.ix_vector.proofs.Lists.{slice_get-move_to_end}
+use Rattle.ix_vector.proofs.vector.vector_trait.Vector.remove.Goals as goal
 
 pub returns-then-index-len-clause-value : goal.returns-then-index-len-clause-value
 returns-then-index-len-clause-value g c =

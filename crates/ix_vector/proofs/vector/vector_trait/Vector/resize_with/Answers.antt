@@ -1,7 +1,7 @@
 use Rattle.std.proofs.Common.{of_calls, arith, ◌≡◌, ◌+◌, ◌-◌, [], ◌∷◌, ◌++◌, append_assoc, length-append, length}
 use Rattle.std.proofs.lemmas.Fn.{FoldsTo-push}
-use Rattle.ix_cells.specs.VectorSteps.{vec_extend}
-use Rattle.ix_cells.proofs.vector.vector_trait.Vector.resize_with.Goals as goal
+use Rattle.ix_vector.specs.VectorSteps.{vec_extend}
+use Rattle.ix_vector.proofs.vector.vector_trait.Vector.resize_with.Goals as goal
 
 pub loop-i-preserved : goal.loop-i-preserved
 loop-i-preserved g c =

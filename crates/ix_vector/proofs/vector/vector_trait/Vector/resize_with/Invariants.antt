@@ -1,7 +1,7 @@
 use Rattle.std.proofs.Common.{◌≡◌, ◌-◌, List, length}
 use Rattle.std.specs.List.{FoldsTo}
-use Rattle.ix_cells.specs.VectorSteps.{vec_extend}
-use Rattle.ix_cells.proofs.vector.vector_trait.Vector.resize_with.Given as goal
+use Rattle.ix_vector.specs.VectorSteps.{vec_extend}
+use Rattle.ix_vector.proofs.vector.vector_trait.Vector.resize_with.Given as goal
 
 abbrev pub invariant-loop-i : goal.invariant-loop-i
 invariant-loop-i g l = record {

@@ -2,9 +2,9 @@ use Rattle.std.proofs.Common.{◌≡◌, ◌-◌, ◌<◌, ◌∙◌, List, None
 use Rattle.std.specs.List.{swap}
 use Rattle.std.specs.Prelude.{slice_get}
 use Rattle.std.proofs.lemmas.Option.{slice_get_past}
-use Rattle.ix_cells.specs.VectorSteps.{vec_last}
-use Rattle.ix_cells.proofs.Lists.{slice_get-swap}
-use Rattle.ix_cells.proofs.vector.vector_trait.Vector.swap_remove.Goals as goal
+use Rattle.ix_vector.specs.VectorSteps.{vec_last}
+use Rattle.ix_vector.proofs.Lists.{slice_get-swap}
+use Rattle.ix_vector.proofs.vector.vector_trait.Vector.swap_remove.Goals as goal
 
 pub returns-then-index-len-clause-value : goal.returns-then-index-len-clause-value
 returns-then-index-len-clause-value g c =

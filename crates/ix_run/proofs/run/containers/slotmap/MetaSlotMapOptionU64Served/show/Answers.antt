@@ -1,5 +1,5 @@
 use Rattle.std.proofs.Common.{ℕ, List, map}
-use Rattle.ix_maps.specs.Generations.{SlotKey}
+use Rattle.ix_slotmap.specs.Generations.{SlotKey}
 use Rattle.ix_run.specs.ReplyTexts.{key_entry_text}
 use Rattle.ix_run.proofs.Listings.{YieldsTexts-first, items_text-map}
 use Rattle.ix_run.proofs.run.containers.slotmap.MetaSlotMapOptionU64Served.show.Goals as goal

@@ -3,7 +3,7 @@ use Rattle.std.specs.List.{slice_split}
 use Rattle.std.specs.Option.{option_and_then}
 use Rattle.std.specs.Prelude.{bytes_eq}
 use Rattle.std.specs.Map.{lookup}
-use Rattle.ix_maps.specs.Generations.{SlotKey}
+use Rattle.ix_slotmap.specs.Generations.{SlotKey}
 use Rattle.ix_commands.specs.declared.command.SlotCommand.{SlotCommand}
 use Rattle.ix_run.specs.Words.{is_space, numbers_in, key_of, key_and_numbers, key_command_of}
 use Rattle.ix_run.specs.Forms.{slot_key_forms}

@@ -1,0 +1,58 @@
+//! Tables, tables that count the calls on them, and containers that are made in two steps, as [`ix_tables::cells`] has them.
+
+#[doc(hidden)]
+pub mod counted {
+    pub use ix_tables::cells::{Counted, Touches};
+}
+
+#[doc(hidden)]
+pub mod heap_table {
+    pub use ix_tables::cells::HeapTable;
+}
+
+#[doc(hidden)]
+pub mod held_item {
+    pub use ix_tables::cells::{item, item_mut};
+}
+
+#[doc(hidden)]
+pub mod inline_table {
+    pub use ix_tables::cells::InlineTable;
+}
+
+#[doc(hidden)]
+pub mod memory_size {
+    pub use ix_tables::cells::MemorySize;
+}
+
+#[doc(hidden)]
+pub mod raw_row {
+    pub use ix_tables::cells::{RowGrant, RowOwner, RowPtr};
+}
+
+#[doc(hidden)]
+pub mod raw_slots {
+    pub use ix_tables::cells::RawSlots;
+}
+
+#[doc(hidden)]
+pub mod relocatable_container {
+    pub use ix_tables::cells::{InitError, RelocatableContainer};
+}
+
+#[doc(hidden)]
+pub mod table {
+    pub use ix_tables::cells::{MAX_FIXED_CAPACITY, Table};
+}
+
+#[doc(hidden)]
+pub mod uninit {
+    pub use ix_tables::cells::{ContainerFamily, Uninit};
+}
+
+pub use ix_tables::cells::{
+    ContainerFamily, Counted, HeapTable, InitError, InlineTable, MAX_FIXED_CAPACITY, MemorySize,
+    RawSlots, RelocatableContainer, Table, Touches, Uninit,
+};
+#[doc(hidden)]
+pub use ix_tables::cells::{RowGrant, RowOwner, RowPtr, item, item_mut};

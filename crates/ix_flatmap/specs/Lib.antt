@@ -1,0 +1,16 @@
+pub use Rattle.ix_slottable.specs.Draining
+pub use Rattle.ix_slottable.specs.Memory
+pub use Rattle.ix_slottable.specs.SlotCalls
+pub use Rattle.ix_slottable.specs.SlotCopies
+pub use Rattle.ix_slottable.specs.SlotState
+pub use Rattle.ix_slottable.specs.SlotSteps
+pub use Rattle.ix_tables.specs.Cloning
+pub mod BoundedMap
+pub mod FlatCalls
+pub mod FlatCompared
+pub mod FlatCopies
+pub mod FlatDrain
+pub mod FlatState
+pub mod FlatSteps
+pub mod laws
+pub mod inner

@@ -1,0 +1,2 @@
+pub mod HashChains
+pub mod HashSteps

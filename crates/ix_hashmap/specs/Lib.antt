@@ -1,0 +1,16 @@
+pub use Rattle.ix_flatmap.specs.FlatCalls
+pub use Rattle.ix_flatmap.specs.FlatCompared
+pub use Rattle.ix_flatmap.specs.FlatCopies
+pub use Rattle.ix_flatmap.specs.FlatState
+pub use Rattle.ix_flatmap.specs.FlatSteps
+pub use Rattle.ix_slottable.specs.Draining
+pub use Rattle.ix_slottable.specs.FullTables
+pub use Rattle.ix_slottable.specs.Memory
+pub use Rattle.ix_slottable.specs.SlotCalls
+pub use Rattle.ix_slottable.specs.SlotCopies
+pub use Rattle.ix_slottable.specs.SlotState
+pub use Rattle.ix_slottable.specs.SlotSteps
+pub use Rattle.ix_tables.specs.Cloning
+pub use Rattle.ix_tables.specs.Places
+pub mod HashDrain
+pub mod inner

@@ -1,0 +1,9 @@
+pub mod Backs
+pub mod Pairs
+pub mod QueueCalls
+pub mod QueueClones
+pub mod QueueDrains
+pub mod QueueOrders
+pub mod Ranges
+pub mod Rings
+mod WorkedQueues

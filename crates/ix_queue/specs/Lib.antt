@@ -1,0 +1,10 @@
+pub use Rattle.ix_tables.specs.Bounded
+pub use Rattle.ix_tables.specs.Calls
+pub use Rattle.ix_tables.specs.Cloning
+pub use Rattle.ix_tables.specs.Memory
+pub use Rattle.ix_tables.specs.Places
+pub mod QueueCalls
+pub mod QueueCopies
+pub mod QueueDrain
+pub mod QueueSteps
+pub mod inner

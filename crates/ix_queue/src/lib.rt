@@ -1,0 +1,9 @@
+//! Queues: first in, first out, with a capacity that is set when they are made.
+//!
+//! A queue is generic over the [`Table`](ix_tables::Table) that holds its items, and the kinds of storage are aliases of
+//! one type. Contracts see a bounded list.
+#![tactic(auto)]
+
+pub mod queue;
+
+pub use queue::{FixedSizeQueue, MetaQueue, Queue, QueueFamily, RelocatableQueue, UninitQueue};

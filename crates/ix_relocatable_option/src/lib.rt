@@ -1,0 +1,6 @@
+//! An option for messages.
+#![tactic(auto)]
+
+pub mod relocatable_option;
+
+pub use relocatable_option::RelocatableOption;

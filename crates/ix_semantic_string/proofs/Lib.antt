@@ -1,0 +1,4 @@
+pub mod Eights
+pub mod Judging
+pub mod Undoing
+mod WorkedNames

@@ -1,0 +1,9 @@
+//! Semantic strings: texts that obey rules of your own, which are checked at every change.
+#![tactic(auto)]
+
+pub mod semantic_string;
+
+pub use semantic_string::{
+    DefaultText, GroupName, GroupNameRules, Rules, Semantic, SemanticStringError,
+    TrailingSlashRules,
+};

@@ -1,0 +1,11 @@
+pub use Rattle.ix_tables.specs.Cloning
+pub use Rattle.ix_tables.specs.Places
+pub mod Draining
+pub mod FullTables
+pub mod Memory
+pub mod SlotCalls
+pub mod SlotCopies
+pub mod SlotDrain
+pub mod SlotState
+pub mod SlotSteps
+pub mod inner

@@ -1,0 +1,12 @@
+//! Tables, under queues and maps: fixed rows of places, each empty or holding one item.
+//!
+//! A [`Table`] is inline ([`InlineTable`]) or allocates once, when it is made ([`HeapTable`]), so one container serves every
+//! kind of storage. Contracts see a table as a list of optional items, whatever memory they lie in.
+#![tactic(auto)]
+
+pub mod cells;
+
+pub use cells::{
+    ContainerFamily, Counted, HeapTable, InitError, InlineTable, MAX_FIXED_CAPACITY, MemorySize,
+    RawSlots, RelocatableContainer, Table, Touches, Uninit,
+};

@@ -1,0 +1,6 @@
+pub mod Kept
+pub mod Lists
+pub mod Shifts
+pub mod Tails
+pub mod VectorDrains
+mod WorkedVectors

@@ -1,0 +1,11 @@
+pub use Rattle.ix_tables.specs.Bounded
+pub use Rattle.ix_tables.specs.Calls
+pub use Rattle.ix_tables.specs.Cloning
+pub use Rattle.ix_tables.specs.FullArrays
+pub use Rattle.ix_tables.specs.Memory
+pub mod Conversions
+pub mod ErrorTexts
+pub mod Iterating
+pub mod Lending
+pub mod VectorDrain
+pub mod VectorSteps
