@@ -1,6 +1,6 @@
 """Shows that a hash map promises what a flat map does, word for word, so that a program which changes the type changes no proof.
 
-It takes the public items of both modules, calls those of hash maps as flat maps call theirs, leaves out what hash maps have for
+It takes the public items of both crates, calls those of hash maps as flat maps call theirs, leaves out what hash maps have for
 their hashers and chains, and compares each call of a type, and what each impl of a trait sets.
 """
 
@@ -16,7 +16,6 @@ OF_HASH_MAPS = (
     (r"(?:, (?:C|B|HeapTable<ChainLink, A>|InlineTable<ChainLink, CAPACITY>))+(?=,? ?>)", ""),
     (r" \+ Hash\b", ""),
     (r"Hash(Map|Drain)", r"Flat\1"),
-    (r"hashmap", "flatmap"),
 )
 # Differences that are meant: of a type, or of a call of a type.
 MEANT = {
@@ -45,11 +44,10 @@ def plain(lines):
     return re.sub(r",? ?([>)])", r"\1", re.sub(r"([<(]) ", r"\1", text))
 
 
-def promises_of(name, normal):
-    """Returns what the module promises, as texts: by the type, the trait if any, and the call or the ghost member."""
-    [module] = [it for it in public_modules("ix_maps") if it.name == name]
+def promises_of(crate, normal):
+    """Returns what a crate promises, as texts: by the type, the trait if any, and the call or the ghost member."""
     found = {}
-    for item in (item for _, items in module.items for item in items):
+    for item in (item for module in public_modules(crate) for _, items in module.items for item in items):
         if item.kind == "type":
             found[normal(item.name), "", ""] = normal(plain(item.head))
         if item.kind != "impl":
@@ -65,9 +63,9 @@ def promises_of(name, normal):
     return found
 
 
-def meanings_of(name):
+def meanings_of(crate, name):
     """Returns what the words of a file of specifications stand for."""
-    lines = text_of(f"crates/ix_maps/specs/{name}.antt").splitlines()
+    lines = text_of(f"crates/{crate}/specs/{name}.antt").splitlines()
     return {words.strip(): meaning for words, is_meaning, meaning in (line.partition(" = ") for line in lines) if is_meaning}
 
 
@@ -78,9 +76,9 @@ def clauses_of(text):
 
 def check():
     """Yields what one of the two promises and the other does not."""
-    if meanings_of("FlatDrain") != meanings_of("HashDrain"):
+    if meanings_of("ix_flatmap", "FlatDrain") != meanings_of("ix_hashmap", "HashDrain"):
         yield "the words of FlatDrain.antt and of HashDrain.antt differ"
-    flat, hashed = promises_of("flatmap", lambda text: text), promises_of("hashmap", as_of_flat_maps)
+    flat, hashed = promises_of("ix_flatmap", lambda text: text), promises_of("ix_hashmap", as_of_flat_maps)
     for key in sorted({*flat, *hashed}):
         owner, trait, name = key
         if owner in MEANT or f"{owner} {name}" in MEANT:

@@ -5,7 +5,8 @@ docs, errors, conditions, examples and promises, and the files that define the w
 most calls comes first, iterators last, and behind them what proofs and containers of one's own need. docs/api/README.md lists
 all pages and items, and the page of each call.
 
-It fails if a page is another than the sources make, if docs would be lost, or if an example names a call that is not there.
+It fails if a page is another than the sources make, if docs would be lost, if an example names a call that is not there, or if a
+facade does not pass on all that a module has.
 """
 
 import collections
@@ -15,9 +16,9 @@ import re
 
 from crates import ROOT, write_text
 from checks.examples import assigned
-from checks.items import LIBRARY, base_of, exported_names, is_own, items_of, paths, text_of, trait_of
+from checks.items import LIBRARY, base_of, exported_names, facade_of, is_own, items_of, paths, text_of, title_of, trait_of
 from checks.sections import MARK, Library, Source, anchor_of, block, derived, file_of, first_sentence, heading_of, is_bare
-from checks.sections import prose, shown_members, title_of, unheaded, wrapped
+from checks.sections import prose, shown_members, unheaded, wrapped
 
 PAGES = os.path.join(ROOT, "docs", "api")
 INDEX = "README.md"
@@ -41,6 +42,8 @@ handed the machine, `rt`. In a program a `Result` has to be used, by `?`, `match
 A line `impl<..>` shows the bounds of the calls below it. `T: Drop` says that a value of `T` may be let go: a type is so if it is
 `Copy`, or by `#[derive(Drop)]`. The `ghost` members of an impl are what contracts know of it. A type is `Send` if all that it
 is made of is, and so `Sync`: its items, its allocator, its closures.
+
+A module with a path in the column "also" is passed on there too, with all its items.
 """
 
 
@@ -251,11 +254,13 @@ class Places:
 
     def index(self, modules):
         """Returns the text of the first page: all modules with their items, and all calls."""
-        lines = [INTRODUCTION, "| module | | items |", "|---|---|---|"]
+        lines = [INTRODUCTION, "| module | also | | items |", "|---|---|---|---|"]
         for module in modules:
             items = [item for _, items in module.items for item in items if item.kind != "impl" and not is_later(item)]
             names = ", ".join(f"`{item.name}`" for item in items)
-            lines.append(f"| [`{title_of(module)}`]({file_of(module)}) | {first_sentence(module_docs(module))} | {names} |")
+            facade = facade_of(module)
+            also = f"`{facade[0]}`" if facade else ""
+            lines.append(f"| [`{title_of(module)}`]({file_of(module)}) | {also} | {first_sentence(module_docs(module))} | {names} |")
         found = collections.defaultdict(list)
         for (owner, call), links in self.calls.items():
             for link in links:
@@ -305,11 +310,11 @@ def pages_with_names():
 
 
 def made():
-    """Returns the text of each page by its file, and what is wrong with the examples."""
+    """Returns the text of each page by its file, and what is wrong with the examples and the facades."""
     library, places = first_pass()
     library.examples, faults = assigned(*known_names(places))
     texts = {file_of(module): places.linked(page(module, library), file_of(module)) for module in library.modules}
-    return texts | {INDEX: places.index(library.modules)}, faults
+    return texts | {INDEX: places.index(library.modules)}, [*faults, *not_passed_on(library.modules)]
 
 
 def lost_docs():
@@ -321,6 +326,16 @@ def lost_docs():
             yield from (f"{path}:{line}: the docs above this line are of no item" for line in lost)
             blocks = [i for i, line in enumerate(lines, 1) if line.lstrip().startswith(("/// ```", "//! ```"))]
             yield from (f"{path}:{line}: nothing checks a block of code in docs: an example is a test, below `// Shows:`" for line in blocks)
+
+
+def not_passed_on(modules):
+    """Yields each name of a module or of its crate that the facade which passes them on does not have."""
+    for module, facade in ((it, facade_of(it)) for it in modules if facade_of(it)):
+        path, names = facade
+        above = path.partition("::")[0]
+        root, passed_on = (exported_names(text_of(f"crates/{crate}/src/lib.rt")) for crate in (module.crate, above))
+        lost = [(path, module.exported - names if names is not None else ()), (above, root - passed_on)]
+        yield from (f"{place} does not pass on {name} of {title_of(module)}" for place, left in lost for name in sorted(left))
 
 
 def old_pages():

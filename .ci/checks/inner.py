@@ -1,7 +1,7 @@
 """Shows that specs/inner/ has what private contracts alone rest on, and the rest of specs/ what public ones do.
 
-It fails if a public item of the library cites an inner word in its contract or in what an impl of a trait pins, and if a file of
-specs/ outside inner/ and laws/ uses one of them. And it fails if a definition outside of these is one that no public contract rests
+It fails if a public item of the library, hidden or not, cites an inner word in its contract or in what an impl of a trait pins, and
+if a file of specs/ outside inner/ and laws/ uses one of them. And it fails if a definition outside of these is one that no public contract rests
 on: neither cites it, nor cites a definition that rests on it.
 """
 
@@ -27,7 +27,7 @@ def contracts(item, lines):
 
 def cited(crate):
     """Yields each inner word that a public contract of the crate cites, with its place."""
-    for module in public_modules(crate):
+    for module in public_modules(crate, with_hidden=True):
         for path, items in module.items:
             words, lines = words_of(text_of(path)), text_of(path).splitlines()
             for item in items:
@@ -74,7 +74,7 @@ def uncited():
             if not any(room in path for room in ROOMS):
                 homes.setdefault(word, path)
     left = {word for crate in LIBRARY for word in words_of_models(crate)}
-    for path, items in (it for crate in LIBRARY for module in public_modules(crate) for it in module.items):
+    for path, items in (it for crate in LIBRARY for module in public_modules(crate, with_hidden=True) for it in module.items):
         lines = text_of(path).splitlines()
         left |= {word for item in items for text in contracts(item, lines) for word in WORD.findall(text)}
     reached = set()

@@ -7,17 +7,23 @@ import re
 
 from crates import ROOT, read
 
-LIBRARY = ("ix_cells", "ix_string", "ix_names", "ix_maps", "ix_atomic", "ix_commands", "ix_run")
+LIBRARY = ("ix_tables", "ix_vector", "ix_string", "ix_semantic_string", "ix_relocatable_option", "ix_queue", "ix_slottable", "ix_slotmap",
+           "ix_flatmap", "ix_hashmap", "ix_atomic", "ix_json", "ix_commands", "ix_run")
+# Crates that have no items of their own, and pass on those of others.
+FACADES = ("ix_cells", "ix_names", "ix_maps")
 HEAD = re.compile(r"(pub )?(?:pub\(\w+\) )?(?:(?:const|unsafe|final) )*(fn|struct|enum|trait|type|const|impl)\b(.*)")
 GENERICS = re.compile(r"^<(?:[^<>]|<(?:[^<>]|<[^<>]*>)*>)*>\s*")
-REEXPORT = re.compile(r"(#\[doc\(hidden\)\]\n)?^pub use (?:\w+::)+(?:\{([^}]*)\}|(\w+));", re.M)
+HIDDEN = "#[doc(hidden)]"
+REEXPORT = re.compile(r"(#\[doc\(hidden\)\]\n)?^pub use ((?:\w+::)+)(?:\{([^}]*)\}|(\w+));", re.M)
+PUBLIC_MODULE = re.compile(r"(#\[doc\(hidden\)\]\n)?^pub mod (\w+);", re.M)
+PRIVATE_MODULE = re.compile(r"^mod (\w+);", re.M)
 IMPORT = re.compile(r"ghost use Rattle\.(ix_\w+)\.specs\.((?!declared|contracts)[\w.]+)\.\{([^}]*)\};")
 
 ALIAS = re.compile(r"pub type (\w+).*? = (\w+)<")
 TEXT = re.compile(r"=> (?:\{\s*)?(?:f\.write_str\()?\"([^\"\n]*)\"|f\.write_str\(\"([^\"\n]*)\"\)")
 
-# ghosts: of an impl of a trait, what it pins, as lines by name.
-Item = collections.namedtuple("Item", "kind name is_public docs head first last members ghosts")
+# ghosts: of an impl of a trait, what it pins, as lines by name. is_hidden: whether it is public for other crates of the library alone.
+Item = collections.namedtuple("Item", "kind name is_public docs head first last members ghosts is_hidden")
 
 
 def text_of(path):
@@ -56,7 +62,7 @@ def items_of(lines, indent="", first=0, end=None, lost=None):
 
     Adds to `lost` the number of each line that parts docs from the item below.
     """
-    items, docs, i = [], [], first
+    items, docs, is_hidden, i = [], [], False, first
     end = len(lines) if end is None else end
     while i < end:
         line = lines[i]
@@ -73,14 +79,15 @@ def items_of(lines, indent="", first=0, end=None, lost=None):
                 head += ghost_members(lines[after:last])
             members = items_of(lines, indent + "    ", after, last, lost) if kind in ("trait", "impl") else []
             ghosts = pinned(lines[after:last]) if kind == "impl" else {}
-            items.append(Item(kind, name_of(kind, rest, head), bool(is_public), docs, head, i, last, members, ghosts))
-            docs, i = [], last
+            items.append(Item(kind, name_of(kind, rest, head), bool(is_public), docs, head, i, last, members, ghosts, is_hidden))
+            docs, is_hidden, i = [], False, last
         elif line.strip() and not line.strip().startswith(("#[", "//", "pub mod ", "mod ", "ghost ")):
             if docs and lost is not None:
                 lost.append(i + 1)
             docs = []
         elif line.strip() and not line.strip().startswith(("#[", "//")):
             docs = []
+        is_hidden = line.strip() == HIDDEN or is_hidden and line.strip().startswith(("#[", "//"))
         i += 1
     return items
 
@@ -186,61 +193,86 @@ class Module:
         self.items = []
 
 
-def exported_names(text):
-    """Returns the names that a module passes on from private modules, but for hidden ones."""
-    lists = [names or name for hidden, names, name in REEXPORT.findall(text) if not hidden]
+def title_of(module):
+    return f"{module.crate}::{module.name}" if module.name else module.crate
+
+
+def exported_names(text, with_hidden=False):
+    """Returns the names that a module passes on from private modules, without hidden ones or with them."""
+    lists = [names or name for hidden, _, names, name in REEXPORT.findall(text) if with_hidden or not hidden]
     return {name.strip() for names in lists for name in names.split(",") if name.strip()}
 
 
-def modules_of(crate):
+def named_modules(text, with_hidden):
+    """Returns the names of the public modules that a file declares, without hidden ones or with them."""
+    return [name for hidden, name in PUBLIC_MODULE.findall(text) if with_hidden or not hidden]
+
+
+def modules_of(crate, with_hidden):
     """Yields each public module of a crate; the crate itself where all its modules are private."""
     root = f"crates/{crate}/src/lib.rt"
-    modules = re.findall(r"^pub mod (\w+);", text_of(root), re.M)
+    modules = named_modules(text_of(root), with_hidden)
     if not modules:
-        yield Module(crate, "", root, exported_names(text_of(root)))
+        yield Module(crate, "", root, exported_names(text_of(root), with_hidden))
     for module in modules:
-        yield from submodules(crate, module, f"crates/{crate}/src/{module}.rt")
+        yield from submodules(crate, module, f"crates/{crate}/src/{module}.rt", with_hidden)
 
 
-def submodules(crate, name, path):
+def submodules(crate, name, path, with_hidden):
     text = text_of(path)
-    yield Module(crate, name, path, exported_names(text) | {item.name for item in items_of(text.splitlines()) if item.is_public})
-    for module in re.findall(r"^pub mod (\w+);", text, re.M):
-        yield from submodules(crate, f"{name}::{module}", f"{path.removesuffix('.rt')}/{module}.rt")
+    own = {it.name for it in items_of(text.splitlines()) if it.is_public and (with_hidden or not it.is_hidden)}
+    yield Module(crate, name, path, exported_names(text, with_hidden) | own)
+    for module in named_modules(text, with_hidden):
+        yield from submodules(crate, f"{name}::{module}", f"{path.removesuffix('.rt')}/{module}.rt", with_hidden)
 
 
 def files_of(module, others):
-    """Returns the source files of a module: its own and those below it that are of no other module."""
+    """Returns the source files of a module: its own, those below it that are of no other module, and private ones of the crate."""
     if not module.name:
         return paths(module.crate, "src/**/*.rt")
     folder = module.path.removeprefix(f"crates/{module.crate}/").removesuffix(".rt")
     lower = [it.path.removesuffix(".rt") for it in others if it is not module and it.path.startswith(f"crates/{module.crate}/{folder}/")]
     found = [module.path, *paths(module.crate, f"{folder}/**/*.rt")]
+    for name in PRIVATE_MODULE.findall(text_of(f"crates/{module.crate}/src/lib.rt")):
+        found += [*paths(module.crate, f"src/{name}.rt"), *paths(module.crate, f"src/{name}/**/*.rt")]
     return [path for path in found if not any(path.removesuffix(".rt") == it or path.startswith(it + "/") for it in lower)]
 
 
-def fill(module, others):
+def fill(module, others, with_hidden):
     """Finds the items of a module, each file's own in their order: exported ones, and impls for exported types."""
     for path in files_of(module, others):
-        items = [it for it in items_of(text_of(path).splitlines()) if is_listed(it, module.exported)]
+        items = [it for it in items_of(text_of(path).splitlines()) if is_listed(it, module.exported, with_hidden)]
         if items:
             module.items.append((path, items))
 
 
-def is_listed(item, exported):
+def is_listed(item, exported, with_hidden):
     """Says whether a module has an item: an exported one, or an impl for an exported type or of an exported trait."""
     if item.kind != "impl":
-        return item.is_public and item.name in exported
+        return item.is_public and item.name in exported and (with_hidden or not item.is_hidden)
     if trait_of(item.name) == "Model":
         return False
     if is_own(item):
-        return base_of(item.name) in exported and any(it.is_public for it in item.members)
+        return base_of(item.name) in exported and any(it.is_public and (with_hidden or not it.is_hidden) for it in item.members)
     return bool(exported & set(re.findall(r"\w+", item.name)))
 
 
-def public_modules(crate):
-    """Returns the public modules of a crate that have items."""
-    found = list(modules_of(crate))
+def public_modules(crate, with_hidden=False):
+    """Returns the public modules of a crate that have items, without what is hidden or with that."""
+    found = list(modules_of(crate, with_hidden))
     for module in found:
-        fill(module, found)
+        fill(module, found, with_hidden)
     return [module for module in found if module.items]
+
+
+def facade_of(module):
+    """Returns the path by which a facade passes a module on, and the names that it has there; a module that it passes on whole has
+    none. Of a module that no facade passes on it returns nothing."""
+    for crate in FACADES:
+        root, own = text_of(f"crates/{crate}/src/lib.rt"), f"crates/{crate}/src/{module.name}.rt"
+        passed_on = {f"{path}{name.strip()}" for _, path, names, one in REEXPORT.findall(root) for name in (names or one).split(",")}
+        if title_of(module) in passed_on:
+            return f"{crate}::{module.name}", None
+        if os.path.exists(os.path.join(ROOT, own)) and f"pub use {title_of(module)}::" in text_of(own):
+            return f"{crate}::{module.name}", exported_names(text_of(own))
+    return None

@@ -4,7 +4,7 @@ import collections
 import re
 import textwrap
 
-from checks.items import ALIAS, LIBRARY, base_of, is_own, is_shown, printed_texts, public_modules, text_of, trait_of, words_of
+from checks.items import ALIAS, LIBRARY, base_of, facade_of, is_own, is_shown, printed_texts, public_modules, text_of, title_of, trait_of, words_of
 
 WORD = re.compile(r"[^\W\d][\w-]*")
 # What an impl of a trait of std says of it. What it says of a trait of the library is what the contracts of that trait cite.
@@ -22,10 +22,6 @@ PARAMETERS = re.compile(r"<(?:[^<>]|<(?:[^<>]|<[^<>]*>)*>)*>$")
 # The calls of a trait that is derived.
 DERIVED = {"Clone": "clone", "PartialEq": "eq", "PartialOrd": "partial_cmp", "Ord": "cmp", "Hash": "hash", "Debug": "fmt",
            "Display": "fmt", "Default": "default"}
-
-
-def title_of(module):
-    return f"{module.crate}::{module.name}" if module.name else module.crate
 
 
 def file_of(module):
@@ -112,7 +108,7 @@ def block(title, lines, language="rust"):
 
 
 def shown_members(item):
-    return [it for it in item.members if it.kind == "fn" and is_shown(item, it)]
+    return [it for it in item.members if it.kind == "fn" and is_shown(item, it) and not it.is_hidden]
 
 
 def is_bare(item):
@@ -150,7 +146,7 @@ class Library:
     def __init__(self):
         self.modules = [module for crate in LIBRARY for module in public_modules(crate)]
         self.examples = {}
-        self.links, self.aliases, self.cited, self.crates = {}, {}, {}, {}
+        self.links, self.aliases, self.cited, self.rooms = {}, {}, {}, {}
         self.traits = collections.defaultdict(list)
         for module in self.modules:
             for path, items in module.items:
@@ -164,7 +160,8 @@ class Library:
                 self.traits[base_of(item.name)].append(trait_of(item.name))
             return
         self.links.setdefault(item.name, f"{file_of(module)}#{anchor_of(heading_of(item))}")
-        self.crates.setdefault(item.name, module.crate)
+        facade = facade_of(module)
+        self.rooms.setdefault(item.name, facade[0].partition("::")[0] if facade else module.crate)
         if item.kind == "trait":
             self.cited[item.name] = set(WORD.findall(" ".join(line for it in item.members for line in it.head)))
         alias = ALIAS.match(lines[item.first])
@@ -172,13 +169,12 @@ class Library:
             self.aliases[item.name] = alias.group(2)
 
     def calls_of(self, name):
-        """Returns links to the type that a name stands for, and to the traits of its crate that it meets."""
+        """Returns links to the type that a name stands for, and to the traits of its crate, or of its facade, that it meets."""
         target = name
         while self.aliases.get(target) in self.links:
             target = self.aliases[target]
         types = [target] if target != name else []
-        crate = self.crates[target]
-        traits = [it for it in dict.fromkeys(self.traits[target]) if it in self.cited and self.crates[it] == crate]
+        traits = [it for it in dict.fromkeys(self.traits[target]) if it in self.cited and self.rooms[it] == self.rooms[target]]
         return [self.link(it) for it in types], [self.link(it) for it in traits]
 
     def link(self, name):
@@ -237,8 +233,8 @@ class Source:
         if item.kind != "enum" or not item.name.endswith(("Error", "Fault")):
             return []
         names = [it.group(1) for it in map(VARIANT.match, item.head) if it]
-        crate, _, file = self.path.removeprefix("crates/").removesuffix(".rt").partition("/src/")
-        place = f"Rattle.{crate}.specs.declared.{file.replace('/', '.')}.{item.name}.TheVariants"
+        crate, *path = self.module.split("::")
+        place = ".".join(["Rattle", crate, "specs.declared", *path, item.name, "TheVariants"])
         return ["A contract names its variants by:", "", *block("", [f"ghost use {place}.{{{', '.join(names)}}};"], "text")]
 
     def function(self, item, owner):

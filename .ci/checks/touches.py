@@ -1,7 +1,7 @@
 """Fails if a call of a slot table or of a slot map could look at places that it does not count.
 
 A contract bounds the counter that a call is passed, but can't keep the call from a counter of its own. So here no function of
-the two modules but those of `WALKS` has a loop, or calls anything but the others and what `CALLS` lists; none that is passed a
+their modules but those of `WALKS` has a loop, or calls anything but the others and what `CALLS` lists; none that is passed a
 counter makes one; and a plain call is its counted form and nothing else. `SCANS` has wrong bodies by which the check itself is
 tried.
 """
@@ -10,7 +10,9 @@ import re
 
 from checks.items import extent, paths, text_of
 
-FILES = [path for path in paths("ix_maps", "src/slot*/*.rt") if not path.endswith("/kinds.rt")]
+# The files, by crate and pattern; each pattern has some. Kinds only make containers.
+ROOMS = (("ix_slottable", "src/slottable/*.rt"), ("ix_slottable", "src/full_table.rt"), ("ix_slotmap", "src/slotmap/*.rt"))
+FILES = {room: [path for path in paths(*room) if not path.endswith("/kinds.rt")] for room in ROOMS}
 # By file, the functions that go through places, as their documentation says: those that make, end, walk or print a container.
 WALKS = {
     "compared": ("eq",),
@@ -25,7 +27,8 @@ WALKS = {
     "values": ("fmt",),
     "whole": ("clear", "for_each_mut", "retain"),
     "meta_slot_map": ("held_from", "fmt"),
-    "word_table": ("new", "copy_of", "drop", "fill", "copy_items", "empty"),
+    "word_table": ("new", "copy_of", "drop"),
+    "full_table": ("fill", "copy_items", "empty"),
 }
 # Calls of a single step: those of counted tables, of new values, and of std.
 CALLS = {"item", "item_mut", ".put", ".take", ".get", ".get_mut", ".len", ".inline_len", ".as_ref", ".is_some", "Touches::new", "SlotTableKey::new", "SlotMapKey::new",
@@ -102,5 +105,6 @@ def missed(texts):
 
 def check():
     """Returns what is wrong."""
-    texts = {path: text_of(path) for path in FILES}
-    return [*faults([it for path, text in texts.items() for it in functions(path, text)]), *missed(texts)]
+    texts = {path: text_of(path) for files in FILES.values() for path in files}
+    empty = [f"there is no file {pattern} of {crate}" for (crate, pattern), files in FILES.items() if not files]
+    return [*empty, *faults([it for path, text in texts.items() for it in functions(path, text)]), *missed(texts)]
