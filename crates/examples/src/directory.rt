@@ -1,7 +1,7 @@
 //! A directory of services, by names of any type that can be compared.
 ghost use Rattle.std.specs.Prelude.{◌≡◌, ◌↔◌, false, Some, None, Err, IsTrue, IsSome, IsOk, OnErr, slice_get};
 ghost use Rattle.ix_maps.specs.FlatState.{flat_value};
-ghost use Rattle.ix_maps.specs.declared.flatmap.flat_map_error.FlatMapError.TheVariants.{KeyAlreadyExists, IsFull};
+ghost use Rattle.ix_maps.specs.declared.flatmap.FlatMapError.TheVariants.{KeyAlreadyExists, IsFull};
 
 use ix_maps::{FixedSizeFlatMap, FlatMapError};
 

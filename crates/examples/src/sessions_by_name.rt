@@ -3,7 +3,7 @@ ghost use Rattle.std.specs.Prelude.{◌≡◌, ◌↔◌, ℕ, [], Some, None, E
 ghost use Rattle.std.specs.Bool.{OnFalse};
 ghost use Rattle.examples.specs.declared.sessions_by_name.Seen.{Seen};
 ghost use Rattle.ix_maps.specs.FlatState.{flat_value};
-ghost use Rattle.ix_maps.specs.declared.flatmap.flat_map_error.FlatMapError.TheVariants.{KeyAlreadyExists, IsFull};
+ghost use Rattle.ix_maps.specs.declared.flatmap.FlatMapError.TheVariants.{KeyAlreadyExists, IsFull};
 
 use ix_maps::{BoundedMap, FixedSizeFlatMap, FixedSizeHashMap, FlatMapError};
 

@@ -3,7 +3,7 @@ use Rattle.std.specs.Prelude.{◌==◌, Bool, length, slice_get, is_some}
 use Rattle.ix_slottable.specs.SlotState.{SlotState, held_count}
 use Rattle.ix_flatmap.specs.FlatState.{flat_value, flat_keys}
 use Rattle.ix_flatmap.specs.FlatSteps.{flat_insert_result, flat_insert, flat_set, flat_remove}
-use Rattle.ix_flatmap.specs.declared.flatmap.pair.Pair.{Pair}
+use Rattle.ix_flatmap.specs.declared.flatmap.Pair.{Pair}
 use Rattle.ix_commands.specs.Replies.{option_reply, key_reply, result_reply, flat_reply_error}
 use Rattle.ix_commands.specs.declared.command.FlatCommand.{FlatCommand}
 use Rattle.ix_commands.specs.declared.command.FlatCommand.TheVariants.{Insert, Get, Set, Remove, Contains, Key, Len, Empty, Full}

@@ -1,9 +1,9 @@
 -- Replies to commands of containers, as values.
 use Rattle.std.specs.Prelude.{Option, None, Some, Result, Ok, Err}
-use Rattle.ix_vector.specs.declared.vector.modification_error.VectorModificationError.{VectorModificationError}
-use Rattle.ix_vector.specs.declared.vector.modification_error.VectorModificationError.TheVariants as vec_error
-use Rattle.ix_flatmap.specs.declared.flatmap.flat_map_error.FlatMapError.{FlatMapError}
-use Rattle.ix_flatmap.specs.declared.flatmap.flat_map_error.FlatMapError.TheVariants as flat_error
+use Rattle.ix_vector.specs.declared.vector.VectorModificationError.{VectorModificationError}
+use Rattle.ix_vector.specs.declared.vector.VectorModificationError.TheVariants as vec_error
+use Rattle.ix_flatmap.specs.declared.flatmap.FlatMapError.{FlatMapError}
+use Rattle.ix_flatmap.specs.declared.flatmap.FlatMapError.TheVariants as flat_error
 use Rattle.ix_commands.specs.declared.reply.Reply.{Reply}
 use Rattle.ix_commands.specs.declared.reply.Reply.TheVariants as reply
 use Rattle.ix_commands.specs.declared.reply.ReplyError.{ReplyError}

@@ -2,7 +2,7 @@
 use Rattle.std.specs.Prelude.{ℕ, ◌+◌, ◌==◌, [], length, set, slice_get, nat_lt, nat_le, if◌then◌else◌, Ok, Err}
 use Rattle.ix_tables.specs.Bounded.{Bounded, with_items, bounded_push}
 use Rattle.ix_vector.specs.VectorSteps.{VecResult, vec_push_result, vec_insert, vec_insert_result, vec_remove, vec_last, vec_pop, vec_truncate, vec_extend, vec_resize, vec_resize_result}
-use Rattle.ix_vector.specs.declared.vector.modification_error.VectorModificationError.TheVariants.{InsertWouldExceedCapacity}
+use Rattle.ix_vector.specs.declared.vector.VectorModificationError.TheVariants.{InsertWouldExceedCapacity}
 use Rattle.ix_commands.specs.Replies.{option_reply, result_reply, vec_reply_error}
 use Rattle.ix_commands.specs.declared.command.VecCommand.{VecCommand}
 use Rattle.ix_commands.specs.declared.command.VecCommand.TheVariants.{Push, Insert, Extend, Resize, Pop, Remove, At, Set, Truncate, Clear, Len, Capacity, Empty, Full}

@@ -17,7 +17,7 @@ use std::alloc::{AllocError, Global};
 impl<K: Eq + Copy, V: Copy, S: Table<Pair<K, V>>, L: Table<Link>> Runs<FlatCommand<K, V>>
     for MetaFlatMap<Pair<K, V>, S, L> {
     ghost use Rattle.ix_slottable.specs.SlotState.{SlotState};
-    ghost use Rattle.ix_flatmap.specs.declared.flatmap.pair.Pair.{Pair};
+    ghost use Rattle.ix_flatmap.specs.declared.flatmap.Pair.{Pair};
     ghost use Rattle.ix_commands.specs.FlatRun.{flat_reply, flat_after};
 
     type Reply = Reply<K, V>;

@@ -8,7 +8,7 @@ use Rattle.ix_slottable.specs.SlotState.{SlotState, value_at, IsHeld}
 use Rattle.ix_slottable.specs.SlotSteps.{slot_fill, SlotInsert, SlotRemove}
 use Rattle.ix_slottable.specs.SlotCopies.{IsCloneAt, SlotIsClone}
 use Rattle.ix_flatmap.specs.FlatState.{flat_entry}
-use Rattle.ix_flatmap.specs.declared.flatmap.pair.Pair.{Pair}
+use Rattle.ix_flatmap.specs.declared.flatmap.Pair.{Pair}
 use Rattle.ix_hashmap.specs.declared.hashmap.chain_link.ChainLink.{ChainLink}
 use Rattle.ix_flatmap.specs.inner.FlatSearch.{is_key_at}
 use Rattle.ix_hashmap.specs.inner.HashChains.{no_place, no_link, link_head, bucket_of, head_at, next_at, links_set_next, links_insert_first, chain_from, chain_at, IsLinked, IsChain, IsOnChain, IsUnlinked, HasChain, IsHashed, LeadsToKey}

@@ -3,7 +3,7 @@ use Rattle.std.specs.Prelude.{List, drop, map}
 use Rattle.ix_slottable.specs.SlotState.{SlotState, entries_from}
 use Rattle.ix_slottable.specs.SlotSteps.{slot_clear}
 use Rattle.ix_flatmap.specs.FlatState.{flat_item}
-use Rattle.ix_flatmap.specs.declared.flatmap.pair.Pair.{Pair}
+use Rattle.ix_flatmap.specs.declared.flatmap.Pair.{Pair}
 use Rattle.std.specs.Borrow.{GName}
 use Rattle.ix_hashmap.specs.declared.hashmap.drain.Drain.{Drain}
 

@@ -15,7 +15,7 @@ use Rattle.ix_slottable.specs.SlotState.{entries_from, slot_new}
 use Rattle.ix_slottable.specs.SlotSteps.{keys_without}
 use Rattle.ix_flatmap.specs.FlatState.{HasDistinctKeys, flat_value, flat_item, flat_items}
 use Rattle.ix_flatmap.specs.FlatSteps.{flat_insert}
-use Rattle.ix_flatmap.specs.declared.flatmap.pair.Pair.{Pair}
+use Rattle.ix_flatmap.specs.declared.flatmap.Pair.{Pair}
 use Rattle.ix_flatmap.proofs.FlatEntries.{lookup-flat_items}
 use Rattle.ix_flatmap.proofs.FlatSteps.{flat_insert-fresh}
 use Rattle.ix_json.specs.JsonTree.{TextMap, HasSameEntries, map_with, by_key}

@@ -21,7 +21,7 @@ use Rattle.ix_slottable.specs.SlotState.{SlotState, value_at, entries_from, slot
 use Rattle.ix_slottable.specs.SlotSteps.{slot_vacate, slot_fill, slot_insert, keys_without, SlotRemove}
 use Rattle.ix_flatmap.specs.FlatState.{HasDistinctKeys, flat_entry, flat_value, flat_item, flat_items}
 use Rattle.ix_flatmap.specs.FlatSteps.{flat_insert, flat_remove}
-use Rattle.ix_flatmap.specs.declared.flatmap.pair.Pair.{Pair}
+use Rattle.ix_flatmap.specs.declared.flatmap.Pair.{Pair}
 use Rattle.ix_flatmap.proofs.FlatEntries.{IsEntry-flat_entry, flat_entry-absent, flat_value-IsEntry}
 use Rattle.ix_flatmap.proofs.FlatSteps.{HasDistinctKeys-removed, flat_value-removed, flat_value-removed_other}
 use Rattle.ix_tables.proofs.VacantTables.{place_at-replicate}

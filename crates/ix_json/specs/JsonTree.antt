@@ -14,7 +14,7 @@ use Rattle.ix_tables.specs.Bounded.{Bounded, with_items}
 use Rattle.ix_flatmap.specs.FlatState.{flat_entry, flat_value}
 use Rattle.ix_flatmap.specs.FlatSteps.{flat_insert, flat_remove}
 use Rattle.ix_slottable.specs.SlotState.{SlotState}
-use Rattle.ix_flatmap.specs.declared.flatmap.pair.Pair.{Pair}
+use Rattle.ix_flatmap.specs.declared.flatmap.Pair.{Pair}
 use Rattle.ix_string.specs.Text.{is_text}
 use Rattle.ix_semantic_string.specs.Rules.{TextRules}
 use Rattle.ix_relocatable_option.specs.declared.relocatable_option.RelocatableOption.{RelocatableOption}

@@ -4,7 +4,7 @@ use Rattle.ix_tables.specs.Bounded.{Bounded, bounded_new}
 use Rattle.ix_slottable.specs.SlotState.{SlotState, slot_new, entries}
 use Rattle.ix_slotmap.specs.Generations.{SlotMapState, map_entries, map_new}
 use Rattle.ix_flatmap.specs.FlatState.{flat_keys}
-use Rattle.ix_flatmap.specs.declared.flatmap.pair.Pair.{Pair}
+use Rattle.ix_flatmap.specs.declared.flatmap.Pair.{Pair}
 use Rattle.ix_string.specs.Escape.{escaped_text}
 use Rattle.ix_commands.specs.QueueRun.{queue_reply, queue_after}
 use Rattle.ix_commands.specs.VecRun.{vec_reply, vec_after}

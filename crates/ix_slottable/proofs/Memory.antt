@@ -1,7 +1,7 @@
 -- A map with a greater capacity takes no less memory.
 use Rattle.std.proofs.Common.{◌≡◌, ℕ, ◌≤◌, ◌+◌, sym, ap₂, subst, arith}
 use Rattle.ix_tables.specs.Memory.{no_memory, memory_plus, table_memory}
-use Rattle.ix_tables.specs.declared.cells.memory_size.MemorySize.{MemorySize}
+use Rattle.ix_tables.specs.declared.cells.MemorySize.{MemorySize}
 use Rattle.ix_tables.proofs.Memory.{saturated-mono, table_memory-mono}
 use Rattle.ix_slottable.specs.Memory.{slot_table_memory, slot_map_memory}
 

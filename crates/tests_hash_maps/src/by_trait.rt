@@ -15,7 +15,7 @@ pub struct ByTrait<'a, M> {
 
 impl<K: Eq + Copy, V: Copy, M: BoundedMap<K, V>> Runs<FlatCommand<K, V>> for ByTrait<'_, M> {
     ghost use Rattle.ix_slottable.specs.SlotState.{SlotState};
-    ghost use Rattle.ix_flatmap.specs.declared.flatmap.pair.Pair.{Pair};
+    ghost use Rattle.ix_flatmap.specs.declared.flatmap.Pair.{Pair};
     ghost use Rattle.ix_commands.specs.FlatRun.{flat_reply, flat_after};
 
     type Reply = Reply<K, V>;

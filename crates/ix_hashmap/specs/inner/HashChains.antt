@@ -7,7 +7,7 @@ use Rattle.ix_flatmap.specs.inner.FlatSearch.{is_key_at}
 use Rattle.ix_slottable.specs.inner.FullTables.{items_in}
 use Rattle.ix_hashmap.specs.declared.hashmap.chain_link.ChainLink.{ChainLink}
 use Rattle.ix_hashmap.specs.declared.hashmap.chain_link.Heads.{Heads}
-use Rattle.ix_flatmap.specs.declared.flatmap.pair.Pair.{Pair}
+use Rattle.ix_flatmap.specs.declared.flatmap.Pair.{Pair}
 
 -- the number for no place: no table has so many
 abbrev pub no_place : ℕ

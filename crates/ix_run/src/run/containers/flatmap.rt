@@ -14,7 +14,7 @@ use std::io::Write;
 impl<S: Table<Pair<u64, u64>>, L: Table<Link>> Served for MetaFlatMap<Pair<u64, u64>, S, L> {
     ghost use Rattle.std.specs.Prelude.{ℕ, nat_eq};
     ghost use Rattle.ix_slottable.specs.SlotState.{SlotState};
-    ghost use Rattle.ix_flatmap.specs.declared.flatmap.pair.Pair.{Pair};
+    ghost use Rattle.ix_flatmap.specs.declared.flatmap.Pair.{Pair};
     ghost use Rattle.ix_commands.specs.FlatRun.{flat_reply, flat_after};
     ghost use Rattle.ix_run.specs.Forms.{flat_forms};
     ghost use Rattle.ix_run.specs.Script.{spelled_reply, spelled_after, flat_shown};
