@@ -79,13 +79,13 @@ class Contracts:
                 for _ in range(3):
                     call.owners.update(name for name, others in self.same.items() if others & call.owners)
 
-    def named(self, words, room=""):
-        """Returns the calls that a qualified name stands for; of a plain one those in this folder or crate, if there are any."""
+    def named(self, words, room=()):
+        """Returns the calls that a qualified name stands for; of a plain one those in these folders or crates, if there are any."""
         *owners, name = words
         found = [call for call in self.calls.get(name, ()) if not owners or owners[-1] in call.owners]
         return [call for call in found if call.path.startswith(room)] or found
 
     @functools.lru_cache(None)
     def clauses_in(self, room):
-        """Returns the names of all clauses in a folder."""
+        """Returns the names of all clauses in folders."""
         return {clause for calls in self.calls.values() for call in calls if call.path.startswith(room) for clause in call.clauses}

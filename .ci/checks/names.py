@@ -2,8 +2,8 @@
 
 - A file or a folder in backticks is one, from the root or as the end of a path; a link leads to a page and to a heading of it.
 - Each word in backticks stands in the code, or in WORDS or UPSTREAM. `Type::call` is a member of the type.
-- A clause behind its calls, as in `push` (`full`), or before them, as in `full` of `push`, is one of theirs. In a section about a
-  crate, each word in the last column of a table is a clause there, a call or a definition.
+- A clause behind its calls, as in `push` (`full`), or before them, as in `full` of `push`, is one of theirs. In a section about
+  crates, each word in the last column of a table is a clause there, a call or a definition.
 - No page states how many wrong bodies, tests or scripts there are: scripts count them.
 - docs/EXAMPLES.md names each file of the crate of examples.
 
@@ -75,14 +75,14 @@ KNOWN = code_words()
 
 
 def places(path):
-    """Yields each paragraph of a page behind its line, and the folder whose calls it is about, as the words before it tell."""
-    crate, room = "", ""
+    """Yields each paragraph of a page behind its line, and the folders whose calls it is about, as the words before it tell."""
+    crate = room = ()
     for line, text in paragraphs(path):
         if text.startswith("#"):
-            crate = room = next((f"crates/{it}/src/" for it in SPAN.findall(text) if it in CRATES), "")
+            crate = room = tuple(f"crates/{it}/src/" for it in SPAN.findall(text) if it in CRATES)
         elif crate and not text.startswith("|"):
             homes = [home for it in SPAN.findall(text) if (home := CONTRACTS.home.get(it, "")).startswith(crate)]
-            room = re.match(r"crates/\w+/src/\w+", homes[0]).group() if homes else room
+            room = (re.match(r"crates/\w+/src/\w+", homes[0]).group(),) if homes else room
         yield line, text, room
 
 
@@ -139,7 +139,7 @@ def foreign_words(text, room):
         cell = re.sub(r"\([^()`]*`[^()]*\)", "", text.rstrip(" |").rpartition(" | ")[2])
         for name in SPAN.findall(cell):
             if CLAUSE.match(name) and name not in CONTRACTS.clauses_in(room) and name not in CONTRACTS.words:
-                yield name, f"no call or definition is called {name}, and no clause in {room}"
+                yield name, f"no call or definition is called {name}, and no clause in {', '.join(room)}"
 
 
 def faults(text, room, folder):
