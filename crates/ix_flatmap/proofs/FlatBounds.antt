@@ -6,13 +6,13 @@ use Rattle.std.proofs.lemmas.Bool.{cases_eq, cases_lt}
 use Rattle.std.proofs.lemmas.Bool.Decides.{nat_tests}
 use Rattle.std.proofs.lemmas.List.{get_or-set_other, length-set}
 use Rattle.ix_slottable.specs.SlotState.{SlotState, value_at, IsHeld, slot_new, entries_from}
-use Rattle.ix_flatmap.specs.FlatState.{flat_entry}
+use Rattle.ix_flatmap.specs.FlatState.{flat_entry, IsBound}
 use Rattle.ix_flatmap.specs.declared.flatmap.pair.Pair.{Pair}
 use Rattle.ix_slottable.proofs.Entries.{entries_from-none}
 use Rattle.ix_slottable.specs.SlotSteps.{slot_set, slot_fill, SlotInsert, SlotRemove}
 use Rattle.ix_slottable.proofs.SlotSteps.{SlotInsert-fills, SlotRemove-vacates}
 use Rattle.ix_tables.proofs.VacantTables.{place_at-replicate}
-use Rattle.ix_flatmap.specs.inner.FlatSearch.{IsBound, bound_with, bound_without}
+use Rattle.ix_flatmap.specs.inner.FlatSearch.{bound_with, bound_without}
 
 module _ {T : Type 0} where
   -- the place of a value is below the bound

@@ -4,9 +4,8 @@ use Rattle.std.specs.Cmp.{IsEquivalence}
 use Rattle.ix_tables.specs.Cloning.{AreEqualClones}
 use Rattle.ix_slottable.specs.SlotState.{SlotState, value_at}
 use Rattle.ix_slottable.specs.SlotCopies.{IsCloneAt, SlotIsClone}
-use Rattle.ix_flatmap.specs.FlatState.{HasDistinctKeys}
+use Rattle.ix_flatmap.specs.FlatState.{HasDistinctKeys, IsBound}
 use Rattle.ix_flatmap.specs.FlatCopies.{PairIsClone}
-use Rattle.ix_flatmap.specs.inner.FlatSearch.{IsBound}
 use Rattle.ix_flatmap.specs.declared.flatmap.pair.Pair.{Pair}
 
 module _ {T : Type 0} (is_clone : T → T → Type 0) where

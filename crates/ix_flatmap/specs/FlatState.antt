@@ -1,5 +1,5 @@
 -- A flat map as contracts see it: a slot state of pairs, a key and its value each, in which no two keys are equal.
-use Rattle.std.specs.Prelude.{◌≡◌, ℕ, List, map, Option, Some, Bool, true, option_map}
+use Rattle.std.specs.Prelude.{◌≡◌, ℕ, ◌≤◌, List, length, map, Option, Some, None, Bool, true, option_map}
 use Rattle.std.specs.List.{find}
 use Rattle.ix_slottable.specs.SlotState.{SlotState, value_at, entries}
 use Rattle.ix_flatmap.specs.declared.flatmap.pair.Pair.{Pair}
@@ -8,6 +8,11 @@ use Rattle.ix_flatmap.specs.declared.flatmap.pair.Pair.{Pair}
 abbrev pub AreDistinctBy : {T : Type 0} → (T → T → Bool) → SlotState T → Type 0
 AreDistinctBy {T} same s =
     (i j : ℕ) (a b : T) → value_at s i ≡ Some a → value_at s j ≡ Some b → same a b ≡ true → i ≡ j
+
+-- each place that has a value is below this one
+pub record IsBound {T : Type 0} (s : SlotState T) (bound : ℕ) : Type 0 where
+  pub within : bound ≤ length s.values
+  pub beyond : (place : ℕ) → bound ≤ place → value_at s place ≡ None
 
 module _ {K V : Type 0} where
   -- no two places have equal keys

@@ -5,10 +5,9 @@ ghost use Rattle.std.specs.List.{FoldsTo};
 ghost use Rattle.ix_slottable.specs.SlotState.{SlotState, value_at, IsHeld, entries_from};
 ghost use Rattle.ix_slottable.specs.SlotSteps.{slot_set, SlotRemove};
 ghost use Rattle.ix_slottable.specs.SlotCalls.{CalledOn, IsCallableOnEach, ChangesItem, RetainsItem};
-ghost use Rattle.ix_flatmap.specs.FlatState.{HasDistinctKeys, flat_value, flat_keys, flat_items};
+ghost use Rattle.ix_flatmap.specs.FlatState.{HasDistinctKeys, flat_value, flat_keys, flat_items, IsBound};
 ghost use Rattle.ix_flatmap.specs.FlatSteps.{flat_set, flat_remove};
 ghost use Rattle.ix_flatmap.specs.FlatCalls.{CallAtKey, TakesKey};
-ghost use Rattle.ix_flatmap.specs.inner.FlatSearch.{IsBound};
 ghost use Rattle.ix_flatmap.specs.declared.flatmap.pair.Pair.{Pair};
 
 use crate::flatmap::Pair;

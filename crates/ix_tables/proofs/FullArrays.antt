@@ -1,4 +1,4 @@
--- Lemmas on the places of a full array, the first of which are items, and part of which is overwritten by way of a slice.
+-- Lemmas on the places of a full array, part of which is overwritten by way of a slice.
 use Rattle.std.proofs.Common.{◌≡◌, ◌∙◌, ℕ, ◌-◌, ◌≤◌, List, ◌++◌, length, take, drop, refl, sym, ap, arith}
 use Rattle.std.specs.Prelude.{slice_range, slice_set, Result, OnOk}
 use Rattle.std.specs.List.{AllZip, AppendsClones, refill, length_refill}
@@ -8,12 +8,7 @@ use Rattle.std.proofs.lemmas.List.{length-take-le}
 use Rattle.std.proofs.lemmas.Result.{on_ok_weaker}
 use Rattle.std.proofs.lemmas.Slice.{take-put_mid, take-put_mid_below, drop-put_mid, between-put_mid}
 use borrow.Rule.Slice.PartMut.{put_mid}
-use Rattle.ix_tables.specs.FullArrays.{IsFront}
 use Rattle.ix_tables.proofs.Refilling.{refill-same_length}
-
--- the items are as many as len says
-pub length-front : {T : Type 0} {places items : List T} {capacity len : ℕ} → IsFront capacity places len → take len places ≡ items → length items ≡ len
-length-front {places = places} {len = len} is shown = ap length (sym shown) ∙ length-take-le len places (omega (arith, is.within, is.whole))
 
 module _ {T : Type 0} where
   pub refill-slice_set : (xs : List T) (i : ℕ) (x : T) → refill (length xs) xs (slice_set xs i x) ≡ slice_set xs i x

@@ -2,6 +2,7 @@ pub mod Bounded
 pub mod Calls
 pub mod Cloning
 pub mod FullArrays
+pub mod HeldItem
 pub mod Lending
 pub mod Memory
 pub mod Places

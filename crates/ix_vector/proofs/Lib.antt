@@ -1,3 +1,4 @@
+pub mod Fronts
 pub mod Kept
 pub mod Lists
 pub mod Shifts

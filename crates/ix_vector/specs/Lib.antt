@@ -1,7 +1,6 @@
 pub use Rattle.ix_tables.specs.Bounded
 pub use Rattle.ix_tables.specs.Calls
 pub use Rattle.ix_tables.specs.Cloning
-pub use Rattle.ix_tables.specs.FullArrays
 pub use Rattle.ix_tables.specs.Memory
 pub mod Conversions
 pub mod ErrorTexts
@@ -9,3 +8,4 @@ pub mod Iterating
 pub mod Lending
 pub mod VectorDrain
 pub mod VectorSteps
+pub mod inner

@@ -1,5 +1,5 @@
 -- Which places of a flat map have a key.
-use Rattle.std.specs.Prelude.{◌≡◌, ℕ, ◌+◌, ◌<◌, ◌≤◌, length, nat_eq, nat_lt, if◌then◌else◌, None, Bool, true, false}
+use Rattle.std.specs.Prelude.{◌≡◌, ℕ, ◌+◌, ◌<◌, ◌≤◌, nat_eq, nat_lt, if◌then◌else◌, Bool, true, false}
 use Rattle.std.specs.Option.{option_map_or}
 use Rattle.ix_slottable.specs.SlotState.{SlotState, value_at}
 use Rattle.ix_flatmap.specs.declared.flatmap.pair.Pair.{Pair}
@@ -17,11 +17,6 @@ module _ {K V : Type 0} where
   abbrev pub IsFoundIn : (K → K → Bool) → SlotState (Pair K V) → K → ℕ → ℕ → ℕ → ℕ → Type 0
   IsFoundIn eq s key start n i found =
       (found ≤ n) × (found < n → is_key_at eq s key (start + found) ≡ true) × (found ≡ n → HasNoKeyIn eq s key start i)
-
--- each place that has a value is below this one
-pub record IsBound {T : Type 0} (s : SlotState T) (bound : ℕ) : Type 0 where
-  pub within : bound ≤ length s.values
-  pub beyond : (place : ℕ) → bound ≤ place → value_at s place ≡ None
 
 -- the bound once this place has a value too
 abbrev pub bound_with : ℕ → ℕ → ℕ

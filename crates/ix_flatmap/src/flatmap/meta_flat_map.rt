@@ -41,7 +41,7 @@ pub struct MetaFlatMap<P: Keyed, S: Table<P>, L: Table<Link>> {
 impl<P: Keyed, S: Table<P>, L: Table<Link>> Model for MetaFlatMap<P, S, L> {
     ghost use Rattle.ix_slottable.specs.SlotState.{SlotState, slot_state_code};
     ghost use Rattle.ix_flatmap.specs.FlatState.{AreDistinctBy};
-    ghost use Rattle.ix_flatmap.specs.inner.FlatSearch.{IsBound};
+    ghost use Rattle.ix_flatmap.specs.FlatState.{IsBound};
 
     ghost Value = { SlotState P };
 

@@ -5,7 +5,8 @@ ghost use Rattle.std.specs.List.{AllZip, AppendsClones};
 ghost use Rattle.std.specs.Borrow.{sem};
 ghost use Rattle.arrayvec.specs.ArrayVec.{array_vec_len};
 ghost use Rattle.ix_tables.specs.Cloning.{AreInfallible};
-ghost use Rattle.ix_tables.specs.FullArrays.{array_vec_lends_front, array_vec_lends_place, slice_lends_place};
+ghost use Rattle.ix_tables.specs.FullArrays.{array_vec_lends_front};
+ghost use Rattle.ix_tables.specs.inner.FullArrays.{array_vec_lends_place, slice_lends_place};
 
 use arrayvec::ArrayVec;
 use std::alloc::AllocError;

@@ -1,7 +1,7 @@
 //! The value of an option that is known to have one.
 ghost use Rattle.std.specs.Prelude.{◌≡◌, Some, IsSome};
 ghost use Rattle.std.specs.Borrow.{sem};
-ghost use Rattle.ix_tables.specs.inner.HeldItem.{option_lends};
+ghost use Rattle.ix_tables.specs.HeldItem.{option_lends};
 
 use std::mem::align_of;
 

@@ -35,7 +35,7 @@ pub struct StaticVec<T: Default, const CAPACITY: usize> {
 impl<T: Default, const CAPACITY: usize> Model for StaticVec<T, CAPACITY> {
     ghost use Rattle.std.specs.Prelude.{List, take};
     ghost use Rattle.std.specs.Coded.{coded_list};
-    ghost use Rattle.ix_tables.specs.FullArrays.{IsFront};
+    ghost use Rattle.ix_vector.specs.inner.Fronts.{IsFront};
 
     ghost Value = { List T };
 

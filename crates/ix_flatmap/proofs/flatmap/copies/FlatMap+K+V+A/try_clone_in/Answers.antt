@@ -1,6 +1,5 @@
 use Rattle.std.proofs.Common.{sym, subst}
-use Rattle.ix_flatmap.specs.FlatState.{HasDistinctKeys}
-use Rattle.ix_flatmap.specs.inner.FlatSearch.{IsBound}
+use Rattle.ix_flatmap.specs.FlatState.{HasDistinctKeys, IsBound}
 use Rattle.ix_flatmap.proofs.FlatCopies.{AreEqualClones-pair}
 use Rattle.ix_flatmap.proofs.flatmap.copies.FlatMap+K+V+A.try_clone_in.Goals as goal
 

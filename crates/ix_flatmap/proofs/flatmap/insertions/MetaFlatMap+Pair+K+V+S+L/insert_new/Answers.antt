@@ -1,7 +1,7 @@
 use Rattle.std.proofs.Common.{◌≡◌, Bool, None, refl, sym, ap, ◌∙◌, subst, arith}
 use Rattle.ix_slottable.specs.SlotState.{SlotState}
-use Rattle.ix_flatmap.specs.FlatState.{flat_entry, flat_value}
-use Rattle.ix_flatmap.specs.inner.FlatSearch.{IsBound, bound_with}
+use Rattle.ix_flatmap.specs.FlatState.{flat_entry, flat_value, IsBound}
+use Rattle.ix_flatmap.specs.inner.FlatSearch.{bound_with}
 use Rattle.ix_flatmap.specs.declared.flatmap.pair.Pair.{Pair}
 use Rattle.ix_flatmap.proofs.FlatBounds.{IsBound-inserted}
 use Rattle.ix_flatmap.proofs.FlatSteps.{HasDistinctKeys-inserted, flat_value-inserted, flat_value-inserted_other}

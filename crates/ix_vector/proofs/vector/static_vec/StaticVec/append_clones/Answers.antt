@@ -1,6 +1,6 @@
 use Rattle.std.proofs.Common.{rules, arith, ◌+◌, ◌∙◌, List, length, take, subst}
 use Rattle.std.specs.List.{AppendsClones}
-use Rattle.ix_tables.proofs.FullArrays.{length-front}
+use Rattle.ix_vector.proofs.Fronts.{length-front}
 use Rattle.ix_vector.proofs.vector.static_vec.StaticVec.append_clones.Goals as goal
 
 pub put_clones-requires : goal.put_clones-requires

@@ -1,7 +1,7 @@
 use Rattle.std.proofs.Common.{rules, arith, ◌<◌, ◌+◌, ◌∙◌, ◌++◌, [], ◌∷◌, List, length, take, ap}
 use Rattle.std.proofs.Math.ListN.{length-set}
 use Rattle.std.proofs.lemmas.List.{take_more_set}
-use Rattle.ix_tables.proofs.FullArrays.{length-front}
+use Rattle.ix_vector.proofs.Fronts.{length-front}
 use Rattle.ix_vector.proofs.vector.static_vec.StaticVecVector.push_unchecked.Goals as goal
 
 pub put-requires : goal.put-requires

@@ -1,0 +1,2 @@
+-- What no public contract cites: what the code behind it means.
+pub mod Fronts
