@@ -1,4 +1,5 @@
 -- What no public contract cites: what the code behind it means.
+pub mod FullArrays
 pub mod HeldItem
 pub mod MaybeMoved
 pub mod RawLending
