@@ -74,8 +74,9 @@ fn values_come_in_slot_order_of_their_keys(rt: HostRuntime) -> Result<(), Fail> 
 }
 
 // Shows: Debug for Iter, Debug for Keys, Debug for Values
+// Shows: Clone for Iter, Clone for Keys, Clone for Values
 #[test]
-fn iterators_print_what_is_still_to_come(rt: HostRuntime) -> Result<(), Fail> {
+fn what_is_still_to_come_is_printed_and_cloned(rt: HostRuntime) -> Result<(), Fail> {
     let mut map = FixedSizeFlatMap::<u16, char, 3>::new();
     map.insert(80, 'a')?;
     map.insert(22, 'b')?;
@@ -84,6 +85,9 @@ fn iterators_print_what_is_still_to_come(rt: HostRuntime) -> Result<(), Fail> {
     let (keys, values) = (map.keys(), map.values());
     let text = format!(in rt.alloc(); "{items:?} {keys:?} {values:?}")?;
     assert_eq!(rt; text.as_str(), "[(22, 'b')] [80, 22] ['a', 'b']");
+    let (mut rest, keys, values) = (items.clone()?, keys.clone()?, values.clone()?);
+    assert_eq!(rt; rest.next(), Some((&22, &'b')));
+    assert_eq!(rt; (items.len(), keys.len(), values.len()), (1, 2, 2));
     Ok(())
 }
 

@@ -51,15 +51,20 @@ fn a_drain_removes_what_it_does_not_yield_too(rt: HostRuntime) {
 }
 
 // Shows: Debug for Iter, Debug for Keys, Debug for Values, Debug for Drain
+// Shows: Clone for Iter, Clone for Keys, Clone for Values
 #[test]
-fn iterators_print_what_is_still_to_come(rt: HostRuntime) -> Result<(), Fail> {
+fn what_is_still_to_come_is_printed_and_cloned(rt: HostRuntime) -> Result<(), Fail> {
     let mut ports = FixedSizeSlotMap::<u16, 3>::new();
     ports.insert(80);
     ports.insert(443);
     let mut items = ports.iter();
     items.next();
-    let text = format!(in rt.alloc(); "{items:?} {:?} {:?}", ports.keys(), ports.values())?;
+    let (keys, values) = (ports.keys(), ports.values());
+    let text = format!(in rt.alloc(); "{items:?} {keys:?} {values:?}")?;
     assert_eq!(rt; text.as_str(), "[(1, 0, 443)] [(0, 0), (1, 0)] [80, 443]");
+    let (mut rest, keys, values) = (items.clone()?, keys.clone()?, values.clone()?);
+    assert_eq!(rt; rest.next(), Some((SlotMapKey::new(1, 0), &443)));
+    assert_eq!(rt; (items.len(), keys.len(), values.len()), (1, 2, 2));
     let items = ports.drain();
     let text = format!(in rt.alloc(); "{items:?}")?;
     assert_eq!(rt; text.as_str(), "[(0, 0, 80), (1, 0, 443)]");

@@ -84,8 +84,9 @@ fn values_come_in_rising_order_of_their_keys(rt: HostRuntime) {
 }
 
 // Shows: Debug for Iter, Debug for Keys, Debug for Values
+// Shows: Clone for Iter, Clone for Keys, Clone for Values
 #[test]
-fn iterators_print_what_is_still_to_come(rt: HostRuntime) -> Result<(), Fail> {
+fn what_is_still_to_come_is_printed_and_cloned(rt: HostRuntime) -> Result<(), Fail> {
     let mut table = FixedSizeSlotTable::<char, 3>::new();
     table.insert('a');
     table.insert('b');
@@ -94,6 +95,9 @@ fn iterators_print_what_is_still_to_come(rt: HostRuntime) -> Result<(), Fail> {
     let (keys, values) = (table.keys(), table.values());
     let text = format!(in rt.alloc(); "{items:?} {keys:?} {values:?}")?;
     assert_eq!(rt; text.as_str(), "[(1, 'b')] [0, 1] ['a', 'b']");
+    let (mut rest, keys, values) = (items.clone()?, keys.clone()?, values.clone()?);
+    assert_eq!(rt; rest.next(), Some((SlotTableKey::new(1), &'b')));
+    assert_eq!(rt; (items.len(), keys.len(), values.len()), (1, 2, 2));
     Ok(())
 }
 

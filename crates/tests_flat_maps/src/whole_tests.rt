@@ -178,6 +178,51 @@ fn get_or_insert_with(rt: HostRuntime) -> Result<(), Fail> {
     findings.verdict()
 }
 
+/// Checks clones of the iterators of a map with the keys 40, 20 and 60, in slot order, of the values 7, 3 and 2: each goes on
+/// where its original stands, and neither moves the other.
+fn check_clones<S: Table<Pair<u64, u64>>, L: Table<Link>>(
+    findings: &Findings,
+    map: &MetaFlatMap<Pair<u64, u64>, S, L>,
+) -> Result<(), AllocError> {
+    let mut items = map.iter();
+    items.next();
+    let mut copy = items.clone()?;
+    findings.expect(copy.next() == Some((&20, &3)), "the second item");
+    findings.expect_same((items.len(), copy.len()), (2, 1), "an item less");
+    findings.expect(items.next() == Some((&20, &3)), "not moved by its copy");
+    findings.expect(copy.next() == Some((&60, &2)), "not moved by its original");
+    let mut keys = map.keys();
+    keys.next();
+    let mut copy = keys.clone()?;
+    findings.expect_same(copy.next(), Some(&20), "the second key");
+    findings.expect_same((keys.len(), copy.len()), (2, 1), "a key less");
+    findings.expect_same(keys.next(), Some(&20), "not moved by its copy");
+    findings.expect_same(copy.next(), Some(&60), "not moved by its original");
+    let mut values = map.values();
+    values.next();
+    let mut copy = values.clone()?;
+    findings.expect_same(copy.next(), Some(&3), "the second value");
+    findings.expect_same((values.len(), copy.len()), (2, 1), "a value less");
+    findings.expect_same(values.next(), Some(&3), "not moved by its copy");
+    findings.expect_same(copy.next(), Some(&2), "not moved by its original");
+    Ok(())
+}
+
+#[test]
+fn clones_of_iterators() -> Result<(), Fail> {
+    let findings = Findings::new();
+    let mut map = FixedSizeFlatMap::<u64, u64, 4>::new();
+    for (key, value) in [(30, 1), (10, 5), (20, 3), (60, 2)] {
+        let _ = map.insert(key, value);
+    }
+    let _ = map.remove(&30);
+    let _ = map.insert(40, 7);
+    let _ = map.remove(&10);
+    let is_cloned = check_clones(&findings, &map).is_ok();
+    findings.expect(is_cloned, "clones of iterators");
+    findings.verdict()
+}
+
 #[test]
 fn equal_maps(rt: HostRuntime) -> Result<(), Fail> {
     let findings = Findings::new();

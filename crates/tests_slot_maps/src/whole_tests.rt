@@ -231,6 +231,54 @@ fn calls_on_each_kind(rt: HostRuntime) -> Result<(), Fail> {
     findings.verdict()
 }
 
+/// Checks clones of the iterators of a map with the keys (1, 0), (2, 1) and (4, 0), of the values 5, 7 and 9: each goes on
+/// where its original stands, and neither moves the other.
+fn check_clones<S: Table<Option<u64>>, L: Table<Link>, G: Table<u64>>(
+    findings: &Findings,
+    map: &MetaSlotMap<Option<u64>, S, L, G>,
+) -> Result<(), AllocError> {
+    let mut items = map.iter();
+    items.next();
+    let mut copy = items.clone()?;
+    findings.expect(copy.next() == Some((key(2, 1), &7)), "the second item");
+    findings.expect_same((items.len(), copy.len()), (2, 1), "an item less");
+    findings.expect(
+        items.next() == Some((key(2, 1), &7)),
+        "not moved by its copy",
+    );
+    findings.expect(
+        copy.next() == Some((key(4, 0), &9)),
+        "not moved by its original",
+    );
+    let mut keys = map.keys();
+    keys.next();
+    let mut copy = keys.clone()?;
+    findings.expect_same(copy.next(), Some(key(2, 1)), "the second key");
+    findings.expect_same((keys.len(), copy.len()), (2, 1), "a key less");
+    findings.expect_same(keys.next(), Some(key(2, 1)), "not moved by its copy");
+    findings.expect_same(copy.next(), Some(key(4, 0)), "not moved by its original");
+    let mut values = map.values();
+    values.next();
+    let mut copy = values.clone()?;
+    findings.expect_same(copy.next(), Some(&7), "the second value");
+    findings.expect_same((values.len(), copy.len()), (2, 1), "a value less");
+    findings.expect_same(values.next(), Some(&7), "not moved by its copy");
+    findings.expect_same(copy.next(), Some(&9), "not moved by its original");
+    Ok(())
+}
+
+#[test]
+fn clones_of_iterators() -> Result<(), Fail> {
+    let findings = Findings::new();
+    let mut map = FixedSizeSlotMap::<u64, 5>::new();
+    for (index, value) in [(4, 9), (1, 5), (2, 6), (2, 7)] {
+        let _ = map.insert_at(index, value);
+    }
+    let is_cloned = check_clones(&findings, &map).is_ok();
+    findings.expect(is_cloned, "clones of iterators");
+    findings.verdict()
+}
+
 #[test]
 fn equal_maps(rt: HostRuntime) -> Result<(), Fail> {
     let findings = Findings::new();

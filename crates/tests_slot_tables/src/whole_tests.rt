@@ -254,6 +254,52 @@ fn taken_apart() -> Result<(), Fail> {
     findings.verdict()
 }
 
+/// Checks clones of the iterators of a map `{1: 5, 2: 7, 4: 9}`: each goes on where its original stands, and neither moves the
+/// other.
+fn check_clones<S: Table<u64>, L: Table<Link>>(
+    findings: &Findings,
+    map: &MetaSlotTable<u64, S, L>,
+) -> Result<(), AllocError> {
+    let (second, third) = (SlotTableKey::new(2), SlotTableKey::new(4));
+    let mut items = map.iter();
+    items.next();
+    let mut copy = items.clone()?;
+    findings.expect(copy.next() == Some((second, &7)), "the second item");
+    findings.expect_same((items.len(), copy.len()), (2, 1), "an item less");
+    findings.expect(items.next() == Some((second, &7)), "not moved by its copy");
+    findings.expect(
+        copy.next() == Some((third, &9)),
+        "not moved by its original",
+    );
+    let mut keys = map.keys();
+    keys.next();
+    let mut copy = keys.clone()?;
+    findings.expect_same(copy.next(), Some(second), "the second key");
+    findings.expect_same((keys.len(), copy.len()), (2, 1), "a key less");
+    findings.expect_same(keys.next(), Some(second), "not moved by its copy");
+    findings.expect_same(copy.next(), Some(third), "not moved by its original");
+    let mut values = map.values();
+    values.next();
+    let mut copy = values.clone()?;
+    findings.expect_same(copy.next(), Some(&7), "the second value");
+    findings.expect_same((values.len(), copy.len()), (2, 1), "a value less");
+    findings.expect_same(values.next(), Some(&7), "not moved by its copy");
+    findings.expect_same(copy.next(), Some(&9), "not moved by its original");
+    Ok(())
+}
+
+#[test]
+fn clones_of_iterators() -> Result<(), Fail> {
+    let findings = Findings::new();
+    let mut map = FixedSizeSlotTable::<u64, 5>::new();
+    for (key, value) in [(4, 9), (1, 5), (2, 7)] {
+        let _ = map.insert_at(SlotTableKey::new(key), value);
+    }
+    let is_cloned = check_clones(&findings, &map).is_ok();
+    findings.expect(is_cloned, "clones of iterators");
+    findings.verdict()
+}
+
 #[test]
 fn equal_maps(rt: HostRuntime) -> Result<(), Fail> {
     let findings = Findings::new();
