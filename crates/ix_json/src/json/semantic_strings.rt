@@ -2,7 +2,7 @@
 
 use crate::json::{JsonFault, JsonForm};
 use ix_semantic_string::semantic_string::{Rules, Semantic};
-use ix_string::StaticString;
+use ix_string::{StaticString, String};
 use serde_json::Value;
 use std::alloc::Global;
 
@@ -26,7 +26,8 @@ impl<R: Rules<CAPACITY>, const CAPACITY: usize> JsonForm for Semantic<R, CAPACIT
     }
 
     fn from_value(value: &Value) -> Result<Self, JsonFault> {
-        match Semantic::from_string(StaticString::from_value(value)?) {
+        let text = StaticString::<CAPACITY>::from_value(value)?;
+        match Semantic::new(text.as_bytes()) {
             Ok(string) => Ok(string),
             Err(_) => Err(JsonFault::InvalidContent),
         }

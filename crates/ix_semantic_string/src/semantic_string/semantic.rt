@@ -76,7 +76,7 @@ impl<R: Rules<CAPACITY>, const CAPACITY: usize> Semantic<R, CAPACITY> {
 
     /// Creates a string that holds the bytes of `text`, or returns [`SemanticStringError::InvalidContent`] if the rules do
     /// not accept them.
-    pub(crate) fn from_string(text: StaticString<CAPACITY>) -> Result<Self, SemanticStringError>
+    fn from_string(text: StaticString<CAPACITY>) -> Result<Self, SemanticStringError>
         ensures { SemanticResult CAPACITY R.rules text.entry text.entry result }
     {
         judge::<R, CAPACITY>(text.as_bytes())?;
