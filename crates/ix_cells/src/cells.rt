@@ -42,7 +42,10 @@ pub mod relocatable_container {
 
 #[doc(hidden)]
 pub mod table {
-    pub use ix_tables::cells::{MAX_FIXED_CAPACITY, Table};
+    /// [`ix_tables::cells::MAX_FIXED_CAPACITY`]. A clause cites a constant of the crate that it names.
+    pub const MAX_FIXED_CAPACITY: usize = ix_tables::cells::MAX_FIXED_CAPACITY;
+
+    pub use ix_tables::cells::Table;
 }
 
 #[doc(hidden)]
@@ -51,8 +54,9 @@ pub mod uninit {
 }
 
 pub use ix_tables::cells::{
-    ContainerFamily, Counted, HeapTable, InitError, InlineTable, MAX_FIXED_CAPACITY, MemorySize,
-    RawSlots, RelocatableContainer, Table, Touches, Uninit,
+    ContainerFamily, Counted, HeapTable, InitError, InlineTable, MemorySize, RawSlots,
+    RelocatableContainer, Table, Touches, Uninit,
 };
 #[doc(hidden)]
 pub use ix_tables::cells::{RowGrant, RowOwner, RowPtr, item, item_mut};
+pub use table::MAX_FIXED_CAPACITY;

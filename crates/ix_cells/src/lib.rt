@@ -6,9 +6,10 @@
 pub mod cells;
 pub mod vector;
 
+pub use cells::MAX_FIXED_CAPACITY;
 pub use ix_tables::{
-    ContainerFamily, Counted, HeapTable, InitError, InlineTable, MAX_FIXED_CAPACITY, MemorySize,
-    RawSlots, RelocatableContainer, Table, Touches, Uninit,
+    ContainerFamily, Counted, HeapTable, InitError, InlineTable, MemorySize, RawSlots,
+    RelocatableContainer, Table, Touches, Uninit,
 };
 pub use ix_vector::{
     PolymorphicVec, RelocatableVec, StaticVec, StaticVecIntoIter, UninitVec, VecFamily, Vector,
