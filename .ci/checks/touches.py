@@ -31,12 +31,12 @@ WALKS = {
     "full_table": ("fill", "copy_items", "empty"),
 }
 # Calls of a single step: those of counted tables, of new values, and of std.
-CALLS = {"item", "item_mut", ".put", ".take", ".get", ".get_mut", ".len", ".inline_len", ".as_ref", ".is_some", "Touches::new", "SlotTableKey::new", "SlotMapKey::new",
+CALLS = {"item", "item_mut", ".put", ".take", ".get", ".get_mut", ".len", ".inline_len", ".as_ref", ".is_some", ".ok", "Touches::new", "SlotTableKey::new", "SlotMapKey::new",
          "Link::held", "Iter::new", "Keys::new", "Values::new", "mem::replace", "write!", "Some", "Ok", "Err"}
 FUNCTION = re.compile(r"( *)(?:pub(?:\(crate\))? )?fn (\w+)")
 LOOP = re.compile(r"\b(?:for|while|loop)\b")
 CALL = re.compile(r"(\.|(?:\w+::)*)\b(\w+!?)(?:::<[^>]*>)?\s*\(")
-KEYWORDS = {"if", "match", "in", "return", "unreachable!"}
+KEYWORDS = {"if", "match", "in", "let", "return", "unreachable!"}
 SCANS = (
     "for place in 0..self.capacity() { let _ = self.key_of(place, &mut Touches::new()); }",
     "let mut place = 0; while self.is_free(place, &mut Touches::new()) { place += 1; }",
@@ -51,7 +51,7 @@ class Function:
     """A function: its file without the ending, its name, whether it is a method, the lines of its body, and its code."""
 
     def __init__(self, path, lines, first, indent, name):
-        self.file, self.name = re.sub(r".*/|\.rt$", "", path), name
+        self.path, self.file, self.name = path, re.sub(r".*/|\.rt$", "", path), name
         self.place = f"{path}: {name}"
         self.first, last = extent(lines, first, indent)
         self.head = " ".join(lines[first : self.first])
@@ -75,7 +75,7 @@ def faults(all_functions):
     """Yields what is wrong, a line each."""
     checked = [it for it in all_functions if not it.is_walk()]
     steps = CALLS | {it.called for it in checked}
-    counted = {(it.file, it.name) for it in checked}
+    counted = {(it.path, it.name) for it in checked}
     for it in checked:
         calls = {before + name for before, name in CALL.findall(it.body) if name not in KEYWORDS}
         unknown = sorted(calls - steps)
@@ -85,7 +85,7 @@ def faults(all_functions):
             yield f"{it.place} calls {', '.join(unknown)}"
         if "touches: &mut Touches" in it.head and "Touches::new" in it.body:
             yield f"{it.place} makes a counter"
-        if (it.file, f"{it.name}_counted") in counted and not re.match(rf"self\.{it.name}_counted\([^;{{}}]*&mut Touches::new\(\)\) }}$", it.body):
+        if (it.path, f"{it.name}_counted") in counted and not re.match(rf"self\.{it.name}_counted\([^;{{}}]*&mut Touches::new\(\)\) }}$", it.body):
             yield f"{it.place} is not its counted form alone"
 
 

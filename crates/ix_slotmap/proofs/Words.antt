@@ -51,7 +51,7 @@ module _ {T : Type 0} (slots : SlotState (Option T)) (words : List ℕ) where
     word_of place content at below = subst (λ c. IsWordOf is_retired c (word_at words place)) at (has.each place below)
 
     -- the word of a free place
-    free_word : (place : ℕ) → place < length slots.values → value_at slots place ≡ None
+    pub free_word : (place : ℕ) → place < length slots.values → value_at slots place ≡ None
         → (word_at words place ≡ 2 * generation_at (state_of slots words) place) × (generation_at (state_of slots words) place ≤ greatest_generation)
     free_word place below at =
         let is = word_of place None at below in
@@ -61,7 +61,7 @@ module _ {T : Type 0} (slots : SlotState (Option T)) (words : List ℕ) where
         let seen = generation_at-word place in (omega arith, omega arith)
 
     -- the word of a place with a value
-    held_word : (place : ℕ) (value : T) → place < length slots.values → value_at slots place ≡ Some (Some value)
+    pub held_word : (place : ℕ) (value : T) → place < length slots.values → value_at slots place ≡ Some (Some value)
         → (word_at words place ≡ 2 * generation_at (state_of slots words) place + 1) × (generation_at (state_of slots words) place ≤ greatest_generation)
     held_word place value below at =
         let is = word_of place (Some (Some value)) at below in

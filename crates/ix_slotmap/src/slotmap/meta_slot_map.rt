@@ -214,8 +214,8 @@ impl<T, S: Table<Option<T>>, L: Table<Link>, G: Table<u64>> MetaSlotMap<Option<T
         ensures touches { touches.new ≤ touches.old + 20 }
         ensures rises { touches.old ≤ touches.new }
     {
-        let place = self.fill_first(value, touches)?;
-        Some(self.key_of(place.value(), touches))
+        let (place, generation) = self.fill_first(value, touches)?;
+        Some(SlotMapKey::new(place.value(), generation))
     }
 
     /// Does what [`MetaSlotMap::insert_at`] does, and raises `touches` by at most 20, whatever the capacity.
@@ -232,18 +232,8 @@ impl<T, S: Table<Option<T>>, L: Table<Link>, G: Table<u64>> MetaSlotMap<Option<T
         ensures touches { touches.new ≤ touches.old + 20 }
         ensures rises { touches.old ≤ touches.new }
     {
-        if index >= self.capacity() || self.is_retired(index, touches) {
-            return None;
-        }
-        if !self.has_value(index, touches) {
-            self.fill(index, value, touches);
-            return Some(self.key_of(index, touches));
-        }
-        if self.generation(index, touches) == u32::MAX {
-            return None;
-        }
-        self.replace(index, value, touches);
-        Some(self.key_of(index, touches))
+        let (key, _replaced) = self.try_insert_at_counted(index, value, touches).ok()?;
+        Some(key)
     }
 
     /// Does what [`MetaSlotMap::remove`] does, and raises `touches` by at most 20, whatever the capacity.
@@ -347,25 +337,29 @@ impl<T, S: Table<Option<T>>, L: Table<Link>, G: Table<u64>> MetaSlotMap<Option<T
         item(self.slots.get_unchecked(SlotTableKey::new(index)))
     }
 
-    /// Inserts a value in the first free place and returns that place, or returns `None` if no place is free.
+    /// Inserts a value in the first free place and returns that place with its generation, or returns `None` if no place is
+    /// free.
     #[inline]
-    fn fill_first(&mut self, value: T, touches: &mut Touches) -> Option<SlotTableKey>
+    fn fill_first(&mut self, value: T, touches: &mut Touches) -> Option<(SlotTableKey, u32)>
     where
         T: Drop,
-        ensures slots { SlotInsert self.old.slots (Some value) self.new.slots result }
+        ensures slots { SlotInsert self.old.slots (Some value) self.new.slots
+            (option_map (λ both. both.0) result) }
+        ensures generation { IfSome result (λ both. both.1 ≡ generation_at self.old both.0) }
         ensures generations { self.new.generations ≡ self.old.generations }
         ensures touches { touches.new ≤ touches.old + 18 }
         ensures rises { touches.old ≤ touches.new }
     {
         let place = self.slots.insert_counted(Some(value), touches)?;
-        self.words.raise(place.value(), 1, touches);
-        Some(place)
+        let word = self.words.raise(place.value(), 1, touches);
+        Some((place, (word / 2) as u32))
     }
 
-    /// Inserts a value in a free place.
+    /// Inserts a value in a free place, and returns the generation of that place.
     #[inline]
-    pub(crate) fn fill(&mut self, index: usize, value: T, touches: &mut Touches)
+    pub(crate) fn fill(&mut self, index: usize, value: T, touches: &mut Touches) -> u32
         requires { IsFree self.old.slots index }
+        ensures generation { result ≡ generation_at self.old index }
         ensures map { self.new ≡ map_fill self.old index value }
         ensures touches { touches.new ≤ touches.old + 11 }
         ensures rises { touches.old ≤ touches.new }
@@ -373,23 +367,7 @@ impl<T, S: Table<Option<T>>, L: Table<Link>, G: Table<u64>> MetaSlotMap<Option<T
         let place = SlotTableKey::new(index);
         self.slots
             .insert_at_unchecked_counted(place, Some(value), touches);
-        self.words.raise(index, 1, touches);
-    }
-
-    /// Replaces the value in a place, whose generation is less than the greatest.
-    #[inline]
-    fn replace(&mut self, index: usize, value: T, touches: &mut Touches)
-    where
-        T: Drop,
-        requires held { IsSome (place_value self.old index) }
-        requires generation { generation_at self.old index < greatest_generation }
-        ensures map { self.new ≡ map_replace self.old index value }
-        ensures raised { generation_at self.new index ≡ generation_at self.old index + 1 }
-        ensures touches { touches.new ≡ touches.old + 4 }
-    {
-        let place = SlotTableKey::new(index);
-        *self.slots.get_unchecked_mut_counted(place, touches) = Some(value);
-        self.words.raise(index, 2, touches);
+        (self.words.raise(index, 1, touches) / 2) as u32
     }
 
     /// Removes the value from a place, whose generation is less than the greatest, and returns it.

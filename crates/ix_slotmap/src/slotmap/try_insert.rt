@@ -1,5 +1,5 @@
 //! The calls of a slot map that insert a value and hand back what they don't keep.
-ghost use Rattle.std.specs.Prelude.{◌≡◌, ◌+◌, ◌<◌, IfOk, IsSome, option_map};
+ghost use Rattle.std.specs.Prelude.{◌≡◌, ◌+◌, ◌<◌, ◌≤◌, IfOk, IsSome, option_map};
 ghost use Rattle.std.specs.Result.{IfErr, result_ok};
 ghost use Rattle.ix_slotmap.specs.Generations.{greatest_generation, generation_at, place_value};
 ghost use Rattle.ix_slotmap.specs.SlotMapSteps.{map_replace, MapInsert, MapInsertAt};
@@ -18,13 +18,11 @@ impl<T, S: Table<Option<T>>, L: Table<Link>, G: Table<u64>> MetaSlotMap<Option<T
         ensures step { MapInsert self.old value self.new (result_ok result) }
         ensures returned { IfErr result (λ refused. refused ≡ value) }
     {
-        match self.next_free_key() {
-            Some(key) => {
-                self.fill(key.index(), value, &mut Touches::new());
-                Ok(key)
-            }
-            None => Err(value),
-        }
+        let Some(place) = self.slots.next_free_key() else {
+            return Err(value);
+        };
+        let generation = self.fill(place.value(), value, &mut Touches::new());
+        Ok(SlotMapKey::new(place.value(), generation))
     }
 
     /// Inserts `value` in the place `index` and returns its key, and the value that was there, or `None` if the place was
@@ -40,27 +38,46 @@ impl<T, S: Table<Option<T>>, L: Table<Link>, G: Table<u64>> MetaSlotMap<Option<T
         ensures replaced { IfOk result (λ both. both.1 ≡ place_value self.old index) }
         ensures returned { IfErr result (λ refused. refused ≡ value) }
     {
-        let mut touches = Touches::new();
-        if index >= self.capacity() || self.is_retired(index, &mut touches) {
-            return Err(value);
-        }
-        if !self.has_value(index, &mut touches) {
-            self.fill(index, value, &mut touches);
-            return Ok((self.key_of(index, &mut touches), None));
-        }
-        if self.generation(index, &mut touches) == u32::MAX {
-            return Err(value);
-        }
-        let replaced = self.exchange(index, value, &mut touches);
-        Ok((self.key_of(index, &mut touches), replaced))
+        self.try_insert_at_counted(index, value, &mut Touches::new())
     }
 
-    /// Replaces the value in a place, whose generation is less than the greatest, and returns the old one.
+    /// Does what [`MetaSlotMap::try_insert_at`] does, and raises `touches` by at most 20, whatever the capacity.
     #[inline]
-    fn exchange(&mut self, index: usize, value: T, touches: &mut Touches) -> Option<T>
+    pub(crate) fn try_insert_at_counted(
+        &mut self,
+        index: usize,
+        value: T,
+        touches: &mut Touches,
+    ) -> Result<(SlotMapKey, Option<T>), T>
+        ensures step { MapInsertAt self.old index value self.new
+            (option_map (λ both. both.0) (result_ok result)) }
+        ensures replaced { IfOk result (λ both. both.1 ≡ place_value self.old index) }
+        ensures returned { IfErr result (λ refused. refused ≡ value) }
+        ensures touches { touches.new ≤ touches.old + 20 }
+        ensures rises { touches.old ≤ touches.new }
+    {
+        if index >= self.capacity() || self.is_retired(index, touches) {
+            return Err(value);
+        }
+        if !self.has_value(index, touches) {
+            let generation = self.fill(index, value, touches);
+            return Ok((SlotMapKey::new(index, generation), None));
+        }
+        if self.generation(index, touches) == u32::MAX {
+            return Err(value);
+        }
+        let (generation, replaced) = self.replace(index, value, touches);
+        Ok((SlotMapKey::new(index, generation), replaced))
+    }
+
+    /// Replaces the value in a place, whose generation is less than the greatest. Returns the next generation, which the place
+    /// has then, and the old value.
+    #[inline]
+    fn replace(&mut self, index: usize, value: T, touches: &mut Touches) -> (u32, Option<T>)
         requires held { IsSome (place_value self.old index) }
         requires generation { generation_at self.old index < greatest_generation }
-        ensures value { result ≡ place_value self.old index }
+        ensures generation { result.0 ≡ generation_at self.old index + 1 }
+        ensures value { result.1 ≡ place_value self.old index }
         ensures map { self.new ≡ map_replace self.old index value }
         ensures raised { generation_at self.new index ≡ generation_at self.old index + 1 }
         ensures touches { touches.new ≡ touches.old + 4 }
@@ -70,7 +87,7 @@ impl<T, S: Table<Option<T>>, L: Table<Link>, G: Table<u64>> MetaSlotMap<Option<T
             self.slots.get_unchecked_mut_counted(place, touches),
             Some(value),
         );
-        self.words.raise(index, 2, touches);
-        replaced
+        let word = self.words.raise(index, 2, touches);
+        ((word / 2) as u32, replaced)
     }
 }

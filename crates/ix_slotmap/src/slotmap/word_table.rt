@@ -63,16 +63,18 @@ impl<G: Table<u64>> WordTable<G> {
         *self.words.get(place, touches)
     }
 
-    /// Adds `more` to the word of a place.
+    /// Adds `more` to the word of a place, and returns what it is then.
     #[inline]
-    pub(crate) fn raise(&mut self, place: usize, more: u64, touches: &mut Touches)
+    pub(crate) fn raise(&mut self, place: usize, more: u64, touches: &mut Touches) -> u64
         requires within { place < length self.old }
         requires fits { word_at self.old place + more ≤ 18446744073709551615 }
+        ensures value { result ≡ word_at self.old place + more }
         ensures table { self.new ≡ slice_set self.old place (word_at self.old place + more) }
         ensures touches { touches.new ≡ touches.old + 2 }
     {
         let word = self.words.get_mut(place, touches);
         *word += more;
+        *word
     }
 }
 

@@ -12,3 +12,9 @@ returns-clause-table g c =
     ∙ ap (λ (words : List ℕ). set words place word) c.self.view_is
     ∙ ap (λ (n : ℕ). set c.args.self.now place (n + c.args.more))
     (sym (words_in-at _ place _ c.get_mut-word.ensures.value) ∙ ap (λ (words : List ℕ). get_or words place 0) c.self.view_is)
+
+pub returns-clause-value : goal.returns-clause-value
+returns-clause-value g c =
+    let place = c.args.place in
+    ap (λ (n : ℕ). n + c.args.more)
+    (sym (words_in-at _ place _ c.get_mut-word.ensures.value) ∙ ap (λ (words : List ℕ). get_or words place 0) c.self.view_is)
