@@ -37,7 +37,8 @@ container to take, and which call.
 
 A call has its signature and its docs first. "Errors" says when it returns one, "Conditions" what its caller owes, "Promises" what
 it ensures, and "Words" where the words of these are defined. What stands under "Example" is the body of a proved test, which is
-handed the machine, `rt`. In a program a `Result` has to be used, by `?`, `match` or `let _ = ..`.
+handed the machine, `rt`; one that several calls of a page share stands at the first of them. In a program a `Result` has to be
+used, by `?`, `match` or `let _ = ..`.
 
 A line `impl<..>` shows the bounds of the calls below it. `T: Drop` says that a value of `T` may be let go: a type is so if it is
 `Copy`, or by `#[derive(Drop)]`. The `ghost` members of an impl are what contracts know of it. A type is `Send` if all that it
@@ -184,6 +185,31 @@ def page(module, library):
     return "\n".join(lines).rstrip("\n") + "\n"
 
 
+def examples_once(text):
+    """Returns a page's text with the place of an example where it stands there a second time."""
+    found, seen, anchors, heading = [], {}, collections.Counter(), ""
+    lines = text.splitlines()
+    while lines:
+        line = lines.pop(0)
+        if line.startswith("#"):
+            title = line.lstrip("# ")
+            anchor = anchor_of(title)
+            heading = f"[{title}](#{anchor}" + (f"-{anchors[anchor]})" if anchors[anchor] else ")")
+            anchors[anchor] += 1
+        elif line.startswith("```"):
+            end = lines.index("```") + 1
+            code, lines = lines[:end], lines[end:]
+            if found[-2:] == ["**Example**", ""]:
+                first = seen.setdefault("\n".join(code), heading)
+                if first != heading:
+                    found[-2:] = [f"**Example**: that of {first}."]
+                    continue
+            found += [line, *code]
+            continue
+        found.append(line)
+    return "\n".join(found) + "\n"
+
+
 def calls_on(text, file):
     """Yields each call of a page with the type or trait that has it, or none, and a link to it."""
     seen, owner, is_code = collections.Counter(), None, False
@@ -313,7 +339,7 @@ def made():
     """Returns the text of each page by its file, and what is wrong with the examples and the facades."""
     library, places = first_pass()
     library.examples, faults = assigned(*known_names(places))
-    texts = {file_of(module): places.linked(page(module, library), file_of(module)) for module in library.modules}
+    texts = {file_of(module): places.linked(examples_once(page(module, library)), file_of(module)) for module in library.modules}
     return texts | {INDEX: places.index(library.modules)}, [*faults, *not_passed_on(library.modules)]
 
 

@@ -1,6 +1,7 @@
 """The public items of the library's crates, by module, as their sources have them."""
 
 import collections
+import functools
 import glob
 import os
 import re
@@ -17,6 +18,7 @@ HIDDEN = "#[doc(hidden)]"
 REEXPORT = re.compile(r"(#\[doc\(hidden\)\]\n)?^pub use ((?:\w+::)+)(?:\{([^}]*)\}|(\w+));", re.M)
 PUBLIC_MODULE = re.compile(r"(#\[doc\(hidden\)\]\n)?^pub mod (\w+);", re.M)
 PRIVATE_MODULE = re.compile(r"^mod (\w+);", re.M)
+TRAIT = re.compile(r"^(?:pub(?:\(\w+\))? )?trait (\w+)", re.M)
 IMPORT = re.compile(r"ghost use Rattle\.(ix_\w+)\.specs\.((?!declared|contracts)[\w.]+)\.\{([^}]*)\};")
 
 ALIAS = re.compile(r"pub type (\w+).*? = (\w+)<")
@@ -54,6 +56,7 @@ def name_of(kind, rest, head):
     if kind != "impl":
         return re.match(r"\s*(\w+)", rest).group(1)
     whole = " ".join(line.strip() for line in head).partition("impl")[2]
+    whole = re.sub(r"(<) | ?,? (>)", r"\1\2", whole)
     return GENERICS.sub("", whole).strip().removesuffix("{}").removesuffix("{").strip()
 
 
@@ -246,11 +249,18 @@ def fill(module, others, with_hidden):
             module.items.append((path, items))
 
 
+@functools.lru_cache(maxsize=None)
+def private_traits():
+    """Returns the names of the library's traits that no public module has."""
+    declared = {name for crate in LIBRARY for path in paths(crate, "src/**/*.rt") for name in TRAIT.findall(text_of(path))}
+    return declared - {name for crate in LIBRARY for module in modules_of(crate, False) for name in module.exported}
+
+
 def is_listed(item, exported, with_hidden):
     """Says whether a module has an item: an exported one, or an impl for an exported type or of an exported trait."""
     if item.kind != "impl":
         return item.is_public and item.name in exported and (with_hidden or not item.is_hidden)
-    if trait_of(item.name) == "Model":
+    if trait_of(item.name) == "Model" or not with_hidden and trait_of(item.name) in private_traits():
         return False
     if is_own(item):
         return base_of(item.name) in exported and any(it.is_public and (with_hidden or not it.is_hidden) for it in item.members)

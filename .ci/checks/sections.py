@@ -11,8 +11,8 @@ WORD = re.compile(r"[^\W\d][\w-]*")
 PINNED = re.compile(r"\w+_gives|output|debug_output|eq|cmp|hash_input|is_default|is_clone|is_infallible|Item|IntoIter")
 VARIANT = re.compile(r"    (\w+)(?:,| \{|\()")
 DERIVED_TEXT = re.compile(r"#\[error\(\"([^\"]*)\"\)\]")
-# A name in docs that rustdoc would make a link of, with its path if that is another.
-NAME = re.compile(r"\[(`[^`]*`|\w+)\](?:\(([\w:]+)\))?")
+# A name in docs that rustdoc would make a link of, with its path if that is another; or code, in which brackets are its own.
+NAME = re.compile(r"\[(`[^`]*`|\w+)\](?:\(([\w:]+)\))?|`[^`]*`")
 # Such a name between the passes that make a page and its links.
 MARK = re.compile("\0([^\0]*)\0([^\0]*)\0")
 # What a call returns of which a sentence of its docs says when.
@@ -41,6 +41,8 @@ def prose(docs, owner=""):
     """Returns docs as lines of a page, in which names are marked."""
     def mark(match):
         name, path = match.groups()
+        if not name:
+            return match.group()
         return f"\0{name}\0{(path or name).strip('`').replace('Self', owner)}\0"
 
     return [*(NAME.sub(mark, line) for line in docs), ""] if docs else []
