@@ -128,3 +128,25 @@ pub fn check_room<F: Fn(&LocalHeap) -> Option<usize>>(
         findings.expect_same_at(make(&heap), all, capacity, "the bytes in use");
     }
 }
+
+/// Numbers of items. Those that are divided by 16 fill whole blocks, whatever the size of one is.
+const NUMBERS: &[usize] = &[0, 1, 7, 16, 64, 1000, 1008];
+
+/// Checks that a container takes `bytes` for each item, in so many `blocks`, or nothing if there is no item. `size_of` returns
+/// both for a number of items. `make` makes a container of so many, as for [`check_room`].
+pub fn check_memory_sizes<
+    F: Fn(usize) -> (usize, usize),
+    G: Fn(&LocalHeap, usize) -> Option<usize>,
+>(findings: &Findings, alloc: Global, bytes: usize, blocks: usize, size_of: F, make: G)
+    requires can_ask { F.IsAlwaysCallable size_of }
+    requires can_make { G.IsAlwaysCallable make }
+{
+    for n in NUMBERS {
+        let all = n.saturating_mul(bytes);
+        let wanted = (all, if *n == 0 { 0 } else { blocks });
+        findings.expect_same_at(size_of(*n), wanted, *n, "the bytes and blocks");
+        if *n % 16 == 0 {
+            check_room(findings, alloc, all, *n, |heap: &LocalHeap| make(heap, *n));
+        }
+    }
+}

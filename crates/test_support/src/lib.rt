@@ -2,8 +2,9 @@
 //! of commands and the replies to them, [`walk`], which runs random commands on two containers, [`SlowTable`], of which slow
 //! containers are made, items that note their drops, [`hash_of`], [`order_of`] and [`check_text`], which know a value by a
 //! trait alone, [`fed_by`], which tells what a value feeds to a hasher, [`check_makings`], which has heaps of a few blocks,
-//! [`read_with`], which reads how many bytes are in use with a container, [`check_drawn_sizes`], which has ample memory,
-//! [`check_equality`] and [`check_map_clone`] of maps of any kind, and [`devices`] that fail.
+//! [`read_with`], which reads how many bytes are in use with a container, [`check_memory_sizes`], which knows how many it
+//! takes, [`check_drawn_sizes`], which has ample memory, [`check_equality`] and [`check_map_clone`] of maps of any kind, and
+//! [`devices`] that fail.
 //!
 //! ```text
 //! let notes = Notes::new(0);
@@ -27,7 +28,7 @@ mod rows;
 mod slow_table;
 mod walks;
 
-pub use blocks::{check_makings, check_room, check_sizes};
+pub use blocks::{check_makings, check_memory_sizes, check_room, check_sizes};
 pub use by_traits::{check_display, check_printed, check_text, hash_of, order_of};
 pub use drawn_sizes::check_drawn_sizes;
 pub use findings::Findings;

@@ -15,8 +15,6 @@ mod row_tests;
 #[cfg(test)]
 mod rows;
 #[cfg(test)]
-mod size_tests;
-#[cfg(test)]
 mod slow_map;
 #[cfg(test)]
 mod taking_tests;

@@ -1,59 +1,56 @@
-//! Maps for which there is not enough memory, at each of the six allocations: nothing stays allocated.
-use crate::rows::key;
-use ix_slotmap::{MetaSlotMap, SlotMap, UninitSlotMap};
-use ix_slottable::Link;
-use ix_tables::{RelocatableContainer, Table};
+//! Maps for which there is not enough memory, at each of the six allocations: nothing stays allocated. Where there is memory,
+//! none is refused, and a map takes just as much as `memory_size` returns.
+use crate::rows::{Row, key};
+use ix_commands::Reply::Number;
+use ix_commands::SlotCommand::{Capacity, Len, Next, Retired};
+use ix_slotmap::{SlotMap, UninitSlotMap};
+use ix_tables::RelocatableContainer;
 use linked_list_allocator::LocalHeap;
-use std::alloc::{AllocError, Global};
+use std::alloc::{AllocError, Allocator, Global};
 use std::test::Fail;
-use test_support::{Findings, check_drawn_sizes, check_makings};
+use test_support::{
+    Findings, MAKINGS, Making, check_drawn_sizes, check_makings, check_memory_sizes, made,
+    read_again, read_with, reply_of_key,
+};
 
 /// The generation at which places start.
 const START: u32 = 4_294_967_290;
 
-/// Checks a map whose making is refused or did not fail, and returns how many bytes of the heap are in use with it: it is
-/// empty, and its places start at `start`.
-fn used_with<S: Table<Option<u64>>, L: Table<Link>, G: Table<u64>, E: Drop>(
+/// Makes a map, and returns what `read` returns then, or `None` if the making is refused. It is empty, and its places start at
+/// `start`. A value that is refused can be initialised from `ample`.
+fn read_made<A: Allocator + Copy, F: Fn() -> usize>(
     findings: &Findings,
-    heap: &LocalHeap,
-    made: Result<MetaSlotMap<Option<u64>, S, L, G>, E>,
-    (capacity, start): (usize, u32),
-) -> Option<usize> {
-    let Ok(map) = made else {
-        return None;
-    };
-    let sizes = (map.capacity(), map.len(), map.retired());
-    findings.expect_same(sizes, (capacity, 0, 0), "an empty map");
-    let first = if capacity == 0 {
-        None
-    } else {
-        Some(key(0, start))
-    };
-    findings.expect_same(map.next_free_key(), first, "the first key");
-    Some(heap.used())
-}
-
-/// Checks a making in two steps, as [`used_with`] does, with places that start at `START`. A refused value can be
-/// initialised from `ample`, which has enough memory.
-fn used_in_two_steps(
-    findings: &Findings,
-    heap: &LocalHeap,
+    making: Making,
+    alloc: A,
     ample: Global,
     capacity: usize,
-) -> Option<usize> {
-    let used = heap.used();
-    match UninitSlotMap::<u64>::starting_at(capacity, START).init(heap) {
-        Ok(map) => {
-            let made = Ok::<_, AllocError>(map);
-            used_with(findings, heap, made, (capacity, START))
+    start: u32,
+    read: F,
+) -> Option<usize>
+    requires { F.IsAlwaysCallable read }
+{
+    let first = (capacity > 0).then_some(key(0, start));
+    let rows: [Row<u64>; 4] = [
+        (Capacity, Number(capacity)),
+        (Len, Number(0)),
+        (Retired, Number(0)),
+        (Next, reply_of_key(first)),
+    ];
+    match making {
+        Making::New => {
+            let made = match start {
+                0 => SlotMap::<u64, A>::new(alloc, capacity),
+                _ => SlotMap::<u64, A>::starting_at(alloc, capacity, start),
+            };
+            read_with(findings, made, &rows, &read)
         }
-        Err(error) => {
-            findings.expect_same(heap.used(), used, "bytes in use after a refusal");
-            let again = error.into_uninit().init(ample);
-            let is_made = used_with(findings, heap, again, (capacity, START)).is_some();
-            findings.expect(is_made, "from ample memory");
-            None
-        }
+        Making::Init => match UninitSlotMap::<u64>::starting_at(capacity, start).init(alloc) {
+            Ok(map) => read_with(findings, made(map), &rows, &read),
+            Err(error) => {
+                let again = error.into_uninit().init(ample);
+                read_again(findings, again, capacity, &rows, &read)
+            }
+        },
     }
 }
 
@@ -69,51 +66,50 @@ const SIZES: &[(usize, u16)] = &[
 ];
 
 #[test]
-fn makings_refused(rt: HostRuntime) -> Result<(), Fail> {
+fn each_making(rt: HostRuntime) -> Result<(), Fail> {
     let findings = Findings::new();
     let alloc = rt.alloc();
-    check_makings(
-        &findings,
-        alloc,
-        SIZES,
-        "`new`",
-        |heap: &LocalHeap, capacity| {
-            let made = SlotMap::<u64, _>::new(heap, capacity);
-            used_with(&findings, heap, made, (capacity, 0))
-        },
-    );
-    check_makings(
-        &findings,
-        alloc,
-        SIZES,
-        "`starting_at`",
-        |heap: &LocalHeap, capacity| {
-            let made = SlotMap::<u64, _>::starting_at(heap, capacity, START);
-            used_with(&findings, heap, made, (capacity, START))
-        },
-    );
-    check_makings(
-        &findings,
-        alloc,
-        SIZES,
-        "`init`",
-        |heap: &LocalHeap, capacity| { used_in_two_steps(&findings, heap, alloc, capacity) },
-    );
+    for (making, name) in MAKINGS {
+        check_makings(&findings, alloc, SIZES, name, |heap: &LocalHeap, n| {
+            read_made(&findings, *making, heap, alloc, n, 0, || heap.used())
+        });
+        check_makings(&findings, alloc, SIZES, name, |heap: &LocalHeap, n| {
+            read_made(&findings, *making, heap, alloc, n, START, || heap.used())
+        });
+        check_drawn_sizes(&findings, 60, name, |n| {
+            let start = (n % 65_536) as u32;
+            read_made(&findings, *making, alloc, alloc, n, start, || 0).is_some()
+        });
+    }
     findings.verdict()
 }
 
-/// The size is the capacity and, up to 65,535, the generation.
+/// Checks the sizes of maps of values that take `size` bytes each, with the mark of the place.
+fn check_item<T: Drop>(findings: &Findings, alloc: Global, size: usize) {
+    check_memory_sizes(
+        findings,
+        alloc,
+        size.saturating_add(27),
+        6,
+        |n| {
+            let size = SlotMap::<T, &LocalHeap>::memory_size(n);
+            findings.expect_same(SlotMap::<T, Global>::memory_size(n), size, "any memory");
+            (size.bytes, size.blocks)
+        },
+        |heap: &LocalHeap, n| match SlotMap::<T, &LocalHeap>::new(heap, n) {
+            Ok(_made) => Some(heap.used()),
+            Err(AllocError) => None,
+        },
+    );
+}
+
 #[test]
-fn ample_memory(rt: HostRuntime) -> Result<(), Fail> {
+fn memory_sizes(rt: HostRuntime) -> Result<(), Fail> {
     let findings = Findings::new();
-    let alloc = rt.alloc();
-    check_drawn_sizes(&findings, 60, "`starting_at`", |size| {
-        SlotMap::<u64, Global>::starting_at(alloc, size, (size % 65_536) as u32).is_ok()
-    });
-    check_drawn_sizes(&findings, 60, "`init`", |size| {
-        UninitSlotMap::<u64>::starting_at(size, (size % 65_536) as u32)
-            .init(alloc)
-            .is_ok()
-    });
+    check_item::<()>(&findings, rt.alloc(), 1);
+    check_item::<u8>(&findings, rt.alloc(), 2);
+    check_item::<u64>(&findings, rt.alloc(), 16);
+    check_item::<[u64; 3]>(&findings, rt.alloc(), 32);
+    check_item::<[u64; 32]>(&findings, rt.alloc(), 264);
     findings.verdict()
 }

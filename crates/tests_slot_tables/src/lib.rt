@@ -18,8 +18,6 @@ mod row_tests;
 #[cfg(test)]
 mod rows;
 #[cfg(test)]
-mod size_tests;
-#[cfg(test)]
 mod taking_tests;
 #[cfg(test)]
 mod walk_tests;

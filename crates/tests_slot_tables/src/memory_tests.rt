@@ -1,45 +1,47 @@
-//! Maps for which there is not enough memory, at each of the four allocations: nothing stays allocated.
-use ix_slottable::{Link, MetaSlotTable, SlotTable, UninitSlotTable};
-use ix_tables::{RelocatableContainer, Table};
+//! Maps for which there is not enough memory, at each of the four allocations: nothing stays allocated. Where there is memory,
+//! none is refused, and a map takes just as much as `memory_size` returns.
+use crate::rows::Row;
+use ix_commands::Reply::{Bool, Number};
+use ix_commands::TableCommand::{Capacity, Full, Len};
+use ix_slottable::{SlotTable, UninitSlotTable};
+use ix_tables::RelocatableContainer;
 use linked_list_allocator::LocalHeap;
-use std::alloc::{AllocError, Global};
+use std::alloc::{AllocError, Allocator, Global};
 use std::test::Fail;
-use test_support::{Findings, check_drawn_sizes, check_makings};
+use test_support::{
+    Findings, MAKINGS, Making, check_drawn_sizes, check_makings, check_memory_sizes, made,
+    read_again, read_with,
+};
 
-/// Checks a map whose making is refused or did not fail, and returns how many bytes of the heap are in use with it: it is
-/// empty, and full if it has no key.
-fn used_with<S: Table<u64>, L: Table<Link>, E: Drop>(
+/// Makes a map, and returns what `read` returns then, or `None` if the making is refused. It is empty, and full if it has no key.
+/// A value that is refused can be initialised from `ample`.
+fn read_made<A: Allocator + Copy, F: Fn() -> usize>(
     findings: &Findings,
-    heap: &LocalHeap,
-    made: Result<MetaSlotTable<u64, S, L>, E>,
-    capacity: usize,
-) -> Option<usize> {
-    let Ok(map) = made else {
-        return None;
-    };
-    let sizes = (map.capacity(), map.len(), map.is_full());
-    findings.expect_same(sizes, (capacity, 0, capacity == 0), "an empty map");
-    Some(heap.used())
-}
-
-/// Checks a making in two steps, as [`used_with`] does. A refused value can be initialised from `ample`, which has enough
-/// memory.
-fn used_in_two_steps(
-    findings: &Findings,
-    heap: &LocalHeap,
+    making: Making,
+    alloc: A,
     ample: Global,
     capacity: usize,
-) -> Option<usize> {
-    let used = heap.used();
-    match UninitSlotTable::<u64>::new_uninit(capacity).init(heap) {
-        Ok(map) => used_with(findings, heap, Ok::<_, AllocError>(map), capacity),
-        Err(error) => {
-            findings.expect_same(heap.used(), used, "bytes in use after a refusal");
-            let again = error.into_uninit().init(ample);
-            let is_made = used_with(findings, heap, again, capacity).is_some();
-            findings.expect(is_made, "from ample memory");
-            None
+    read: F,
+) -> Option<usize>
+    requires { F.IsAlwaysCallable read }
+{
+    let rows: [Row<u64>; 3] = [
+        (Capacity, Number(capacity)),
+        (Len, Number(0)),
+        (Full, Bool(capacity == 0)),
+    ];
+    match making {
+        Making::New => {
+            let made = SlotTable::<u64, A>::new(alloc, capacity);
+            read_with(findings, made, &rows, &read)
         }
+        Making::Init => match UninitSlotTable::<u64>::new_uninit(capacity).init(alloc) {
+            Ok(map) => read_with(findings, made(map), &rows, &read),
+            Err(error) => {
+                let again = error.into_uninit().init(ample);
+                read_again(findings, again, capacity, &rows, &read)
+            }
+        },
     }
 }
 
@@ -56,56 +58,49 @@ const SIZES: &[(usize, u16)] = &[
 ];
 
 #[test]
-fn makings_refused(rt: HostRuntime) -> Result<(), Fail> {
+fn each_making(rt: HostRuntime) -> Result<(), Fail> {
     let findings = Findings::new();
     let alloc = rt.alloc();
-    check_makings(
-        &findings,
-        alloc,
-        SIZES,
-        "`new`",
-        |heap: &LocalHeap, capacity| {
-            used_with(&findings, heap, SlotTable::new(heap, capacity), capacity)
-        },
-    );
-    check_makings(
-        &findings,
-        alloc,
-        SIZES,
-        "`init`",
-        |heap: &LocalHeap, capacity| { used_in_two_steps(&findings, heap, alloc, capacity) },
-    );
-    findings.verdict()
-}
-
-#[test]
-fn past_all_memory(rt: HostRuntime) -> Result<(), Fail> {
-    let findings = Findings::new();
-    for capacity in &[usize::MAX, usize::MAX / 16 + 1] {
-        let made = SlotTable::<u64, Global>::new(rt.alloc(), *capacity);
-        findings.expect(made.is_err(), "`new` refuses");
-        match UninitSlotTable::<u64>::new_uninit(*capacity).init(rt.alloc()) {
-            Ok(_map) => findings.miss("`init` refuses"),
-            Err(error) => {
-                let again = error.into_uninit().init(rt.alloc());
-                findings.expect(again.is_err(), "the capacity is kept");
-            }
-        }
+    for (making, name) in MAKINGS {
+        check_makings(&findings, alloc, SIZES, name, |heap: &LocalHeap, n| {
+            read_made(&findings, *making, heap, alloc, n, || heap.used())
+        });
+        check_drawn_sizes(&findings, 60, name, |n| {
+            read_made(&findings, *making, alloc, alloc, n, || 0).is_some()
+        });
+        let greatest = read_made(&findings, *making, alloc, alloc, usize::MAX, || 0);
+        let past_all = read_made(&findings, *making, alloc, alloc, usize::MAX / 16 + 1, || 0);
+        findings.expect_same((greatest, past_all), (None, None), name);
     }
     findings.verdict()
 }
 
+/// Checks the sizes of maps of values that take `size` bytes each.
+fn check_item<T: Drop>(findings: &Findings, alloc: Global, size: usize) {
+    check_memory_sizes(
+        findings,
+        alloc,
+        size.saturating_add(18),
+        usize::from(size > 0).saturating_add(3),
+        |n| {
+            let size = SlotTable::<T, &LocalHeap>::memory_size(n);
+            findings.expect_same(SlotTable::<T, Global>::memory_size(n), size, "any memory");
+            (size.bytes, size.blocks)
+        },
+        |heap: &LocalHeap, n| match SlotTable::<T, &LocalHeap>::new(heap, n) {
+            Ok(_made) => Some(heap.used()),
+            Err(AllocError) => None,
+        },
+    );
+}
+
 #[test]
-fn ample_memory(rt: HostRuntime) -> Result<(), Fail> {
+fn memory_sizes(rt: HostRuntime) -> Result<(), Fail> {
     let findings = Findings::new();
-    let alloc = rt.alloc();
-    check_drawn_sizes(&findings, 60, "`new`", |capacity| {
-        SlotTable::<u64, Global>::new(alloc, capacity).is_ok()
-    });
-    check_drawn_sizes(&findings, 60, "`init`", |capacity| {
-        UninitSlotTable::<u64>::new_uninit(capacity)
-            .init(alloc)
-            .is_ok()
-    });
+    check_item::<()>(&findings, rt.alloc(), 0);
+    check_item::<u8>(&findings, rt.alloc(), 1);
+    check_item::<u64>(&findings, rt.alloc(), 8);
+    check_item::<[u64; 3]>(&findings, rt.alloc(), 24);
+    check_item::<[u64; 32]>(&findings, rt.alloc(), 256);
     findings.verdict()
 }
