@@ -1,49 +1,31 @@
 //! How much memory a making takes: what `memory_size` returns, and that just so much is enough.
 use ix_flatmap::FlatMap;
-use ix_tables::MemorySize;
 use linked_list_allocator::LocalHeap;
 use std::alloc::{AllocError, Global};
 use std::test::Fail;
-use test_support::{Findings, check_room};
+use test_support::{Findings, check_memory_sizes};
 
-/// Numbers of items.
-const NUMBERS: &[usize] = &[0, 1, 7, 64, 1000];
-
-/// Numbers of items that fill whole blocks of 16 bytes, whatever the size of one is.
-const WHOLE: &[usize] = &[0, 16, 64, 1008];
-
-/// Makes a map and returns the bytes that are used then, or `None` if there is not enough memory.
-fn used_with<T: Drop>(heap: &LocalHeap, n: usize) -> Option<usize> {
-    match FlatMap::<u64, T, &LocalHeap>::new(heap, n) {
-        Ok(_made) => Some(heap.used()),
-        Err(AllocError) => None,
-    }
-}
-
-/// Checks a map of items for which a place takes `size` bytes.
+/// Checks the sizes of maps whose pairs take `size` bytes each.
 fn check_item<T: Drop>(findings: &Findings, alloc: Global, size: usize) {
-    for n in NUMBERS {
-        let wanted = MemorySize {
-            bytes: n.saturating_mul(size.saturating_add(18)),
-            blocks: if *n == 0 {
-                0
-            } else {
-                usize::from(size > 0).saturating_add(3)
-            },
-        };
-        findings.expect_same_at(
-            FlatMap::<u64, T, Global>::memory_size(*n),
-            wanted,
-            *n,
-            "a map",
-        );
-    }
-    for n in WHOLE {
-        let bytes = FlatMap::<u64, T, &LocalHeap>::memory_size(*n).bytes;
-        check_room(findings, alloc, bytes, *n, |heap: &LocalHeap| {
-            used_with::<T>(heap, *n)
-        });
-    }
+    check_memory_sizes(
+        findings,
+        alloc,
+        size.saturating_add(18),
+        usize::from(size > 0).saturating_add(3),
+        |n| {
+            let size = FlatMap::<u64, T, &LocalHeap>::memory_size(n);
+            findings.expect_same(
+                FlatMap::<u64, T, Global>::memory_size(n),
+                size,
+                "any memory",
+            );
+            (size.bytes, size.blocks)
+        },
+        |heap: &LocalHeap, n| match FlatMap::<u64, T, &LocalHeap>::new(heap, n) {
+            Ok(_made) => Some(heap.used()),
+            Err(AllocError) => None,
+        },
+    );
 }
 
 #[test]
