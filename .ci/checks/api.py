@@ -91,6 +91,11 @@ def headings(items):
     return found
 
 
+def crate_of(file):
+    """Returns the crate of a page."""
+    return file.removesuffix(".md").partition("-")[0]
+
+
 def use_lines(path, names):
     """Returns the lines that import names from a module."""
     if not names:
@@ -304,13 +309,16 @@ def first_pass():
 
 
 def known_names(places):
-    """Returns the pages of each name that an example can show, and the types that only one page has, by page."""
+    """Returns the pages of each name that an example can show, and the types that only one page has, by pages of one crate."""
     known = collections.defaultdict(list)
     for file, names in places.names.items():
         for name in names:
             known[name].append(file)
     pages = collections.Counter(name for names in places.types.values() for name in names)
-    return known, {file: {name for name in names if pages[name] == 1} for file, names in places.types.items()}
+    types = collections.defaultdict(set)
+    for file, names in places.types.items():
+        types[crate_of(file)].update(name for name in names if pages[name] == 1)
+    return known, {file: types[crate_of(file)] for file in places.types}
 
 
 def wanted_names(module, library):

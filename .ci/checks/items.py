@@ -13,7 +13,7 @@ LIBRARY = ("ix_tables", "ix_vector", "ix_string", "ix_semantic_string", "ix_relo
 # Crates that have no items of their own, and pass on those of others.
 FACADES = ("ix_cells", "ix_names", "ix_maps")
 HEAD = re.compile(r"(pub )?(?:pub\(\w+\) )?(?:(?:const|unsafe|final) )*(fn|struct|enum|trait|type|const|impl)\b(.*)")
-GENERICS = re.compile(r"^<(?:[^<>]|<(?:[^<>]|<[^<>]*>)*>)*>\s*")
+GENERICS = re.compile(r"^<(?:[^<>]|<(?:[^<>]|<(?:[^<>]|<[^<>]*>)*>)*>)*>\s*")
 HIDDEN = "#[doc(hidden)]"
 REEXPORT = re.compile(r"(#\[doc\(hidden\)\]\n)?^pub use ((?:\w+::)+)(?:\{([^}]*)\}|(\w+));", re.M)
 PUBLIC_MODULE = re.compile(r"(#\[doc\(hidden\)\]\n)?^pub mod (\w+);", re.M)
@@ -57,7 +57,7 @@ def name_of(kind, rest, head):
         return re.match(r"\s*(\w+)", rest).group(1)
     whole = " ".join(line.strip() for line in head).partition("impl")[2]
     whole = re.sub(r"(<) | ?,? (>)", r"\1\2", whole)
-    return GENERICS.sub("", whole).strip().removesuffix("{}").removesuffix("{").strip()
+    return GENERICS.sub("", whole).partition(" where ")[0].strip().removesuffix("{}").removesuffix("{").strip()
 
 
 def items_of(lines, indent="", first=0, end=None, lost=None):

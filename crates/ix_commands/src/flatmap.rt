@@ -1,4 +1,4 @@
-//! Commands of flat maps.
+//! Commands of maps.
 ghost use Rattle.std.specs.Prelude.{◌≡◌, is_some, IfOk, OnOk, OnErr};
 ghost use Rattle.ix_flatmap.specs.FlatState.{flat_value};
 ghost use Rattle.ix_flatmap.specs.FlatSteps.{flat_set};
@@ -8,14 +8,15 @@ ghost use Rattle.ix_commands.specs.Run.{run_replies, run_state};
 
 use crate::reply::{reply_of_key, reply_of_option};
 use crate::{FlatCommand, Reply, ReplyError, Runs, run_all};
-use ix_flatmap::{FlatMapError, MetaFlatMap, Pair};
+use ix_flatmap::{FlatMapError, KeyIndex, MetaMap, Pair};
 use ix_slottable::Link;
 use ix_tables::Table;
 use std::alloc::{AllocError, Global};
 
-/// The commands of a flat map, of any kind.
-impl<K: Eq + Copy, V: Copy, S: Table<Pair<K, V>>, L: Table<Link>> Runs<FlatCommand<K, V>>
-    for MetaFlatMap<Pair<K, V>, S, L> {
+/// The commands of a map, of any kind.
+impl<K: Eq + Copy, V: Copy, S: Table<Pair<K, V>>, L: Table<Link>, I: KeyIndex<K, V>> Runs<
+    FlatCommand<K, V>,
+> for MetaMap<Pair<K, V>, S, L, I> {
     ghost use Rattle.ix_slottable.specs.SlotState.{SlotState};
     ghost use Rattle.ix_flatmap.specs.declared.flatmap.Pair.{Pair};
     ghost use Rattle.ix_commands.specs.FlatRun.{flat_reply, flat_after};
@@ -45,13 +46,13 @@ impl<K: Eq + Copy, V: Copy, S: Table<Pair<K, V>>, L: Table<Link>> Runs<FlatComma
     }
 }
 
-/// Runs the commands on a flat map of any kind, in order, and returns the replies to them. Allocates the list of
-/// replies from `alloc` before the first command. O(`commands.len()`) beside the calls of the flat map.
+/// Runs the commands on a map of any kind, in order, and returns the replies to them. Allocates the list of
+/// replies from `alloc` before the first command. O(`commands.len()`) beside the calls of the map.
 ///
 /// Returns `AllocError` if there is no memory for the list. Then no command was run.
-pub fn run_flat<K: Eq + Copy, V: Copy, S: Table<Pair<K, V>>, L: Table<Link>>(
+pub fn run_flat<K: Eq + Copy, V: Copy, S: Table<Pair<K, V>>, L: Table<Link>, I: KeyIndex<K, V>>(
     alloc: Global,
-    map: &mut MetaFlatMap<Pair<K, V>, S, L>,
+    map: &mut MetaMap<Pair<K, V>, S, L, I>,
     commands: &[FlatCommand<K, V>],
 ) -> Result<Vec<Reply<K, V>>, AllocError>
     ensures value { IfOk result (λ replies.
@@ -75,8 +76,8 @@ fn reply_of_flat_result<K: Copy, V: Copy>(outcome: Result<(), FlatMapError>) -> 
 }
 
 /// Overwrites the value of `key` and returns `true`, or returns `false` if the map has no equal key.
-fn overwrite<K: Eq + Copy, V: Copy, S: Table<Pair<K, V>>, L: Table<Link>>(
-    map: &mut MetaFlatMap<Pair<K, V>, S, L>,
+fn overwrite<K: Eq + Copy, V: Copy, S: Table<Pair<K, V>>, L: Table<Link>, I: KeyIndex<K, V>>(
+    map: &mut MetaMap<Pair<K, V>, S, L, I>,
     key: K,
     value: V,
 ) -> bool

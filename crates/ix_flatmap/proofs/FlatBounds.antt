@@ -7,12 +7,12 @@ use Rattle.std.proofs.lemmas.Bool.Decides.{nat_tests}
 use Rattle.std.proofs.lemmas.List.{get_or-set_other, length-set}
 use Rattle.ix_slottable.specs.SlotState.{SlotState, value_at, IsHeld, slot_new, entries_from}
 use Rattle.ix_flatmap.specs.FlatState.{flat_entry, IsBound}
-use Rattle.ix_flatmap.specs.declared.flatmap.pair.Pair.{Pair}
+use Rattle.ix_flatmap.specs.declared.map.pair.Pair.{Pair}
 use Rattle.ix_slottable.proofs.Entries.{entries_from-none}
 use Rattle.ix_slottable.specs.SlotSteps.{slot_set, slot_fill, SlotInsert, SlotRemove}
 use Rattle.ix_slottable.proofs.SlotSteps.{SlotInsert-fills, SlotRemove-vacates}
 use Rattle.ix_tables.proofs.VacantTables.{place_at-replicate}
-use Rattle.ix_flatmap.specs.inner.FlatSearch.{bound_with, bound_without}
+use Rattle.ix_flatmap.specs.inner.Bounds.{bound_with, bound_without}
 
 module _ {T : Type 0} where
   -- the place of a value is below the bound
@@ -73,9 +73,9 @@ module _ {T : Type 0} where
 
 module _ {K V : Type 0} where
   -- nothing is found from the bound on
-  pub flat_entry-ended : (eq : K → K → Bool) (inside s : SlotState (Pair K V)) (bound place : ℕ) (key : K) → inside ≡ s → IsBound inside bound → bound ≤ place
+  pub flat_entry-ended : (eq : K → K → Bool) (s : SlotState (Pair K V)) (bound place : ℕ) (key : K) → IsBound s bound → bound ≤ place
       → find (λ entry. eq entry.1.key key) (entries_from place (drop place s.values)) ≡ flat_entry eq s key → None ≡ flat_entry eq s key
-  flat_entry-ended eq inside s bound place key is bounds past found =
+  flat_entry-ended eq s bound place key bounds past found =
       ap (find (λ entry. eq entry.1.key key))
-      (sym (entries_from-none place place s.values (λ i from. ap (λ (t : SlotState (Pair K V)). value_at t i) (sym is) ∙ bounds.beyond i (omega arith))))
+      (sym (entries_from-none place place s.values (λ i from. bounds.beyond i (omega arith))))
       ∙ found

@@ -16,9 +16,9 @@ use Rattle.ix_slottable.specs.SlotCalls.{CalledOn, SomeCallOn, IsCallableOnEach}
 use Rattle.ix_flatmap.specs.FlatState.{HasDistinctKeys, flat_entry, flat_value, flat_keys, flat_item, flat_items}
 use Rattle.ix_flatmap.specs.FlatSteps.{ListsUntilStop, flat_set, flat_remove}
 use Rattle.ix_flatmap.specs.FlatCalls.{CallAtKey}
-use Rattle.ix_flatmap.specs.declared.flatmap.pair.Pair.{Pair}
-use Rattle.ix_flatmap.specs.declared.flatmap.callback_progression.CallbackProgression.{CallbackProgression}
-use Rattle.ix_flatmap.specs.declared.flatmap.callback_progression.CallbackProgression.TheVariants.{Continue, Stop}
+use Rattle.ix_flatmap.specs.declared.map.pair.Pair.{Pair}
+use Rattle.ix_flatmap.specs.declared.map.callback_progression.CallbackProgression.{CallbackProgression}
+use Rattle.ix_flatmap.specs.declared.map.callback_progression.CallbackProgression.TheVariants.{Continue, Stop}
 use Rattle.ix_slottable.proofs.Entries.{entries_from-none}
 use Rattle.ix_slottable.proofs.SlotCalls.{FoldsTo-first, entries_from-append, entries_from-split, Visited}
 use Rattle.ix_flatmap.proofs.FlatEntries.{IsEntry-flat_entry, flat_entry-IsEntry, flat_value-IsEntry}

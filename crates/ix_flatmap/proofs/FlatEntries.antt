@@ -12,7 +12,7 @@ use Rattle.ix_flatmap.specs.inner.FlatSearch.{is_key_at, HasNoKeyIn}
 use Rattle.std.specs.Option.{option_map_or}
 use Rattle.ix_tables.proofs.VacantTables.{place_at-replicate}
 use Rattle.ix_flatmap.specs.FlatState.{AreDistinctBy, HasDistinctKeys, flat_entry, flat_value, flat_keys, flat_item, flat_items}
-use Rattle.ix_flatmap.specs.declared.flatmap.pair.Pair.{Pair}
+use Rattle.ix_flatmap.specs.declared.map.pair.Pair.{Pair}
 
 find-equal : {X : Type 0} (test : X → Bool) (x : X) (xs : List X) → test x ≡ true → find test (x ∷ xs) ≡ Some x
 find-equal test x xs equal = ap (λ b. cond b (Some x) (find test xs)) equal

@@ -9,7 +9,7 @@ use Rattle.ix_tables.specs.Places.{place_at}
 use Rattle.ix_slottable.specs.SlotState.{SlotState, entries_from}
 use Rattle.ix_flatmap.specs.FlatState.{HasDistinctKeys, flat_item, flat_items, flat_entry, flat_value}
 use Rattle.ix_flatmap.specs.FlatCompared.{is_same_item}
-use Rattle.ix_flatmap.specs.declared.flatmap.pair.Pair.{Pair}
+use Rattle.ix_flatmap.specs.declared.map.pair.Pair.{Pair}
 
 module _ {K V : Type 0} (eq : K → K → Bool) (value_eq : V → V → Bool) (laws : IsEquivalence eq) (key : K) (value : V) where
   -- the test of a pair, with the key and value given

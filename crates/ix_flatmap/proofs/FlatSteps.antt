@@ -9,7 +9,7 @@ use Rattle.ix_slottable.specs.SlotState.{SlotState, value_at, IsFree}
 use Rattle.ix_slottable.specs.SlotSteps.{slot_set, slot_fill, slot_insert, keys_without, SlotInsert, SlotRemove}
 use Rattle.ix_flatmap.specs.FlatState.{HasDistinctKeys, flat_entry, flat_value}
 use Rattle.ix_flatmap.specs.FlatSteps.{flat_insert, pair_set, flat_set, flat_replace}
-use Rattle.ix_flatmap.specs.declared.flatmap.pair.Pair.{Pair}
+use Rattle.ix_flatmap.specs.declared.map.pair.Pair.{Pair}
 use Rattle.ix_tables.proofs.Places.{place_at_within}
 use Rattle.ix_flatmap.proofs.FlatEntries.{IsEntry, IsEntry-flat_entry, flat_entry_none, flat_entry-place, flat_entry-IsEntry, flat_value-IsEntry, flat_entry_same, equal_keys}
 

@@ -4,8 +4,8 @@ use Rattle.std.specs.Prelude.{nat_eq, Ok, Err}
 use Rattle.ix_slottable.specs.SlotState.{SlotState}
 use Rattle.ix_flatmap.specs.FlatState.{HasDistinctKeys, flat_entry, flat_value, flat_keys}
 use Rattle.ix_flatmap.specs.FlatSteps.{flat_insert_result, flat_insert, flat_set, flat_remove}
-use Rattle.ix_flatmap.specs.declared.flatmap.pair.Pair.{Pair}
-use Rattle.ix_flatmap.specs.declared.flatmap.flat_map_error.FlatMapError.TheVariants.{KeyAlreadyExists, IsFull}
+use Rattle.ix_flatmap.specs.declared.map.pair.Pair.{Pair}
+use Rattle.ix_flatmap.specs.declared.map.flat_map_error.FlatMapError.TheVariants.{KeyAlreadyExists, IsFull}
 
 -- a flat map with these pairs and free places
 abbrev flat : List (Option (Pair ℕ ℕ)) → List ℕ → SlotState (Pair ℕ ℕ)

@@ -1,6 +1,6 @@
 -- Clones of the pairs of a flat map.
 use Rattle.std.specs.Prelude.{◌≡◌, Bool, true}
-use Rattle.ix_flatmap.specs.declared.flatmap.pair.Pair.{Pair}
+use Rattle.ix_flatmap.specs.declared.map.pair.Pair.{Pair}
 
 module _ {K V : Type 0} (eq : K → K → Bool) where
   -- clones of the key and of the value, the former equal to the key

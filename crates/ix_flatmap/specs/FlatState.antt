@@ -2,7 +2,7 @@
 use Rattle.std.specs.Prelude.{◌≡◌, ℕ, ◌≤◌, List, length, map, Option, Some, None, Bool, true, option_map}
 use Rattle.std.specs.List.{find}
 use Rattle.ix_slottable.specs.SlotState.{SlotState, value_at, entries}
-use Rattle.ix_flatmap.specs.declared.flatmap.pair.Pair.{Pair}
+use Rattle.ix_flatmap.specs.declared.map.pair.Pair.{Pair}
 
 -- no two places hold values that this relates
 abbrev pub AreDistinctBy : {T : Type 0} → (T → T → Bool) → SlotState T → Type 0

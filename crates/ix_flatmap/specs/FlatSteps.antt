@@ -6,11 +6,11 @@ use Rattle.std.specs.Borrow.{Bor}
 use Rattle.ix_slottable.specs.SlotState.{SlotState, value_at}
 use Rattle.ix_slottable.specs.SlotSteps.{slot_set, slot_insert, slot_vacate}
 use Rattle.ix_flatmap.specs.FlatState.{flat_entry}
-use Rattle.ix_flatmap.specs.declared.flatmap.pair.Pair.{Pair}
-use Rattle.ix_flatmap.specs.declared.flatmap.callback_progression.CallbackProgression.{CallbackProgression}
-use Rattle.ix_flatmap.specs.declared.flatmap.callback_progression.CallbackProgression.TheVariants.{Continue, Stop}
-use Rattle.ix_flatmap.specs.declared.flatmap.flat_map_error.FlatMapError.{FlatMapError}
-use Rattle.ix_flatmap.specs.declared.flatmap.flat_map_error.FlatMapError.TheVariants.{KeyAlreadyExists, IsFull}
+use Rattle.ix_flatmap.specs.declared.map.pair.Pair.{Pair}
+use Rattle.ix_flatmap.specs.declared.map.callback_progression.CallbackProgression.{CallbackProgression}
+use Rattle.ix_flatmap.specs.declared.map.callback_progression.CallbackProgression.TheVariants.{Continue, Stop}
+use Rattle.ix_flatmap.specs.declared.map.flat_map_error.FlatMapError.{FlatMapError}
+use Rattle.ix_flatmap.specs.declared.map.flat_map_error.FlatMapError.TheVariants.{KeyAlreadyExists, IsFull}
 
 abbrev pub FlatResult : Type 0
 FlatResult = Result (Unit {0}) FlatMapError

@@ -1,2 +1,3 @@
 -- Laws of definitions.
+pub mod Bounds
 pub mod FlatCompared

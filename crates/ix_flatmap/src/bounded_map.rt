@@ -1,4 +1,4 @@
-//! The calls that flat maps and hash maps share.
+//! The calls of a map as a trait.
 ghost use Rattle.std.specs.Prelude.{◌≡◌, ◌↔◌, ◌+◌, ℕ, [], length, Some, None, IsSome, IsTrue, IsNone, IsOk, IsErr, IfOk, OnErr, option_copied, option_map, replicate, slice_get, false, true, refl};
 ghost use Rattle.std.specs.Borrow.{sem};
 ghost use Rattle.std.specs.List.{FoldsTo, list_any};
@@ -12,15 +12,14 @@ ghost use Rattle.ix_flatmap.specs.FlatCalls.{CallAtKey, TakesKey};
 ghost use Rattle.ix_slottable.specs.SlotCalls.{IsCallableOnEach, ChangesItem, RetainsItem};
 ghost use Rattle.ix_flatmap.specs.FlatSteps.{flat_insert_result, flat_insert, flat_replace, flat_set, flat_remove};
 ghost use Rattle.ix_flatmap.specs.BoundedMap.{map_lends};
-ghost use Rattle.ix_flatmap.specs.declared.flatmap.pair.Pair.{Pair};
+ghost use Rattle.ix_flatmap.specs.declared.map.pair.Pair.{Pair};
 
-use crate::flatmap::{FlatMapError, Iter, MetaFlatMap, Pair};
+use crate::map::{FlatMapError, Iter, KeyIndex, MetaMap, Pair};
 use ix_slottable::slottable::Link;
 use ix_tables::Table;
 
-/// A map with room for a set number of keys, each with a value, as [`MetaFlatMap`](crate::flatmap::MetaFlatMap) and
-/// `MetaHashMap` of `ix_hashmap` are. A function over any such map is written over this trait. What a call costs
-/// is said at each map.
+/// A map with room for a set number of keys, each with a value, as [`MetaMap`](crate::map::MetaMap) is. A function over any such
+/// map is written over this trait. What a call costs is said at the map.
 pub trait BoundedMap<K: Eq, V>: Sized {
     /// The pair or nothing at each place.
     ghost state: { Self → SlotState (Pair K V) };
@@ -28,10 +27,7 @@ pub trait BoundedMap<K: Eq, V>: Sized {
     /// The map with another value of a key that it has.
     ghost with_value: { Self → K → V → Self };
 
-    /// Inserts `key` with `value`.
-    ///
-    /// Returns [`FlatMapError::KeyAlreadyExists`] if the map has an equal key, and otherwise [`FlatMapError::IsFull`] if
-    /// it is full. `key` and `value` are dropped then.
+    /// Does what [`MetaMap::insert`](crate::map::MetaMap::insert) does.
     fn insert(&mut self, key: K, value: V) -> Result<(), FlatMapError>
         ensures value { result ≡ flat_insert_result K.eq (state self.old) key }
         ensures map { state self.new ≡ flat_insert K.eq (state self.old) key value }
@@ -41,10 +37,7 @@ pub trait BoundedMap<K: Eq, V>: Sized {
             → flat_value K.eq (state self.new) other ≡ flat_value K.eq (state self.old) other }
         ensures distinct { HasDistinctKeys K.eq (state self.new) };
 
-    /// Inserts `key` with `value`. What is refused is handed back.
-    ///
-    /// Returns [`FlatMapError::KeyAlreadyExists`] if the map has an equal key, and otherwise [`FlatMapError::IsFull`] if
-    /// it is full, with `key` and `value`.
+    /// Does what [`MetaMap::try_insert`](crate::map::MetaMap::try_insert) does.
     fn try_insert(&mut self, key: K, value: V) -> Result<(), (FlatMapError, K, V)>
         ensures inserted { IsOk result ↔ IsOk (flat_insert_result K.eq (state self.old) key) }
         ensures error { IfErr result (λ refused.
@@ -57,10 +50,7 @@ pub trait BoundedMap<K: Eq, V>: Sized {
             → flat_value K.eq (state self.new) other ≡ flat_value K.eq (state self.old) other }
         ensures distinct { HasDistinctKeys K.eq (state self.new) };
 
-    /// Inserts `key` with `value`; or, if the map has an equal key, gives that one `value` and returns its old value. `key` is
-    /// dropped then.
-    ///
-    /// Returns `key` and `value` as the error if the map is full and has no equal key.
+    /// Does what [`MetaMap::replace`](crate::map::MetaMap::replace) does.
     fn replace(&mut self, key: K, value: V) -> Result<Option<V>, (K, V)>
         ensures value { IfOk result (λ old. old ≡ flat_value K.eq (state self.old) key) }
         ensures full { IsErr result
@@ -72,7 +62,7 @@ pub trait BoundedMap<K: Eq, V>: Sized {
         ensures kept { (other : K) → K.eq other key ≡ false
             → flat_value K.eq (state self.new) other ≡ flat_value K.eq (state self.old) other };
 
-    /// Returns a reference to the value of `key`, or `None` if the map has no equal key.
+    /// Does what [`MetaMap::get_ref`](crate::map::MetaMap::get_ref) does.
     fn get_ref(&self, key: &K) -> Option<&V>
         ensures value { option_copied result ≡ flat_value K.eq (state self.now) key.now }
         // The key's value is that of the one pair whose key equals it.
@@ -81,12 +71,12 @@ pub trait BoundedMap<K: Eq, V>: Sized {
         ensures absent { IsNone result ↔ ((place : ℕ) (pair : Pair K V)
             → value_at (state self.now) place ≡ Some pair → K.eq pair.key key.now ≡ false) };
 
-    /// Returns references to the equal key of the map and to its value, or `None` if the map has no equal key.
+    /// Does what [`MetaMap::get_key_value`](crate::map::MetaMap::get_key_value) does.
     fn get_key_value(&self, key: &K) -> Option<(&K, &V)>
         ensures { option_map (λ item. (item.0.now, item.1.now)) result
             ≡ option_map (λ entry. flat_item entry) (flat_entry K.eq (state self.now) key.now) };
 
-    /// Returns a mutable reference to the value of `key`, or `None` if the map has no equal key.
+    /// Does what [`MetaMap::get_mut_ref`](crate::map::MetaMap::get_mut_ref) does.
     fn get_mut_ref(&mut self, key: &K) -> Option<&mut V>
         ensures* writes_back { sem 𝓛 (map_lends Self.row V.row with_value self.entry key.now result) }
         ensures value { option_copied_mut result ≡ flat_value K.eq (state self.old) key.now }
@@ -98,7 +88,7 @@ pub trait BoundedMap<K: Eq, V>: Sized {
             → flat_value K.eq (flat_set K.eq (state self.old) key.now written) other
             ≡ flat_value K.eq (state self.old) other };
 
-    /// Removes `key` and returns its value, or `None` if the map has no equal key. The next new key takes its place.
+    /// Does what [`MetaMap::remove`](crate::map::MetaMap::remove) does.
     fn remove(&mut self, key: &K) -> Option<V>
         ensures value { result ≡ flat_value K.eq (state self.old) key.now }
         ensures map { state self.new ≡ flat_remove K.eq (state self.old) key.now }
@@ -108,8 +98,7 @@ pub trait BoundedMap<K: Eq, V>: Sized {
             → flat_value K.eq (state self.new) other ≡ flat_value K.eq (state self.old) other }
         ensures distinct { HasDistinctKeys K.eq (state self.new) };
 
-    /// Removes `key` and returns the equal key of the map with its value, or `None` if the map has none. The next new key takes
-    /// its place.
+    /// Does what [`MetaMap::remove_entry`](crate::map::MetaMap::remove_entry) does.
     fn remove_entry(&mut self, key: &K) -> Option<(K, V)>
         ensures value { result
             ≡ option_map (λ entry. flat_item entry) (flat_entry K.eq (state self.old) key.now) }
@@ -120,15 +109,12 @@ pub trait BoundedMap<K: Eq, V>: Sized {
             → flat_value K.eq (state self.new) other ≡ flat_value K.eq (state self.old) other }
         ensures distinct { HasDistinctKeys K.eq (state self.new) };
 
-    /// Removes all keys and drops them with their values, in slot order.
-    ///
-    /// The free places are in the order that [`BoundedMap::remove`] of each key in slot order leaves, so that the next new key
-    /// takes the place of the last one.
+    /// Does what [`MetaMap::clear`](crate::map::MetaMap::clear) does.
     fn clear(&mut self)
         ensures map { state self.new ≡ slot_clear (state self.old) }
         ensures values { (state self.new).values ≡ replicate (length (state self.old).values) None };
 
-    /// Calls `f` with each key in slot order and a mutable reference to its value, with one call for each key.
+    /// Does what [`MetaMap::for_each_mut`](crate::map::MetaMap::for_each_mut) does.
     fn for_each_mut<F: FnMut(&K, &mut V)>(&mut self, f: F)
         requires { IsCallableOnEach (CallAtKey F.step) (TakesKey F.pre) f (flat_items (state self.old)) }
         ensures calls { (last : F) × FoldsTo (ChangesItem (flat_set K.eq) (CallAtKey F.step))
@@ -138,9 +124,7 @@ pub trait BoundedMap<K: Eq, V>: Sized {
         ensures distinct { HasDistinctKeys K.eq (state self.new) }
         ensures capacity { length (state self.new).values ≡ length (state self.old).values };
 
-    /// Calls `f` with each key in slot order and a mutable reference to its value. Removes each key for which `f` returns
-    /// `false`, as [`BoundedMap::remove`] does, and drops the key and its value, right after the call. There is one call for
-    /// each key.
+    /// Does what [`MetaMap::retain`](crate::map::MetaMap::retain) does.
     fn retain<F: FnMut(&K, &mut V) -> bool>(&mut self, f: F)
         requires { IsCallableOnEach (CallAtKey F.step) (TakesKey F.pre) f (flat_items (state self.old)) }
         ensures calls { (last : F)
@@ -152,25 +136,25 @@ pub trait BoundedMap<K: Eq, V>: Sized {
         ensures distinct { HasDistinctKeys K.eq (state self.new) }
         ensures capacity { length (state self.new).values ≡ length (state self.old).values };
 
-    /// Returns the maximum number of keys.
+    /// Does what [`MetaMap::capacity`](crate::map::MetaMap::capacity) does.
     fn capacity(&self) -> usize
         ensures { result ≡ length (state self.now).values };
 
-    /// Returns `true` if the map has no key.
+    /// Does what [`MetaMap::is_empty`](crate::map::MetaMap::is_empty) does.
     fn is_empty(&self) -> bool
         ensures { IsTrue result ↔ (held_count (state self.now) ≡ 0) };
 
-    /// Returns `true` if there is no room for another key. A map of capacity 0 is both empty and full.
+    /// Does what [`MetaMap::is_full`](crate::map::MetaMap::is_full) does.
     fn is_full(&self) -> bool
         ensures value { IsTrue result
             ↔ (held_count (state self.now) ≡ length (state self.now).values) }
         ensures free { IsTrue result ↔ ((state self.now).free ≡ []) };
 
-    /// Returns `true` if the map has an equal key.
+    /// Does what [`MetaMap::contains`](crate::map::MetaMap::contains) does.
     fn contains(&self, key: &K) -> bool
         ensures { IsTrue result ↔ IsSome (flat_value K.eq (state self.now) key.now) };
 
-    /// Returns the number of keys.
+    /// Does what [`MetaMap::len`](crate::map::MetaMap::len) does.
     fn len(&self) -> usize
         ensures value { result ≡ held_count (state self.now) }
         ensures rest { held_count (state self.now) + length (state self.now).free
@@ -179,7 +163,7 @@ pub trait BoundedMap<K: Eq, V>: Sized {
         ensures formed { IsWellFormed (state self.now) }
         ensures distinct { HasDistinctKeys K.eq (state self.now) };
 
-    /// Returns the key that comes after `n` others in slot order, or `None` if there are at most `n` keys.
+    /// Does what [`MetaMap::nth_key`](crate::map::MetaMap::nth_key) does.
     fn nth_key(&self, n: usize) -> Option<&K>
         ensures { option_copied result ≡ slice_get (flat_keys (state self.now)) n };
 
@@ -188,8 +172,10 @@ pub trait BoundedMap<K: Eq, V>: Sized {
         → state (with_value map key value) ≡ flat_set K.eq (state map) key value };
 }
 
-impl<K: Eq + Drop, V: Drop, S: Table<Pair<K, V>>, L: Table<Link>> BoundedMap<K, V>
-    for MetaFlatMap<Pair<K, V>, S, L> {
+impl<K: Eq + Drop, V: Drop, S: Table<Pair<K, V>>, L: Table<Link>, I: KeyIndex<K, V>> BoundedMap<
+    K,
+    V,
+> for MetaMap<Pair<K, V>, S, L, I> {
     ghost state = { λ map. map };
 
     ghost with_value = { λ map key value. flat_set K.eq map key value };
@@ -198,87 +184,87 @@ impl<K: Eq + Drop, V: Drop, S: Table<Pair<K, V>>, L: Table<Link>> BoundedMap<K, 
 
     #[inline]
     fn insert(&mut self, key: K, value: V) -> Result<(), FlatMapError> {
-        MetaFlatMap::insert(self, key, value)
+        MetaMap::insert(self, key, value)
     }
 
     #[inline]
     fn try_insert(&mut self, key: K, value: V) -> Result<(), (FlatMapError, K, V)> {
-        MetaFlatMap::try_insert(self, key, value)
+        MetaMap::try_insert(self, key, value)
     }
 
     #[inline]
     fn replace(&mut self, key: K, value: V) -> Result<Option<V>, (K, V)> {
-        MetaFlatMap::replace(self, key, value)
+        MetaMap::replace(self, key, value)
     }
 
     #[inline]
     fn get_ref(&self, key: &K) -> Option<&V> {
-        MetaFlatMap::get_ref(self, key)
+        MetaMap::get_ref(self, key)
     }
 
     #[inline]
     fn get_key_value(&self, key: &K) -> Option<(&K, &V)> {
-        MetaFlatMap::get_key_value(self, key)
+        MetaMap::get_key_value(self, key)
     }
 
     #[inline]
     fn get_mut_ref(&mut self, key: &K) -> Option<&mut V> {
-        MetaFlatMap::get_mut_ref(self, key)
+        MetaMap::get_mut_ref(self, key)
     }
 
     #[inline]
     fn remove(&mut self, key: &K) -> Option<V> {
-        MetaFlatMap::remove(self, key)
+        MetaMap::remove(self, key)
     }
 
     #[inline]
     fn remove_entry(&mut self, key: &K) -> Option<(K, V)> {
-        MetaFlatMap::remove_entry(self, key)
+        MetaMap::remove_entry(self, key)
     }
 
     #[inline]
     fn clear(&mut self) {
-        MetaFlatMap::clear(self);
+        MetaMap::clear(self);
     }
 
     #[inline]
     fn for_each_mut<F: FnMut(&K, &mut V)>(&mut self, f: F) {
-        MetaFlatMap::for_each_mut(self, f);
+        MetaMap::for_each_mut(self, f);
     }
 
     #[inline]
     fn retain<F: FnMut(&K, &mut V) -> bool>(&mut self, f: F) {
-        MetaFlatMap::retain(self, f);
+        MetaMap::retain(self, f);
     }
 
     #[inline]
     fn capacity(&self) -> usize {
-        MetaFlatMap::capacity(self)
+        MetaMap::capacity(self)
     }
 
     #[inline]
     fn is_empty(&self) -> bool {
-        MetaFlatMap::is_empty(self)
+        MetaMap::is_empty(self)
     }
 
     #[inline]
     fn is_full(&self) -> bool {
-        MetaFlatMap::is_full(self)
+        MetaMap::is_full(self)
     }
 
     #[inline]
     fn contains(&self, key: &K) -> bool {
-        MetaFlatMap::contains(self, key)
+        MetaMap::contains(self, key)
     }
 
     #[inline]
     fn len(&self) -> usize {
-        MetaFlatMap::len(self)
+        MetaMap::len(self)
     }
 
     #[inline]
     fn nth_key(&self, n: usize) -> Option<&K> {
-        MetaFlatMap::nth_key(self, n)
+        MetaMap::nth_key(self, n)
     }
 }
 

@@ -1,14 +1,18 @@
-//! Flat maps: bounded maps from keys of your own, which need only be compared for equality. What they share with hash
-//! maps stands here too: [`BoundedMap`], pairs, errors and iterators.
+//! Bounded maps from keys of your own to values.
+//!
+//! [`map`] has the map over any index by which a key is found, and what an index has to promise. [`flatmap`] has the kinds of flat
+//! maps, whose keys need only be compared for equality. Those of hash maps are in `ix_hashmap`.
 #![tactic(auto)]
 
 pub mod bounded_map;
 pub mod flatmap;
-#[doc(hidden)]
-pub mod pair_places;
+pub mod map;
 
 pub use bounded_map::BoundedMap;
 pub use flatmap::{
-    CallbackProgression, FixedSizeFlatMap, FlatMap, FlatMapError, FlatMapFamily, Keyed, Keys,
-    MetaFlatMap, Pair, RelocatableFlatMap, UninitFlatMap,
+    Bound, FixedSizeFlatMap, FlatMap, FlatMapFamily, MetaFlatMap, RelocatableFlatMap, UninitFlatMap,
+};
+pub use map::{
+    CallbackProgression, CopyIn, CopyInline, FlatMapError, HeapIndex, HeapMap, InlineIndex,
+    InlineMap, KeyIndex, Keyed, Keys, MetaMap, Pair, PairIndex,
 };

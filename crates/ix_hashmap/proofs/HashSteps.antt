@@ -1,18 +1,18 @@
 -- The chains of a hash map after each of its steps.
 use Rattle.std.proofs.Common.{◌≡◌, ◌≢◌, ◌↔◌, ℕ, ◌+◌, ◌*◌, ◌/◌, ◌<◌, ◌≤◌, inl, inr, List, [], ◌∷◌, length, get_or, Option, Some, None, IsSome, Bool, true, false, refl, sym, ap, ◌∙◌, subst, arith}
-use Rattle.std.specs.Prelude.{option_map, replicate, slice_get}
+use Rattle.std.specs.Prelude.{option_map, replicate, IfSome}
 use Rattle.std.specs.Option.{option_map_or}
 use Rattle.std.proofs.lemmas.Bool.{cases_eq, cases_lt, both_ways}
 use Rattle.std.proofs.lemmas.List.{get_or-set_other, get_or-replicate, get_or_past, length-set, length-replicate}
-use Rattle.ix_slottable.specs.SlotState.{SlotState, value_at, IsHeld}
+use Rattle.ix_slottable.specs.SlotState.{SlotState, value_at, IsHeld, slot_new}
 use Rattle.ix_slottable.specs.SlotSteps.{slot_fill, SlotInsert, SlotRemove}
-use Rattle.ix_slottable.specs.SlotCopies.{IsCloneAt, SlotIsClone}
 use Rattle.ix_flatmap.specs.FlatState.{flat_entry}
-use Rattle.ix_flatmap.specs.declared.flatmap.Pair.{Pair}
+use Rattle.ix_flatmap.specs.declared.map.Pair.{Pair}
 use Rattle.ix_hashmap.specs.declared.hashmap.chain_link.ChainLink.{ChainLink}
 use Rattle.ix_flatmap.specs.inner.FlatSearch.{is_key_at}
-use Rattle.ix_hashmap.specs.inner.HashChains.{no_place, no_link, link_head, bucket_of, head_at, next_at, links_set_next, links_insert_first, chain_from, chain_at, IsLinked, IsChain, IsOnChain, IsUnlinked, HasChain, IsHashed, LeadsToKey}
+use Rattle.ix_hashmap.specs.inner.HashChains.{no_place, no_link, link_head, bucket_of, head_at, next_at, links_set_next, links_insert_first, chain_from, chain_at, IsLinked, IsChain, IsOnChain, IsUnlinked, HasChain, IsHashed, LeadsToKey, IsBucket}
 use Rattle.ix_slottable.proofs.FreeKeys.{key_count, key_count-cons, hit, hit_same, hit_other}
+use Rattle.ix_tables.proofs.VacantTables.{place_at-replicate}
 use Rattle.ix_slottable.proofs.SlotSteps.{SlotInsert-fills, SlotRemove-vacates}
 use Rattle.ix_flatmap.proofs.FlatEntries.{IsEntry-flat_entry}
 use Rattle.ix_hashmap.proofs.HashChains.{link_head-none, length-set_head, length-set_next, next_at-set_head, head_at-set_next, head_at-set_head, head_at-set_head_other, next_at-set_next, next_at-set_next_other, IsLinked-kept, chain_from-IsChain, IsChainFrom-of, HasRest-from, empty_chain, on_chain-first}
@@ -53,30 +53,8 @@ module _ {T : Type 0} (hash : T → ℕ) where
       })
       (λ place. (λ on. (buckets place).0 ((was.exactly place).0 on), λ is. (was.exactly place).1 ((buckets place).1 is)))
 
-  -- values with the buckets of others at their places have the chains of those
-  pub IsHashed-same : (s t : SlotState T) (links : List ChainLink) → length t.values ≡ length s.values
-      → ((place : ℕ) → option_map (λ value. bucket_of (hash value) (length links)) (value_at t place) ≡ option_map (λ value. bucket_of (hash value) (length links)) (value_at s place))
-      → IsHashed hash s links → IsHashed hash t links
-  IsHashed-same s t links as_many same hashed = record {
-    lengths = hashed.lengths ∙ sym as_many;
-    fits = hashed.fits;
-    each = λ bucket. HasChain-kept s t links links bucket refl (hashed.each bucket) refl (λ place on. refl)
-        (λ place. (λ is. same place ∙ is, λ is. sym (same place) ∙ is));
-  }
-
   pub IsHashed-equal : (s t : SlotState T) (links others : List ChainLink) → t ≡ s → others ≡ links → IsHashed hash s links → IsHashed hash t others
   IsHashed-equal s t links others same same_links hashed = subst (λ ls. IsHashed hash t ls) (sym same_links) (subst (λ u. IsHashed hash u links) (sym same) hashed)
-
-  -- clones with the hashes of their values have the chains of those
-  pub IsHashed-clone : (is_clone : T → T → Type 0) (s copy : SlotState T) (links : List ChainLink) → ((x y : T) → is_clone x y → hash y ≡ hash x) → SlotIsClone is_clone s copy → IsHashed hash s links → IsHashed hash copy links
-  IsHashed-clone is_clone s copy links alike is hashed =
-      IsHashed-same s copy links is.capacity (λ place. same (value_at s place) (value_at copy place) (is.values place)) hashed
-    where
-      same : (value other : Option T) → IsCloneAt is_clone value other → option_map (λ v. bucket_of (hash v) (length links)) other ≡ option_map (λ v. bucket_of (hash v) (length links)) value
-      same None None here = refl
-      same None (Some y) here = absurd here
-      same (Some x) None here = absurd here
-      same (Some x) (Some y) here = ap (λ h. Some (bucket_of h (length links))) (alike x y here)
 
   -- no value, and no chain
   pub IsHashed-empty : (s : SlotState T) (links : List ChainLink) (buckets : ℕ) → links ≡ replicate buckets no_link → buckets ≡ length s.values → buckets ≤ no_place → ((place : ℕ) → value_at s place ≡ None) → IsHashed hash s links
@@ -102,6 +80,12 @@ module _ {T : Type 0} (hash : T → ℕ) where
         | inl below ↦ get_or-replicate buckets i no_link no_link below
         | inr past ↦ get_or_past (replicate buckets no_link) i no_link (let len = length-replicate buckets no_link in omega arith)
       ]
+
+  -- the links of a new table, without a chain
+  pub IsHashed-new : (capacity : ℕ) (links : List ChainLink) → links ≡ replicate capacity no_link → length links ≤ no_place → IsHashed hash (slot_new capacity) links
+  IsHashed-new capacity links is fits =
+      let len : length links ≡ capacity = ap length is ∙ length-replicate capacity no_link in
+      IsHashed-empty (slot_new capacity) links capacity is (sym (length-replicate capacity None)) (omega (arith, len, fits)) (place_at-replicate capacity)
 
   -- a value is inserted, and its place becomes the first of its chain
   module _ (old new : SlotState T) (x : T) (place bucket : ℕ) (links : List ChainLink) (hashed : IsHashed hash old links) (step : SlotInsert old x new (Some place)) (is : bucket_of (hash x) (length links) ≡ bucket) (below : bucket < 4 * length links) where
@@ -217,15 +201,6 @@ module _ {T : Type 0} (hash : T → ℕ) where
         | inr apart ↦ other_chain other apart
       ];
     }
-
-  -- a value is inserted if a place is free
-  pub IsHashed-tried : (old new : SlotState T) (x : T) (bucket : ℕ) (links after : List ChainLink) → IsHashed hash old links → SlotInsert old x new (slice_get old.free 0) → after ≡ option_map_or (λ place. links_insert_first links bucket place) (slice_get old.free 0) links
-      → bucket_of (hash x) (length links) ≡ bucket → bucket < 4 * length links → IsHashed hash new after
-  IsHashed-tried old new x bucket links after hashed step made is below = go (slice_get old.free 0) step made
-    where
-      go : (first : Option ℕ) → SlotInsert old x new first → after ≡ option_map_or (λ place. links_insert_first links bucket place) first links → IsHashed hash new after
-      go None step made = subst (λ ls. IsHashed hash new ls) (sym made) (subst (λ s. IsHashed hash s links) (sym (step.refused refl)) hashed)
-      go (Some place) step made = subst (λ ls. IsHashed hash new ls) (sym made) (IsHashed-inserted old new x place bucket links hashed step is below)
 
   -- the chain of a value's bucket has its place
   pub on_chain-held : (s : SlotState T) (links : List ChainLink) (place bucket : ℕ) (x : T) → IsHashed hash s links → value_at s place ≡ Some x → bucket_of (hash x) (length links) ≡ bucket → IsOnChain links (head_at links bucket) place
@@ -354,3 +329,21 @@ module _ {K V : Type 0} (eq : K → K → Bool) where
             let is = IsEntry-flat_entry eq s key entry some in
             absurd (empty_chain links first leads.chain ended entry.0
             (leads.has entry.0 (ap (λ (content : Option (Pair K V)). option_map_or (λ pair. eq pair.key key) content false) is.at ∙ is.equal)))
+
+-- a table without places has the bucket 0, without a place
+pub IsBucket-none : (hash : ℕ) (links : List ChainLink) → length links ≡ 0 → IsBucket hash links 0 no_place
+IsBucket-none hash [] none = record { is = grind (arith); below = λ some. absurd (omega (arith, some)); starts = refl }
+IsBucket-none hash (link ∷ links) none = absurd (omega (arith, none))
+
+module _ {K V : Type 0} (eq : K → K → Bool) (hash : K → ℕ) (respects : (a b : K) → eq a b ≡ true → hash a ≡ hash b) where
+  -- the bucket of a key is that of the equal key
+  pub IsBucket-equal : (s : SlotState (Pair K V)) (links : List ChainLink) (key : K) (number first : ℕ) → IsBucket (hash key) links number first → IfSome (flat_entry eq s key) (λ entry. IsBucket (hash entry.1.key) links number first)
+  IsBucket-equal s links key number first bucket = go (flat_entry eq s key) refl
+    where
+      go : (found : Option (ℕ × Pair K V)) → flat_entry eq s key ≡ found → IfSome found (λ entry. IsBucket (hash entry.1.key) links number first)
+      go None none = tt
+      go (Some entry) some = record {
+        is = ap (λ (h : ℕ). bucket_of h (length links)) (respects entry.1.key key (IsEntry-flat_entry eq s key entry some).equal) ∙ bucket.is;
+        below = bucket.below;
+        starts = bucket.starts;
+      }

@@ -1,2 +1,3 @@
 pub mod HashChains
 pub mod HashSteps
+pub mod Memory

@@ -13,4 +13,5 @@ pub use Rattle.ix_slottable.specs.SlotSteps
 pub use Rattle.ix_tables.specs.Cloning
 pub use Rattle.ix_tables.specs.Places
 pub mod HashDrain
+pub mod laws
 pub mod inner

@@ -1,26 +1,21 @@
 //! Hash maps: bounded maps from keys of your own to values, for keys that implement `Hash`.
 //!
 //! [`FixedSizeHashMap`] is stored inline, [`HashMap`] and [`RelocatableHashMap`] allocate only when they are made. Their calls
-//! promise what those of [`flatmap`](ix_flatmap::flatmap) do, and take O(1) time on average.
+//! are those of [`MetaMap`](ix_flatmap::map::MetaMap), and take O(1) time on average. A program that writes
+//! `for (key, value) in &map` names `ix_flatmap` in `crates.txt` too.
 
+mod buckets;
 mod chain_link;
 mod chain_table;
-mod compared;
-mod copies;
-mod drain;
 mod hashed;
-mod index;
-mod insertions;
-mod iter;
 mod kinds;
-mod meta_hash_map;
 mod search;
-mod whole;
 
+pub use buckets::Buckets;
 pub use chain_link::ChainLink;
-pub use drain::Drain;
 pub use hashed::Hashed;
+pub use ix_flatmap::map::Drain;
 pub use kinds::{
-    DefaultHashBuilder, FixedSizeHashMap, HashMap, HashMapFamily, RelocatableHashMap, UninitHashMap,
+    DefaultHashBuilder, FixedSizeHashMap, HashMap, HashMapFamily, MetaHashMap, RelocatableHashMap,
+    UninitHashMap, hash_map_memory_law,
 };
-pub use meta_hash_map::MetaHashMap;

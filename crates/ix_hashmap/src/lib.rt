@@ -1,10 +1,10 @@
-//! Hash maps: bounded maps from keys of your own that implement `Hash`.
+//! Hash maps: bounded maps from keys of your own that implement `Hash`. Their calls are those of
+//! [`MetaMap`](ix_flatmap::map::MetaMap).
 #![tactic(auto)]
 
-mod bounded_map;
 pub mod hashmap;
 
 pub use hashmap::{
-    ChainLink, DefaultHashBuilder, FixedSizeHashMap, HashMap, HashMapFamily, Hashed, MetaHashMap,
-    RelocatableHashMap, UninitHashMap,
+    Buckets, ChainLink, DefaultHashBuilder, FixedSizeHashMap, HashMap, HashMapFamily, Hashed,
+    MetaHashMap, RelocatableHashMap, UninitHashMap,
 };

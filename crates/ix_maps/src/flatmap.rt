@@ -48,6 +48,6 @@ pub mod values {
 }
 
 pub use ix_flatmap::flatmap::{
-    CallbackProgression, Drain, FixedSizeFlatMap, FlatMap, FlatMapError, FlatMapFamily, Iter,
-    Keyed, Keys, MetaFlatMap, Pair, RelocatableFlatMap, UninitFlatMap, Values,
+    Bound, CallbackProgression, Drain, FixedSizeFlatMap, FlatMap, FlatMapError, FlatMapFamily,
+    Iter, Keyed, Keys, MetaFlatMap, Pair, RelocatableFlatMap, UninitFlatMap, Values,
 };

@@ -29,6 +29,6 @@ pub mod meta_hash_map {
 }
 
 pub use ix_hashmap::hashmap::{
-    ChainLink, DefaultHashBuilder, Drain, FixedSizeHashMap, HashMap, HashMapFamily, Hashed,
-    MetaHashMap, RelocatableHashMap, UninitHashMap,
+    Buckets, ChainLink, DefaultHashBuilder, Drain, FixedSizeHashMap, HashMap, HashMapFamily,
+    Hashed, MetaHashMap, RelocatableHashMap, UninitHashMap, hash_map_memory_law,
 };

@@ -11,12 +11,13 @@ pub mod slotmap;
 pub mod slottable;
 
 pub use ix_flatmap::{
-    BoundedMap, CallbackProgression, FixedSizeFlatMap, FlatMap, FlatMapError, FlatMapFamily, Keyed,
-    Keys, MetaFlatMap, Pair, RelocatableFlatMap, UninitFlatMap, bounded_map,
+    Bound, BoundedMap, CallbackProgression, CopyIn, CopyInline, FixedSizeFlatMap, FlatMap,
+    FlatMapError, FlatMapFamily, HeapIndex, HeapMap, InlineIndex, InlineMap, KeyIndex, Keyed, Keys,
+    MetaFlatMap, MetaMap, Pair, PairIndex, RelocatableFlatMap, UninitFlatMap, bounded_map, map,
 };
 pub use ix_hashmap::{
-    ChainLink, DefaultHashBuilder, FixedSizeHashMap, HashMap, HashMapFamily, Hashed, MetaHashMap,
-    RelocatableHashMap, UninitHashMap,
+    Buckets, ChainLink, DefaultHashBuilder, FixedSizeHashMap, HashMap, HashMapFamily, Hashed,
+    MetaHashMap, RelocatableHashMap, UninitHashMap,
 };
 pub use ix_queue::{FixedSizeQueue, MetaQueue, Queue, QueueFamily, RelocatableQueue, UninitQueue};
 pub use ix_slotmap::{

@@ -102,7 +102,7 @@ fn an_allocated_queue_takes_in_entries(rt: HostRuntime) -> Result<(), Fail> {
     Ok(())
 }
 
-// Shows: JsonForm for FixedSizeFlatMap
+// Shows: JsonForm for InlineMap
 #[test]
 fn a_flat_map_is_written_as_an_object(rt: HostRuntime) -> Result<(), Fail> {
     let mut ports = FixedSizeFlatMap::<StaticString<5>, u64, 2>::new();
@@ -116,7 +116,7 @@ fn a_flat_map_is_written_as_an_object(rt: HostRuntime) -> Result<(), Fail> {
     Ok(())
 }
 
-// Shows: JsonFill for FlatMap
+// Shows: JsonFill for HeapMap
 #[test]
 fn an_allocated_flat_map_takes_in_members(rt: HostRuntime) -> Result<(), Fail> {
     let mut ports = FixedSizeFlatMap::<StaticString<5>, u64, 1>::new();

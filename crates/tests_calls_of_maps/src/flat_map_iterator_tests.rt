@@ -2,7 +2,7 @@
 use ix_maps::FixedSizeFlatMap;
 use std::test::Fail;
 
-// Shows: MetaFlatMap::iter, Iter, Iterator for Iter, ExactSizeIterator for Iter
+// Shows: MetaMap::iter, Iter, Iterator for Iter, ExactSizeIterator for Iter
 #[test]
 fn iter_yields_keys_with_their_values(rt: HostRuntime) -> Result<(), Fail> {
     let mut map = FixedSizeFlatMap::<u16, char, 3>::new();
@@ -16,7 +16,7 @@ fn iter_yields_keys_with_their_values(rt: HostRuntime) -> Result<(), Fail> {
     Ok(())
 }
 
-// Shows: IntoIterator for &'a MetaFlatMap
+// Shows: IntoIterator for &'a MetaMap
 #[test]
 fn a_loop_goes_through_a_map(rt: HostRuntime) -> Result<(), Fail> {
     let mut map = FixedSizeFlatMap::<u16, char, 3>::new();
@@ -30,7 +30,7 @@ fn a_loop_goes_through_a_map(rt: HostRuntime) -> Result<(), Fail> {
     Ok(())
 }
 
-// Shows: MetaFlatMap::drain, Drain, Iterator for Drain, ExactSizeIterator for Drain
+// Shows: MetaMap::drain, Drain, Iterator for Drain, ExactSizeIterator for Drain
 // Shows: Drop for Drain
 #[test]
 fn a_drain_takes_keys_and_values_out(rt: HostRuntime) -> Result<(), Fail> {
@@ -45,7 +45,7 @@ fn a_drain_takes_keys_and_values_out(rt: HostRuntime) -> Result<(), Fail> {
     Ok(())
 }
 
-// Shows: MetaFlatMap::keys, Keys, Iterator for Keys, ExactSizeIterator for Keys
+// Shows: MetaMap::keys, Keys, Iterator for Keys, ExactSizeIterator for Keys
 #[test]
 fn keys_come_in_slot_order(rt: HostRuntime) -> Result<(), Fail> {
     let mut map = FixedSizeFlatMap::<u16, char, 3>::new();
@@ -59,7 +59,7 @@ fn keys_come_in_slot_order(rt: HostRuntime) -> Result<(), Fail> {
     Ok(())
 }
 
-// Shows: MetaFlatMap::values, Values, Iterator for Values, ExactSizeIterator for Values
+// Shows: MetaMap::values, Values, Iterator for Values, ExactSizeIterator for Values
 #[test]
 fn values_come_in_slot_order_of_their_keys(rt: HostRuntime) -> Result<(), Fail> {
     let mut map = FixedSizeFlatMap::<u16, char, 3>::new();

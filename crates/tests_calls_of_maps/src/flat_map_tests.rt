@@ -8,7 +8,7 @@ use ix_maps::{
 use std::alloc::Global;
 use std::test::Fail;
 
-// Shows: MetaFlatMap
+// Shows: MetaMap, MetaFlatMap
 #[test]
 fn a_value_is_put_in_and_changed_and_taken_out(rt: HostRuntime) {
     let mut map = FixedSizeFlatMap::<u16, char, 2>::new();
@@ -20,7 +20,7 @@ fn a_value_is_put_in_and_changed_and_taken_out(rt: HostRuntime) {
     assert_eq!(rt; map.remove(&80), Some('c'));
 }
 
-// Shows: FixedSizeFlatMap, FixedSizeFlatMap::new, MetaFlatMap::insert
+// Shows: FixedSizeFlatMap, InlineMap::new, MetaMap::insert
 #[test]
 fn insert_refuses_a_key_that_is_there_and_one_without_room(rt: HostRuntime) {
     let mut map = FixedSizeFlatMap::<u16, char, 1>::new();
@@ -30,7 +30,7 @@ fn insert_refuses_a_key_that_is_there_and_one_without_room(rt: HostRuntime) {
     assert_eq!(rt; map.get_ref(&80), Some(&'a'));
 }
 
-// Shows: MetaFlatMap::try_insert
+// Shows: MetaMap::try_insert
 #[test]
 fn try_insert_hands_key_and_value_back(rt: HostRuntime) {
     let mut map = FixedSizeFlatMap::<u16, char, 1>::new();
@@ -39,7 +39,7 @@ fn try_insert_hands_key_and_value_back(rt: HostRuntime) {
     assert_eq!(rt; map.try_insert(443, 'b'), Err((IsFull, 443, 'b')));
 }
 
-// Shows: MetaFlatMap::replace
+// Shows: MetaMap::replace
 #[test]
 fn replace_exchanges_the_value_of_a_key(rt: HostRuntime) {
     let mut map = FixedSizeFlatMap::<u16, char, 1>::new();
@@ -49,7 +49,7 @@ fn replace_exchanges_the_value_of_a_key(rt: HostRuntime) {
     assert_eq!(rt; map.get_ref(&80), Some(&'b'));
 }
 
-// Shows: MetaFlatMap::get_or_insert_with
+// Shows: MetaMap::get_or_insert_with
 #[test]
 fn a_value_is_made_for_a_new_key_alone(rt: HostRuntime) {
     let mut counts = FixedSizeFlatMap::<u16, u32, 1>::new();
@@ -62,7 +62,7 @@ fn a_value_is_made_for_a_new_key_alone(rt: HostRuntime) {
     assert_eq!(rt; counts.get_ref(&443), None); // there was no room for it
 }
 
-// Shows: MetaFlatMap::get_ref, MetaFlatMap::contains
+// Shows: MetaMap::get_ref, MetaMap::contains
 #[test]
 fn a_value_is_found_by_an_equal_key(rt: HostRuntime) -> Result<(), Fail> {
     let mut map = FixedSizeFlatMap::<u16, char, 3>::new();
@@ -73,7 +73,7 @@ fn a_value_is_found_by_an_equal_key(rt: HostRuntime) -> Result<(), Fail> {
     Ok(())
 }
 
-// Shows: MetaFlatMap::get
+// Shows: MetaMap::get
 #[test]
 fn get_clones_the_value(rt: HostRuntime) -> Result<(), Fail> {
     let mut map = FixedSizeFlatMap::<u16, char, 3>::new();
@@ -83,7 +83,7 @@ fn get_clones_the_value(rt: HostRuntime) -> Result<(), Fail> {
     Ok(())
 }
 
-// Shows: MetaFlatMap::get_key_value
+// Shows: MetaMap::get_key_value
 #[test]
 fn a_key_is_found_with_its_value(rt: HostRuntime) -> Result<(), Fail> {
     let mut map = FixedSizeFlatMap::<u16, char, 3>::new();
@@ -93,7 +93,7 @@ fn a_key_is_found_with_its_value(rt: HostRuntime) -> Result<(), Fail> {
     Ok(())
 }
 
-// Shows: MetaFlatMap::get_mut_ref
+// Shows: MetaMap::get_mut_ref
 #[test]
 fn a_value_is_written_in_its_place(rt: HostRuntime) -> Result<(), Fail> {
     let mut map = FixedSizeFlatMap::<u16, char, 3>::new();
@@ -106,7 +106,7 @@ fn a_value_is_written_in_its_place(rt: HostRuntime) -> Result<(), Fail> {
     Ok(())
 }
 
-// Shows: Index<&'q K> for MetaFlatMap
+// Shows: Index<&'q K> for MetaMap
 #[test]
 fn a_key_that_is_known_to_be_there_indexes_the_map(rt: HostRuntime) {
     let mut map = FixedSizeFlatMap::<u16, char, 3>::new();
@@ -115,7 +115,7 @@ fn a_key_that_is_known_to_be_there_indexes_the_map(rt: HostRuntime) {
     }
 }
 
-// Shows: MetaFlatMap::remove
+// Shows: MetaMap::remove
 #[test]
 fn remove_returns_the_value(rt: HostRuntime) -> Result<(), Fail> {
     let mut map = FixedSizeFlatMap::<u16, char, 3>::new();
@@ -125,7 +125,7 @@ fn remove_returns_the_value(rt: HostRuntime) -> Result<(), Fail> {
     Ok(())
 }
 
-// Shows: MetaFlatMap::remove_entry
+// Shows: MetaMap::remove_entry
 #[test]
 fn remove_entry_returns_the_key_too(rt: HostRuntime) -> Result<(), Fail> {
     let mut map = FixedSizeFlatMap::<u16, char, 3>::new();
@@ -135,7 +135,7 @@ fn remove_entry_returns_the_key_too(rt: HostRuntime) -> Result<(), Fail> {
     Ok(())
 }
 
-// Shows: MetaFlatMap::capacity, MetaFlatMap::len, MetaFlatMap::is_empty, MetaFlatMap::is_full
+// Shows: MetaMap::capacity, MetaMap::len, MetaMap::is_empty, MetaMap::is_full
 #[test]
 fn a_map_knows_how_many_keys_it_has(rt: HostRuntime) -> Result<(), Fail> {
     let mut map = FixedSizeFlatMap::<u16, char, 2>::new();
@@ -147,7 +147,7 @@ fn a_map_knows_how_many_keys_it_has(rt: HostRuntime) -> Result<(), Fail> {
     Ok(())
 }
 
-// Shows: MetaFlatMap::clear
+// Shows: MetaMap::clear
 #[test]
 fn clear_removes_all_keys(rt: HostRuntime) -> Result<(), Fail> {
     let mut map = FixedSizeFlatMap::<u16, char, 3>::new();
@@ -159,7 +159,7 @@ fn clear_removes_all_keys(rt: HostRuntime) -> Result<(), Fail> {
     Ok(())
 }
 
-// Shows: MetaFlatMap::nth_key
+// Shows: MetaMap::nth_key
 #[test]
 fn a_new_key_takes_the_place_that_was_vacated_last(rt: HostRuntime) -> Result<(), Fail> {
     let mut map = FixedSizeFlatMap::<u16, char, 3>::new();
@@ -173,7 +173,7 @@ fn a_new_key_takes_the_place_that_was_vacated_last(rt: HostRuntime) -> Result<()
     Ok(())
 }
 
-// Shows: MetaFlatMap::list_keys, CallbackProgression
+// Shows: MetaMap::list_keys, CallbackProgression
 #[test]
 fn keys_are_listed_until_the_closure_stops(rt: HostRuntime) -> Result<(), Fail> {
     let mut map = FixedSizeFlatMap::<u16, char, 3>::new();
@@ -188,7 +188,7 @@ fn keys_are_listed_until_the_closure_stops(rt: HostRuntime) -> Result<(), Fail> 
     Ok(())
 }
 
-// Shows: MetaFlatMap::for_each_mut
+// Shows: MetaMap::for_each_mut
 #[test]
 fn each_value_is_changed_in_its_place(rt: HostRuntime) -> Result<(), Fail> {
     let mut map = FixedSizeFlatMap::<u16, char, 3>::new();
@@ -200,7 +200,7 @@ fn each_value_is_changed_in_its_place(rt: HostRuntime) -> Result<(), Fail> {
     Ok(())
 }
 
-// Shows: MetaFlatMap::retain
+// Shows: MetaMap::retain
 #[test]
 fn some_keys_are_kept_and_the_others_dropped(rt: HostRuntime) -> Result<(), Fail> {
     let mut map = FixedSizeFlatMap::<u16, char, 3>::new();
@@ -212,7 +212,7 @@ fn some_keys_are_kept_and_the_others_dropped(rt: HostRuntime) -> Result<(), Fail
     Ok(())
 }
 
-// Shows: Clone for FixedSizeFlatMap, PartialEq for MetaFlatMap
+// Shows: Clone for InlineMap, PartialEq for MetaMap
 #[test]
 fn maps_are_equal_whatever_their_places(rt: HostRuntime) -> Result<(), Fail> {
     let mut map = FixedSizeFlatMap::<u16, char, 3>::new();
@@ -239,7 +239,7 @@ fn a_pair_is_cloned_with_its_key(rt: HostRuntime) -> Result<(), Fail> {
     Ok(())
 }
 
-// Shows: FlatMap::try_clone_in
+// Shows: HeapMap::try_clone_in
 #[test]
 fn a_clone_may_have_another_allocator(rt: HostRuntime) -> Result<(), Fail> {
     let mut map = FlatMap::<u16, char>::new(rt.alloc(), 3)?;
@@ -250,14 +250,14 @@ fn a_clone_may_have_another_allocator(rt: HostRuntime) -> Result<(), Fail> {
     Ok(())
 }
 
-// Shows: Default for FixedSizeFlatMap
+// Shows: Default for InlineMap
 #[test]
 fn the_default_map_is_empty(rt: HostRuntime) {
     let map = FixedSizeFlatMap::<u16, char, 3>::default();
     assert_eq!(rt; (map.len(), map.capacity()), (0, 3));
 }
 
-// Shows: FlatMap, FlatMap::new, FlatMap::memory_size
+// Shows: FlatMap, HeapMap::new, HeapMap::memory_size
 #[test]
 fn a_map_is_allocated_in_one_call(rt: HostRuntime) -> Result<(), Fail> {
     let size = FlatMap::<u64, u64, Global>::memory_size(100);
@@ -279,7 +279,7 @@ fn a_map_that_got_no_memory_is_tried_again(rt: HostRuntime) -> Result<(), Fail> 
     Ok(())
 }
 
-// Shows: RelocatableFlatMap, RelocatableFlatMap::new_uninit
+// Shows: RelocatableFlatMap, HeapMap::new_uninit
 #[test]
 fn a_map_is_made_in_two_steps(rt: HostRuntime) -> Result<(), Fail> {
     let uninit = RelocatableFlatMap::<u16, char, Global>::new_uninit(3);
@@ -296,7 +296,7 @@ fn a_family_makes_maps_for_any_allocator(rt: HostRuntime) -> Result<(), Fail> {
     Ok(())
 }
 
-// Shows: Debug for MetaFlatMap, fmt::Display for FlatMapError
+// Shows: Debug for MetaMap, fmt::Display for FlatMapError
 #[test]
 fn maps_and_errors_are_printed(rt: HostRuntime) -> Result<(), Fail> {
     let mut map = FixedSizeFlatMap::<u16, char, 3>::new();

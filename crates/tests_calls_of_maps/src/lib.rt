@@ -10,5 +10,3 @@ mod flat_map_iterator_tests;
 mod flat_map_tests;
 #[cfg(test)]
 mod hash_map_tests;
-#[cfg(test)]
-mod hash_map_whole_tests;

@@ -1,8 +1,8 @@
--- Which places of a flat map have a key.
-use Rattle.std.specs.Prelude.{◌≡◌, ℕ, ◌+◌, ◌<◌, ◌≤◌, nat_eq, nat_lt, if◌then◌else◌, Bool, true, false}
+-- Which places of a map have a key.
+use Rattle.std.specs.Prelude.{◌≡◌, ℕ, ◌+◌, ◌<◌, ◌≤◌, Bool, true, false}
 use Rattle.std.specs.Option.{option_map_or}
 use Rattle.ix_slottable.specs.SlotState.{SlotState, value_at}
-use Rattle.ix_flatmap.specs.declared.flatmap.pair.Pair.{Pair}
+use Rattle.ix_flatmap.specs.declared.map.pair.Pair.{Pair}
 
 module _ {K V : Type 0} where
   -- the place has a pair whose key equals this one
@@ -17,11 +17,3 @@ module _ {K V : Type 0} where
   abbrev pub IsFoundIn : (K → K → Bool) → SlotState (Pair K V) → K → ℕ → ℕ → ℕ → ℕ → Type 0
   IsFoundIn eq s key start n i found =
       (found ≤ n) × (found < n → is_key_at eq s key (start + found) ≡ true) × (found ≡ n → HasNoKeyIn eq s key start i)
-
--- the bound once this place has a value too
-abbrev pub bound_with : ℕ → ℕ → ℕ
-bound_with bound place = if nat_lt place bound then bound else place + 1
-
--- the bound once this place, which was below it, has none
-abbrev pub bound_without : ℕ → ℕ → ℕ
-bound_without bound place = if nat_eq (place + 1) bound then place else bound

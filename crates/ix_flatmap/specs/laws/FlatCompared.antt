@@ -8,7 +8,7 @@ use Rattle.std.proofs.lemmas.Bool.{cases_Bool}
 use Rattle.std.proofs.lemmas.Cmp.{and_equiv}
 use Rattle.ix_slottable.specs.SlotState.{SlotState}
 use Rattle.ix_flatmap.specs.FlatState.{flat_items}
-use Rattle.ix_flatmap.specs.declared.flatmap.pair.Pair.{Pair}
+use Rattle.ix_flatmap.specs.declared.map.pair.Pair.{Pair}
 use Rattle.ix_flatmap.specs.FlatCompared.{is_same_item, has_each, has_same}
 
 and_left : (a b : Bool) → (a && b) ≡ true → a ≡ true

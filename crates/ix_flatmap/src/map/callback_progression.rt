@@ -1,7 +1,7 @@
 //! What a callback returns.
 
 /// Whether a callback is to be called again, as the closure of
-/// [`MetaFlatMap::list_keys`](crate::flatmap::MetaFlatMap::list_keys) returns it.
+/// [`MetaMap::list_keys`](crate::map::MetaMap::list_keys) returns it.
 ///
 /// This is `CallbackProgression` of iceoryx2-bb-elementary, which iceoryx2-bb-container uses.
 #[derive(Clone, Copy, PartialEq, Eq, Debug)]

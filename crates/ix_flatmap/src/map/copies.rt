@@ -1,10 +1,10 @@
-//! Clones of flat maps.
+//! Clones of maps.
 ghost use Rattle.std.specs.Prelude.{◌≡◌, length, IsOk, IfOk};
 ghost use Rattle.ix_tables.specs.Cloning.{AreEqualClones};
 ghost use Rattle.ix_slottable.specs.SlotCopies.{SlotIsClone, SlotIsInfallible};
 ghost use Rattle.ix_flatmap.specs.FlatCopies.{PairIsClone, PairIsInfallible};
 
-use crate::flatmap::{FixedSizeFlatMap, FlatMap, MetaFlatMap, Pair};
+use crate::map::{CopyIn, CopyInline, HeapMap, InlineMap, KeyIndex, MetaMap, Pair, PairIndex};
 use std::alloc::{AllocError, Allocator};
 
 impl<K: Eq + Clone, V: Clone> Clone for Pair<K, V> {
@@ -26,47 +26,52 @@ impl<K: Eq + Clone, V: Clone> Clone for Pair<K, V> {
     }
 }
 
-impl<K: Eq + Clone, V: Clone, const CAPACITY: usize> Clone for FixedSizeFlatMap<K, V, CAPACITY> {
+impl<
+    K: Eq + Clone,
+    V: Clone,
+    const CAPACITY: usize,
+    I: KeyIndex<K, V> + CopyInline<Pair<K, V>, CAPACITY> + Drop,
+> Clone for InlineMap<K, V, CAPACITY, I> {
     ghost is_clone = { SlotIsClone (PairIsClone K.eq K.is_clone V.is_clone) };
 
     ghost is_infallible = { SlotIsInfallible
         (PairIsInfallible K.eq K.is_clone K.is_infallible V.is_infallible) };
 
-    /// Creates a map that holds clones of the keys and values in the same places, and has the same free places in the same
-    /// order. O(`CAPACITY`).
+    /// Creates a map that holds clones of the keys and values in the same places, has the same free places in the same order,
+    /// and finds keys as this one does. O(`CAPACITY`).
     ///
     /// Returns `AllocError` if a clone fails, and if the clone of a key is not equal to the key; the clones already made are
     /// dropped.
     fn clone(&self) -> Result<Self, AllocError> {
         match self.pairs.clone() {
-            Ok(pairs) => Ok(MetaFlatMap {
+            Ok(pairs) => Ok(MetaMap {
                 pairs,
-                bound: self.bound,
+                index: self.index.copy_inline(),
             }),
             Err(error) => Err(error),
         }
     }
 }
 
-impl<K: Eq + Clone, V: Clone, A: Allocator + Copy> FlatMap<K, V, A> {
-    /// Creates a map of the same capacity that holds clones of the keys and values in the same places, and has the same free
-    /// places in the same order, in memory of `alloc`.
+impl<K: Eq + Clone, V: Clone, A: Allocator + Copy, I: PairIndex<Pair<K, V>>> HeapMap<K, V, A, I> {
+    /// Creates a map of the same capacity that holds clones of the keys and values in the same places, has the same free
+    /// places in the same order, and finds keys as this one does, in memory of `alloc`.
     ///
-    /// O(`capacity`), with at most four allocations and `len` clones of keys and of values. Returns `AllocError` if an
-    /// allocation or a clone fails; nothing stays allocated then.
+    /// O(`capacity`), with as many allocations at most as it took to make the map, and `len` clones of keys and of values. Returns
+    /// `AllocError` if an allocation or a clone fails; nothing stays allocated then.
     pub fn try_clone_in<D: Allocator + Copy>(
         &self,
         alloc: D,
-    ) -> Result<FlatMap<K, V, D>, AllocError>
+    ) -> Result<HeapMap<K, V, D, <I as CopyIn<Pair<K, V>, D>>::Made>, AllocError>
+    where
+        I: CopyIn<Pair<K, V>, D>,
         requires keys { AreEqualClones K.is_clone }
         requires values { AreEqualClones V.is_clone }
         ensures value { IfOk result (λ map. map ≡ self.now) }
         ensures memory { length self.now.values ≡ 0 → IsOk result }
     {
         let pairs = self.pairs.try_clone_in(alloc)?;
-        Ok(MetaFlatMap {
-            pairs,
-            bound: self.bound,
-        })
+        let index = self.index.copy_in(alloc)?;
+        Ok(MetaMap { pairs, index })
     }
 }

@@ -1,4 +1,4 @@
-//! The iterator that drains a flat map.
+//! The iterator that drains a map.
 ghost use Rattle.std.specs.Prelude.{◌≡◌, length, drop, Some, IfSome};
 ghost use Rattle.std.specs.Iterator.{UpTo, at_most, item_count};
 ghost use Rattle.std.specs.Iterator.SizeHint.{IsWithinCount};
@@ -6,32 +6,43 @@ ghost use Rattle.ix_slottable.specs.SlotState.{held_count, entries_from};
 ghost use Rattle.ix_slottable.specs.SlotSteps.{slot_clear};
 ghost use Rattle.ix_flatmap.specs.FlatState.{flat_items};
 
-use crate::flatmap::{MetaFlatMap, Pair};
-use crate::pair_places::PairPlaces;
+use crate::map::{KeyIndex, MetaMap, Pair};
 use ix_slottable::slottable::{Link, SlotTableKey};
 use ix_tables::Table;
 use std::fmt::{self, Debug, Formatter, Write};
 use std::iter::FusedIterator;
 
-/// An iterator that removes the keys of a flat map, each with its value, in slot order, as [`MetaFlatMap::drain`] returns it.
+/// An iterator that removes the keys of a map, each with its value, in slot order, as [`MetaMap::drain`] returns it.
 ///
 /// The keys and values that are still to come when it is dropped are dropped with it, the next ones first, and the map is empty
 /// then.
-pub struct Drain<'a, K: Eq, V, S: Table<Pair<K, V>>, L: Table<Link>> {
-    map: &'a mut MetaFlatMap<Pair<K, V>, S, L>,
+pub struct Drain<
+    'a,
+    K: Eq + Drop,
+    V: Drop,
+    S: Table<Pair<K, V>>,
+    L: Table<Link>,
+    I: KeyIndex<K, V>,
+> {
+    map: &'a mut MetaMap<Pair<K, V>, S, L, I>,
     /// No place before this one has a pair.
     place: usize,
     ghost counted: { held_count map.now ≡ length (entries_from place (drop place map.now.values)) },
 }
 
-impl<K: Eq + Drop, V: Drop, S: Table<Pair<K, V>>, L: Table<Link>> MetaFlatMap<Pair<K, V>, S, L> {
+impl<K: Eq + Drop, V: Drop, S: Table<Pair<K, V>>, L: Table<Link>, I: KeyIndex<K, V>> MetaMap<
+    Pair<K, V>,
+    S,
+    L,
+    I,
+> {
     ghost use Rattle.ix_slottable.specs.Draining.{DrainingKeepsAlong};
     ghost use Rattle.ix_flatmap.specs.FlatDrain.{drain_items, drain_left, drain_lender};
 
     /// Returns an iterator that removes all keys, each with its value, in slot order. What is not taken is dropped with it, and
-    /// the map is as [`MetaFlatMap::clear`] leaves it then. O(1), and O(capacity) for all of its items together.
+    /// the map is as [`MetaMap::clear`] leaves it then. O(1), and O(capacity) for all of its items together.
     #[inline]
-    pub fn drain(&mut self) -> Drain<'_, K, V, S, L>
+    pub fn drain(&mut self) -> Drain<'_, K, V, S, L, I>
         ensures items { drain_items result ≡ flat_items self.old }
         ensures left { drain_left result ≡ slot_clear self.old }
         // With these two a caller knows what the map is once the iterator is dropped.
@@ -46,7 +57,8 @@ impl<K: Eq + Drop, V: Drop, S: Table<Pair<K, V>>, L: Table<Link>> MetaFlatMap<Pa
 }
 
 /// Drops the keys and values that are still to come, the next ones first. The map is empty then. O(capacity).
-impl<K: Eq + Drop, V: Drop, S: Table<Pair<K, V>>, L: Table<Link>> Drop for Drain<'_, K, V, S, L> {
+impl<K: Eq + Drop, V: Drop, S: Table<Pair<K, V>>, L: Table<Link>, I: KeyIndex<K, V>> Drop
+    for Drain<'_, K, V, S, L, I> {
     ghost use Rattle.ix_flatmap.specs.FlatDrain.{drain_left};
 
     fn drop(self)
@@ -57,8 +69,8 @@ impl<K: Eq + Drop, V: Drop, S: Table<Pair<K, V>>, L: Table<Link>> Drop for Drain
     }
 }
 
-impl<K: Eq + Drop, V: Drop, S: Table<Pair<K, V>>, L: Table<Link>> Iterator
-    for Drain<'_, K, V, S, L> {
+impl<K: Eq + Drop, V: Drop, S: Table<Pair<K, V>>, L: Table<Link>, I: KeyIndex<K, V>> Iterator
+    for Drain<'_, K, V, S, L, I> {
     type Item = (K, V);
 
     ghost use Rattle.ix_slottable.specs.Draining.{DrainingSteps};
@@ -93,8 +105,13 @@ impl<K: Eq + Drop, V: Drop, S: Table<Pair<K, V>>, L: Table<Link>> Iterator
     }
 }
 
-impl<K: Eq + Drop, V: Drop, S: Table<Pair<K, V>>, L: Table<Link>> ExactSizeIterator
-    for Drain<'_, K, V, S, L> {
+impl<
+    K: Eq + Drop,
+    V: Drop,
+    S: Table<Pair<K, V>>,
+    L: Table<Link>,
+    I: KeyIndex<K, V>,
+> ExactSizeIterator for Drain<'_, K, V, S, L, I> {
     /// Returns the number of items that are still to come. O(1).
     #[inline]
     fn len(&self) -> usize {
@@ -102,12 +119,17 @@ impl<K: Eq + Drop, V: Drop, S: Table<Pair<K, V>>, L: Table<Link>> ExactSizeItera
     }
 }
 
-impl<K: Eq + Drop, V: Drop, S: Table<Pair<K, V>>, L: Table<Link>> FusedIterator
-    for Drain<'_, K, V, S, L> {}
+impl<K: Eq + Drop, V: Drop, S: Table<Pair<K, V>>, L: Table<Link>, I: KeyIndex<K, V>> FusedIterator
+    for Drain<'_, K, V, S, L, I> {}
 
 /// Prints a list of the items that are still to come, each a key and its value. O(capacity).
-impl<K: Eq + Debug + Drop, V: Debug + Drop, S: Table<Pair<K, V>>, L: Table<Link>> Debug
-    for Drain<'_, K, V, S, L> {
+impl<
+    K: Eq + Debug + Drop,
+    V: Debug + Drop,
+    S: Table<Pair<K, V>>,
+    L: Table<Link>,
+    I: KeyIndex<K, V>,
+> Debug for Drain<'_, K, V, S, L, I> {
     fn fmt<W: Write>(&self, f: &mut Formatter<W>) -> fmt::Result {
         self.map.iter().fmt(f)
     }

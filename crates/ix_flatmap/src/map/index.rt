@@ -1,15 +1,16 @@
-//! Values of a flat map by their keys.
+//! Values of a map by their keys.
 ghost use Rattle.std.specs.Prelude.{◌≡◌, IsSome, Some};
 ghost use Rattle.ix_flatmap.specs.FlatState.{flat_value};
 
-use crate::flatmap::{MetaFlatMap, Pair};
+use crate::map::{KeyIndex, MetaMap, Pair};
 use ix_slottable::slottable::Link;
 use ix_tables::Table;
 use std::ops::Index;
 
-/// `map[&key]` is the value of `key`, which the map has; [`MetaFlatMap::get_ref`] asks for nothing. O(capacity).
-impl<'q, K: Eq + Drop, V: Drop, S: Table<Pair<K, V>>, L: Table<Link>> Index<&'q K>
-    for MetaFlatMap<Pair<K, V>, S, L> {
+/// `map[&key]` is the value of `key`, which the map has; [`MetaMap::get_ref`] asks for nothing.
+impl<'q, K: Eq + Drop, V: Drop, S: Table<Pair<K, V>>, L: Table<Link>, I: KeyIndex<K, V>> Index<
+    &'q K,
+> for MetaMap<Pair<K, V>, S, L, I> {
     type Output = V;
 
     ghost can_index = { λ map key. IsSome (flat_value K.eq map key.now) };

@@ -1,21 +1,24 @@
-//! The calls of a flat map that insert a key.
-ghost use Rattle.std.specs.Prelude.{◌≡◌, ◌≢◌, ◌+◌, ◌↔◌, ◌≤◌, [], Some, None, IsOk, IsErr, IfOk, IfSome, OnErr, slice_get, false};
+//! The calls of a map that insert a key.
+ghost use Rattle.std.specs.Prelude.{◌≡◌, ◌≢◌, ◌↔◌, [], Some, None, IsOk, IsErr, IfOk, OnErr, false};
 ghost use Rattle.std.specs.Borrow.{sem, LendsIfOk};
 ghost use Rattle.std.specs.Option.{UnwrapsOrElse};
 ghost use Rattle.std.specs.Result.{IfErr};
-ghost use Rattle.ix_slottable.specs.SlotState.{IsFree};
-ghost use Rattle.ix_flatmap.specs.FlatState.{HasDistinctKeys, flat_entry, flat_value};
+ghost use Rattle.ix_flatmap.specs.FlatState.{HasDistinctKeys, flat_value};
 ghost use Rattle.ix_flatmap.specs.FlatSteps.{flat_insert_result, flat_insert, flat_replace};
-ghost use Rattle.ix_flatmap.specs.inner.FlatSearch.{bound_with};
 
-use crate::flatmap::{FlatMapError, Keyed, MetaFlatMap, Pair};
-use ix_slottable::slottable::{Link, SlotTableKey};
+use crate::map::{FlatMapError, KeyIndex, Keyed, MetaMap, Pair};
+use ix_slottable::slottable::Link;
 use ix_tables::Table;
 use std::mem;
 
-impl<K: Eq + Drop, V: Drop, S: Table<Pair<K, V>>, L: Table<Link>> MetaFlatMap<Pair<K, V>, S, L> {
-    ghost use Rattle.ix_flatmap.specs.contracts.flatmap.meta_flat_map.MetaFlatMap.{the_row};
-    ghost use Rattle.ix_flatmap.specs.contracts.flatmap.pair.Pair as pair;
+impl<K: Eq + Drop, V: Drop, S: Table<Pair<K, V>>, L: Table<Link>, I: KeyIndex<K, V>> MetaMap<
+    Pair<K, V>,
+    S,
+    L,
+    I,
+> {
+    ghost use Rattle.ix_flatmap.specs.contracts.map.meta_map.MetaMap.{the_row};
+    ghost use Rattle.ix_flatmap.specs.contracts.map.pair.Pair as pair;
 
     /// Inserts `key` with `value`. What is refused is handed back.
     ///
@@ -34,11 +37,15 @@ impl<K: Eq + Drop, V: Drop, S: Table<Pair<K, V>>, L: Table<Link>> MetaFlatMap<Pa
             → flat_value K.eq self.new other ≡ flat_value K.eq self.old other }
         ensures distinct { HasDistinctKeys K.eq self.new }
     {
-        if self.place(&key).is_some() {
+        let seat = self.index.seat(&self.pairs, &key);
+        if self.index.place(&self.pairs, seat, &key).is_some() {
             return Err((FlatMapError::KeyAlreadyExists, key, value));
         }
-        match self.insert_new(key, value) {
-            Ok(()) => Ok(()),
+        match self
+            .index
+            .insert(&mut self.pairs, seat, Pair { key, value })
+        {
+            Ok(_) => Ok(()),
             Err(pair) => Err((FlatMapError::IsFull, pair.key, pair.value)),
         }
     }
@@ -57,11 +64,15 @@ impl<K: Eq + Drop, V: Drop, S: Table<Pair<K, V>>, L: Table<Link>> MetaFlatMap<Pa
         ensures kept { (other : K) → K.eq other key ≡ false
             → flat_value K.eq self.new other ≡ flat_value K.eq self.old other }
     {
-        if let Some(old) = self.get_mut_ref(&key) {
-            return Ok(Some(mem::replace(old, value)));
+        let seat = self.index.seat(&self.pairs, &key);
+        if let Some(place) = self.index.place(&self.pairs, seat, &key) {
+            return Ok(Some(mem::replace(self.value_mut(place), value)));
         }
-        match self.insert_new(key, value) {
-            Ok(()) => Ok(None),
+        match self
+            .index
+            .insert(&mut self.pairs, seat, Pair { key, value })
+        {
+            Ok(_) => Ok(None),
             Err(pair) => Err((pair.key, pair.value)),
         }
     }
@@ -73,7 +84,7 @@ impl<K: Eq + Drop, V: Drop, S: Table<Pair<K, V>>, L: Table<Link>> MetaFlatMap<Pa
     pub fn get_or_insert_with<F: FnOnce() -> V>(&mut self, key: K, f: F) -> Result<&mut V, K>
         requires { flat_value K.eq self.old key ≡ None → self.old.free ≢ [] → F.pre f }
         ensures* writes_back { sem 𝓛
-            (LendsIfOk (the_row (pair.the_row K.row V.row) S.row L.row ⟦<Pair<K, V> as Keyed>⟧ S.Table L.Table)
+            (LendsIfOk (the_row (pair.the_row K.row V.row) S.row L.row I.row ⟦<Pair<K, V> as Keyed>⟧ S.Table L.Table I.PairIndex)
             V.row self.entry result (flat_replace K.eq self.old key) self.old) }
         ensures value { IfOk result (λ value. UnwrapsOrElse (flat_value K.eq self.old key) (F.post f) value.now) }
         ensures full { IsErr result ↔ ((flat_value K.eq self.old key ≡ None) × (self.old.free ≡ [])) }
@@ -85,57 +96,17 @@ impl<K: Eq + Drop, V: Drop, S: Table<Pair<K, V>>, L: Table<Link>> MetaFlatMap<Pa
             → flat_value K.eq (flat_replace K.eq self.old key written) other
             ≡ flat_value K.eq self.old other }
     {
-        if let Some(place) = self.place(&key) {
+        let seat = self.index.seat(&self.pairs, &key);
+        if let Some(place) = self.index.place(&self.pairs, seat, &key) {
             return Ok(self.value_mut(place));
         }
-        let Some(place) = self.next_free_place() else {
+        let Some(place) = self.pairs.next_free_key() else {
             return Err(key);
         };
-        match self.insert_new(key, f()) {
-            Ok(()) => Ok(self.value_mut(place)),
+        let pair = Pair { key, value: f() };
+        match self.index.insert(&mut self.pairs, seat, pair) {
+            Ok(_) => Ok(self.value_mut(place)),
             Err(_) => unreachable!(),
         }
     }
-
-    /// Returns the place that the next new key takes, or `None` if the map is full.
-    #[inline]
-    fn next_free_place(&self) -> Option<SlotTableKey>
-        ensures value { result ≡ slice_get self.now.free 0 }
-        ensures free { IfSome result (IsFree self.now) }
-    {
-        self.pairs.next_free_key()
-    }
-
-    /// Inserts `key`, which the map does not have, with `value`. Returns both as the error if the map is full.
-    #[inline]
-    pub(crate) fn insert_new(&mut self, key: K, value: V) -> Result<(), Pair<K, V>>
-        requires { flat_entry K.eq self.old key ≡ None }
-        ensures full { IsErr result ↔ (self.old.free ≡ []) }
-        ensures returned { IfErr result (λ pair. (pair.key ≡ key) × (pair.value ≡ value)) }
-        ensures map { self.new ≡ flat_insert K.eq self.old key value }
-        ensures holds { IsOk result → flat_value K.eq self.new key ≡ Some value }
-        ensures refused { OnErr result (self.new ≡ self.old) }
-        ensures kept { (other : K) → K.eq other key ≡ false
-            → flat_value K.eq self.new other ≡ flat_value K.eq self.old other }
-        ensures distinct { HasDistinctKeys K.eq self.new }
-    {
-        // Names the capacity, by which the check knows that the bound does not overflow.
-        let _capacity = self.pairs.capacity();
-        match self.pairs.try_insert(Pair { key, value }) {
-            Ok(place) => {
-                self.bound = bound_with(self.bound, place.value());
-                Ok(())
-            }
-            Err(pair) => Err(pair),
-        }
-    }
-}
-
-/// Returns what is above each place with a pair, and above this place too.
-#[inline]
-fn bound_with(bound: usize, place: usize) -> usize
-    requires { place + 1 ≤ 18446744073709551615 }
-    ensures { result ≡ bound_with bound place }
-{
-    if place < bound { bound } else { place + 1 }
 }

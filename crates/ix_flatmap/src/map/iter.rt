@@ -1,10 +1,10 @@
-//! The iterator of flat maps.
+//! The iterator of maps.
 ghost use Rattle.std.specs.Prelude.{◌≡◌, length, map, Some, IfSome, ⊤};
 ghost use Rattle.std.specs.Iterator.{YieldsFirstBy, UpTo, at_most, item_count};
 ghost use Rattle.std.specs.Iterator.SizeHint.{IsWithinCount};
 ghost use Rattle.ix_flatmap.specs.FlatState.{flat_item};
 
-use crate::flatmap::{MetaFlatMap, Pair};
+use crate::map::{MetaMap, Pair, PairIndex};
 use ix_slottable::slottable::{self, Link};
 use ix_tables::Table;
 use std::alloc::AllocError;
@@ -12,8 +12,8 @@ use std::fmt::{self, Debug, Formatter, Write};
 use std::iter::FusedIterator;
 use std::marker::Model;
 
-/// An iterator over the keys of a flat map in slot order, each with its value, as
-/// [`MetaFlatMap::iter`](crate::flatmap::MetaFlatMap::iter) returns it. Contracts see the items that are still to come.
+/// An iterator over the keys of a map in slot order, each with its value, as
+/// [`MetaMap::iter`](crate::map::MetaMap::iter) returns it. Contracts see the items that are still to come.
 #[derive(Drop)]
 pub struct Iter<'a, K, V, S: Table<Pair<K, V>>, L: Table<Link>> {
     pairs: slottable::Iter<'a, Pair<K, V>, S, L>,
@@ -104,8 +104,8 @@ impl<'a, K: Debug, V: Debug, S: Table<Pair<K, V>>, L: Table<Link>> Debug for Ite
     }
 }
 
-impl<'a, K: Eq, V, S: Table<Pair<K, V>>, L: Table<Link>> IntoIterator
-    for &'a MetaFlatMap<Pair<K, V>, S, L> {
+impl<'a, K: Eq, V, S: Table<Pair<K, V>>, L: Table<Link>, I: PairIndex<Pair<K, V>>> IntoIterator
+    for &'a MetaMap<Pair<K, V>, S, L, I> {
     ghost use Rattle.ix_flatmap.specs.FlatState.{flat_items};
 
     type Item = (&'a K, &'a V);

@@ -1,9 +1,9 @@
-//! The iterator over the keys of flat maps.
+//! The iterator over the keys of maps.
 ghost use Rattle.std.specs.Prelude.{◌≡◌, length, map, Some, IfSome, ⊤};
 ghost use Rattle.std.specs.Iterator.{YieldsFirstBy, UpTo, at_most, item_count};
 ghost use Rattle.std.specs.Iterator.SizeHint.{IsWithinCount};
 
-use crate::flatmap::Pair;
+use crate::map::Pair;
 use ix_slottable::slottable::{Iter, Link};
 use ix_tables::Table;
 use std::alloc::AllocError;
@@ -11,7 +11,7 @@ use std::fmt::{self, Debug, Formatter, Write};
 use std::iter::FusedIterator;
 use std::marker::Model;
 
-/// An iterator over the keys of a flat map in slot order, as [`MetaFlatMap::keys`](crate::flatmap::MetaFlatMap::keys)
+/// An iterator over the keys of a map in slot order, as [`MetaMap::keys`](crate::map::MetaMap::keys)
 /// returns it. Contracts see the keys that are still to come.
 #[derive(Drop)]
 pub struct Keys<'a, K, V, S: Table<Pair<K, V>>, L: Table<Link>> {

@@ -1,4 +1,4 @@
-//! The flat map over any two tables.
+//! The map over any two tables and any index.
 ghost use Rattle.std.specs.Prelude.{◌≡◌, ◌↔◌, ◌+◌, ◌<◌, ◌≤◌, ℕ, [], length, Some, None, IsSome, IsTrue, IsNone, IsOk, IfSome, IfOk, OnErr, option_copied, option_map, replicate, slice_get, false, true};
 ghost use Rattle.std.specs.Borrow.{sem, Lends, LendsIf};
 ghost use Rattle.std.specs.Option.{option_copied_mut};
@@ -8,40 +8,36 @@ ghost use Rattle.ix_slottable.specs.SlotState.{IsWellFormed, IsHeld, value_at, h
 ghost use Rattle.ix_slottable.specs.SlotSteps.{slot_clear};
 ghost use Rattle.ix_flatmap.specs.FlatState.{HasDistinctKeys, flat_entry, flat_value, flat_keys, flat_values, flat_item, flat_items};
 ghost use Rattle.ix_flatmap.specs.FlatSteps.{flat_insert_result, flat_insert, pair_set, flat_set, flat_remove, ListsUntilStop};
-ghost use Rattle.ix_flatmap.specs.inner.FlatSearch.{bound_without};
 
-use crate::flatmap::{CallbackProgression, FlatMapError, Iter, Keyed, Keys, Pair, Values};
-use crate::pair_places::PairPlaces;
+use crate::map::{
+    CallbackProgression, FlatMapError, Iter, KeyIndex, Keyed, Keys, Pair, PairIndex, Values,
+};
 use ix_slottable::slottable::{Link, MetaSlotTable, SlotTableKey};
 use ix_tables::Table;
 use std::alloc::AllocError;
 use std::fmt::{self, Debug, Formatter, Write};
 use std::marker::Model;
 
-/// A map from keys to values, over a table of pairs `S` and a table of links `L`. Keys are compared by their `Eq`.
-/// Contracts see a slot table of pairs, in which no two keys are equal.
+/// A map from keys to values, over a table of pairs `S`, a table of links `L` and an index `I`, by which it finds keys. Keys are
+/// compared by their `Eq`. Contracts see a slot table of pairs, in which no two keys are equal.
 ///
 /// A pair stays at its place until it is removed, and a new one takes the first free place: the one vacated last, or else
-/// the least that was never used. Slot order is that of the places. A call that looks for a key compares it with the keys
-/// of the map in slot order, up to the equal one. If the keys are in the first places and take at most eight bytes, it
-/// compares eight at a time, and so up to seven after that one, or 32 at a time if there are 128 keys or more; in any case it
-/// compares no key twice.
+/// the least that was never used. Slot order is that of the places.
 ///
-/// Each call that looks for a key takes O(capacity) time, any other O(1), if nothing else is said. No call allocates but those
-/// that make a map, and clones of a value. A map that is dropped drops its pairs in slot order, in O(capacity) time.
+/// A call that looks for a key takes the time of the index. Any other takes O(1), if nothing else is said. No call allocates but
+/// those that make a map, and clones of a value. A map that is dropped drops its pairs in slot order, in O(capacity) time.
 ///
-/// This is `MetaFlatMap` of iceoryx2-bb-container.
+/// A user makes a map by the names of its kinds: `FlatMap` and its like, whose index is [`Bound`](crate::flatmap::Bound), or
+/// `HashMap` and its like of `ix_hashmap`.
 #[derive(Drop)]
-pub struct MetaFlatMap<P: Keyed, S: Table<P>, L: Table<Link>> {
+pub struct MetaMap<P: Keyed, S: Table<P>, L: Table<Link>, I: PairIndex<P>> {
     pub(crate) pairs: MetaSlotTable<P, S, L>,
-    /// Each place with a pair is below this one.
-    pub(crate) bound: usize,
+    pub(crate) index: I,
 }
 
-impl<P: Keyed, S: Table<P>, L: Table<Link>> Model for MetaFlatMap<P, S, L> {
+impl<P: Keyed, S: Table<P>, L: Table<Link>, I: PairIndex<P>> Model for MetaMap<P, S, L, I> {
     ghost use Rattle.ix_slottable.specs.SlotState.{SlotState, slot_state_code};
     ghost use Rattle.ix_flatmap.specs.FlatState.{AreDistinctBy};
-    ghost use Rattle.ix_flatmap.specs.FlatState.{IsBound};
 
     ghost Value = { SlotState P };
 
@@ -49,12 +45,17 @@ impl<P: Keyed, S: Table<P>, L: Table<Link>> Model for MetaFlatMap<P, S, L> {
 
     ghost view = { λ map. map.pairs };
 
-    ghost invariant = { λ map. AreDistinctBy P.has_key_of map.pairs × IsBound map.pairs map.bound };
+    ghost invariant = { λ map. AreDistinctBy P.has_key_of map.pairs × I.Fits map.index map.pairs };
 }
 
-impl<K: Eq + Drop, V: Drop, S: Table<Pair<K, V>>, L: Table<Link>> MetaFlatMap<Pair<K, V>, S, L> {
-    ghost use Rattle.ix_flatmap.specs.contracts.flatmap.meta_flat_map.MetaFlatMap.{the_row};
-    ghost use Rattle.ix_flatmap.specs.contracts.flatmap.pair.Pair as pair;
+impl<K: Eq + Drop, V: Drop, S: Table<Pair<K, V>>, L: Table<Link>, I: KeyIndex<K, V>> MetaMap<
+    Pair<K, V>,
+    S,
+    L,
+    I,
+> {
+    ghost use Rattle.ix_flatmap.specs.contracts.map.meta_map.MetaMap.{the_row};
+    ghost use Rattle.ix_flatmap.specs.contracts.map.pair.Pair as pair;
 
     /// Inserts `key` with `value`.
     ///
@@ -77,7 +78,7 @@ impl<K: Eq + Drop, V: Drop, S: Table<Pair<K, V>>, L: Table<Link>> MetaFlatMap<Pa
 
     /// Returns a clone of the value of `key`, or `None` if the map has no equal key.
     ///
-    /// Returns `AllocError` if cloning the value fails. [`MetaFlatMap::get_ref`] clones nothing.
+    /// Returns `AllocError` if cloning the value fails. [`MetaMap::get_ref`] clones nothing.
     #[inline]
     pub fn get(&self, key: &K) -> Result<Option<V>, AllocError>
     where
@@ -124,7 +125,7 @@ impl<K: Eq + Drop, V: Drop, S: Table<Pair<K, V>>, L: Table<Link>> MetaFlatMap<Pa
     #[inline]
     pub fn get_mut_ref(&mut self, key: &K) -> Option<&mut V>
         ensures* writes_back { sem 𝓛
-            (LendsIf (the_row (pair.the_row K.row V.row) S.row L.row ⟦<Pair<K, V> as Keyed>⟧ S.Table L.Table)
+            (LendsIf (the_row (pair.the_row K.row V.row) S.row L.row I.row ⟦<Pair<K, V> as Keyed>⟧ S.Table L.Table I.PairIndex)
             V.row self.entry result (flat_set K.eq self.old key.now) self.old) }
         ensures value { option_copied_mut result ≡ flat_value K.eq self.old key.now }
         // Whatever value is written, the key has it, and any other key keeps its own.
@@ -134,7 +135,8 @@ impl<K: Eq + Drop, V: Drop, S: Table<Pair<K, V>>, L: Table<Link>> MetaFlatMap<Pa
             → flat_value K.eq (flat_set K.eq self.old key.now written) other
             ≡ flat_value K.eq self.old other }
     {
-        match self.place(key) {
+        let seat = self.index.seat(&self.pairs, key);
+        match self.index.place(&self.pairs, seat, key) {
             Some(place) => Some(self.value_mut(place)),
             None => None,
         }
@@ -165,21 +167,21 @@ impl<K: Eq + Drop, V: Drop, S: Table<Pair<K, V>>, L: Table<Link>> MetaFlatMap<Pa
             → flat_value K.eq self.new other ≡ flat_value K.eq self.old other }
         ensures distinct { HasDistinctKeys K.eq self.new }
     {
-        let place = self.place(key)?;
-        let pair = self.remove_at(place);
+        let seat = self.index.seat(&self.pairs, key);
+        let place = self.index.place(&self.pairs, seat, key)?;
+        let pair = self.index.remove(&mut self.pairs, seat, place);
         Some((pair.key, pair.value))
     }
 
     /// Removes all keys and drops them with their values, in slot order. O(capacity).
     ///
-    /// The free places are in the order that [`MetaFlatMap::remove`] of each key in slot order leaves, so that the next new key
+    /// The free places are in the order that [`MetaMap::remove`] of each key in slot order leaves, so that the next new key
     /// takes the place of the last one.
     pub fn clear(&mut self)
         ensures map { self.new ≡ slot_clear self.old }
         ensures values { self.new.values ≡ replicate (length self.old.values) None }
     {
-        self.pairs.clear();
-        self.bound = 0;
+        self.index.clear(&mut self.pairs);
     }
 
     /// Returns the maximum number of keys. O(1).
@@ -264,14 +266,14 @@ impl<K: Eq + Drop, V: Drop, S: Table<Pair<K, V>>, L: Table<Link>> MetaFlatMap<Pa
         Iter::new(self.pairs.iter())
     }
 
-    /// Returns the key that [`MetaFlatMap::list_keys`] lists after `n` others, or `None` if there are at most `n` keys.
+    /// Returns the key that [`MetaMap::list_keys`] lists after `n` others, or `None` if there are at most `n` keys.
     pub fn nth_key(&self, n: usize) -> Option<&K>
         ensures { option_copied result ≡ slice_get (flat_keys self.now) n }
     {
         self.keys().nth(n)
     }
 
-    /// Does what [`MetaFlatMap::list_keys`] does. The callback is left as its last call leaves it.
+    /// Does what [`MetaMap::list_keys`] does. The callback is left as its last call leaves it.
     #[inline]
     fn list_with<F: FnMut(&K) -> CallbackProgression>(&self, callback: &mut F)
         requires { F.IsAlwaysCallable callback.old }
@@ -285,16 +287,15 @@ impl<K: Eq + Drop, V: Drop, S: Table<Pair<K, V>>, L: Table<Link>> MetaFlatMap<Pa
         }
     }
 
-    /// Returns the place of the key that equals `key`.
-    #[inline]
-    pub(crate) fn place(&self, key: &K) -> Option<SlotTableKey>
-        ensures value { result ≡ option_map (λ entry. entry.0) (flat_entry K.eq self.now key.now) }
+    /// Returns the place of the key that equals `key`, and the pair there.
+    #[inline(always)]
+    fn find(&self, key: &K) -> Option<(SlotTableKey, &Pair<K, V>)>
+        ensures value { option_map (λ entry. (entry.0, entry.1.now)) result
+            ≡ flat_entry K.eq self.now key.now }
         ensures distinct { HasDistinctKeys K.eq self.now }
     {
-        match self.find(key) {
-            Some((place, _)) => Some(place),
-            None => None,
-        }
+        let seat = self.index.seat(&self.pairs, key);
+        self.index.find(&self.pairs, seat, key)
     }
 
     /// Returns a mutable reference to the value at a place that has a pair.
@@ -302,7 +303,7 @@ impl<K: Eq + Drop, V: Drop, S: Table<Pair<K, V>>, L: Table<Link>> MetaFlatMap<Pa
     pub(crate) fn value_mut(&mut self, place: SlotTableKey) -> &mut V
         requires { IsHeld self.old place }
         ensures* writes_back { sem 𝓛
-            (Lends (the_row (pair.the_row K.row V.row) S.row L.row ⟦<Pair<K, V> as Keyed>⟧ S.Table L.Table)
+            (Lends (the_row (pair.the_row K.row V.row) S.row L.row I.row ⟦<Pair<K, V> as Keyed>⟧ S.Table L.Table I.PairIndex)
             V.row self.entry result (pair_set self.old place)) }
         ensures value { option_map (λ pair. pair.value) (value_at self.old place)
             ≡ Some result.now }
@@ -311,18 +312,9 @@ impl<K: Eq + Drop, V: Drop, S: Table<Pair<K, V>>, L: Table<Link>> MetaFlatMap<Pa
     }
 }
 
-/// Returns what is above each place with a pair but for this one, which was below `bound`.
-#[inline]
-pub(crate) fn bound_without(bound: usize, place: usize) -> usize
-    requires { place < bound }
-    ensures { result ≡ bound_without bound place }
-{
-    if place + 1 == bound { place } else { bound }
-}
-
 /// Prints a map from the keys to their values, in slot order. O(capacity).
-impl<K: Eq + Debug, V: Debug, S: Table<Pair<K, V>>, L: Table<Link>> Debug
-    for MetaFlatMap<Pair<K, V>, S, L> {
+impl<K: Eq + Debug, V: Debug, S: Table<Pair<K, V>>, L: Table<Link>, I: PairIndex<Pair<K, V>>> Debug
+    for MetaMap<Pair<K, V>, S, L, I> {
     fn fmt<W: Write>(&self, f: &mut Formatter<W>) -> fmt::Result {
         f.debug_map().entries(Iter::new(self.pairs.iter())).finish()
     }

@@ -1,14 +1,14 @@
-//! What a flat map has at a place.
+//! What a map has at a place.
 ghost use Rattle.std.specs.Prelude.{Bool};
 
-/// What a [`MetaFlatMap`](crate::flatmap::MetaFlatMap) can hold at a place: it has a key. Every [`Pair`] is, and nothing else
+/// What a [`MetaMap`](crate::map::MetaMap) can hold at a place: it has a key. Every [`Pair`] is, and nothing else
 /// has the calls of a map.
 pub trait Keyed {
     /// The two have equal keys.
     ghost has_key_of: { Self → Self → Bool };
 }
 
-/// A key and its value, as the tables of a flat map hold them.
+/// A key and its value, as the tables of a map hold them.
 #[derive(Debug, Drop)]
 pub struct Pair<K, V> {
     /// The key.

@@ -1,9 +1,9 @@
-//! The iterator over the values of flat maps.
+//! The iterator over the values of maps.
 ghost use Rattle.std.specs.Prelude.{◌≡◌, length, map, Some, IfSome, ⊤};
 ghost use Rattle.std.specs.Iterator.{YieldsFirstBy, UpTo, at_most, item_count};
 ghost use Rattle.std.specs.Iterator.SizeHint.{IsWithinCount};
 
-use crate::flatmap::Pair;
+use crate::map::Pair;
 use ix_slottable::slottable::{Iter, Link};
 use ix_tables::Table;
 use std::alloc::AllocError;
@@ -11,8 +11,8 @@ use std::fmt::{self, Debug, Formatter, Write};
 use std::iter::FusedIterator;
 use std::marker::Model;
 
-/// An iterator over the values of a flat map in slot order of their keys, as
-/// [`MetaFlatMap::values`](crate::flatmap::MetaFlatMap::values) returns it. Contracts see the values that are still to come.
+/// An iterator over the values of a map in slot order of their keys, as
+/// [`MetaMap::values`](crate::map::MetaMap::values) returns it. Contracts see the values that are still to come.
 #[derive(Drop)]
 pub struct Values<'a, K, V, S: Table<Pair<K, V>>, L: Table<Link>> {
     pairs: Iter<'a, Pair<K, V>, S, L>,

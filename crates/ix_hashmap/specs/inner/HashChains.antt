@@ -7,7 +7,7 @@ use Rattle.ix_flatmap.specs.inner.FlatSearch.{is_key_at}
 use Rattle.ix_slottable.specs.inner.FullTables.{items_in}
 use Rattle.ix_hashmap.specs.declared.hashmap.chain_link.ChainLink.{ChainLink}
 use Rattle.ix_hashmap.specs.declared.hashmap.chain_link.Heads.{Heads}
-use Rattle.ix_flatmap.specs.declared.flatmap.Pair.{Pair}
+use Rattle.ix_flatmap.specs.declared.map.Pair.{Pair}
 
 -- the number for no place: no table has so many
 abbrev pub no_place : ℕ
@@ -129,6 +129,12 @@ module _ {T : Type 0} (hash : T → ℕ) (s : SlotState T) (links : List ChainLi
     pub lengths : length links ≡ length s.values
     pub fits : length links ≤ no_place
     pub each : (bucket : ℕ) → HasChain bucket
+
+-- the bucket of a hash has this number, and its chain begins at this place
+pub record IsBucket (hash : ℕ) (links : List ChainLink) (number first : ℕ) : Type 0 where
+  pub is : bucket_of hash (length links) ≡ number
+  pub below : 0 < length links → number < 4 * length links
+  pub starts : first ≡ head_at links number
 
 -- on the chain that begins at `first` each place has a pair, and if a place has the key, it is there
 pub record LeadsToKey {K V : Type 0} (eq : K → K → Bool) (s : SlotState (Pair K V)) (links : List ChainLink) (key : K) (first : ℕ) : Type 0 where

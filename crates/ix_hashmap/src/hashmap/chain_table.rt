@@ -6,7 +6,7 @@ ghost use Rattle.ix_hashmap.specs.inner.HashChains.{no_link, head_at, next_at, l
 use crate::hashmap::ChainLink;
 use crate::hashmap::chain_link::NO_LINK;
 use ix_slottable::full_table::{copy_items, empty, fill};
-use ix_tables::{Counted, Table, Touches};
+use ix_tables::{Counted, InlineTable, Table, Touches};
 use std::marker::Model;
 
 /// A link in each place of a table. Contracts see the list of them.
@@ -79,28 +79,28 @@ impl<C: Table<ChainLink>> ChainTable<C> {
         self.links.get(place, &mut Touches::new()).next
     }
 
-    /// Makes `place` the first in the chain of a bucket, before those that are in it.
+    /// Makes `place` the first in the chain of a bucket, before those that are in it, the first of which is `first`.
     #[inline]
-    pub(crate) fn insert_first(&mut self, bucket: u128, place: usize)
+    pub(crate) fn insert_first(&mut self, bucket: u128, first: usize, place: usize)
         requires bucket { bucket < 4 * length self.old }
+        requires first { first ≡ head_at self.old bucket }
         requires place { place < length self.old }
         ensures { self.new ≡ links_insert_first self.old bucket place }
     {
-        let next = self.head(bucket);
-        self.set_next(place, next);
+        self.set_next(place, first);
         self.set_head(bucket, place);
     }
 
-    /// Takes a place out of the chain of a bucket. O(the number of places before it).
+    /// Takes a place out of the chain of a bucket, which begins at `first`. O(the number of places before it).
     #[inline]
-    pub(crate) fn remove(&mut self, bucket: u128, place: usize)
+    pub(crate) fn remove(&mut self, bucket: u128, first: usize, place: usize)
         requires bucket { bucket < 4 * length self.old }
+        requires first { first ≡ head_at self.old bucket }
         requires chain { IsChainFrom self.old (head_at self.old bucket) }
         requires has { IsOnChain self.old (head_at self.old bucket) place }
         ensures { IsUnlinked self.old bucket place self.new }
     {
         let next = self.next(place);
-        let first = self.head(bucket);
         if first == place {
             self.set_head(bucket, next);
             return;
@@ -153,6 +153,17 @@ impl<C: Table<ChainLink>> ChainTable<C> {
         ensures { self.new ≡ links_set_next self.old place next }
     {
         self.links.get_mut(place, &mut Touches::new()).next = next;
+    }
+}
+
+impl<const CAPACITY: usize> ChainTable<InlineTable<ChainLink, CAPACITY>> {
+    /// Returns the number of places, which is that of the type.
+    #[inline]
+    pub(crate) fn inline_len(&self) -> usize
+        ensures value { result ≡ CAPACITY }
+        ensures len { length self.now ≡ CAPACITY }
+    {
+        self.links.inline_len()
     }
 }
 

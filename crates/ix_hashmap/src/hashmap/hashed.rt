@@ -2,11 +2,11 @@
 ghost use Rattle.std.specs.Prelude.{◌≡◌, ◌*◌, ◌<◌, ℕ, List};
 ghost use Rattle.ix_hashmap.specs.inner.HashChains.{bucket_of, hash_of};
 
-use ix_flatmap::flatmap::Pair;
+use ix_flatmap::map::Pair;
 use std::hash::{BuildHasher, Hash};
 
 /// What a [`MetaHashMap`](crate::hashmap::MetaHashMap) can hold at a place: it has a key that can be hashed. Every
-/// [`Pair`](ix_flatmap::flatmap::Pair) whose key implements `Hash` is, and nothing else has the calls of a map.
+/// [`Pair`](ix_flatmap::map::Pair) whose key implements `Hash` is, and nothing else has the calls of a map.
 pub trait Hashed {
     /// What the key feeds a hasher.
     ghost key_input: { Self → List (List ℕ) };

@@ -6,7 +6,7 @@ ghost use Rattle.ix_hashmap.specs.inner.HashChains.{LeadsToKey};
 use crate::hashmap::ChainLink;
 use crate::hashmap::chain_link::NO_PLACE;
 use crate::hashmap::chain_table::ChainTable;
-use ix_flatmap::flatmap::Pair;
+use ix_flatmap::map::Pair;
 use ix_slottable::slottable::{Link, MetaSlotTable, SlotTableKey};
 use ix_tables::Table;
 
@@ -34,22 +34,4 @@ pub(crate) fn find_from<'a, K: Eq, V, S: Table<Pair<K, V>>, L: Table<Link>, C: T
         place = chains.next(place);
     }
     None
-}
-
-/// Returns the place of the key that equals `key`. If the map has one, it is in the chain that begins at `first`.
-#[inline]
-pub(crate) fn place_from<K: Eq, V, S: Table<Pair<K, V>>, L: Table<Link>, C: Table<ChainLink>>(
-    pairs: &MetaSlotTable<Pair<K, V>, S, L>,
-    chains: &ChainTable<C>,
-    first: usize,
-    key: &K,
-) -> Option<SlotTableKey>
-    requires leads { LeadsToKey K.eq pairs.now chains.now key.now first }
-    requires distinct { HasDistinctKeys K.eq pairs.now }
-    ensures { result ≡ option_map (λ entry. entry.0) (flat_entry K.eq pairs.now key.now) }
-{
-    match find_from(pairs, chains, first, key) {
-        Some((place, _)) => Some(place),
-        None => None,
-    }
 }

@@ -1,4 +1,4 @@
-//! Flat maps from strings in JSON.
+//! Maps from strings in JSON.
 ghost use Rattle.std.specs.Prelude.{◌≡◌, ◌≢◌, ◌==◌, ◌≤◌, ℕ, [], length, Ok, Err, IfOk, IfErr, IsOk, OnOk};
 ghost use Rattle.std.specs.Cmp.Lexicographic.{pointwise};
 ghost use Rattle.std.specs.List.{AllByRecursion};
@@ -11,7 +11,7 @@ ghost use Rattle.ix_json.specs.declared.json.json_fault.JsonFault.TheVariants.{O
 
 use crate::json::texts::{string_from_text, text_from_string};
 use crate::json::{JsonFault, JsonFill, JsonForm, JsonItem};
-use ix_flatmap::{FixedSizeFlatMap, FlatMap, MetaFlatMap, Pair};
+use ix_flatmap::{HeapMap, InlineIndex, InlineMap, KeyIndex, MetaMap, Pair};
 use ix_slottable::Link;
 use ix_string::StaticString;
 use ix_tables::Table;
@@ -23,8 +23,9 @@ fn map_to_value<
     V: JsonItem + Drop,
     S: Table<Pair<StaticString<N>, V>>,
     L: Table<Link>,
+    I: KeyIndex<StaticString<N>, V>,
     const N: usize,
->(map: &MetaFlatMap<Pair<StaticString<N>, V>, S, L>, alloc: Global) -> Result<Value, JsonFault>
+>(map: &MetaMap<Pair<StaticString<N>, V>, S, L, I>, alloc: Global) -> Result<Value, JsonFault>
     ensures value { IfOk result (λ value. view value ≡ object_tree V.tree (flat_items map.now)) }
     ensures read_back { IsOk result
         → AllByRecursion (IsItemReadBack N V.tree V.read) (flat_items map.now) }
@@ -51,9 +52,10 @@ fn check_members<
     V: JsonForm + Drop,
     S: Table<Pair<StaticString<N>, V>>,
     L: Table<Link>,
+    I: KeyIndex<StaticString<N>, V>,
     const N: usize,
 >(
-    map: &MetaFlatMap<Pair<StaticString<N>, V>, S, L>,
+    map: &MetaMap<Pair<StaticString<N>, V>, S, L, I>,
     members: &Map<std::string::String, Value>,
 ) -> Result<(), JsonFault>
     ensures value { result ≡ result_map_both (λ _. tt) (λ fault. fault)
@@ -76,9 +78,10 @@ fn insert_members<
     V: JsonForm + Drop,
     S: Table<Pair<StaticString<N>, V>>,
     L: Table<Link>,
+    I: KeyIndex<StaticString<N>, V>,
     const N: usize,
 >(
-    map: &mut MetaFlatMap<Pair<StaticString<N>, V>, S, L>,
+    map: &mut MetaMap<Pair<StaticString<N>, V>, S, L, I>,
     members: &Map<std::string::String, Value>,
 ) -> Result<(), JsonFault>
     ensures map { OnOk result (result_map_both (map_with map.old) (λ fault. fault)
@@ -105,8 +108,15 @@ fn insert_members<
 /// keys in their order makes of a new map. Any other is read back with the same keys and values, at other places.
 ///
 /// O(`CAPACITY`) for each member, with as many calls of the values' conversion as there are keys.
-impl<V: JsonItem + Drop, const N: usize, const CAPACITY: usize> JsonForm
-    for FixedSizeFlatMap<StaticString<N>, V, CAPACITY> {
+impl<
+    V: JsonItem + Drop,
+    I: KeyIndex<StaticString<N>, V> + InlineIndex<Pair<StaticString<N>, V>, CAPACITY> + Drop,
+    const N: usize,
+    const CAPACITY: usize,
+> JsonForm for InlineMap<StaticString<N>, V, CAPACITY, I>
+where
+    I::Setup: Default,
+{
     ghost use Rattle.ix_slottable.specs.SlotState.{slot_new};
     ghost use Rattle.ix_json.specs.JsonTree.{object_filled, by_key, HasSameEntries};
 
@@ -131,7 +141,7 @@ impl<V: JsonItem + Drop, const N: usize, const CAPACITY: usize> JsonForm
         if members.len() > CAPACITY {
             return Err(JsonFault::TooLong);
         }
-        let mut map = FixedSizeFlatMap::default();
+        let mut map = InlineMap::default();
         insert_members(&mut map, members)?;
         Ok(map)
     }
@@ -149,7 +159,8 @@ impl<V: JsonItem + Drop, const N: usize, const CAPACITY: usize> JsonForm
 ///
 /// O(capacity) for each member. Writing calls the values' conversion once for each key, and reading twice for each member, since
 /// all are tried before the first is inserted.
-impl<V: JsonItem + Drop, A: Allocator, const N: usize> JsonFill for FlatMap<StaticString<N>, V, A> {
+impl<V: JsonItem + Drop, A: Allocator, I: KeyIndex<StaticString<N>, V>, const N: usize> JsonFill
+    for HeapMap<StaticString<N>, V, A, I> {
     ghost use Rattle.ix_slottable.specs.SlotState.{slot_new};
     ghost use Rattle.ix_json.specs.JsonTree.{object_filled, by_key, map_without, HasSameEntries};
 

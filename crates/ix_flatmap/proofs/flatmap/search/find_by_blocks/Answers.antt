@@ -1,24 +1,22 @@
 use Rattle.std.proofs.Common.{◌≡◌, ◌+◌, ◌*◌, subst, sym, ap, ◌∙◌, arith}
-use Rattle.ix_slottable.specs.SlotState.{value_at}
-use Rattle.ix_flatmap.specs.FlatState.{HasDistinctKeys}
 use Rattle.ix_flatmap.specs.inner.FlatSearch.{is_key_at, HasNoKeyIn}
 use Rattle.ix_flatmap.proofs.FlatEntries.{flat_entry-is_key_at, HasNoKeyIn-more}
-use Rattle.ix_flatmap.proofs.flatmap.search.MetaFlatMap+Pair+K+V+S+L.find_by_blocks.Goals as goal
+use Rattle.ix_flatmap.proofs.flatmap.search.find_by_blocks.Goals as goal
 
-pub returns-then-index-lt-BLOCK_LEN-clause-value : goal.returns-then-index-lt-BLOCK_LEN-clause-value
-returns-then-index-lt-BLOCK_LEN-clause-value g c =
+pub returns-then-index-lt-BLOCK_LEN : goal.returns-then-index-lt-BLOCK_LEN
+returns-then-index-lt-BLOCK_LEN g c =
     let eq = g.K.PartialEq.eq in
-    let map = c.args.self.now in
+    let map = c.args.pairs.now in
     let key = c.args.key.now in
     let place = c.new-place.result in
-    let distinct = subst (HasDistinctKeys eq) c.self.view_is c.self.invariant.0 in
-    let at = ap (λ s. value_at s place) (sym c.self.view_is) ∙ c.get_unchecked.ensures in
+    let distinct = c.requires.distinct in
+    let at = c.get_unchecked.ensures in
     let equal = ap (is_key_at eq map key) c.new-place.ensures ∙ c.index_in_block-index.ensures.1 c.if-index-lt-BLOCK_LEN.true in
     sym (flat_entry-is_key_at eq g.met.K.Eq.laws map key place c.get_unchecked.result.now distinct at equal)
 
 pub loop-block-preserved : goal.loop-block-preserved
 loop-block-preserved g c =
-    let map = c.args.self.now in
+    let map = c.args.pairs.now in
     let key = c.args.key.now in
     let least = c.if-index-lt-BLOCK_LEN.false in
     let most = c.index_in_block-index.ensures.0 in

@@ -1,11 +1,11 @@
 use Rattle.std.proofs.Common.{◌+◌, arith}
 use Rattle.ix_flatmap.proofs.FlatEntries.{HasNoKeyIn-both}
-use Rattle.ix_flatmap.proofs.flatmap.search.MetaFlatMap+Pair+K+V+S+L.index_in_row.Goals as goal
+use Rattle.ix_flatmap.proofs.flatmap.search.index_in_row.Goals as goal
 
 pub returns-then-min-eq-BLOCK_LEN-clause-absent : goal.returns-then-min-eq-BLOCK_LEN-clause-absent
 returns-then-min-eq-BLOCK_LEN-clause-absent g c none =
     let eq = g.K.PartialEq.eq in
-    let map = c.args.self.now in
+    let map = c.args.pairs.now in
     let key = c.args.key.now in
     let start = c.args.start in
     let left = c.indexes_in_blocks-first.ensures in

@@ -1,8 +1,7 @@
 use Rattle.std.proofs.Common.{sym, subst}
 use Rattle.ix_flatmap.specs.FlatState.{HasDistinctKeys}
 use Rattle.ix_flatmap.proofs.FlatCopies.{AreEqualClones-pair}
-use Rattle.ix_hashmap.proofs.HashSteps.{IsHashed-equal}
-use Rattle.ix_hashmap.proofs.hashmap.copies.HashMap+K+V+A+B.try_clone_in.Goals as goal
+use Rattle.ix_flatmap.proofs.map.copies.HeapMap+K+V+A+I.try_clone_in.Goals as goal
 
 pub try_clone_in-requires : goal.try_clone_in-requires
 try_clone_in-requires g c = AreEqualClones-pair g.K.PartialEq.eq g.K.Clone.is_clone g.V.Clone.is_clone c.requires.keys c.requires.values
@@ -10,5 +9,5 @@ try_clone_in-requires g c = AreEqualClones-pair g.K.PartialEq.eq g.K.Clone.is_cl
 pub invariant_of-result : goal.invariant_of-result
 invariant_of-result g c = (
   subst (HasDistinctKeys g.K.PartialEq.eq) (sym c.in_ok-pairs.ensures.value) c.self.invariant.0,
-  IsHashed-equal _ c.self.inside.pairs c.in_ok-pairs.pairs c.self.inside.chains _ c.in_ok-pairs.ensures.value c.copy_of.ensures c.self.invariant.1,
+  c.in_ok-index.ensures.value c.in_ok-pairs.pairs (subst (g.I.PairIndex.Fits c.self.inside.index) (sym c.in_ok-pairs.ensures.value) c.self.invariant.1),
 )

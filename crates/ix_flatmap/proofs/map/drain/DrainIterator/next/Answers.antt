@@ -2,7 +2,7 @@ use Rattle.std.proofs.Common.{map, Some, refl, ap, subst}
 use Rattle.ix_slottable.specs.SlotSteps.{SlotRemove}
 use Rattle.ix_flatmap.specs.FlatState.{flat_item}
 use Rattle.ix_slottable.proofs.SlotDrains.{next_item, slot_clear-next}
-use Rattle.ix_hashmap.proofs.hashmap.drain.DrainIterator.next.Goals as goal
+use Rattle.ix_flatmap.proofs.map.drain.DrainIterator.next.Goals as goal
 
 pub returns-clause-steps : goal.returns-clause-steps
 returns-clause-steps g c =

@@ -1,7 +1,7 @@
 use Rattle.ix_flatmap.specs.FlatDrain.{drain_items, drain_left, drain_lender}
 use Rattle.ix_slottable.proofs.Entries.{count_by-is_some}
 use Rattle.ix_slottable.proofs.Draining.{Draining-keeps_along}
-use Rattle.ix_flatmap.proofs.flatmap.drain.MetaFlatMap+Pair+K+V+S+L.drain.Goals as goal
+use Rattle.ix_flatmap.proofs.map.drain.MetaMap+Pair+K+V+S+L+I.drain.Goals as goal
 
 pub invariant_of-result : goal.invariant_of-result
 invariant_of-result g c = record { counted = count_by-is_some 0 c.args.self.now.values }

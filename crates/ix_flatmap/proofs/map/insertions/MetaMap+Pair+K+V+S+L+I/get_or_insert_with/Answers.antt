@@ -1,4 +1,4 @@
-use Rattle.std.proofs.Common.{◌≡◌, ℕ, ◌*◌, ◌<◌, Some, None, IsSome, inl, refl, sym, ap, ◌∙◌, subst}
+use Rattle.std.proofs.Common.{◌≡◌, Some, None, IsSome, inl, refl, sym, ap, ◌∙◌, subst}
 use Rattle.std.specs.Prelude.{option_map, slice_get}
 use Rattle.std.specs.Option.{UnwrapsOrElse}
 use Rattle.ix_slottable.specs.SlotState.{IsFree}
@@ -6,8 +6,7 @@ use Rattle.ix_flatmap.specs.FlatState.{HasDistinctKeys, flat_entry, flat_value}
 use Rattle.ix_flatmap.specs.FlatSteps.{flat_insert}
 use Rattle.ix_flatmap.proofs.FlatEntries.{flat_entry-place, flat_entry-without_place}
 use Rattle.ix_flatmap.proofs.FlatSteps.{flat_insert-fresh, HasDistinctKeys-inserted, flat_value-inserted, flat_value-inserted_other, flat_replace-found, pair_set-found, value_at-new, flat_replace-new, flat_value-flat_set, flat_value-flat_set_other, flat_value-replace_new, flat_value-replace_new_other}
-use Rattle.ix_hashmap.proofs.HashSteps.{bucket_of-counted, IsHashed-tried}
-use Rattle.ix_hashmap.proofs.hashmap.insertions.MetaHashMap+Pair+K+V+S+L+C+B.get_or_insert_with.Goals as goal
+use Rattle.ix_flatmap.proofs.map.insertions.MetaMap+Pair+K+V+S+L+I.get_or_insert_with.Goals as goal
 
 pub value_mut-requires : goal.value_mut-requires
 value_mut-requires g c =
@@ -40,13 +39,14 @@ returns-in-Some g c =
       },
     )
 
+pub insert-requires-clause-absent : goal.insert-requires-clause-absent
+insert-requires-clause-absent g c = flat_entry-without_place g.K.PartialEq.eq c.self.inside.pairs c.args.key c.in_default.ensures
+
 pub invariant_of-self : goal.invariant_of-self
 invariant_of-self g c =
     let fresh = flat_entry-without_place g.K.PartialEq.eq c.self.inside.pairs c.args.key c.in_default.ensures in (
-      HasDistinctKeys-inserted g.K.PartialEq.eq g.met.K.Eq.laws c.self.inside.pairs _ _ _ c.insert_new.ensures.pairs c.self.invariant.0 fresh,
-      IsHashed-tried _ c.self.inside.pairs _ _ c.bucket_of-bucket.result c.self.inside.chains _ c.self.invariant.1 c.insert_new.ensures.pairs c.insert_new.ensures.chains
-          (bucket_of-counted _ c.bucket_of-bucket.result c.len-places.result _ c.bucket_of-bucket.ensures.value c.len-places.ensures)
-          (subst (λ (n : ℕ). c.bucket_of-bucket.result < 4 * n) c.len-places.ensures c.bucket_of-bucket.ensures.below),
+      HasDistinctKeys-inserted g.K.PartialEq.eq g.met.K.Eq.laws c.self.inside.pairs _ _ _ c.insert.ensures.step c.self.invariant.0 fresh,
+      c.insert.ensures.fits,
     )
 
 pub returns : goal.returns
@@ -55,11 +55,11 @@ returns g c =
     let laws = g.met.K.Eq.laws in
     let inside = c.self.inside.pairs in
     let s = c.args.self.now in
-    let new = c.insert_new.new.pairs in
+    let new = c.insert.new.pairs in
     let key = c.args.key in
     let value = c.f.result in
     let place = c.in-Some-next_free_key.place in
-    let step = c.insert_new.ensures.pairs in
+    let step = c.insert.ensures.step in
     let was_first = c.in-Some-next_free_key.ensures.value in
     let fresh = flat_entry-without_place eq inside key c.in_default.ensures in
     let none = subst (λ t. flat_entry eq t key ≡ None) c.self.view_is fresh in
@@ -69,7 +69,7 @@ returns g c =
     let inserted : new ≡ flat_insert eq s key value =
     step.map ∙ sym (flat_insert-fresh eq inside key value fresh) ∙ ap (λ t. flat_insert eq t key value) c.self.view_is in
     let distinct = HasDistinctKeys-inserted eq laws inside new _ _ step c.self.invariant.0 fresh in
-    let holds = flat_value-inserted eq laws inside new _ _ step c.self.invariant.0 fresh (subst IsSome was_first refl) in
+    let holds = flat_value-inserted eq laws inside new _ _ step c.self.invariant.0 fresh (subst IsSome (was_first ∙ sym step.key) refl) in
     let shown : Some value ≡ Some c.value_mut-in-Ok.result.now =
     sym (ap (option_map (λ pair. pair.value)) (value_at-new eq laws s key new place value none first free inserted)) ∙ c.value_mut-in-Ok.ensures.value in
     let is : value ≡ c.value_mut-in-Ok.result.now = cc in (

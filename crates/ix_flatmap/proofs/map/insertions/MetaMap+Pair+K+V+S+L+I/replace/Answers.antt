@@ -1,12 +1,12 @@
-use Rattle.std.proofs.Common.{◌≡◌, ℕ, ◌*◌, ◌<◌, Some, None, IsSome, IsOk, refl, sym, ap, ◌∙◌, subst}
+use Rattle.std.proofs.Common.{◌≡◌, Some, None, IsSome, IsOk, refl, sym, ap, ◌∙◌, subst}
+use Rattle.std.specs.Result.{result_ok}
 use Rattle.std.specs.Prelude.{option_map}
 use Rattle.ix_flatmap.specs.FlatState.{HasDistinctKeys, flat_entry, flat_value}
 use Rattle.ix_flatmap.specs.FlatSteps.{pair_set}
 use Rattle.ix_flatmap.proofs.FlatEntries.{flat_entry-place, flat_entry-unplaced}
-use Rattle.ix_flatmap.proofs.FlatSteps.{first_free, HasDistinctKeys-inserted, flat_value-inserted, flat_value-inserted_other, pair_set-place, flat_value-flat_set, flat_value-flat_set_other}
-use Rattle.ix_hashmap.proofs.HashSteps.{bucket_of-counted, IsHashed-tried}
-use Rattle.ix_hashmap.proofs.hashmap.insertions.MetaHashMap+Pair+K+V+S+L+C+B.replace.Goals.{in-Ok, in-Err}
-use Rattle.ix_hashmap.proofs.hashmap.insertions.MetaHashMap+Pair+K+V+S+L+C+B.replace.Goals as goal
+use Rattle.ix_flatmap.proofs.FlatSteps.{HasDistinctKeys-inserted, flat_value-inserted, flat_value-inserted_other, pair_set-place, flat_value-flat_set, flat_value-flat_set_other}
+use Rattle.ix_flatmap.proofs.map.insertions.MetaMap+Pair+K+V+S+L+I.replace.Goals.{in-Ok, in-Err}
+use Rattle.ix_flatmap.proofs.map.insertions.MetaMap+Pair+K+V+S+L+I.replace.Goals as goal
 
 pub value_mut-requires : goal.value_mut-requires
 value_mut-requires g c =
@@ -40,26 +40,27 @@ returns-in-Some-clause-kept g c other differs =
     ∙ ap (λ s. flat_value eq s other) (pair_set-place eq g.met.K.Eq.laws c.args.self.now c.args.key c.args.value (subst (HasDistinctKeys eq) c.self.view_is c.self.invariant.0) c.in-Some.place has)
     ∙ flat_value-flat_set_other eq g.met.K.Eq.laws c.args.self.now c.args.key c.args.value (subst (HasDistinctKeys eq) c.self.view_is c.self.invariant.0) other differs
 
+pub insert-requires-clause-absent : goal.insert-requires-clause-absent
+insert-requires-clause-absent g c = flat_entry-unplaced g.K.PartialEq.eq c.self.inside.pairs c.args.key None c.in_default.ensures refl
+
 pub invariant_of-self : goal.invariant_of-self
 invariant_of-self g c =
     let fresh = flat_entry-unplaced g.K.PartialEq.eq c.self.inside.pairs c.args.key None c.in_default.ensures refl in (
-      HasDistinctKeys-inserted g.K.PartialEq.eq g.met.K.Eq.laws c.self.inside.pairs _ _ _ c.insert_new.ensures.pairs c.self.invariant.0 fresh,
-      IsHashed-tried _ c.self.inside.pairs _ _ c.bucket_of-bucket.result c.self.inside.chains _ c.self.invariant.1 c.insert_new.ensures.pairs c.insert_new.ensures.chains
-          (bucket_of-counted _ c.bucket_of-bucket.result c.len-places.result _ c.bucket_of-bucket.ensures.value c.len-places.ensures)
-          (subst (λ (n : ℕ). c.bucket_of-bucket.result < 4 * n) c.len-places.ensures c.bucket_of-bucket.ensures.below),
+      HasDistinctKeys-inserted g.K.PartialEq.eq g.met.K.Eq.laws c.self.inside.pairs _ _ _ c.insert.ensures.step c.self.invariant.0 fresh,
+      c.insert.ensures.fits,
     )
 
 pub returns-clause-holds : goal.returns-clause-holds
 returns-clause-holds g c ok =
     let fresh = flat_entry-unplaced g.K.PartialEq.eq c.self.inside.pairs c.args.key None c.in_default.ensures refl in
-    flat_value-inserted g.K.PartialEq.eq g.met.K.Eq.laws c.self.inside.pairs _ _ _ c.insert_new.ensures.pairs c.self.invariant.0 fresh
-    (elim c.match-insert_new.branch [
-      | in-Ok w ↦ first_free c.self.inside.pairs.free (λ none. let full = w.in-Ok.ensures.full.1 none in cc)
+    flat_value-inserted g.K.PartialEq.eq g.met.K.Eq.laws c.self.inside.pairs _ _ _ c.insert.ensures.step c.self.invariant.0 fresh
+    (elim c.match-insert.branch [
+      | in-Ok w ↦ subst (λ result. IsSome (result_ok result)) (sym w.in-Ok.is) refl
       | in-Err w ↦ absurd (let refused = subst IsOk w.result-is ok in cc)
     ])
 
 pub returns-clause-kept : goal.returns-clause-kept
 returns-clause-kept g c other differs =
     let fresh = flat_entry-unplaced g.K.PartialEq.eq c.self.inside.pairs c.args.key None c.in_default.ensures refl in
-    flat_value-inserted_other g.K.PartialEq.eq g.met.K.Eq.laws c.self.inside.pairs _ _ _ c.insert_new.ensures.pairs c.self.invariant.0 fresh other differs
+    flat_value-inserted_other g.K.PartialEq.eq g.met.K.Eq.laws c.self.inside.pairs _ _ _ c.insert.ensures.step c.self.invariant.0 fresh other differs
     ∙ ap (λ s. flat_value g.K.PartialEq.eq s other) c.self.view_is

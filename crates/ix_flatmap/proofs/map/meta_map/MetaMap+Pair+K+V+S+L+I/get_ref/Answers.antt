@@ -1,7 +1,7 @@
 use Rattle.std.proofs.Common.{ap, ◌∙◌}
 use Rattle.std.specs.Prelude.{option_map}
 use Rattle.ix_flatmap.proofs.FlatEntries.{flat_value-IsEntry, IsNone-flat_value}
-use Rattle.ix_flatmap.proofs.flatmap.meta_flat_map.MetaFlatMap+Pair+K+V+S+L.get_ref.Goals as goal
+use Rattle.ix_flatmap.proofs.map.meta_map.MetaMap+Pair+K+V+S+L+I.get_ref.Goals as goal
 
 pub returns-in-Some-clause-found : goal.returns-in-Some-clause-found
 returns-in-Some-clause-found g c place pair at equal =

@@ -3,7 +3,7 @@ use Rattle.std.specs.Map.{keys_of, lookup}
 use Rattle.ix_slottable.specs.SlotState.{entries}
 use Rattle.ix_flatmap.specs.FlatState.{flat_item}
 use Rattle.ix_flatmap.proofs.FlatEntries.{keys_of-flat_items, lookup-flat_items}
-use Rattle.ix_flatmap.proofs.flatmap.meta_flat_map.MetaFlatMap+Pair+K+V+S+L.iter.Goals as goal
+use Rattle.ix_flatmap.proofs.map.meta_map.MetaMap+Pair+K+V+S+L+I.iter.Goals as goal
 
 pub returns-clause-keys : goal.returns-clause-keys
 returns-clause-keys g c =

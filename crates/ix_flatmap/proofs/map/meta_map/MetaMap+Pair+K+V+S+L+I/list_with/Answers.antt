@@ -1,7 +1,7 @@
 use Rattle.std.proofs.Common.{rules, of_calls, List, sym, subst, refl}
 use Rattle.ix_flatmap.specs.FlatSteps.{ListsUntilStop}
 use Rattle.ix_flatmap.proofs.FlatCalls.{ListsUntilStop-continue, ListsUntilStop-stop}
-use Rattle.ix_flatmap.proofs.flatmap.meta_flat_map.MetaFlatMap+Pair+K+V+S+L.list_with.Goals as goal
+use Rattle.ix_flatmap.proofs.map.meta_map.MetaMap+Pair+K+V+S+L+I.list_with.Goals as goal
 
 pub loop-key-preserved : goal.loop-key-preserved
 loop-key-preserved g c = record {

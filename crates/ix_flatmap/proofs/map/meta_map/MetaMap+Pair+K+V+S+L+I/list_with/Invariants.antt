@@ -1,7 +1,7 @@
 use denote.Param.Always.{always_mut}
 use Rattle.ix_flatmap.specs.FlatState.{flat_keys}
 use Rattle.ix_flatmap.specs.FlatSteps.{ListsUntilStop}
-use Rattle.ix_flatmap.proofs.flatmap.meta_flat_map.MetaFlatMap+Pair+K+V+S+L.list_with.Given as goal
+use Rattle.ix_flatmap.proofs.map.meta_map.MetaMap+Pair+K+V+S+L+I.list_with.Given as goal
 
 -- where the calls with the keys that are left lead, the calls with all keys lead
 abbrev pub invariant-loop-key : goal.invariant-loop-key

@@ -5,12 +5,12 @@ use Rattle.ix_flatmap.specs.FlatCalls.{CallAtKey}
 use Rattle.ix_slottable.specs.SlotCalls.{ChangesItem}
 use Rattle.ix_slottable.proofs.SlotCalls.{Visited}
 use Rattle.ix_flatmap.proofs.FlatCalls.{AtPlace, SameKeys}
-use Rattle.ix_flatmap.proofs.pair_places.change_each.Given as goal
+use Rattle.ix_flatmap.proofs.map.whole.MetaMap+Pair+K+V+S+L+I.for_each_mut.Given as goal
 
 abbrev pub invariant-loop-number : goal.invariant-loop-number
 invariant-loop-number g l = record {
-  visited : Visited (AtPlace (ChangesItem (flat_set g.K.PartialEq.eq) (CallAtKey (goal.F-step g)))) l.fn.f (g.M.PairPlaces.state l.fn.map) l.number l.f (g.M.PairPlaces.state l.map);
-  keys : SameKeys (g.M.PairPlaces.state l.fn.map) (g.M.PairPlaces.state l.map);
-  free : (g.M.PairPlaces.state l.map).free ≡ (g.M.PairPlaces.state l.fn.map).free;
-  distinct : HasDistinctKeys g.K.PartialEq.eq (g.M.PairPlaces.state l.map);
+  visited : Visited (AtPlace (ChangesItem (flat_set g.K.PartialEq.eq) (CallAtKey (goal.F-step g)))) l.fn.f l.fn.self l.number l.f l.self;
+  keys : SameKeys l.fn.self l.self;
+  free : l.self.free ≡ l.fn.self.free;
+  distinct : HasDistinctKeys g.K.PartialEq.eq l.self;
 }

@@ -7,7 +7,7 @@ use Rattle.serde_json.specs.Events.{members_len}
 use Rattle.serde_json.specs.View.{view, members_view}
 use Rattle.ix_json.specs.JsonTree.{bytes_read, new_key, map_with, object_filled}
 use Rattle.ix_json.proofs.Objects.{read_so, members_make-same_fault, members_make-checked, IsOk-checked, object_filled-too_long, object_filled-members, IfErr-same, OnErr-never}
-use Rattle.ix_json.proofs.json.maps.FlatMapStaticStringJsonFill.fill_from_value.Goals as goal
+use Rattle.ix_json.proofs.json.maps.HeapMapStaticStringJsonFill.fill_from_value.Goals as goal
 
 pub returns-then-len-capacity-clause-fault : goal.returns-then-len-capacity-clause-fault
 returns-then-len-capacity-clause-fault g c =

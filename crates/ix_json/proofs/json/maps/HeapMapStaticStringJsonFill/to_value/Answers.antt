@@ -1,7 +1,7 @@
 use Rattle.ix_flatmap.specs.FlatState.{flat_items}
 use Rattle.ix_json.specs.JsonTree.{object_tree, object_filled, by_key, map_without}
 use Rattle.ix_json.proofs.Objects.{object_filled-map_without, object_filled-same_entries, read_back-IfOk}
-use Rattle.ix_json.proofs.json.maps.FlatMapStaticStringJsonFill.to_value.Goals as goal
+use Rattle.ix_json.proofs.json.maps.HeapMapStaticStringJsonFill.to_value.Goals as goal
 
 pub returns-clause-read_back : goal.returns-clause-read_back
 returns-clause-read_back g c =

@@ -5,7 +5,7 @@ use Rattle.serde_json.proofs.Views.{members_len-members_view}
 use Rattle.serde_json.specs.Events.{members_len}
 use Rattle.serde_json.specs.View.{view, members_view}
 use Rattle.ix_json.proofs.Objects.{object_filled-too_long_for_new, object_filled-members_for_new}
-use Rattle.ix_json.proofs.json.maps.FixedSizeFlatMapStaticStringJsonForm.from_value.Goals as goal
+use Rattle.ix_json.proofs.json.maps.InlineMapStaticStringJsonForm.from_value.Goals as goal
 
 pub returns-then-len-clause-value : goal.returns-then-len-clause-value
 returns-then-len-clause-value g c =

@@ -2,7 +2,7 @@ use Rattle.ix_flatmap.specs.FlatState.{flat_items}
 use Rattle.ix_slottable.specs.SlotState.{slot_new}
 use Rattle.ix_json.specs.JsonTree.{object_tree, object_filled}
 use Rattle.ix_json.proofs.Objects.{object_filled-slot_new, object_filled-same_places, read_back-IfOk}
-use Rattle.ix_json.proofs.json.maps.FixedSizeFlatMapStaticStringJsonForm.to_value.Goals as goal
+use Rattle.ix_json.proofs.json.maps.InlineMapStaticStringJsonForm.to_value.Goals as goal
 
 pub returns-clause-read_back : goal.returns-clause-read_back
 returns-clause-read_back g c is =

@@ -1,0 +1,177 @@
+//! The index of flat maps.
+ghost use Rattle.std.specs.Prelude.{◌≡◌, ◌+◌, ◌<◌, ◌≤◌, ⊤, Some};
+ghost use Rattle.std.specs.Result.{IfErr, result_ok};
+ghost use Rattle.ix_slottable.specs.SlotSteps.{SlotInsert};
+ghost use Rattle.ix_flatmap.specs.FlatState.{IsBound};
+ghost use Rattle.ix_flatmap.specs.inner.Bounds.{bound_with, bound_without};
+ghost use Rattle.ix_flatmap.specs.laws.Bounds.{IsBound-clone};
+
+use crate::flatmap::FlatMapFamily;
+use crate::flatmap::search::{find_from, find_in_front};
+use crate::map::{CopyIn, CopyInline, HeapIndex, InlineIndex, KeyIndex, Pair, PairIndex};
+use ix_slottable::slottable::{Link, MetaSlotTable, SlotTableKey};
+use ix_tables::{MemorySize, Table};
+use std::alloc::{AllocError, Allocator};
+use std::mem::size_of_val;
+
+/// The index of a flat map: below which place each pair lies. Keys are compared one by one.
+///
+/// A call that looks for a key compares it with the keys of the map in slot order, up to the equal one. If the keys are in the first
+/// places and take at most eight bytes, it compares eight at a time, and so up to seven after that one, or 32 at a time if there are
+/// 128 keys or more; in any case it compares no key twice.
+#[derive(Debug, Drop)]
+pub struct Bound {
+    /// Each place with a pair is below this one.
+    place: usize,
+}
+
+/// Keys of at most this many bytes are compared several at a time: a few comparisons take less time than a branch that is
+/// mispredicted.
+const MAX_KEY_SIZE: usize = 8;
+
+impl<P> PairIndex<P> for Bound {
+    ghost Fits = { λ index pairs. IsBound pairs index.place };
+}
+
+impl<K: Eq + Drop, V: Drop> KeyIndex<K, V> for Bound {
+    type Seat = ();
+
+    ghost IsSeat = { λ index pairs key seat. ⊤ };
+
+    #[inline]
+    fn seat<S: Table<Pair<K, V>>, L: Table<Link>>(
+        &self,
+        _pairs: &MetaSlotTable<Pair<K, V>, S, L>,
+        _key: &K,
+    ) {}
+
+    #[inline(always)]
+    fn find<'a, S: Table<Pair<K, V>>, L: Table<Link>>(
+        &self,
+        pairs: &'a MetaSlotTable<Pair<K, V>, S, L>,
+        _seat: (),
+        key: &K,
+    ) -> Option<(SlotTableKey, &'a Pair<K, V>)> {
+        // If there are as many keys as places below the bound, each of those has one.
+        if size_of_val(key) <= MAX_KEY_SIZE && pairs.len() == self.place {
+            find_in_front(pairs, self.place, key)
+        } else {
+            find_from(pairs, 0, self.place, key)
+        }
+    }
+
+    #[inline]
+    fn insert<S: Table<Pair<K, V>>, L: Table<Link>>(
+        &mut self,
+        pairs: &mut MetaSlotTable<Pair<K, V>, S, L>,
+        _seat: (),
+        pair: Pair<K, V>,
+    ) -> Result<SlotTableKey, Pair<K, V>>
+        requires { IsBound pairs.old self.old.place }
+        ensures step { SlotInsert pairs.old pair pairs.new (result_ok result) }
+        ensures returned { IfErr result (λ refused. refused ≡ pair) }
+        ensures fits { IsBound pairs.new self.new.place }
+    {
+        // Names the capacity, by which the check knows that the bound does not overflow.
+        let _capacity = pairs.capacity();
+        match pairs.try_insert(pair) {
+            Ok(place) => {
+                self.place = bound_with(self.place, place.value());
+                Ok(place)
+            }
+            Err(pair) => Err(pair),
+        }
+    }
+
+    #[inline]
+    fn remove<S: Table<Pair<K, V>>, L: Table<Link>>(
+        &mut self,
+        pairs: &mut MetaSlotTable<Pair<K, V>, S, L>,
+        _seat: (),
+        place: SlotTableKey,
+    ) -> Pair<K, V> {
+        let pair = pairs.remove_unchecked(place);
+        self.place = bound_without(self.place, place.value());
+        pair
+    }
+
+    #[inline]
+    fn clear<S: Table<Pair<K, V>>, L: Table<Link>>(
+        &mut self,
+        pairs: &mut MetaSlotTable<Pair<K, V>, S, L>,
+    ) {
+        pairs.clear();
+        self.place = 0;
+    }
+
+    #[inline]
+    fn bound<S: Table<Pair<K, V>>, L: Table<Link>>(
+        &self,
+        _pairs: &MetaSlotTable<Pair<K, V>, S, L>,
+    ) -> usize {
+        self.place
+    }
+
+    ghost Fits_equal_keys = { λ index pairs others same fits. IsBound-clone _ pairs others index.place same fits };
+}
+
+impl<P, const CAPACITY: usize> InlineIndex<P, CAPACITY> for Bound {
+    type Setup = ();
+
+    #[inline]
+    fn new_inline(_setup: ()) -> Self {
+        Bound { place: 0 }
+    }
+}
+
+impl<P, const CAPACITY: usize> CopyInline<P, CAPACITY> for Bound {
+    #[inline]
+    fn copy_inline(&self) -> Self {
+        Bound { place: self.place }
+    }
+}
+
+impl<K: Eq + Drop, V: Drop, A: Allocator + Copy> HeapIndex<Pair<K, V>, A> for Bound {
+    type Setup = ();
+
+    type Family = FlatMapFamily<K, V>;
+
+    ghost memory = { λ pairs capacity. pairs };
+
+    #[inline]
+    fn memory_size(pairs: MemorySize, _capacity: usize) -> MemorySize {
+        pairs
+    }
+
+    #[inline]
+    fn new_in(_alloc: A, _capacity: usize, _setup: ()) -> Result<Self, AllocError> {
+        Ok(Bound { place: 0 })
+    }
+}
+
+impl<P, D: Allocator + Copy> CopyIn<P, D> for Bound {
+    type Made = Bound;
+
+    #[inline]
+    fn copy_in(&self, _alloc: D) -> Result<Bound, AllocError> {
+        Ok(Bound { place: self.place })
+    }
+}
+
+/// Returns what is above each place with a pair, and above this place too.
+#[inline]
+fn bound_with(bound: usize, place: usize) -> usize
+    requires { place + 1 ≤ 18446744073709551615 }
+    ensures { result ≡ bound_with bound place }
+{
+    if place < bound { bound } else { place + 1 }
+}
+
+/// Returns what is above each place with a pair but for this one, which was below `bound`.
+#[inline]
+fn bound_without(bound: usize, place: usize) -> usize
+    requires { place < bound }
+    ensures { result ≡ bound_without bound place }
+{
+    if place + 1 == bound { place } else { bound }
+}

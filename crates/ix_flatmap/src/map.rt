@@ -1,0 +1,28 @@
+//! A bounded map from keys of your own to values, and what it finds keys by.
+
+mod callback_progression;
+mod compared;
+mod copies;
+mod drain;
+mod flat_map_error;
+mod index;
+mod insertions;
+mod iter;
+mod key_index;
+mod keys;
+mod kinds;
+mod meta_map;
+mod pair;
+mod values;
+mod whole;
+
+pub use callback_progression::CallbackProgression;
+pub use drain::Drain;
+pub use flat_map_error::FlatMapError;
+pub use iter::Iter;
+pub use key_index::{CopyIn, CopyInline, HeapIndex, InlineIndex, KeyIndex, PairIndex};
+pub use keys::Keys;
+pub use kinds::{HeapMap, InlineMap};
+pub use meta_map::MetaMap;
+pub use pair::{Keyed, Pair};
+pub use values::Values;

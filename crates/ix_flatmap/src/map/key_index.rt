@@ -1,0 +1,186 @@
+//! What a map finds its keys by.
+ghost use Rattle.std.specs.Prelude.{◌≡◌, ℕ, ◌≤◌, length, replicate, Some, None, IsOk, IfOk, IfSome, option_map, true};
+ghost use Rattle.std.specs.Result.{IfErr, result_ok};
+ghost use Rattle.ix_tables.specs.Memory.{no_memory};
+ghost use Rattle.ix_tables.specs.declared.cells.memory_size.MemorySize.{MemorySize};
+ghost use Rattle.ix_slottable.specs.SlotState.{SlotState, IsHeld, value_at, slot_new};
+ghost use Rattle.ix_slottable.specs.SlotSteps.{SlotInsert, SlotRemove, slot_clear};
+ghost use Rattle.ix_slottable.specs.SlotCopies.{SlotIsClone};
+ghost use Rattle.ix_flatmap.specs.FlatState.{HasDistinctKeys, flat_entry, IsBound};
+ghost use Rattle.ix_flatmap.specs.declared.map.pair.Pair.{Pair};
+
+use crate::map::Pair;
+use ix_slottable::slottable::{Link, MetaSlotTable, SlotTableKey};
+use ix_tables::{MemorySize, Table};
+use std::alloc::{AllocError, Allocator};
+
+/// An index of the pairs of a map.
+pub trait PairIndex<P>: Sized {
+    /// The index is of these pairs.
+    ghost Fits: { Self → SlotState P → Type 0 };
+}
+
+/// An index by which the place of a key is found. [`MetaMap`](crate::map::MetaMap) has the calls of a map over any.
+///
+/// A key has a seat, whether the map has it or not: what the index knows of where it belongs. A call asks for it once.
+pub trait KeyIndex<K: Eq + Drop, V: Drop>: PairIndex<Pair<K, V>> {
+    /// Where a key belongs.
+    type Seat: Copy;
+
+    /// A key belongs there.
+    ghost IsSeat: { Self → SlotState (Pair K V) → K → Self.Seat → Type 0 };
+
+    /// Returns where `key` belongs.
+    fn seat<S: Table<Pair<K, V>>, L: Table<Link>>(
+        &self,
+        pairs: &MetaSlotTable<Pair<K, V>, S, L>,
+        key: &K,
+    ) -> Self::Seat
+        requires { Self.PairIndex.Fits self.now pairs.now }
+        ensures seat { IsSeat self.now pairs.now key.now result }
+        // The equal key, if there is one, belongs there too.
+        ensures equal { IfSome (flat_entry K.eq pairs.now key.now) (λ entry.
+            IsSeat self.now pairs.now entry.1.key result) };
+
+    /// Returns the place of the key that equals `key`, which belongs at `seat`, and the pair there.
+    fn find<'a, S: Table<Pair<K, V>>, L: Table<Link>>(
+        &self,
+        pairs: &'a MetaSlotTable<Pair<K, V>, S, L>,
+        seat: Self::Seat,
+        key: &K,
+    ) -> Option<(SlotTableKey, &'a Pair<K, V>)>
+        requires fits { Self.PairIndex.Fits self.now pairs.now }
+        requires distinct { HasDistinctKeys K.eq pairs.now }
+        requires seat { IsSeat self.now pairs.now key.now seat }
+        ensures { option_map (λ entry. (entry.0, entry.1.now)) result
+            ≡ flat_entry K.eq pairs.now key.now };
+
+    /// Inserts `pair`, whose key belongs at `seat` and none of the pairs has, at the first free place. Returns `pair` as the error
+    /// if no place is free.
+    fn insert<S: Table<Pair<K, V>>, L: Table<Link>>(
+        &mut self,
+        pairs: &mut MetaSlotTable<Pair<K, V>, S, L>,
+        seat: Self::Seat,
+        pair: Pair<K, V>,
+    ) -> Result<SlotTableKey, Pair<K, V>>
+        requires fits { Self.PairIndex.Fits self.old pairs.old }
+        requires seat { IsSeat self.old pairs.old pair.key seat }
+        requires absent { flat_entry K.eq pairs.old pair.key ≡ None }
+        ensures step { SlotInsert pairs.old pair pairs.new (result_ok result) }
+        ensures returned { IfErr result (λ refused. refused ≡ pair) }
+        ensures fits { Self.PairIndex.Fits self.new pairs.new };
+
+    /// Removes the pair at a place that has one, whose key belongs at `seat`, and returns it.
+    fn remove<S: Table<Pair<K, V>>, L: Table<Link>>(
+        &mut self,
+        pairs: &mut MetaSlotTable<Pair<K, V>, S, L>,
+        seat: Self::Seat,
+        place: SlotTableKey,
+    ) -> Pair<K, V>
+        requires fits { Self.PairIndex.Fits self.old pairs.old }
+        requires held { IsHeld pairs.old place }
+        requires seat { (pair : Pair K V) → value_at pairs.old place ≡ Some pair
+            → IsSeat self.old pairs.old pair.key seat }
+        ensures step { SlotRemove pairs.old place pairs.new (Some result) }
+        ensures fits { Self.PairIndex.Fits self.new pairs.new };
+
+    /// Removes all pairs and drops them, in slot order.
+    fn clear<S: Table<Pair<K, V>>, L: Table<Link>>(
+        &mut self,
+        pairs: &mut MetaSlotTable<Pair<K, V>, S, L>,
+    )
+        requires { Self.PairIndex.Fits self.old pairs.old }
+        ensures pairs { pairs.new ≡ slot_clear pairs.old }
+        ensures values { pairs.new.values ≡ replicate (length pairs.old.values) None }
+        ensures fits { Self.PairIndex.Fits self.new pairs.new };
+
+    /// Returns the place from which on none has a pair.
+    fn bound<S: Table<Pair<K, V>>, L: Table<Link>>(
+        &self,
+        pairs: &MetaSlotTable<Pair<K, V>, S, L>,
+    ) -> usize
+        requires { Self.PairIndex.Fits self.now pairs.now }
+        ensures { IsBound pairs.now result };
+
+    /// Returns the place of the key that equals `key`, which belongs at `seat`.
+    #[inline]
+    final fn place<S: Table<Pair<K, V>>, L: Table<Link>>(
+        &self,
+        pairs: &MetaSlotTable<Pair<K, V>, S, L>,
+        seat: Self::Seat,
+        key: &K,
+    ) -> Option<SlotTableKey>
+        requires fits { Self.PairIndex.Fits self.now pairs.now }
+        requires distinct { HasDistinctKeys K.eq pairs.now }
+        requires seat { IsSeat self.now pairs.now key.now seat }
+        ensures { result ≡ option_map (λ entry. entry.0) (flat_entry K.eq pairs.now key.now) }
+    {
+        match self.find(pairs, seat, key) {
+            Some((place, _)) => Some(place),
+            None => None,
+        }
+    }
+
+    /// An index of pairs is one of others whose keys are equal to theirs, at the same places.
+    ghost Fits_equal_keys: { (index : Self) (pairs others : SlotState (Pair K V))
+        → SlotIsClone (λ pair other. K.eq other.key pair.key ≡ true) pairs others
+        → Self.PairIndex.Fits index pairs → Self.PairIndex.Fits index others };
+}
+
+/// An index that is stored inline, of the pairs at `CAPACITY` places.
+pub trait InlineIndex<P, const CAPACITY: usize>: PairIndex<P> {
+    /// What an index is made of.
+    type Setup;
+
+    /// Makes the index of no pairs. O(`CAPACITY`).
+    fn new_inline(setup: Self::Setup) -> Self
+        ensures { Self.PairIndex.Fits result (slot_new CAPACITY) };
+}
+
+/// An index that is stored inline and can be copied.
+pub trait CopyInline<P, const CAPACITY: usize>: PairIndex<P> {
+    /// Makes an index of the same pairs. O(`CAPACITY`).
+    fn copy_inline(&self) -> Self
+        ensures { (pairs : SlotState P) → Self.PairIndex.Fits self.now pairs → Self.PairIndex.Fits result pairs };
+}
+
+/// An index whose memory is allocated from `A` when it is made.
+pub trait HeapIndex<P, A: Allocator + Copy>: PairIndex<P> {
+    /// What an index is made of, beside memory.
+    type Setup;
+
+    /// The maps that are made in two steps, one type for each allocator.
+    type Family;
+
+    /// The memory of a map whose pairs take so much, by its capacity.
+    ghost memory: { MemorySize → ℕ → MemorySize };
+
+    /// Returns how much memory a map of this capacity takes, whose pairs take `pairs`.
+    fn memory_size(pairs: MemorySize, capacity: usize) -> MemorySize
+        ensures value { result ≡ memory pairs capacity }
+        ensures monotone { (greater : MemorySize) (more : ℕ) → pairs.bytes ≤ greater.bytes
+            → capacity ≤ more → result.bytes ≤ (memory greater more).bytes }
+        ensures none { pairs ≡ no_memory → capacity ≡ 0 → result ≡ no_memory };
+
+    /// Makes the index of no pairs, of as many places. O(`capacity`).
+    ///
+    /// Returns `AllocError` if an allocation fails; nothing stays allocated then, and `setup` is dropped.
+    fn new_in(alloc: A, capacity: usize, setup: Self::Setup) -> Result<Self, AllocError>
+        ensures value { IfOk result (λ index. Self.PairIndex.Fits index (slot_new capacity)) }
+        ensures memory { capacity ≡ 0 → IsOk result };
+}
+
+/// An index that can be copied to memory of `D`.
+pub trait CopyIn<P, D: Allocator + Copy>: PairIndex<P> {
+    /// The index in memory of `D`.
+    type Made: PairIndex<P>;
+
+    /// Makes an index of the same pairs in memory of `alloc`. O(its capacity).
+    ///
+    /// Returns `AllocError` if an allocation fails; nothing stays allocated then.
+    fn copy_in(&self, alloc: D) -> Result<Self::Made, AllocError>
+        ensures value { IfOk result (λ made. (pairs : SlotState P)
+            → Self.PairIndex.Fits self.now pairs → Self.Made.PairIndex.Fits made pairs) }
+        ensures memory { (pairs : SlotState P) → Self.PairIndex.Fits self.now pairs
+            → length pairs.values ≡ 0 → IsOk result };
+}

@@ -1,0 +1,156 @@
+//! How maps are made: stored inline, in memory of an allocator, and in two steps.
+ghost use Rattle.std.specs.Prelude.{◌≡◌, ℕ, ◌≤◌, IfOk, IsOk};
+ghost use Rattle.std.specs.Mem.{type_size};
+ghost use Rattle.ix_tables.specs.Memory.{no_memory};
+ghost use Rattle.ix_slottable.specs.Memory.{slot_table_memory};
+ghost use Rattle.ix_slottable.specs.SlotState.{slot_new};
+
+use crate::map::{HeapIndex, InlineIndex, MetaMap, Pair};
+use ix_slottable::slottable::{FixedSizeSlotTable, Link, SlotTable};
+use ix_tables::{HeapTable, InlineTable, MAX_FIXED_CAPACITY, MemorySize, Uninit};
+use std::alloc::{AllocError, Allocator};
+use std::hash::BuildHasher;
+
+/// A map with room for `CAPACITY` keys that is stored inline and does not allocate.
+pub type InlineMap<K, V, const CAPACITY: usize, I> = MetaMap<
+    Pair<K, V>,
+    InlineTable<Pair<K, V>, CAPACITY>,
+    InlineTable<Link, CAPACITY>,
+    I,
+>;
+
+/// A map whose memory is allocated from `A` when it is made, and deallocated when it is dropped.
+pub type HeapMap<K, V, A, I> = MetaMap<Pair<K, V>, HeapTable<Pair<K, V>, A>, HeapTable<Link, A>, I>;
+
+impl<K: Eq + Drop, V: Drop, const CAPACITY: usize, I: InlineIndex<Pair<K, V>, CAPACITY>> InlineMap<
+    K,
+    V,
+    CAPACITY,
+    I,
+> {
+    /// Creates an empty map. The keys of a hash map are hashed by hashers that `B::default()` makes. Where strangers choose the
+    /// keys, take `with_hasher` and std's `RandomState`.
+    ///
+    /// O(`CAPACITY`). `CAPACITY` is at most [`MAX_FIXED_CAPACITY`].
+    pub fn new() -> Self
+    where
+        I::Setup: Default,
+        requires { CAPACITY ≤ MAX_FIXED_CAPACITY }
+        ensures { result ≡ slot_new CAPACITY }
+    {
+        InlineMap::inline(I::Setup::default())
+    }
+
+    /// Creates an empty map, whose index is made of `setup`.
+    fn inline(setup: I::Setup) -> Self
+        ensures { result ≡ slot_new CAPACITY }
+    {
+        MetaMap {
+            pairs: FixedSizeSlotTable::default(),
+            index: I::new_inline(setup),
+        }
+    }
+}
+
+impl<K: Eq + Drop, V: Drop, const CAPACITY: usize, I: InlineIndex<Pair<K, V>, CAPACITY>> InlineMap<
+    K,
+    V,
+    CAPACITY,
+    I,
+>
+where
+    I::Setup: BuildHasher,
+{
+    /// Creates an empty hash map, whose keys are hashed by hashers that `hasher` makes.
+    ///
+    /// O(`CAPACITY`). `CAPACITY` is at most [`MAX_FIXED_CAPACITY`].
+    pub fn with_hasher(hasher: I::Setup) -> Self
+        requires { CAPACITY ≤ MAX_FIXED_CAPACITY }
+        ensures { result ≡ slot_new CAPACITY }
+    {
+        InlineMap::inline(hasher)
+    }
+}
+
+/// Creates an empty map. The keys of a hash map are hashed by hashers that `B::default()` makes. O(`CAPACITY`).
+impl<K: Eq + Drop, V: Drop, const CAPACITY: usize, I: InlineIndex<Pair<K, V>, CAPACITY>> Default
+    for InlineMap<K, V, CAPACITY, I>
+where
+    I::Setup: Default,
+{
+    ghost is_default = { λ map. map ≡ slot_new CAPACITY };
+
+    fn default() -> Self {
+        InlineMap::inline(I::Setup::default())
+    }
+}
+
+impl<K: Eq + Drop, V: Drop, A: Allocator + Copy, I: HeapIndex<Pair<K, V>, A>> HeapMap<K, V, A, I> {
+    ghost use Rattle.ix_flatmap.specs.contracts.map.pair.Pair as pair;
+    ghost use Rattle.ix_slottable.specs.contracts.slottable.link.Link as link;
+
+    /// Returns how much memory a map of this capacity takes from its allocator when it is made: that of a table of pairs, of
+    /// a table of links, and of its index. None if the capacity is 0.
+    ///
+    /// Does not allocate. O(1).
+    #[inline]
+    pub fn memory_size(capacity: usize) -> MemorySize
+        ensures value { result ≡ I.HeapIndex.memory (slot_table_memory (type_size (pair.the_row K.row V.row)) (type_size link.the_row) capacity) capacity }
+        ensures monotone { (greater : ℕ) → capacity ≤ greater
+            → result.bytes ≤ (I.HeapIndex.memory (slot_table_memory (type_size (pair.the_row K.row V.row)) (type_size link.the_row) greater) greater).bytes }
+        ensures none { capacity ≡ 0 → result ≡ no_memory }
+    {
+        I::memory_size(SlotTable::<Pair<K, V>, A>::memory_size(capacity), capacity)
+    }
+
+    /// Creates an empty map with room for `capacity` keys. Those of a hash map are hashed by hashers that `B::default()` makes.
+    /// Where strangers choose the keys, take `with_hasher` and std's `RandomState`.
+    ///
+    /// O(`capacity`), with at most four allocations, and two more for a hash map. Returns `AllocError` if one fails, and if the
+    /// pairs would take more than `isize::MAX` bytes; nothing stays allocated then. A capacity of 0 needs no memory.
+    pub fn new(alloc: A, capacity: usize) -> Result<Self, AllocError>
+    where
+        I::Setup: Default + Drop,
+        ensures value { IfOk result (λ map. map ≡ slot_new capacity) }
+        ensures memory { capacity ≡ 0 → IsOk result }
+    {
+        HeapMap::made_of(alloc, capacity, I::Setup::default())
+    }
+
+    /// Creates an empty map with room for `capacity` keys, whose index is made of `setup`.
+    fn made_of(alloc: A, capacity: usize, setup: I::Setup) -> Result<Self, AllocError>
+    where
+        I::Setup: Drop,
+        ensures value { IfOk result (λ map. map ≡ slot_new capacity) }
+        ensures memory { capacity ≡ 0 → IsOk result }
+    {
+        let pairs = SlotTable::new(alloc, capacity)?;
+        let index = I::new_in(alloc, capacity, setup)?;
+        Ok(MetaMap { pairs, index })
+    }
+
+    /// Creates an uninitialised map with room for `capacity` keys. Does not allocate. O(1).
+    /// The allocator is that which `init` gets, whatever `A` is here.
+    #[inline]
+    pub fn new_uninit(capacity: usize) -> Uninit<I::Family>
+        ensures { result ≡ capacity }
+    {
+        Uninit::new_uninit(capacity)
+    }
+}
+
+impl<K: Eq + Drop, V: Drop, A: Allocator + Copy, I: HeapIndex<Pair<K, V>, A>> HeapMap<K, V, A, I>
+where
+    I::Setup: BuildHasher + Drop,
+{
+    /// Creates an empty hash map with room for `capacity` keys, which are hashed by hashers that `hasher` makes.
+    ///
+    /// O(`capacity`), with at most six allocations. Returns `AllocError` if one fails, and if the pairs would take more
+    /// than `isize::MAX` bytes; nothing stays allocated then, and `hasher` is dropped. A capacity of 0 needs no memory.
+    pub fn with_hasher(alloc: A, capacity: usize, hasher: I::Setup) -> Result<Self, AllocError>
+        ensures value { IfOk result (λ map. map ≡ slot_new capacity) }
+        ensures memory { capacity ≡ 0 → IsOk result }
+    {
+        HeapMap::made_of(alloc, capacity, hasher)
+    }
+}

@@ -1,0 +1,123 @@
+//! The calls of a map that go through all of its pairs.
+ghost use Rattle.std.specs.Prelude.{◌≡◌, ◌↔◌, ◌+◌, ◌<◌, ◌≤◌, length, drop, IsTrue, IsSome, Some};
+ghost use Rattle.std.specs.Borrow.{MutBor};
+ghost use Rattle.std.specs.List.{FoldsTo};
+ghost use Rattle.ix_slottable.specs.SlotState.{value_at, IsHeld, entries_from};
+ghost use Rattle.ix_slottable.specs.SlotSteps.{slot_set, SlotRemove};
+ghost use Rattle.ix_slottable.specs.SlotCalls.{CalledOn, IsCallableOnEach, ChangesItem, RetainsItem};
+ghost use Rattle.ix_flatmap.specs.FlatState.{HasDistinctKeys, flat_value, flat_keys, flat_items, IsBound};
+ghost use Rattle.ix_flatmap.specs.FlatSteps.{flat_set, flat_remove};
+ghost use Rattle.ix_flatmap.specs.FlatCalls.{CallAtKey, TakesKey};
+ghost use Rattle.ix_flatmap.specs.declared.map.pair.Pair.{Pair};
+
+use crate::map::{KeyIndex, MetaMap, Pair};
+use ix_slottable::slottable::{Link, SlotTableKey};
+use ix_tables::Table;
+
+impl<K: Eq + Drop, V: Drop, S: Table<Pair<K, V>>, L: Table<Link>, I: KeyIndex<K, V>> MetaMap<
+    Pair<K, V>,
+    S,
+    L,
+    I,
+> {
+    /// Calls `f` with each key in slot order and a mutable reference to its value. O(capacity), with one call for each key.
+    pub fn for_each_mut<F: FnMut(&K, &mut V)>(&mut self, mut f: F)
+        requires { IsCallableOnEach (CallAtKey F.step) (TakesKey F.pre) f (flat_items self.old) }
+        ensures calls { (last : F) × FoldsTo (ChangesItem (flat_set K.eq) (CallAtKey F.step))
+            (f, self.old) (flat_items self.old) (last, self.new) }
+        ensures keys { flat_keys self.new ≡ flat_keys self.old }
+        ensures free { self.new.free ≡ self.old.free }
+        ensures distinct { HasDistinctKeys K.eq self.new }
+        ensures capacity { length self.new.values ≡ length self.old.values }
+    {
+        for number in 0..self.bound() {
+            let place = SlotTableKey::new(number);
+            if !self.has_pair(place) {
+                continue;
+            }
+            self.call_at(place, &mut f);
+        }
+    }
+
+    /// Calls `f` with each key in slot order and a mutable reference to its value. Removes each key for which `f` returns
+    /// `false`, as [`MetaMap::remove`] does, and drops the key and its value, right after the call. O(capacity), with one
+    /// call for each key.
+    pub fn retain<F: FnMut(&K, &mut V) -> bool>(&mut self, mut f: F)
+        requires { IsCallableOnEach (CallAtKey F.step) (TakesKey F.pre) f (flat_items self.old) }
+        ensures calls { (last : F) × FoldsTo (RetainsItem (flat_set K.eq) (flat_remove K.eq) (CallAtKey F.step))
+            (f, self.old) (flat_items self.old) (last, self.new) }
+        // A key that the map has was there before.
+        ensures keys { (key : K) → IsSome (flat_value K.eq self.new key)
+            → IsSome (flat_value K.eq self.old key) }
+        ensures distinct { HasDistinctKeys K.eq self.new }
+        ensures capacity { length self.new.values ≡ length self.old.values }
+    {
+        for number in 0..self.bound() {
+            let place = SlotTableKey::new(number);
+            if !self.has_pair(place) {
+                continue;
+            }
+            if !self.call_at(place, &mut f) {
+                drop(self.remove_at(place));
+            }
+        }
+    }
+
+    /// Returns the place from which on none has a pair.
+    #[inline]
+    fn bound(&self) -> usize
+        ensures bound { IsBound self.now result }
+        ensures distinct { HasDistinctKeys K.eq self.now }
+    {
+        self.index.bound(&self.pairs)
+    }
+
+    /// Returns `true` if a place has a pair.
+    #[inline]
+    fn has_pair(&self, place: SlotTableKey) -> bool
+        ensures value { IsTrue result ↔ IsHeld self.now place }
+        ensures distinct { HasDistinctKeys K.eq self.now }
+    {
+        self.pairs.contains(place)
+    }
+
+    /// Returns the least place from `start` on that has a pair; there is one.
+    #[inline]
+    pub(crate) fn held_from(&self, start: usize) -> usize
+        requires { 0 < length (entries_from start (drop start self.now.values)) }
+        ensures held { IsHeld self.now result }
+        ensures below { result + 1 ≤ 18446744073709551615 }
+        ensures entries { entries_from result (drop result self.now.values)
+            ≡ entries_from start (drop start self.now.values) }
+    {
+        self.pairs.held_from(start)
+    }
+
+    /// Calls `f` with the key at a place that has a pair, and a mutable reference to its value.
+    #[inline]
+    fn call_at<R, F: FnMut(&K, &mut V) -> R>(&mut self, place: SlotTableKey, f: &mut F) -> R
+        requires held { IsHeld self.old place }
+        requires callable { (pair : Pair K V) (shown : MutBor V)
+            → value_at self.old place ≡ Some pair
+            → shown.now ≡ pair.value → TakesKey F.pre f.old pair.key shown }
+        ensures called { (pair : Pair K V) → value_at self.old place ≡ Some pair
+            → (left : V) × CalledOn (CallAtKey F.step) f.old pair.key pair.value result left f.new
+            × (self.new ≡ slot_set self.old place (record pair { value = left })) }
+        ensures distinct { HasDistinctKeys K.eq self.new }
+    {
+        let pair = self.pairs.get_unchecked_mut(place);
+        f(&pair.key, &mut pair.value)
+    }
+
+    /// Removes the pair at a place that has one, and returns it.
+    #[inline]
+    pub(crate) fn remove_at(&mut self, place: SlotTableKey) -> Pair<K, V>
+        requires { IsHeld self.old place }
+        ensures step { SlotRemove self.old place self.new (Some result) }
+        ensures distinct { HasDistinctKeys K.eq self.new }
+    {
+        let pair = self.pairs.get_unchecked(place);
+        let seat = self.index.seat(&self.pairs, &pair.key);
+        self.index.remove(&mut self.pairs, seat, place)
+    }
+}

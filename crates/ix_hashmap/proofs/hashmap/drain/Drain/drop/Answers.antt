@@ -1,5 +1,0 @@
-use Rattle.ix_slottable.proofs.SlotDrains.{counted-vacant}
-use Rattle.ix_hashmap.proofs.hashmap.drain.Drain.drop.Goals as goal
-
-pub invariant_of-self : goal.invariant_of-self
-invariant_of-self g c = record { counted = counted-vacant c.clear.new.self _ c.args.self.place c.clear.ensures.values }

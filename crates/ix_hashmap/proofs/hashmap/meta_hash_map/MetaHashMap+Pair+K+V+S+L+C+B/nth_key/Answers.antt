@@ -1,8 +1,0 @@
-use Rattle.std.proofs.lemmas.Iterator.Consumers.{nth_from_yields_List, YieldsList-from_first}
-use Rattle.ix_flatmap.specs.FlatState.{flat_keys}
-use Rattle.ix_hashmap.proofs.hashmap.meta_hash_map.MetaHashMap+Pair+K+V+S+L+C+B.nth_key.Goals as goal
-
-pub returns : goal.returns
-returns g c =
-    nth_from_yields_List c.nth.result c.nth.new.self c.args.n c.nth.ensures.ran
-    (YieldsList-from_first (λ key. key.now) (λ rest. rest) (flat_keys c.args.self.now) c.keys.ensures)

@@ -1,0 +1,2 @@
+-- Laws of definitions.
+pub mod HashChains

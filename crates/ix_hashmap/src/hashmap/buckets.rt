@@ -1,0 +1,208 @@
+//! The index of hash maps.
+ghost use Rattle.std.specs.Prelude.{◌≡◌, true};
+ghost use Rattle.std.proofs.Common.{ap};
+ghost use Rattle.std.specs.Mem.{type_size};
+ghost use Rattle.ix_tables.specs.Memory.{memory_plus, table_memory};
+ghost use Rattle.std.specs.Result.{IfErr, result_ok};
+ghost use Rattle.ix_slottable.specs.SlotSteps.{SlotInsert};
+ghost use Rattle.ix_hashmap.specs.inner.HashChains.{hash_of, IsHashed, IsBucket};
+ghost use Rattle.ix_hashmap.specs.laws.HashChains.{IsHashed-clone};
+
+use crate::hashmap::chain_link::NO_PLACE;
+use crate::hashmap::chain_table::ChainTable;
+use crate::hashmap::hashed::bucket_of;
+use crate::hashmap::search::find_from;
+use crate::hashmap::{ChainLink, HashMapFamily, Hashed};
+use ix_flatmap::map::{CopyIn, CopyInline, HeapIndex, InlineIndex, KeyIndex, Pair, PairIndex};
+use ix_slottable::slottable::{Link, MetaSlotTable, SlotTableKey};
+use ix_tables::{HeapTable, InlineTable, MemorySize, Table};
+use std::alloc::{AllocError, Allocator};
+use std::hash::{BuildHasher, Hash};
+
+/// The index of a hash map: for each of its buckets a chain of the places whose keys have it, in a table `C`. Keys are found by
+/// their `Hash`, which `B` makes hashers for.
+///
+/// A call that looks for a key compares it with the keys of its bucket, up to the equal one. A map has four buckets for each place,
+/// and where hashes are spread evenly over the numbers below 2<sup>64</sup>, a bucket of a full map has a quarter of a key on
+/// average.
+#[derive(Drop)]
+pub struct Buckets<C: Table<ChainLink>, B: BuildHasher> {
+    links: ChainTable<C>,
+    hasher: B,
+}
+
+/// The bucket that a key has, and the first place in its chain.
+#[derive(Clone, Copy)]
+pub struct Bucket {
+    number: u128,
+    first: usize,
+}
+
+impl<P: Hashed, C: Table<ChainLink>, B: BuildHasher> PairIndex<P> for Buckets<C, B> {
+    ghost Fits = { λ index pairs.
+        IsHashed (λ pair. hash_of B.Hasher.finish B.Hasher.write (B.build_hasher index.hasher) (P.key_input pair)) pairs index.links };
+}
+
+impl<K: Eq + Hash + Drop, V: Drop, C: Table<ChainLink>, B: BuildHasher> KeyIndex<K, V>
+    for Buckets<C, B> {
+    type Seat = Bucket;
+
+    ghost IsSeat = { λ index pairs key seat.
+        IsBucket (hash_of B.Hasher.finish B.Hasher.write (B.build_hasher index.hasher) (K.hash_input key)) index.links seat.number seat.first };
+
+    #[inline]
+    fn seat<S: Table<Pair<K, V>>, L: Table<Link>>(
+        &self,
+        _pairs: &MetaSlotTable<Pair<K, V>, S, L>,
+        key: &K,
+    ) -> Bucket {
+        let places = self.links.len();
+        // A map without places has no bucket.
+        if places == 0 {
+            return Bucket {
+                number: 0,
+                first: NO_PLACE,
+            };
+        }
+        let number = bucket_of(&self.hasher, key, places);
+        Bucket {
+            number,
+            first: self.links.head(number),
+        }
+    }
+
+    #[inline]
+    fn find<'a, S: Table<Pair<K, V>>, L: Table<Link>>(
+        &self,
+        pairs: &'a MetaSlotTable<Pair<K, V>, S, L>,
+        seat: Bucket,
+        key: &K,
+    ) -> Option<(SlotTableKey, &'a Pair<K, V>)> {
+        find_from(pairs, &self.links, seat.first, key)
+    }
+
+    #[inline]
+    fn insert<S: Table<Pair<K, V>>, L: Table<Link>>(
+        &mut self,
+        pairs: &mut MetaSlotTable<Pair<K, V>, S, L>,
+        seat: Bucket,
+        pair: Pair<K, V>,
+    ) -> Result<SlotTableKey, Pair<K, V>>
+        requires fits { ⟦<Buckets<C, B> as PairIndex<Pair<K, V>>>⟧.Fits self.old pairs.old }
+        requires seat { ⟦<Buckets<C, B> as KeyIndex<K, V>>⟧.IsSeat self.old pairs.old pair.key seat }
+        ensures step { SlotInsert pairs.old pair pairs.new (result_ok result) }
+        ensures returned { IfErr result (λ refused. refused ≡ pair) }
+        ensures fits { ⟦<Buckets<C, B> as PairIndex<Pair<K, V>>>⟧.Fits self.new pairs.new }
+    {
+        match pairs.try_insert(pair) {
+            Ok(place) => {
+                self.links
+                    .insert_first(seat.number, seat.first, place.value());
+                Ok(place)
+            }
+            Err(pair) => Err(pair),
+        }
+    }
+
+    #[inline]
+    fn remove<S: Table<Pair<K, V>>, L: Table<Link>>(
+        &mut self,
+        pairs: &mut MetaSlotTable<Pair<K, V>, S, L>,
+        seat: Bucket,
+        place: SlotTableKey,
+    ) -> Pair<K, V> {
+        self.links.remove(seat.number, seat.first, place.value());
+        pairs.remove_unchecked(place)
+    }
+
+    #[inline]
+    fn clear<S: Table<Pair<K, V>>, L: Table<Link>>(
+        &mut self,
+        pairs: &mut MetaSlotTable<Pair<K, V>, S, L>,
+    ) {
+        pairs.clear();
+        self.links.clear();
+    }
+
+    #[inline]
+    fn bound<S: Table<Pair<K, V>>, L: Table<Link>>(
+        &self,
+        pairs: &MetaSlotTable<Pair<K, V>, S, L>,
+    ) -> usize {
+        pairs.capacity()
+    }
+
+    ghost Fits_equal_keys = { λ index pairs others same fits.
+        IsHashed-clone (λ pair. hash_of B.Hasher.finish B.Hasher.write (B.build_hasher index.hasher) (K.hash_input pair.key))
+        (λ pair other. K.eq other.key pair.key ≡ true) pairs others index.links
+        (λ pair other equal. ap (hash_of B.Hasher.finish B.Hasher.write (B.build_hasher index.hasher)) (K.respects_eq other.key pair.key equal))
+        same fits };
+}
+
+impl<P: Hashed, const CAPACITY: usize, B: BuildHasher> InlineIndex<P, CAPACITY>
+    for Buckets<InlineTable<ChainLink, CAPACITY>, B> {
+    type Setup = B;
+
+    fn new_inline(setup: B) -> Self {
+        let links = ChainTable::new(InlineTable::default());
+        // Names the number of places, by which the check knows that it is below the number for no place.
+        let _places = links.len();
+        Buckets {
+            links,
+            hasher: setup,
+        }
+    }
+}
+
+impl<P: Hashed, const CAPACITY: usize, B: BuildHasher + Copy> CopyInline<P, CAPACITY>
+    for Buckets<InlineTable<ChainLink, CAPACITY>, B> {
+    fn copy_inline(&self) -> Self {
+        // Names the number of places, by which the check knows that the tables have as many.
+        let _places = self.links.inline_len();
+        Buckets {
+            links: ChainTable::copy_of(InlineTable::default(), &self.links),
+            hasher: self.hasher,
+        }
+    }
+}
+
+impl<K: Eq + Hash + Drop, V: Drop, A: Allocator + Copy, B: BuildHasher + Drop> HeapIndex<
+    Pair<K, V>,
+    A,
+> for Buckets<HeapTable<ChainLink, A>, B> {
+    ghost use Rattle.ix_hashmap.specs.contracts.hashmap.chain_link.ChainLink as chain_link;
+
+    type Setup = B;
+
+    type Family = HashMapFamily<K, V, B>;
+
+    ghost memory = { λ pairs capacity. memory_plus pairs (table_memory (type_size chain_link.the_row) capacity) };
+
+    #[inline]
+    fn memory_size(pairs: MemorySize, capacity: usize) -> MemorySize {
+        pairs.saturating_add(HeapTable::<ChainLink, A>::memory_size(capacity))
+    }
+
+    fn new_in(alloc: A, capacity: usize, setup: B) -> Result<Self, AllocError> {
+        let links = ChainTable::new(HeapTable::new(alloc, capacity)?);
+        // Names the number of places, by which the check knows that it is below the number for no place.
+        let _places = links.len();
+        Ok(Buckets {
+            links,
+            hasher: setup,
+        })
+    }
+}
+
+impl<P: Hashed, A: Allocator + Copy, D: Allocator + Copy, B: BuildHasher + Copy> CopyIn<P, D>
+    for Buckets<HeapTable<ChainLink, A>, B> {
+    type Made = Buckets<HeapTable<ChainLink, D>, B>;
+
+    fn copy_in(&self, alloc: D) -> Result<Buckets<HeapTable<ChainLink, D>, B>, AllocError> {
+        let table = HeapTable::new(alloc, self.links.len())?;
+        Ok(Buckets {
+            links: ChainTable::copy_of(table, &self.links),
+            hasher: self.hasher,
+        })
+    }
+}
