@@ -1,9 +1,9 @@
-//! Checks of what the commands of flat maps can't say: clones, and listings of keys with a callback.
+//! Checks of what the commands of maps can't say: clones, and listings of keys with a callback.
 ghost use Rattle.ix_tables.specs.Cloning.{AreEqualClones};
 
 use crate::rows::Row;
 use ix_commands::{FlatCommand, Reply, Runs};
-use ix_flatmap::{CallbackProgression, MetaFlatMap, Pair};
+use ix_flatmap::{CallbackProgression, KeyIndex, MetaMap, Pair};
 use ix_slottable::Link;
 use ix_tables::Table;
 use std::alloc::AllocError;
@@ -11,11 +11,13 @@ use std::fmt::{Debug, InlineText};
 use test_support::{Findings, check_text, reply_of_option};
 
 /// Lists the keys up to the one after `before` others, for which the callback returns `Stop`.
-pub fn check_listing<K: Eq + Drop, V: Drop, S: Table<Pair<K, V>>, L: Table<Link>>(
-    findings: &Findings,
-    map: &MetaFlatMap<Pair<K, V>, S, L>,
-    before: usize,
-) {
+pub fn check_listing<
+    K: Eq + Drop,
+    V: Drop,
+    S: Table<Pair<K, V>>,
+    L: Table<Link>,
+    I: KeyIndex<K, V>,
+>(findings: &Findings, map: &MetaMap<Pair<K, V>, S, L, I>, before: usize) {
     let mut calls = 0usize;
     map.list_keys(|key| {
         let call = calls;
@@ -32,8 +34,8 @@ pub fn check_listing<K: Eq + Drop, V: Drop, S: Table<Pair<K, V>>, L: Table<Link>
 }
 
 /// Returns what `get` returns.
-fn clone_of<K: Eq + Copy, V: Copy, S: Table<Pair<K, V>>, L: Table<Link>>(
-    map: &MetaFlatMap<Pair<K, V>, S, L>,
+fn clone_of<K: Eq + Copy, V: Copy, S: Table<Pair<K, V>>, L: Table<Link>, I: KeyIndex<K, V>>(
+    map: &MetaMap<Pair<K, V>, S, L, I>,
     key: &K,
 ) -> Result<Reply<K, V>, AllocError>
     requires { AreEqualClones V.is_clone }
@@ -48,7 +50,8 @@ pub fn check_example<
     V: Copy + PartialEq + Debug,
     S: Table<Pair<K, V>>,
     L: Table<Link>,
->(findings: &Findings, map: &mut MetaFlatMap<Pair<K, V>, S, L>, rows: &[Row<K, V>], place: &str)
+    I: KeyIndex<K, V>,
+>(findings: &Findings, map: &mut MetaMap<Pair<K, V>, S, L, I>, rows: &[Row<K, V>], place: &str)
     requires { AreEqualClones V.is_clone }
 {
     for (number, (command, reply)) in rows.iter().enumerate() {

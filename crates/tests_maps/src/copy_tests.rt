@@ -1,17 +1,16 @@
-//! Clones, equality, defaults, look-ups by index and by `get_or_insert_with`, and how much memory a making takes.
+//! Clones, equality, defaults, look-ups by index and by `get_or_insert_with`.
 use crate::hashers::{HASHES, OneHash};
-use crate::memory_tests::SIZES;
-use ix_flatmap::Pair;
-use ix_hashmap::{ChainLink, FixedSizeHashMap, HashMap, MetaHashMap, RelocatableHashMap};
+use crate::memory_tests::HASH_SIZES;
+use ix_flatmap::{BoundedMap, FixedSizeFlatMap, FlatMap, KeyIndex, MetaMap, Pair};
+use ix_hashmap::{FixedSizeHashMap, HashMap};
 use ix_slottable::Link;
-use ix_tables::{MemorySize, Table};
+use ix_tables::Table;
 use linked_list_allocator::LocalHeap;
 use std::alloc::{AllocError, Global};
-use std::hash::BuildHasher;
 use std::test::Fail;
 use test_support::{
-    Findings, MAP_CLONES, Noted, Notes, check_equality, check_makings, check_map_clone, check_room,
-    check_text, fill_with_hole,
+    Findings, MAP_CLONES, Noted, Notes, check_equality, check_makings, check_map_clone, check_text,
+    fill_with_hole,
 };
 
 /// A key; what `get_or_insert_with` returns of it once the value is raised by one; and the number of calls so far. A map of 2 is
@@ -25,8 +24,8 @@ const COUNTS: &[(u64, Result<u64, u64>, u64)] = &[
 ];
 
 /// Calls `get_or_insert_with`, and returns the value, which is raised by one, or the key that comes back.
-fn raise<S: Table<Pair<u64, u64>>, L: Table<Link>, C: Table<ChainLink>, B: BuildHasher>(
-    map: &mut MetaHashMap<Pair<u64, u64>, S, L, C, B>,
+fn raise<S: Table<Pair<u64, u64>>, L: Table<Link>, I: KeyIndex<u64, u64>>(
+    map: &mut MetaMap<Pair<u64, u64>, S, L, I>,
     key: u64,
     calls: &mut u64,
 ) -> Result<u64, u64> {
@@ -44,9 +43,9 @@ fn raise<S: Table<Pair<u64, u64>>, L: Table<Link>, C: Table<ChainLink>, B: Build
 }
 
 /// Runs the rows on an empty map of 2.
-fn check_counts<S: Table<Pair<u64, u64>>, L: Table<Link>, C: Table<ChainLink>, B: BuildHasher>(
+fn check_counts<S: Table<Pair<u64, u64>>, L: Table<Link>, I: KeyIndex<u64, u64>>(
     findings: &Findings,
-    map: &mut MetaHashMap<Pair<u64, u64>, S, L, C, B>,
+    map: &mut MetaMap<Pair<u64, u64>, S, L, I>,
 ) {
     let mut calls = 0u64;
     for (row, (key, wanted, calls_wanted)) in COUNTS.iter().enumerate() {
@@ -70,6 +69,14 @@ fn get_or_insert_with(rt: HostRuntime) -> Result<(), Fail> {
     let mut none = FixedSizeHashMap::<u64, u64, 0>::new();
     findings.expect_same(raise(&mut none, 80, &mut calls), Err(80), "no place");
     findings.expect_same(calls, 0, "no call");
+    let mut none = FixedSizeFlatMap::<u64, u64, 0>::new();
+    findings.expect_same(raise(&mut none, 80, &mut calls), Err(80), "no place");
+    findings.expect_same(calls, 0, "no call");
+    check_counts(&findings, &mut FixedSizeFlatMap::<u64, u64, 2>::default());
+    match FlatMap::<u64, u64>::new(rt.alloc(), 2) {
+        Ok(mut map) => check_counts(&findings, &mut map),
+        Err(AllocError) => findings.miss("there is memory"),
+    }
     check_counts(&findings, &mut FixedSizeHashMap::<u64, u64, 2>::default());
     for hash in HASHES {
         match HashMap::<u64, u64, Global, OneHash>::with_hasher(rt.alloc(), 2, OneHash { hash }) {
@@ -90,18 +97,57 @@ fn equal_maps(rt: HostRuntime) -> Result<(), Fail> {
         (Ok(mut small), Ok(mut large)) => check_equality(&findings, &mut small, &mut large),
         _ => findings.miss("there is memory"),
     }
+    match (
+        FlatMap::<u64, u64>::new(rt.alloc(), 2),
+        FlatMap::<u64, u64>::new(rt.alloc(), 5),
+    ) {
+        (Ok(mut small), Ok(mut large)) => check_equality(&findings, &mut small, &mut large),
+        _ => findings.miss("there is memory"),
+    }
+    let empty = FixedSizeFlatMap::<u64, u64, 2>::default();
+    findings.expect_same((empty.len(), empty.capacity()), (0, 2), "the default map");
     findings.verdict()
 }
 
-/// Clones maps, whose hashers are those of `hasher`.
-fn check_clones(findings: &Findings, alloc: Global, heap: &LocalHeap, hasher: OneHash) {
-    let notes = Notes::new(0);
-    let mut fixed = FixedSizeHashMap::<u64, Noted, 4, OneHash>::with_hasher(hasher);
-    fill_with_hole(findings, &mut fixed, &notes);
+/// Clones a fixed map of 4, which is empty.
+fn check_fixed<'a, M: BoundedMap<u64, Noted<'a>> + Clone>(
+    findings: &Findings,
+    map: &mut M,
+    notes: &'a Notes,
+) {
+    fill_with_hole(findings, map, notes);
     for row in MAP_CLONES {
         notes.allow_clones(row.0);
-        check_map_clone(findings, fixed.clone(), &notes, row);
+        check_map_clone(findings, map.clone(), notes, row);
     }
+    findings.expect(map.contains(&20), "the original");
+}
+
+/// Clones flat maps.
+fn check_flat(findings: &Findings, alloc: Global, heap: &LocalHeap) {
+    let notes = Notes::new(0);
+    let mut fixed = FixedSizeFlatMap::<u64, Noted, 4>::new();
+    check_fixed(findings, &mut fixed, &notes);
+    match FlatMap::<u64, Noted, Global>::new(alloc, 4) {
+        Ok(mut map) => {
+            fill_with_hole(findings, &mut map, &notes);
+            for row in MAP_CLONES {
+                notes.allow_clones(row.0);
+                check_map_clone(findings, map.try_clone_in(heap), &notes, row);
+                findings.expect_same_at(heap.used(), 0, row.0 as usize, "bytes in use");
+            }
+        }
+        Err(AllocError) => findings.miss("there is memory"),
+    }
+    drop(fixed);
+    findings.expect_same(notes.take_drops(), 153153, "the values of the two maps");
+}
+
+/// Clones hash maps, whose hashers are those of `hasher`.
+fn check_hashed(findings: &Findings, alloc: Global, heap: &LocalHeap, hasher: OneHash) {
+    let notes = Notes::new(0);
+    let mut fixed = FixedSizeHashMap::<u64, Noted, 4, OneHash>::with_hasher(hasher);
+    check_fixed(findings, &mut fixed, &notes);
     match HashMap::<u64, Noted, Global, OneHash>::with_hasher(alloc, 4, hasher) {
         Ok(mut map) => {
             fill_with_hole(findings, &mut map, &notes);
@@ -110,7 +156,7 @@ fn check_clones(findings: &Findings, alloc: Global, heap: &LocalHeap, hasher: On
                 check_map_clone(findings, map.try_clone_in(heap), &notes, row);
                 findings.expect_same_at(heap.used(), 0, row.0 as usize, "bytes in use");
             }
-            findings.expect(map.contains(&20) && fixed.contains(&20), "the original");
+            findings.expect(map.contains(&20), "the original");
         }
         Err(AllocError) => findings.miss("there is memory"),
     }
@@ -123,8 +169,9 @@ fn clones(rt: HostRuntime) -> Result<(), Fail> {
     let findings = Findings::new();
     match LocalHeap::new(rt.alloc(), 4096) {
         Ok(heap) => {
+            check_flat(&findings, rt.alloc(), &heap);
             for hash in HASHES {
-                check_clones(&findings, rt.alloc(), &heap, OneHash { hash });
+                check_hashed(&findings, rt.alloc(), &heap, OneHash { hash });
             }
         }
         Err(_) => findings.miss("a heap"),
@@ -164,36 +211,42 @@ fn clone_in(
 fn clones_in_little_memory(rt: HostRuntime) -> Result<(), Fail> {
     let findings = Findings::new();
     let alloc = rt.alloc();
-    check_makings(&findings, alloc, SIZES, "a clone", |heap: &LocalHeap, n| {
-        clone_in(&findings, alloc, heap, n)
-    });
+    check_makings(
+        &findings,
+        alloc,
+        HASH_SIZES,
+        "a clone",
+        |heap: &LocalHeap, n| { clone_in(&findings, alloc, heap, n) },
+    );
     findings.verdict()
 }
 
-/// Numbers of keys that fill whole blocks of 16 bytes.
-const WHOLE: &[usize] = &[0, 16, 64, 1008];
+/// A number whose clone is another one.
+#[derive(PartialEq, Eq, Debug, Drop)]
+struct Raised {
+    number: u64,
+}
 
-/// Makes a map and returns the bytes that are used then, or `None` if there is not enough memory.
-fn used_with(heap: &LocalHeap, n: usize) -> Option<usize> {
-    match HashMap::<u64, u64, &LocalHeap>::new(heap, n) {
-        Ok(_made) => Some(heap.used()),
-        Err(AllocError) => None,
+impl Clone for Raised {
+    fn clone(&self) -> Result<Self, AllocError> {
+        Ok(Raised {
+            number: self.number.wrapping_add(1),
+        })
     }
 }
 
 #[test]
-fn memory_sizes(rt: HostRuntime) -> Result<(), Fail> {
+fn clones_of_other_keys() -> Result<(), Fail> {
     let findings = Findings::new();
-    for n in WHOLE {
-        let wanted = MemorySize {
-            bytes: n.saturating_mul(75),
-            blocks: if *n == 0 { 0 } else { 6 },
-        };
-        let found = RelocatableHashMap::<u64, u64, &LocalHeap>::memory_size(*n);
-        findings.expect_same_at(found, wanted, *n, "a map");
-        check_room(&findings, rt.alloc(), found.bytes, *n, |heap: &LocalHeap| {
-            used_with(heap, *n)
-        });
+    let mut keys = FixedSizeFlatMap::<Raised, u64, 2>::new();
+    findings.expect(keys.clone().is_ok(), "no key");
+    let _ = keys.insert(Raised { number: 1 }, 5);
+    findings.expect(keys.clone().is_err(), "the clone of a key is another key");
+    let mut values = FixedSizeFlatMap::<u64, Raised, 2>::new();
+    let _ = values.insert(1, Raised { number: 5 });
+    match values.clone() {
+        Ok(copy) => check_text(&findings, &copy, "{1: Raised { number: 6 }}"),
+        Err(AllocError) => findings.miss("a value may be cloned so"),
     }
     findings.verdict()
 }

@@ -1,20 +1,25 @@
 //! Each function once, by its bound where it has one.
 ghost use Rattle.std.specs.Prelude.{◌≡◌};
 
+use crate::checks::check_example;
+use crate::rows::EVERY_CALL;
 use ix_flatmap::FlatMapError::{IsFull, KeyAlreadyExists};
-use ix_flatmap::{BoundedMap, CallbackProgression, FixedSizeFlatMap, Pair};
+use ix_flatmap::{
+    BoundedMap, CallbackProgression, FixedSizeFlatMap, FlatMap, FlatMapError, KeyIndex, MetaMap,
+    Pair, RelocatableFlatMap, UninitFlatMap,
+};
 use ix_hashmap::{
-    ChainLink, DefaultHashBuilder, FixedSizeHashMap, HashMap, MetaHashMap, RelocatableHashMap,
-    UninitHashMap,
+    DefaultHashBuilder, FixedSizeHashMap, HashMap, RelocatableHashMap, UninitHashMap,
 };
 use ix_slottable::Link;
 use ix_tables::{InitError, RelocatableContainer, Table};
 use std::alloc::{AllocError, Global};
-use std::hash::{BuildHasher, RandomState};
+use std::fmt::Debug;
+use std::hash::RandomState;
 use std::io;
 use std::random::RandomSource;
 use std::test::Fail;
-use test_support::{Findings, check_text};
+use test_support::{Findings, check_display, check_text, hash_of};
 
 /// Changes an empty map of 3, so that slot order is not the order of the insertions.
 fn insert_two<M: BoundedMap<u64, u64>>(map: &mut M) {
@@ -24,10 +29,25 @@ fn insert_two<M: BoundedMap<u64, u64>>(map: &mut M) {
     let _ = map.insert(8080, 3);
 }
 
-/// Checks what the calls of a map return that the trait does not have.
-fn check_calls<S: Table<Pair<u64, u64>>, L: Table<Link>, C: Table<ChainLink>, B: BuildHasher>(
+/// Returns the values in slot order, up to the first that is `last`, as digits.
+fn values_up_to<S: Table<Pair<u64, u64>>, L: Table<Link>, I: KeyIndex<u64, u64>>(
+    map: &MetaMap<Pair<u64, u64>, S, L, I>,
+    last: u64,
+) -> u64 {
+    let mut digits = 0u64;
+    for (_, value) in map {
+        digits = digits.wrapping_mul(10).wrapping_add(*value);
+        if *value == last {
+            break;
+        }
+    }
+    digits
+}
+
+/// Checks the calls of an empty map of 3, and its texts and those of its iterators.
+fn check_calls<S: Table<Pair<u64, u64>>, L: Table<Link>, I: KeyIndex<u64, u64>>(
     findings: &Findings,
-    map: &mut MetaHashMap<Pair<u64, u64>, S, L, C, B>,
+    map: &mut MetaMap<Pair<u64, u64>, S, L, I>,
 ) {
     check_text(findings, map, "{}");
     insert_two(map);
@@ -35,6 +55,12 @@ fn check_calls<S: Table<Pair<u64, u64>>, L: Table<Link>, C: Table<ChainLink>, B:
     check_text(findings, &map.keys(), "[8080, 443]");
     check_text(findings, &map.values(), "[3, 2]");
     check_text(findings, &map.iter(), "[(8080, 3), (443, 2)]");
+    let mut keys = map.keys();
+    findings.expect_same(keys.next().copied(), Some(8080), "the first key");
+    check_text(findings, &keys, "[443]");
+    let mut items = map.iter();
+    findings.expect(items.next() == Some((&8080, &3)), "the first item");
+    check_text(findings, &items, "[(443, 2)]");
     findings.expect_same(map.get(&443), Ok(Some(2)), "a clone");
     findings.expect_same(map.get(&80), Ok(None), "no clone");
     findings.expect(
@@ -49,20 +75,23 @@ fn check_calls<S: Table<Pair<u64, u64>>, L: Table<Link>, C: Table<ChainLink>, B:
         CallbackProgression::Stop
     });
     findings.expect_same(listed, 8080, "listed up to the first key");
-    let mut values = 0u64;
-    for (_, value) in &*map {
-        values = values.wrapping_mul(10).wrapping_add(*value);
-    }
-    findings.expect_same(values, 32, "each value");
+    findings.expect_same(values_up_to(&*map, 0), 32, "each value");
+    findings.expect_same(values_up_to(&*map, 3), 3, "a loop that stops");
+    findings.expect_same(map.len(), 2, "the map is as it was");
     map.clear();
+    findings.expect_same(values_up_to(&*map, 0), 0, "no key");
     check_text(findings, map, "{}");
 }
 
 #[test]
 fn each_kind(rt: HostRuntime) -> Result<(), Fail> {
     let findings = Findings::new();
-    let mut fixed = FixedSizeHashMap::<u64, u64, 3>::new();
-    check_calls(&findings, &mut fixed);
+    check_calls(&findings, &mut FixedSizeFlatMap::<u64, u64, 3>::new());
+    match FlatMap::<u64, u64>::new(rt.alloc(), 3) {
+        Ok(mut map) => check_calls(&findings, &mut map),
+        Err(AllocError) => findings.miss("there is memory"),
+    }
+    check_calls(&findings, &mut FixedSizeHashMap::<u64, u64, 3>::new());
     match HashMap::<u64, u64>::new(rt.alloc(), 3) {
         Ok(mut map) => check_calls(&findings, &mut map),
         Err(AllocError) => findings.miss("there is memory"),
@@ -190,5 +219,71 @@ fn by_value(rt: HostRuntime) -> Result<(), Fail> {
     let findings = Findings::new();
     let is_passed = check_passing(&findings, rt.alloc()).is_ok();
     findings.expect(is_passed, "there is memory");
+    findings.verdict()
+}
+
+#[test]
+fn no_place_and_no_bytes() -> Result<(), Fail> {
+    let findings = Findings::new();
+    let none = FixedSizeFlatMap::<u64, u64, 0>::new();
+    findings.expect_same(none.iter().count(), 0, "capacity 0");
+    findings.expect_same(none.iter().len(), 0, "capacity 0");
+    let mut unit = FixedSizeFlatMap::<(), (), 2>::new();
+    let _ = unit.insert((), ());
+    findings.expect(unit.iter().next() == Some((&(), &())), "of size zero");
+    findings.expect_same(unit.iter().count(), 1, "of size zero");
+    findings.verdict()
+}
+
+#[test]
+fn texts() -> Result<(), Fail> {
+    let findings = Findings::new();
+    check_text(&findings, &KeyAlreadyExists, "KeyAlreadyExists");
+    check_text(&findings, &IsFull, "IsFull");
+    let text = "FlatMapError::KeyAlreadyExists";
+    check_display(&findings, &KeyAlreadyExists, text);
+    check_display(&findings, &IsFull, "FlatMapError::IsFull");
+    check_text(&findings, &CallbackProgression::Continue, "Continue");
+    check_text(&findings, &CallbackProgression::Stop, "Stop");
+    let pair = Pair {
+        key: 1u64,
+        value: 'a',
+    };
+    findings.expect_same((pair.key, pair.value), (1, 'a'), "a pair");
+    findings.verdict()
+}
+
+/// Checks that two values are equal to their copies and not to one another.
+fn check_equality<T: Copy + Eq + Debug>(findings: &Findings, one: &T, other: &T) {
+    let (first, second) = (*one, *other);
+    findings.expect(first == *one && second == *other, "a copy is equal");
+    findings.expect(*one != *other && *other != *one, "others are not");
+}
+
+#[test]
+fn errors_and_progressions() -> Result<(), Fail> {
+    let findings = Findings::new();
+    check_equality(&findings, &KeyAlreadyExists, &IsFull);
+    let (go, stop) = (CallbackProgression::Continue, CallbackProgression::Stop);
+    check_equality(&findings, &go, &stop);
+    let error: FlatMapError = KeyAlreadyExists;
+    findings.expect_same(hash_of(&error), hash_of(&KeyAlreadyExists), "one hash");
+    findings.expect(hash_of(&error) != hash_of(&IsFull), "two hashes");
+    findings.verdict()
+}
+
+#[test]
+fn two_steps(rt: HostRuntime) -> Result<(), Fail> {
+    let findings = Findings::new();
+    let uninit = RelocatableFlatMap::<u64, u64, Global>::new_uninit(2);
+    match InitError::new(uninit).into_uninit().init(rt.alloc()) {
+        Ok(mut map) => check_example(&findings, &mut map, EVERY_CALL, "by the ready type"),
+        Err(_) => findings.miss("there is memory"),
+    }
+    let uninit = <UninitFlatMap<u64, u64> as RelocatableContainer<Global>>::new_uninit(2);
+    match uninit.init(rt.alloc()) {
+        Ok(mut map) => check_example(&findings, &mut map, EVERY_CALL, "by the trait"),
+        Err(_) => findings.miss("there is memory"),
+    }
     findings.verdict()
 }

@@ -1,85 +1,14 @@
-//! Keys and values that note their drops: each is dropped once, and by the drop of a map in slot order.
-ghost use Rattle.std.proofs.Common.{rules};
-ghost use Rattle.std.specs.Cmp.Rules.{comparing};
-ghost use Rattle.std.specs.Hash as fed;
-ghost use Rattle.std.specs.Ordering.{on};
-ghost use Rattle.std.specs.Prelude.{nat_eq};
-
+//! What the calls of a map hand back, and what they drop: keys and values note it by their names. Each is dropped once, and by the
+//! drop of a map in slot order.
+use crate::handed_back_tests::Call::{Clear, Insert, Remove, RemoveEntry, Replace, Set, TryInsert};
 use crate::hashers::{HASHES, OneHash};
-use crate::noted_tests::Call::{Clear, Insert, Remove, RemoveEntry, Replace, Set, TryInsert};
-use ix_flatmap::BoundedMap;
+use crate::noted_key::{AllNotes, NotedKey};
+use ix_flatmap::{BoundedMap, FixedSizeFlatMap, FlatMap, UninitFlatMap};
 use ix_hashmap::{FixedSizeHashMap, HashMap, UninitHashMap};
 use ix_tables::RelocatableContainer;
 use std::alloc::Global;
-use std::hash::{Hash, Hasher};
 use std::test::Fail;
-use test_support::{Findings, Noted, Notes, made};
-
-/// A key that notes its drop. Keys are equal if their numbers are.
-#[derive(Drop)]
-pub(crate) struct NotedKey<'a> {
-    pub(crate) number: u64,
-    noted: Noted<'a>,
-}
-
-impl PartialEq for NotedKey<'_> {
-    ghost eq = { on (λ key. key.number) nat_eq };
-
-    ghost laws = { Prim.search (comparing, rules) };
-
-    fn eq(&self, other: &Self) -> bool {
-        self.number == other.number
-    }
-}
-
-impl Eq for NotedKey<'_> {
-    ghost laws = { Prim.search (comparing, rules) };
-}
-
-impl Hash for NotedKey<'_> {
-    ghost hash_input = { λ key. fed.u64 key.number };
-
-    ghost respects_eq = { Prim.search rules };
-
-    fn hash<H: Hasher>(&self, state: &mut H) {
-        state.write_u64(self.number);
-    }
-}
-
-/// The notes of the keys, and those of the values.
-#[derive(Drop)]
-pub(crate) struct AllNotes {
-    keys: Notes,
-    values: Notes,
-}
-
-impl AllNotes {
-    pub(crate) fn new() -> AllNotes {
-        AllNotes {
-            keys: Notes::new(0),
-            values: Notes::new(0),
-        }
-    }
-
-    /// Returns a key and a value of this name.
-    pub(crate) fn named<'a>(&'a self, number: u64, name: u64) -> (NotedKey<'a>, Noted<'a>) {
-        let noted = Noted::new(name, &self.keys);
-        (NotedKey { number, noted }, Noted::new(name, &self.values))
-    }
-
-    /// Returns a key that notes no drop, to look for an equal one.
-    pub(crate) fn to_find<'a>(&'a self, number: u64) -> NotedKey<'a> {
-        NotedKey {
-            number,
-            noted: Noted::default(),
-        }
-    }
-
-    /// Returns the names of the dropped keys and those of the dropped values, and forgets them.
-    pub(crate) fn take_drops(&self) -> (u64, u64) {
-        (self.keys.take_drops(), self.values.take_drops())
-    }
-}
+use test_support::{Findings, Noted, made};
 
 /// A call, with the number of the key, and the name of what is handed in.
 #[derive(Clone, Copy)]
@@ -95,7 +24,24 @@ enum Call {
 
 /// A call on a map of 2; the names of the key and of the value that come back, or 0; and the names of the keys and of the values
 /// that the call drops.
-const ROWS: &[(Call, (u64, u64), (u64, u64))] = &[
+type Row = (Call, (u64, u64), (u64, u64));
+
+/// What is refused comes back or is dropped.
+const REFUSALS: &[Row] = &[
+    (TryInsert(1, 1), (0, 0), (0, 0)),
+    (TryInsert(1, 2), (2, 2), (0, 0)),
+    (Replace(1, 3), (0, 1), (3, 0)),
+    (Replace(2, 4), (0, 0), (0, 0)),
+    (TryInsert(3, 5), (5, 5), (0, 0)),
+    (Replace(3, 6), (6, 6), (0, 0)),
+    (Replace(2, 7), (0, 4), (7, 0)),
+    (TryInsert(1, 8), (8, 8), (0, 0)),
+    (RemoveEntry(1), (1, 3), (0, 0)),
+    (RemoveEntry(1), (0, 0), (0, 0)),
+    (Clear, (0, 0), (4, 7)),
+];
+
+const EVERY_CALL: &[Row] = &[
     (Insert(1, 1), (0, 0), (0, 0)),
     (Insert(1, 2), (0, 0), (2, 2)),
     (TryInsert(1, 3), (3, 3), (0, 0)),
@@ -115,9 +61,6 @@ const ROWS: &[(Call, (u64, u64), (u64, u64))] = &[
     (Insert(6, 3), (0, 0), (0, 0)),
     (Insert(7, 4), (0, 0), (0, 0)),
 ];
-
-/// The names of the keys and of the values that are dropped with the map then.
-const AT_THE_END: (u64, u64) = (43, 43);
 
 /// Returns the key and the value that come back, if any.
 fn run<'a, M: BoundedMap<NotedKey<'a>, Noted<'a>>>(
@@ -164,16 +107,21 @@ fn run<'a, M: BoundedMap<NotedKey<'a>, Noted<'a>>>(
     }
 }
 
+/// Rows, and the names of the keys and of the values that are dropped with the map then.
+const TABLES: &[(&[Row], (u64, u64))] = &[(REFUSALS, (0, 0)), (EVERY_CALL, (43, 43))];
+
 /// Runs the rows on a map, which is empty and was made, and drops it.
 fn check_made<'a, M: BoundedMap<NotedKey<'a>, Noted<'a>> + Drop, E: Drop>(
     findings: &Findings,
     made: Result<M, E>,
     notes: &'a AllNotes,
+    (rows, left): &(&[Row], (u64, u64)),
 ) {
     let Ok(mut map) = made else {
         return findings.miss("there is memory");
     };
-    for (number, (call, back, dropped)) in ROWS.iter().enumerate() {
+    findings.expect_same(map.capacity(), 2, "the capacity");
+    for (number, (call, back, dropped)) in rows.iter().enumerate() {
         let (key, value) = run(&mut map, *call, notes);
         findings.expect_same_at(notes.take_drops(), *dropped, number, "dropped by the call");
         let key_name = key.as_ref().map_or(0, |key| key.noted.name);
@@ -184,26 +132,66 @@ fn check_made<'a, M: BoundedMap<NotedKey<'a>, Noted<'a>> + Drop, E: Drop>(
         findings.expect_same_at(notes.take_drops(), *back, number, "dropped by the caller");
     }
     drop(map);
-    findings.expect_same(notes.take_drops(), AT_THE_END, "dropped with the map");
+    findings.expect_same(notes.take_drops(), *left, "dropped with the map");
+}
+
+/// Runs the rows on a map of each kind.
+fn check_kinds(findings: &Findings, alloc: Global, table: &(&[Row], (u64, u64))) {
+    let notes = AllNotes::new();
+    let fixed = made(FixedSizeFlatMap::<NotedKey, Noted, 2>::new());
+    check_made(findings, fixed, &notes, table);
+    let allocated = FlatMap::<NotedKey, Noted, Global>::new(alloc, 2);
+    check_made(findings, allocated, &notes, table);
+    let relocatable = UninitFlatMap::<NotedKey, Noted>::new_uninit(2).init(alloc);
+    check_made(findings, relocatable, &notes, table);
+    let fixed = made(FixedSizeHashMap::<NotedKey, Noted, 2>::new());
+    check_made(findings, fixed, &notes, table);
+    let allocated = HashMap::<NotedKey, Noted, Global>::new(alloc, 2);
+    check_made(findings, allocated, &notes, table);
+    let relocatable = UninitHashMap::<NotedKey, Noted>::new_uninit(2).init(alloc);
+    check_made(findings, relocatable, &notes, table);
+    for hash in HASHES {
+        let allocated = HashMap::<NotedKey, Noted, Global, OneHash>::with_hasher(
+            alloc,
+            2,
+            OneHash { hash },
+        );
+        check_made(findings, allocated, &notes, table);
+    }
 }
 
 #[test]
 fn each_kind(rt: HostRuntime) -> Result<(), Fail> {
     let findings = Findings::new();
-    let notes = AllNotes::new();
-    let fixed = made(FixedSizeHashMap::<NotedKey, Noted, 2>::new());
-    check_made(&findings, fixed, &notes);
-    let made = HashMap::<NotedKey, Noted, Global>::new(rt.alloc(), 2);
-    check_made(&findings, made, &notes);
-    let made = UninitHashMap::<NotedKey, Noted>::new_uninit(2).init(rt.alloc());
-    check_made(&findings, made, &notes);
-    for hash in HASHES {
-        let made = HashMap::<NotedKey, Noted, Global, OneHash>::with_hasher(
-            rt.alloc(),
-            2,
-            OneHash { hash },
-        );
-        check_made(&findings, made, &notes);
+    for table in TABLES {
+        check_kinds(&findings, rt.alloc(), table);
     }
+    findings.verdict()
+}
+
+/// Checks that `get_key_value` lends the key of the map, and not the one that is looked for.
+fn check_lent<'a, M: BoundedMap<NotedKey<'a>, Noted<'a>>>(
+    findings: &Findings,
+    map: &mut M,
+    notes: &'a AllNotes,
+) {
+    let (key, value) = notes.named(2, 4);
+    let _ = map.insert(key, value);
+    match map.get_key_value(&notes.to_find(2)) {
+        Some((key, value)) => findings.expect_same((key.noted.name, value.name), (4, 4), "a pair"),
+        None => findings.miss("a key with its value"),
+    }
+    let none = map.get_key_value(&notes.to_find(3)).is_none();
+    findings.expect(none, "no key 3");
+}
+
+#[test]
+fn keys_that_are_lent() -> Result<(), Fail> {
+    let findings = Findings::new();
+    let notes = AllNotes::new();
+    let mut flat = FixedSizeFlatMap::<NotedKey, Noted, 2>::new();
+    check_lent(&findings, &mut flat, &notes);
+    let mut hashed = FixedSizeHashMap::<NotedKey, Noted, 2>::new();
+    check_lent(&findings, &mut hashed, &notes);
     findings.verdict()
 }

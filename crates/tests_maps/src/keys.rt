@@ -6,6 +6,8 @@ ghost use Rattle.std.specs.Ordering.{on};
 ghost use Rattle.std.specs.Prelude.{nat_eq};
 ghost use Rattle.std.proofs.Common.{rules};
 
+use crate::caseless::Caseless;
+use ix_string::StaticString;
 use std::fmt::{self, Debug, Formatter, Write};
 use std::hash::{Hash, Hasher};
 
@@ -56,4 +58,14 @@ pub struct Port {
 /// Returns the key of these parts.
 pub fn port_of(number: u16, is_open: bool) -> Port {
     Port { number, is_open }
+}
+
+/// Returns the text, or the empty one if it does not fit.
+pub fn text<const CAPACITY: usize>(bytes: &str) -> StaticString<CAPACITY> {
+    StaticString::try_from(bytes).unwrap_or(StaticString::new())
+}
+
+/// Returns the key of this text.
+pub fn caseless_of(bytes: &str) -> Caseless {
+    Caseless { text: text(bytes) }
 }

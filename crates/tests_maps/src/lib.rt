@@ -1,6 +1,6 @@
-//! Tests of flat maps beside their contracts: worked examples on each kind of map and in each memory, keys of several
-//! types, each function once, how often keys are compared and values are cloned, when both are dropped, too little
-//! memory, and random calls beside a plain slow map.
+//! Tests of maps beside their contracts, for flat maps and hash maps: worked examples on each kind of map, in each memory and by
+//! several hashers, keys of several types, each function once, how often keys are compared and values are cloned, when both are
+//! dropped, calls that go through all keys, drains and clones, too little memory, and random calls beside a plain slow map.
 #![tactic(auto)]
 
 #[cfg(test)]
@@ -8,13 +8,21 @@ mod caseless;
 #[cfg(test)]
 mod checks;
 #[cfg(test)]
+mod comparison_tests;
+#[cfg(test)]
+mod copy_tests;
+#[cfg(test)]
 mod function_tests;
 #[cfg(test)]
 mod handed_back_tests;
 #[cfg(test)]
+mod hashers;
+#[cfg(test)]
 mod keys;
 #[cfg(test)]
 mod memory_tests;
+#[cfg(test)]
+mod noted_key;
 #[cfg(test)]
 mod noted_tests;
 #[cfg(test)]
@@ -23,8 +31,6 @@ mod refusal_tests;
 mod row_tests;
 #[cfg(test)]
 mod rows;
-#[cfg(test)]
-mod size_tests;
 #[cfg(test)]
 mod slow_map;
 #[cfg(test)]

@@ -1,11 +1,9 @@
-//! Keys and values that note what happens to them: each is dropped once, and by the drop of a map in slot order; `get` clones
+//! Keys and values of flat maps that note what happens to them: each is dropped once, and by the drop of a map in slot order; `get` clones
 //! a value that the map has, and no other call does; and a call that looks for a key compares it with those before it in slot
 //! order and with the equal one, or with all keys if there is no equal one.
-ghost use Rattle.std.proofs.Common.{rules};
-ghost use Rattle.std.specs.Cmp.Rules.{comparing};
-ghost use Rattle.std.specs.Ordering.{on};
-ghost use Rattle.std.specs.Prelude.{nat_eq, ◌≤◌};
+ghost use Rattle.std.specs.Prelude.{◌≤◌};
 
+use crate::noted_key::{AllNotes, NotedKey};
 use ix_commands::FlatCommand::{
     self, Contains, Empty, Full, Get, Insert, Key as KeyAt, Len, Remove, Set,
 };
@@ -15,72 +13,8 @@ use ix_flatmap::{
 use ix_slottable::Link;
 use ix_tables::{RelocatableContainer, Table};
 use std::alloc::Global;
-use std::cell::Cell;
 use std::test::Fail;
-use test_support::{Findings, Noted, Notes, made};
-
-/// The notes of the keys, those of the values, and the number of comparisons of keys.
-#[derive(Drop)]
-pub(crate) struct AllNotes {
-    pub(crate) keys: Notes,
-    pub(crate) values: Notes,
-    pub(crate) comparisons: Cell<u64>,
-}
-
-impl AllNotes {
-    /// Returns notes of nothing. The next `clones` clones of values succeed, and none of a key.
-    pub(crate) fn new(clones: u64) -> AllNotes {
-        AllNotes {
-            keys: Notes::new(0),
-            values: Notes::new(clones),
-            comparisons: Cell::new(0),
-        }
-    }
-}
-
-/// A key that notes its drop and its comparisons. Keys are equal if their numbers are.
-#[derive(Drop)]
-pub(crate) struct NotedKey<'a> {
-    number: u64,
-    pub(crate) noted: Noted<'a>,
-    comparisons: &'a Cell<u64>,
-}
-
-impl<'a> NotedKey<'a> {
-    /// Returns a key that notes its drop by `name`.
-    pub(crate) fn new(number: u64, name: u64, notes: &'a AllNotes) -> NotedKey<'a> {
-        NotedKey {
-            number,
-            noted: Noted::new(name, &notes.keys),
-            comparisons: &notes.comparisons,
-        }
-    }
-
-    /// Returns a key that notes no drop, to look for an equal one.
-    pub(crate) fn to_find(number: u64, notes: &'a AllNotes) -> NotedKey<'a> {
-        NotedKey {
-            number,
-            noted: Noted::default(),
-            comparisons: &notes.comparisons,
-        }
-    }
-}
-
-impl PartialEq for NotedKey<'_> {
-    ghost eq = { on (λ key. key.number) nat_eq };
-
-    ghost laws = { Prim.search (comparing, rules) };
-
-    fn eq(&self, other: &Self) -> bool {
-        let comparisons = self.comparisons.get();
-        self.comparisons.set(comparisons.wrapping_add(1));
-        self.number == other.number
-    }
-}
-
-impl Eq for NotedKey<'_> {
-    ghost laws = { Prim.search (comparing, rules) };
-}
+use test_support::{Findings, Noted, made};
 
 /// A command, in which the second number is the name of what is handed in; how many comparisons and clones it makes; the
 /// names of the keys and of the values that it drops; and the name of the value that it returns.
@@ -186,7 +120,7 @@ const CLONES: &[Row] = &[
     (Remove(1), 1, 0, (0, 0), None),
 ];
 
-pub(crate) type NotedMap<'a, S, L> = MetaFlatMap<Pair<NotedKey<'a>, Noted<'a>>, S, L>;
+type NotedMap<'a, S, L> = MetaFlatMap<Pair<NotedKey<'a>, Noted<'a>>, S, L>;
 
 /// Runs the command, and returns the value that it returns, if any.
 fn run<'a, S: Table<Pair<NotedKey<'a>, Noted<'a>>>, L: Table<Link>>(
@@ -196,19 +130,19 @@ fn run<'a, S: Table<Pair<NotedKey<'a>, Noted<'a>>>, L: Table<Link>>(
 ) -> Option<Noted<'a>> {
     match command {
         Insert(key, name) => {
-            let key = NotedKey::new(key, name, notes);
-            let _ = map.insert(key, Noted::new(name, &notes.values));
+            let (key, value) = notes.named(key, name);
+            let _ = map.insert(key, value);
         }
-        Get(key) => return map.get(&NotedKey::to_find(key, notes)).ok().flatten(),
+        Get(key) => return map.get(&notes.to_find(key)).ok().flatten(),
         Set(key, name) => {
             let value = Noted::new(name, &notes.values);
-            if let Some(place) = map.get_mut_ref(&NotedKey::to_find(key, notes)) {
+            if let Some(place) = map.get_mut_ref(&notes.to_find(key)) {
                 *place = value;
             }
         }
-        Remove(key) => return map.remove(&NotedKey::to_find(key, notes)),
+        Remove(key) => return map.remove(&notes.to_find(key)),
         Contains(key) => {
-            let _ = map.contains(&NotedKey::to_find(key, notes));
+            let _ = map.contains(&notes.to_find(key));
         }
         KeyAt(_) => map.list_keys(|_| CallbackProgression::Continue),
         Len | Empty | Full => {
@@ -216,11 +150,6 @@ fn run<'a, S: Table<Pair<NotedKey<'a>, Noted<'a>>>, L: Table<Link>>(
         }
     }
     None
-}
-
-/// Returns the names of the dropped keys and those of the dropped values, and forgets them.
-pub(crate) fn take_drops(notes: &AllNotes) -> (u64, u64) {
-    (notes.keys.take_drops(), notes.values.take_drops())
 }
 
 /// `get_ref` makes the comparisons of `get`, and no clone.
@@ -234,11 +163,11 @@ fn check_reference<'a, S: Table<Pair<NotedKey<'a>, Noted<'a>>>, L: Table<Link>>(
     if let Get(key) = command {
         notes.comparisons.set(0);
         notes.values.allow_clones(9);
-        let _ = map.get_ref(&NotedKey::to_find(key, notes));
+        let _ = map.get_ref(&notes.to_find(key));
         let found = (
             notes.comparisons.get(),
             notes.values.clones_left(),
-            take_drops(notes),
+            notes.take_drops(),
         );
         findings.expect_same(found, (comparisons, 9, (0, 0)), "a reference");
     }
@@ -262,16 +191,16 @@ fn check_made<'a, S: Table<Pair<NotedKey<'a>, Noted<'a>>>, L: Table<Link>, E: Dr
         let found = (notes.comparisons.get(), notes.values.clones_left());
         let wanted = (*comparisons, 9 - (*clones).min(9));
         findings.expect_same_at(found, wanted, number, "comparisons and clones");
-        findings.expect_same_at(take_drops(notes), *dropped, number, "by the call");
+        findings.expect_same_at(notes.take_drops(), *dropped, number, "by the call");
         let found = value.as_ref().map(|value| value.name);
         findings.expect_same_at(found, *name, number, "returned");
         drop(value);
         let wanted = (0, name.unwrap_or(0));
-        findings.expect_same_at(take_drops(notes), wanted, number, "by the caller");
+        findings.expect_same_at(notes.take_drops(), wanted, number, "by the caller");
         check_reference(findings, &map, *command, notes, *comparisons);
     }
     drop(map);
-    take_drops(notes)
+    notes.take_drops()
 }
 
 /// Runs the rows on a map of each kind, and drops it.
@@ -283,7 +212,7 @@ fn check_kinds<const CAPACITY: usize>(
 )
     requires { CAPACITY ≤ 4 }
 {
-    let notes = AllNotes::new(0);
+    let notes = AllNotes::new();
     let fixed = made(FixedSizeFlatMap::<NotedKey, Noted, CAPACITY>::new());
     let found = check_made(findings, fixed, &notes, rows);
     findings.expect_same(found, end, "with a fixed map");

@@ -1,6 +1,6 @@
 //! Worked examples: commands of an empty map, and the replies to them.
 use crate::caseless::Caseless;
-use crate::keys::{Port, caseless_of, port_of, text};
+use crate::keys::{Letter, Port, caseless_of, port_of, text};
 use ix_commands::FlatCommand::{
     self, Contains, Empty, Full, Get, Insert, Key as KeyAt, Len, Remove, Set,
 };
@@ -147,6 +147,58 @@ pub const NO_PLACE: Example = &[
     (Empty, Bool(true)),
     (Full, Bool(true)),
 ];
+
+/// On a map of 4, of which all keys can have one bucket: the last, the first and a middle one of a chain are removed.
+pub const CHAIN: Example = &[
+    (Insert(1, 10), Done),
+    (Insert(2, 20), Done),
+    (Insert(3, 30), Done),
+    (Insert(4, 40), Done),
+    (Remove(2), Value(20)),
+    (Get(1), Value(10)),
+    (Get(2), Reply::None),
+    (Get(3), Value(30)),
+    (Get(4), Value(40)),
+    (Remove(4), Value(40)),
+    (Get(1), Value(10)),
+    (Get(3), Value(30)),
+    (Insert(5, 50), Done),
+    (Insert(6, 60), Done),
+    (Insert(7, 70), Error(IsFull)),
+    (Remove(1), Value(10)),
+    (Get(3), Value(30)),
+    (Get(5), Value(50)),
+    (Get(6), Value(60)),
+    (Remove(3), Value(30)),
+    (Remove(5), Value(50)),
+    (Contains(6), Bool(true)),
+    (Remove(6), Value(60)),
+    (Empty, Bool(true)),
+    (Insert(6, 61), Done),
+    (Get(6), Value(61)),
+];
+
+fn letter(byte: u8) -> Letter {
+    Letter { byte }
+}
+
+/// On a map of 2, with letters of either case as keys.
+pub fn letters() -> [Row<Letter, u64>; 12] {
+    [
+        (Insert(letter(b'a'), 1), Done),
+        (Insert(letter(b'A'), 2), Error(KeyAlreadyExists)),
+        (Insert(letter(b'B'), 3), Done),
+        (Insert(letter(b'b'), 4), Error(KeyAlreadyExists)),
+        (Insert(letter(b'c'), 5), Error(IsFull)),
+        (Get(letter(b'A')), Value(1)),
+        (Get(letter(b'b')), Value(3)),
+        (Contains(letter(b'C')), Bool(false)),
+        (Set(letter(b'A'), 6), Bool(true)),
+        (Remove(letter(b'A')), Value(6)),
+        (Contains(letter(b'a')), Bool(false)),
+        (KeyAt(0), Key(letter(b'B'))),
+    ]
+}
 
 /// On a map of 2, with keys that ignore the case of letters.
 pub fn case_ignored() -> [Row<Caseless, u64>; 16] {

@@ -1,7 +1,7 @@
-//! A plain slow map, with which tests compare flat maps.
+//! A plain slow map, with which tests compare maps.
 ghost use Rattle.std.specs.Prelude.{◌≡◌, ◌<◌, length, is_some, IfOk};
 ghost use Rattle.ix_slottable.specs.SlotState.{slot_new};
-ghost use Rattle.tests_flat_maps.specs.SlowRun.{is_pair_of, slow_place, slow_value, slow_insert, slow_insert_reply, slow_set, slow_remove};
+ghost use Rattle.tests_maps.specs.SlowRun.{is_pair_of, slow_place, slow_value, slow_insert, slow_insert_reply, slow_set, slow_remove};
 
 use ix_commands::{FlatCommand, Reply, ReplyError, Runs};
 use std::alloc::{AllocError, Global};
@@ -115,14 +115,33 @@ impl SlowMap {
         }
         value
     }
+
+    /// Raises each value by one, and removes each key of which [`is_divided`] is true then, in slot order.
+    pub fn raise_and_retain(&mut self, divisor: u64) {
+        for number in 0..self.pairs.capacity() {
+            let Some((key, value)) = self.pairs.get(number) else {
+                continue;
+            };
+            let raised = value.wrapping_add(1);
+            self.pairs.set(number, (key, raised));
+            if is_divided(key, raised, divisor) && self.pairs.has_room() {
+                let _ = self.pairs.remove(number);
+            }
+        }
+    }
 }
 
-/// The commands of a flat map but for `Key`, `Len` and `Empty`, to which the reply is `None`. A map with 512 free places
+/// Returns `true` if the sum of a key and its value is divided by `divisor`.
+pub fn is_divided(key: u64, value: u64, divisor: u64) -> bool {
+    key.wrapping_add(value) % divisor.max(1) == 0
+}
+
+/// The commands of a map but for `Key`, `Len` and `Empty`, to which the reply is `None`. A map with 512 free places
 /// does nothing.
 impl Runs<FlatCommand<u64, u64>> for SlowMap {
     ghost use Rattle.std.specs.Prelude.{ℕ};
     ghost use Rattle.ix_slottable.specs.SlotState.{SlotState};
-    ghost use Rattle.tests_flat_maps.specs.SlowRun.{slow_reply, slow_after};
+    ghost use Rattle.tests_maps.specs.SlowRun.{slow_reply, slow_after};
 
     type Reply = Reply<u64, u64>;
 

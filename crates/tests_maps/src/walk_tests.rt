@@ -1,11 +1,13 @@
-//! Random commands of flat maps and of the plain slow map: every reply, and the whole content after each command. Maps in
-//! memory have each capacity from 0 to 16, fixed ones 0, 1, 2, 5 and 16.
+//! Random commands of maps and of the plain slow map: every reply, and the whole content after each command. Maps in memory have
+//! each capacity from 0 to 16, fixed ones 0, 1, 2, 5 and 16. Keys of hash maps are spread over all buckets, or all have one.
 ghost use Rattle.std.specs.Prelude.{◌≤◌};
 
 use crate::checks::check_listing;
-use crate::slow_map::SlowMap;
+use crate::hashers::{HASHES, OneHash};
+use crate::slow_map::{SlowMap, is_divided};
 use ix_commands::FlatCommand;
-use ix_flatmap::{FixedSizeFlatMap, FlatMap, MetaFlatMap, Pair};
+use ix_flatmap::{FixedSizeFlatMap, FlatMap, KeyIndex, MetaMap, Pair};
+use ix_hashmap::{FixedSizeHashMap, HashMap};
 use ix_slottable::Link;
 use ix_tables::Table;
 use std::alloc::{AllocError, Global};
@@ -27,9 +29,9 @@ fn drawn_command(numbers: &mut Numbers, keys: u64) -> FlatCommand<u64, u64> {
 }
 
 /// Compares what the iterators return with the keys and values of the slow map.
-fn check_iterators<S: Table<Pair<u64, u64>>, L: Table<Link>>(
+fn check_iterators<S: Table<Pair<u64, u64>>, L: Table<Link>, I: KeyIndex<u64, u64>>(
     findings: &Findings,
-    map: &MetaFlatMap<Pair<u64, u64>, S, L>,
+    map: &MetaMap<Pair<u64, u64>, S, L, I>,
     slow: &SlowMap,
 ) {
     let len = slow.len();
@@ -53,9 +55,9 @@ fn check_iterators<S: Table<Pair<u64, u64>>, L: Table<Link>>(
 }
 
 /// Compares the contents of both maps, of which no key reaches `keys`.
-fn check_content<S: Table<Pair<u64, u64>>, L: Table<Link>>(
+fn check_content<S: Table<Pair<u64, u64>>, L: Table<Link>, I: KeyIndex<u64, u64>>(
     findings: &Findings,
-    map: &MetaFlatMap<Pair<u64, u64>, S, L>,
+    map: &MetaMap<Pair<u64, u64>, S, L, I>,
     slow: &SlowMap,
     keys: u64,
 ) {
@@ -72,20 +74,25 @@ fn check_content<S: Table<Pair<u64, u64>>, L: Table<Link>>(
     findings.expect_same(found, (len, len == 0, slow.is_full()), "the sizes");
 }
 
-/// Runs random commands on an empty map of `capacity`, whose making did not fail, and on a slow one. There are half as many
-/// keys again as places, and two more.
-fn walk<S: Table<Pair<u64, u64>>, L: Table<Link>>(
+/// Runs random commands on an empty map of `capacity`, whose making did not fail, and on a slow one, and now and then raises all
+/// values and removes some keys. There are half as many keys again as places, and two more.
+fn walk<S: Table<Pair<u64, u64>>, L: Table<Link>, I: KeyIndex<u64, u64> + Drop>(
     findings: &Findings,
     alloc: Global,
     capacity: usize,
-    made: Result<MetaFlatMap<Pair<u64, u64>, S, L>, AllocError>,
+    made: Result<MetaMap<Pair<u64, u64>, S, L, I>, AllocError>,
 ) {
     let (Ok(mut map), Ok(mut slow)) = (made, SlowMap::new(alloc, capacity)) else {
         return findings.miss("there is memory");
     };
     let keys = capacity.saturating_add(capacity / 2).saturating_add(2) as u64;
     let mut numbers = Numbers::new(capacity as u64);
-    for _ in 0..COMMANDS {
+    for step in 0..COMMANDS {
+        if step % 64 == 63 {
+            map.for_each_mut(|_, value| *value = value.wrapping_add(1));
+            map.retain(|key, value| !is_divided(*key, *value, 3));
+            slow.raise_and_retain(3);
+        }
         test_support::walk(
             findings,
             &mut map,
@@ -98,13 +105,21 @@ fn walk<S: Table<Pair<u64, u64>>, L: Table<Link>>(
         check_content(findings, &map, &slow, keys);
         check_listing(findings, &map, numbers.next() % keys.max(1) as usize);
     }
+    map.clear();
+    findings.expect(map.is_empty() && map.nth_key(0).is_none(), "cleared");
+    for key in 0..keys {
+        findings.expect(!map.contains(&key), "no key after `clear`");
+    }
+    findings.expect_same(map.insert(7, 7).is_ok(), capacity > 0, "room after `clear`");
 }
 
-/// Runs random commands on a fixed map.
+/// Runs random commands on a fixed map of each kind.
 fn walk_fixed<const CAPACITY: usize>(findings: &Findings, alloc: Global)
     requires { CAPACITY ≤ 16 }
 {
     let fixed = FixedSizeFlatMap::<u64, u64, CAPACITY>::new();
+    walk(findings, alloc, CAPACITY, Ok(fixed));
+    let fixed = FixedSizeHashMap::<u64, u64, CAPACITY>::new();
     walk(findings, alloc, CAPACITY, Ok(fixed));
 }
 
@@ -118,7 +133,27 @@ fn each_kind(rt: HostRuntime) -> Result<(), Fail> {
     walk_fixed::<5>(&findings, alloc);
     walk_fixed::<16>(&findings, alloc);
     for capacity in 0..17 {
-        walk(&findings, alloc, capacity, FlatMap::new(alloc, capacity));
+        let flat = FlatMap::<u64, u64>::new(alloc, capacity);
+        walk(&findings, alloc, capacity, flat);
+        let hashed = HashMap::<u64, u64>::new(alloc, capacity);
+        walk(&findings, alloc, capacity, hashed);
+    }
+    walk(&findings, alloc, 60, HashMap::<u64, u64>::new(alloc, 60));
+    findings.verdict()
+}
+
+#[test]
+fn one_bucket(rt: HostRuntime) -> Result<(), Fail> {
+    let findings = Findings::new();
+    let alloc = rt.alloc();
+    for hash in HASHES {
+        let hasher = OneHash { hash };
+        let fixed = FixedSizeHashMap::<u64, u64, 5, OneHash>::with_hasher(hasher);
+        walk(&findings, alloc, 5, Ok(fixed));
+        for capacity in [0, 1, 2, 3, 8, 16] {
+            let made = HashMap::<u64, u64, Global, OneHash>::with_hasher(alloc, capacity, hasher);
+            walk(&findings, alloc, capacity, made);
+        }
     }
     findings.verdict()
 }

@@ -1,24 +1,23 @@
-//! Calls that go through all keys, and drains: which keys they meet, what they write, what they drop and when, and which keys are
+//! Calls that go through all keys of a map, and drains: which keys they meet, what they write, what they drop and when, and which keys are
 //! found after them.
 use crate::hashers::{HASHES, OneHash};
-use crate::noted_tests::{AllNotes, NotedKey};
+use crate::noted_key::{AllNotes, NotedKey};
 use crate::whole_tests::Call::{Drain, Insert, Raise, Retain};
-use ix_flatmap::Pair;
-use ix_hashmap::{ChainLink, FixedSizeHashMap, HashMap, MetaHashMap, UninitHashMap};
+use ix_flatmap::{FixedSizeFlatMap, FlatMap, KeyIndex, MetaMap, Pair, UninitFlatMap};
+use ix_hashmap::{FixedSizeHashMap, HashMap, UninitHashMap};
 use ix_slottable::Link;
 use ix_tables::{RelocatableContainer, Table};
 use std::alloc::{AllocError, Global};
-use std::hash::BuildHasher;
 use std::test::Fail;
 use test_support::{Findings, Noted, made};
 
-type NotedMap<'a, S, L, C, B> = MetaHashMap<Pair<NotedKey<'a>, Noted<'a>>, S, L, C, B>;
+type NotedMap<'a, S, L, I> = MetaMap<Pair<NotedKey<'a>, Noted<'a>>, S, L, I>;
 
 /// A call. Keys are digits, and several keys a number of these.
 #[derive(Clone, Copy)]
 enum Call {
-    /// Inserts a key, whose value has the same name.
-    Insert(u64),
+    /// Inserts a key, which has this name, and so has its value.
+    Insert(u64, u64),
     /// Raises the name of each value by one.
     Raise,
     /// Retains these keys.
@@ -29,30 +28,55 @@ enum Call {
 
 /// A call on a map of 4; the keys that it meets; the names of the keys and those of the values that are dropped then; and the keys
 /// that are left, in slot order.
-const ROWS: &[(Call, u64, (u64, u64), u64)] = &[
+type Row = (Call, u64, (u64, u64), u64);
+
+const RAISED_AND_RETAINED: &[Row] = &[
+    (Insert(3, 1), 0, (0, 0), 3),
+    (Insert(1, 5), 0, (0, 0), 31),
+    (Insert(2, 3), 0, (0, 0), 312),
+    (Raise, 312, (0, 0), 312),
+    (Retain(32), 312, (5, 6), 32),
+    (Insert(4, 7), 0, (0, 0), 342),
+    (Retain(4), 342, (13, 24), 4),
+    (Retain(0), 4, (7, 7), 0),
+];
+
+const DRAINED: &[Row] = &[
+    (Insert(3, 1), 0, (0, 0), 3),
+    (Insert(1, 5), 0, (0, 0), 31),
+    (Insert(2, 3), 0, (0, 0), 312),
+    (Drain(1), 3, (153, 153), 0),
+    (Insert(3, 1), 0, (0, 0), 3),
+    (Insert(1, 5), 0, (0, 0), 13),
+    (Insert(2, 3), 0, (0, 0), 213),
+    (Drain(9), 213, (351, 351), 0),
+    (Drain(9), 0, (0, 0), 0),
+];
+
+const EVERY_CALL: &[Row] = &[
     (Raise, 0, (0, 0), 0),
-    (Insert(3), 0, (0, 0), 3),
-    (Insert(1), 0, (0, 0), 31),
-    (Insert(4), 0, (0, 0), 314),
-    (Insert(5), 0, (0, 0), 3145),
+    (Insert(3, 3), 0, (0, 0), 3),
+    (Insert(1, 1), 0, (0, 0), 31),
+    (Insert(4, 4), 0, (0, 0), 314),
+    (Insert(5, 5), 0, (0, 0), 3145),
     (Raise, 3145, (0, 0), 3145),
     (Retain(345), 3145, (1, 2), 345),
-    (Insert(2), 0, (0, 0), 3245),
+    (Insert(2, 2), 0, (0, 0), 3245),
     (Retain(3), 3245, (245, 256), 3),
-    (Insert(6), 0, (0, 0), 36),
-    (Insert(7), 0, (0, 0), 376),
-    (Insert(8), 0, (0, 0), 3876),
+    (Insert(6, 6), 0, (0, 0), 36),
+    (Insert(7, 7), 0, (0, 0), 376),
+    (Insert(8, 8), 0, (0, 0), 3876),
     (Retain(3876), 3876, (0, 0), 3876),
     (Drain(0), 0, (3876, 4876), 0),
-    (Insert(9), 0, (0, 0), 9),
-    (Insert(1), 0, (0, 0), 19),
+    (Insert(9, 9), 0, (0, 0), 9),
+    (Insert(1, 1), 0, (0, 0), 19),
     (Drain(1), 1, (19, 19), 0),
-    (Insert(2), 0, (0, 0), 2),
-    (Insert(3), 0, (0, 0), 32),
-    (Insert(4), 0, (0, 0), 432),
-    (Insert(5), 0, (0, 0), 5432),
+    (Insert(2, 2), 0, (0, 0), 2),
+    (Insert(3, 3), 0, (0, 0), 32),
+    (Insert(4, 4), 0, (0, 0), 432),
+    (Insert(5, 5), 0, (0, 0), 5432),
     (Drain(9), 5432, (5432, 5432), 0),
-    (Insert(6), 0, (0, 0), 6),
+    (Insert(6, 6), 0, (0, 0), 6),
     (Retain(0), 6, (6, 6), 0),
     (Drain(9), 0, (0, 0), 0),
 ];
@@ -76,17 +100,16 @@ fn has_digit(digits: u64, digit: u64) -> bool {
 }
 
 /// Makes the call, and returns the keys that it meets.
-fn run<'a, S, L, C, B>(map: &mut NotedMap<'a, S, L, C, B>, call: Call, notes: &'a AllNotes) -> u64
+fn run<'a, S, L, I>(map: &mut NotedMap<'a, S, L, I>, call: Call, notes: &'a AllNotes) -> u64
 where
     S: Table<Pair<NotedKey<'a>, Noted<'a>>>,
     L: Table<Link>,
-    C: Table<ChainLink>,
-    B: BuildHasher,
+    I: KeyIndex<NotedKey<'a>, Noted<'a>>,
 {
     let mut met = 0u64;
     match call {
-        Insert(number) => {
-            let (key, value) = notes.named(number, number);
+        Insert(number, name) => {
+            let (key, value) = notes.named(number, name);
             let _ = map.insert(key, value);
         }
         Raise => map.for_each_mut(|key, value| {
@@ -110,9 +133,9 @@ where
 }
 
 /// Checks that the map has these keys, in this order, and no other digit.
-fn check_keys<'a, S, L, C, B>(
+fn check_keys<'a, S, L, I>(
     findings: &Findings,
-    map: &NotedMap<'a, S, L, C, B>,
+    map: &NotedMap<'a, S, L, I>,
     left: u64,
     notes: &'a AllNotes,
     row: usize,
@@ -120,8 +143,7 @@ fn check_keys<'a, S, L, C, B>(
 where
     S: Table<Pair<NotedKey<'a>, Noted<'a>>>,
     L: Table<Link>,
-    C: Table<ChainLink>,
-    B: BuildHasher,
+    I: KeyIndex<NotedKey<'a>, Noted<'a>>,
 {
     let mut keys = 0u64;
     for key in map.keys() {
@@ -135,22 +157,22 @@ where
 }
 
 /// Runs the rows on an empty map of 4 whose making did not fail.
-fn check_made<'a, S, L, C, B, E>(
+fn check_made<'a, S, L, I, E>(
     findings: &Findings,
-    made: Result<NotedMap<'a, S, L, C, B>, E>,
+    made: Result<NotedMap<'a, S, L, I>, E>,
     notes: &'a AllNotes,
+    rows: &[Row],
 )
 where
     S: Table<Pair<NotedKey<'a>, Noted<'a>>>,
     L: Table<Link>,
-    C: Table<ChainLink>,
-    B: BuildHasher + Drop,
+    I: KeyIndex<NotedKey<'a>, Noted<'a>> + Drop,
     E: Drop,
 {
     let Ok(mut map) = made else {
         return findings.miss("there is memory");
     };
-    for (row, (call, met, dropped, left)) in ROWS.iter().enumerate() {
+    for (row, (call, met, dropped, left)) in rows.iter().enumerate() {
         let found = run(&mut map, *call, notes);
         findings.expect_same_at(found, *met, row, "the keys that are met");
         findings.expect_same_at(notes.take_drops(), *dropped, row, "what is dropped");
@@ -158,34 +180,53 @@ where
     }
 }
 
-#[test]
-fn each_kind(rt: HostRuntime) -> Result<(), Fail> {
-    let findings = Findings::new();
+/// Runs the rows on a map of each kind.
+fn check_kinds(findings: &Findings, alloc: Global, rows: &[Row]) {
     let notes = AllNotes::new();
+    let fixed = made(FixedSizeFlatMap::<NotedKey, Noted, 4>::new());
+    check_made(findings, fixed, &notes, rows);
+    let allocated = FlatMap::<NotedKey, Noted, Global>::new(alloc, 4);
+    check_made(findings, allocated, &notes, rows);
+    let relocatable = UninitFlatMap::<NotedKey, Noted>::new_uninit(4).init(alloc);
+    check_made(findings, relocatable, &notes, rows);
     let fixed = made(FixedSizeHashMap::<NotedKey, Noted, 4>::new());
-    check_made(&findings, fixed, &notes);
-    let allocated = HashMap::<NotedKey, Noted, Global>::new(rt.alloc(), 4);
-    check_made(&findings, allocated, &notes);
-    let relocatable = UninitHashMap::<NotedKey, Noted>::new_uninit(4).init(rt.alloc());
-    check_made(&findings, relocatable, &notes);
+    check_made(findings, fixed, &notes, rows);
+    let allocated = HashMap::<NotedKey, Noted, Global>::new(alloc, 4);
+    check_made(findings, allocated, &notes, rows);
+    let relocatable = UninitHashMap::<NotedKey, Noted>::new_uninit(4).init(alloc);
+    check_made(findings, relocatable, &notes, rows);
     for hash in HASHES {
         let hasher = OneHash { hash };
         let fixed = made(FixedSizeHashMap::<NotedKey, Noted, 4, OneHash>::with_hasher(hasher));
-        check_made(&findings, fixed, &notes);
-        let allocated = HashMap::<NotedKey, Noted, Global, OneHash>::with_hasher(
-            rt.alloc(),
-            4,
-            hasher,
-        );
-        check_made(&findings, allocated, &notes);
+        check_made(findings, fixed, &notes, rows);
+        let allocated = HashMap::<NotedKey, Noted, Global, OneHash>::with_hasher(alloc, 4, hasher);
+        check_made(findings, allocated, &notes, rows);
+    }
+}
+
+#[test]
+fn each_kind(rt: HostRuntime) -> Result<(), Fail> {
+    let findings = Findings::new();
+    for rows in [RAISED_AND_RETAINED, DRAINED, EVERY_CALL] {
+        check_kinds(&findings, rt.alloc(), rows);
     }
     findings.verdict()
 }
 
-#[test]
-fn no_place_and_no_bytes() -> Result<(), Fail> {
-    let findings = Findings::new();
-    let mut none = FixedSizeHashMap::<u64, u64, 0>::default();
+/// Checks a map without a place, and one of 2 with values of size zero.
+fn check_smallest<S, L, I, T, M, J>(
+    findings: &Findings,
+    none: &mut MetaMap<Pair<u64, u64>, S, L, I>,
+    units: &mut MetaMap<Pair<u8, ()>, T, M, J>,
+)
+where
+    S: Table<Pair<u64, u64>>,
+    L: Table<Link>,
+    I: KeyIndex<u64, u64>,
+    T: Table<Pair<u8, ()>>,
+    M: Table<Link>,
+    J: KeyIndex<u8, ()>,
+{
     let mut calls = 0u64;
     none.for_each_mut(|_, _| calls = calls.wrapping_add(1));
     none.retain(|_, _| {
@@ -193,25 +234,34 @@ fn no_place_and_no_bytes() -> Result<(), Fail> {
         true
     });
     findings.expect_same((calls, none.drain().len()), (0, 0), "no key, no call");
-    let mut units = FixedSizeHashMap::<u8, (), 2>::new();
     let _ = (units.insert(1, ()), units.insert(2, ()));
     units.retain(|key, ()| *key == 2);
     findings.expect_same(units.drain().next(), Some((2, ())), "of size zero");
     findings.expect(units.is_empty(), "of size zero");
+}
+
+#[test]
+fn no_place_and_no_bytes() -> Result<(), Fail> {
+    let findings = Findings::new();
+    let mut none = FixedSizeFlatMap::<u64, u64, 0>::new();
+    let mut units = FixedSizeFlatMap::<u8, (), 2>::new();
+    check_smallest(&findings, &mut none, &mut units);
+    let mut none = FixedSizeHashMap::<u64, u64, 0>::default();
+    let mut units = FixedSizeHashMap::<u8, (), 2>::new();
+    check_smallest(&findings, &mut none, &mut units);
     findings.verdict()
 }
 
 /// Checks clones of the iterators of a map with the keys 40, 20 and 60, in slot order, of the values 7, 3 and 2: each goes on
 /// where its original stands, and neither moves the other.
-fn check_clones<S, L, C, B>(
+fn check_clones<S, L, I>(
     findings: &Findings,
-    map: &MetaHashMap<Pair<u64, u64>, S, L, C, B>,
+    map: &MetaMap<Pair<u64, u64>, S, L, I>,
 ) -> Result<(), AllocError>
 where
     S: Table<Pair<u64, u64>>,
     L: Table<Link>,
-    C: Table<ChainLink>,
-    B: BuildHasher,
+    I: KeyIndex<u64, u64>,
 {
     let mut items = map.iter();
     items.next();
@@ -240,7 +290,7 @@ where
 #[test]
 fn clones_of_iterators() -> Result<(), Fail> {
     let findings = Findings::new();
-    let mut map = FixedSizeHashMap::<u64, u64, 4>::new();
+    let mut map = FixedSizeFlatMap::<u64, u64, 4>::new();
     for (key, value) in [(30, 1), (10, 5), (20, 3), (60, 2)] {
         let _ = map.insert(key, value);
     }
