@@ -24,7 +24,7 @@ PAGES = os.path.join(ROOT, "docs", "api")
 INDEX = "README.md"
 MAIN_CALLS = 6
 # What proofs and containers of one's own need, and no other caller.
-LATER = re.compile(r"\w+_law|\w+Family|\w*Link|Content|Hashed|HeapStringKind|Keyed|Pair|Polymorphic|RawSlots|Relocatable")
+LATER = re.compile(r"\w+_law|\w+Family|\w*Link|Content|Hashed|HeapStringKind|Keyed|Pair(?:Key|Value)?|Part|Polymorphic|RawSlots|Relocatable|Whole")
 LATER_HEADING = "## For proofs, and for containers of your own"
 TRAITS = ("Copy", "Clone", "PartialEq", "Eq", "PartialOrd", "Ord", "Hash", "Debug", "Display", "Error", "Default")
 # Traits of an impl that say nothing to a caller.

@@ -170,10 +170,12 @@ class Library:
         if alias:
             self.aliases[item.name] = alias.group(2)
 
-    def calls_of(self, name):
-        """Returns links to the type that a name stands for, and to the traits of its crate, or of its facade, that it meets."""
+    def calls_of(self, name, is_alias):
+        """Returns links to the type that a name stands for, and to the traits of its crate, or of its facade, that it meets.
+
+        Another crate can have a type of its own by the name of an alias."""
         target = name
-        while self.aliases.get(target) in self.links:
+        while is_alias and self.aliases.get(target) in self.links:
             target = self.aliases[target]
         types = [target] if target != name else []
         traits = [it for it in dict.fromkeys(self.traits[target]) if it in self.cited and self.rooms[it] == self.rooms[target]]
@@ -216,7 +218,7 @@ class Source:
         """Returns the line that says where the calls of a type stand."""
         if item.kind not in ("struct", "enum", "type"):
             return []
-        types, traits = self.library.calls_of(item.name)
+        types, traits = self.library.calls_of(item.name, item.kind == "type")
         parts = [*types, *(["the " + ("trait " if len(traits) == 1 else "traits ") + ", ".join(traits)] if traits else [])]
         return ["It has the calls of " + " and of ".join(parts) + ".", ""] if parts else []
 

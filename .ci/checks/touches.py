@@ -32,7 +32,7 @@ WALKS = {
 }
 # Calls of a single step: those of counted tables, of new values, and of std.
 CALLS = {"item", "item_mut", ".put", ".take", ".get", ".get_mut", ".len", ".inline_len", ".as_ref", ".is_some", ".ok", "Touches::new", "SlotTableKey::new", "SlotMapKey::new",
-         "Link::held", "Iter::new", "Keys::new", "Values::new", "mem::replace", "write!", "Some", "Ok", "Err"}
+         "Link::held", "Iter::new", "Keys::new", "Values::new", "P::of", "mem::replace", "write!", "Some", "Ok", "Err"}
 FUNCTION = re.compile(r"( *)(?:pub(?:\(crate\))? )?fn (\w+)")
 LOOP = re.compile(r"\b(?:for|while|loop)\b")
 CALL = re.compile(r"(\.|(?:\w+::)*)\b(\w+!?)(?:::<[^>]*>)?\s*\(")

@@ -48,6 +48,7 @@ pub mod values {
 }
 
 pub use ix_slottable::slottable::{
-    Drain, FixedSizeSlotTable, IntoIter, Iter, Keys, Link, MetaSlotTable, RelocatableSlotTable,
-    SlotTable, SlotTableFamily, SlotTableKey, UninitSlotTable, Values, default_key_law,
+    Drain, FixedSizeSlotTable, IntoIter, Iter, Keys, Link, MetaSlotTable, Part, Parts,
+    RelocatableSlotTable, SlotTable, SlotTableFamily, SlotTableKey, UninitSlotTable, Values, Whole,
+    default_key_law,
 };

@@ -13,6 +13,7 @@ mod keys;
 mod kinds;
 mod link;
 mod meta_slot_table;
+mod part;
 mod slot_table_key;
 mod steps;
 mod try_insert;
@@ -28,5 +29,6 @@ pub use kinds::{
 };
 pub use link::Link;
 pub use meta_slot_table::MetaSlotTable;
+pub use part::{Part, Whole};
 pub use slot_table_key::{SlotTableKey, default_key_law};
-pub use values::Values;
+pub use values::{Parts, Values};

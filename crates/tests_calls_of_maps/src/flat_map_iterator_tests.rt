@@ -45,7 +45,7 @@ fn a_drain_takes_keys_and_values_out(rt: HostRuntime) -> Result<(), Fail> {
     Ok(())
 }
 
-// Shows: MetaMap::keys, Keys, Iterator for Keys, ExactSizeIterator for Keys
+// Shows: MetaMap::keys, Keys
 #[test]
 fn keys_come_in_slot_order(rt: HostRuntime) -> Result<(), Fail> {
     let mut map = FixedSizeFlatMap::<u16, char, 3>::new();
@@ -59,7 +59,7 @@ fn keys_come_in_slot_order(rt: HostRuntime) -> Result<(), Fail> {
     Ok(())
 }
 
-// Shows: MetaMap::values, Values, Iterator for Values, ExactSizeIterator for Values
+// Shows: MetaMap::values, Values
 #[test]
 fn values_come_in_slot_order_of_their_keys(rt: HostRuntime) -> Result<(), Fail> {
     let mut map = FixedSizeFlatMap::<u16, char, 3>::new();
@@ -73,8 +73,8 @@ fn values_come_in_slot_order_of_their_keys(rt: HostRuntime) -> Result<(), Fail> 
     Ok(())
 }
 
-// Shows: Debug for Iter, Debug for Keys, Debug for Values
-// Shows: Clone for Iter, Clone for Keys, Clone for Values
+// Shows: Debug for Iter
+// Shows: Clone for Iter
 #[test]
 fn what_is_still_to_come_is_printed_and_cloned(rt: HostRuntime) -> Result<(), Fail> {
     let mut map = FixedSizeFlatMap::<u16, char, 3>::new();

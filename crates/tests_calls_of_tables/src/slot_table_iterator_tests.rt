@@ -70,7 +70,7 @@ fn keys_rise(rt: HostRuntime) {
     assert_eq!(rt; keys.next(), None);
 }
 
-// Shows: MetaSlotTable::values, Values, Iterator for Values, ExactSizeIterator for Values
+// Shows: MetaSlotTable::values, Values, Parts, Iterator for Parts, ExactSizeIterator for Parts
 #[test]
 fn values_come_in_rising_order_of_their_keys(rt: HostRuntime) {
     let mut table = FixedSizeSlotTable::<char, 3>::new();
@@ -83,8 +83,8 @@ fn values_come_in_rising_order_of_their_keys(rt: HostRuntime) {
     assert_eq!(rt; values.next(), None);
 }
 
-// Shows: Debug for Iter, Debug for Keys, Debug for Values
-// Shows: Clone for Iter, Clone for Keys, Clone for Values
+// Shows: Debug for Iter, Debug for Keys, Debug for Parts
+// Shows: Clone for Iter, Clone for Keys, Clone for Parts
 #[test]
 fn what_is_still_to_come_is_printed_and_cloned(rt: HostRuntime) -> Result<(), Fail> {
     let mut table = FixedSizeSlotTable::<char, 3>::new();

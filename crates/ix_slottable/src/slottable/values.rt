@@ -1,57 +1,80 @@
-//! The iterator over the values of slot tables.
+//! The iterator over the values of slot tables, or over a part of each.
 ghost use Rattle.std.specs.Prelude.{◌≡◌, length, map, Some, IfSome, ⊤};
 ghost use Rattle.std.specs.Iterator.{YieldsFirstBy, UpTo, at_most, item_count};
 ghost use Rattle.std.specs.Iterator.SizeHint.{IsWithinCount};
 
-use crate::slottable::{Iter, Link};
+use crate::slottable::{Iter, Link, Part, Whole};
 use ix_tables::Table;
 use std::alloc::AllocError;
 use std::fmt::{self, Debug, Formatter, Write};
 use std::iter::FusedIterator;
-use std::marker::Model;
+use std::marker::{Model, PhantomData};
 
 /// An iterator over the values of a slot table in rising order of their keys, as
 /// [`MetaSlotTable::values`](crate::MetaSlotTable::values) returns it. Contracts see the values that are still to come.
+///
+/// Its items are `&'a T`.
+pub type Values<'a, T, S, L> = Parts<'a, T, S, L, Whole>;
+
+/// An iterator over the part `P` of each value of a slot table in rising order of their keys. Contracts see the parts that
+/// are still to come.
 #[derive(Drop)]
-pub struct Values<'a, T, S: Table<T>, L: Table<Link>> {
+pub struct Parts<'a, T, S: Table<T>, L: Table<Link>, P: Part<T>>
+where
+    P::Of: 'a,
+{
     items: Iter<'a, T, S, L>,
+    part: PhantomData<P>,
 }
 
-impl<'a, T, S: Table<T>, L: Table<Link>> Model for Values<'a, T, S, L> {
+impl<'a, T, S: Table<T>, L: Table<Link>, P: Part<T>> Model for Parts<'a, T, S, L, P>
+where
+    P::Of: 'a,
+{
     ghost use Rattle.std.specs.Prelude.{List, map};
 
-    ghost Value = { List T };
+    ghost Value = { List P.Of };
 
-    ghost view = { λ values. map (λ item. item.1) values.items };
+    ghost view = { λ parts. map (λ item. P.part item.1) parts.items };
 }
 
-impl<'a, T, S: Table<T>, L: Table<Link>> Values<'a, T, S, L> {
-    /// Returns an iterator over the values of entries. O(1).
+impl<'a, T, S: Table<T>, L: Table<Link>, P: Part<T>> Parts<'a, T, S, L, P>
+where
+    P::Of: 'a,
+{
+    /// Returns an iterator over the part of each value of entries. O(1).
+    #[doc(hidden)]
     #[inline]
-    pub(crate) fn new(items: Iter<'a, T, S, L>) -> Self
-        ensures { result ≡ map (λ item. item.1) items.entry }
+    pub fn new(items: Iter<'a, T, S, L>) -> Self
+        ensures { result ≡ map (λ item. P.part item.1) items.entry }
     {
-        Values { items }
+        Parts {
+            items,
+            part: PhantomData,
+        }
     }
 }
 
-impl<'a, T, S: Table<T>, L: Table<Link>> Iterator for Values<'a, T, S, L> {
-    type Item = &'a T;
+impl<'a, T, S: Table<T>, L: Table<Link>, P: Part<T>> Iterator for Parts<'a, T, S, L, P>
+where
+    P::Of: 'a,
+{
+    type Item = &'a P::Of;
 
-    ghost next_gives = { YieldsFirstBy (λ value. value.now) (λ rest. rest) };
+    ghost next_gives = { YieldsFirstBy (λ part. part.now) (λ rest. rest) };
 
     ghost remaining = { item_count (λ rest. rest) };
 
-    /// Returns the next value, or `None` after the last one. O(the number of free keys before it).
+    /// Returns the part of the next value, or `None` after the last one. O(the number of free keys before it).
     #[inline]
-    fn next(&mut self) -> Option<&'a T> {
+    fn next(&mut self) -> Option<&'a P::Of> {
         match self.items.next() {
-            Some((_, value)) => Some(value),
+            Some((_, value)) => Some(P::of(value)),
             None => None,
         }
     }
 
-    /// Returns the number of values that are still to come, as both bounds. O(1).
+    /// Returns the number of parts that are still to come, as both bounds. O(1).
     #[inline]
     fn size_hint(&self) -> (usize, Option<usize>)
         ensures value { result ≡ (length self.now, Some (length self.now)) }
@@ -62,36 +85,49 @@ impl<'a, T, S: Table<T>, L: Table<Link>> Iterator for Values<'a, T, S, L> {
     }
 }
 
-impl<'a, T, S: Table<T>, L: Table<Link>> ExactSizeIterator for Values<'a, T, S, L> {
-    /// Returns the number of values that are still to come. O(1).
+impl<'a, T, S: Table<T>, L: Table<Link>, P: Part<T>> ExactSizeIterator for Parts<'a, T, S, L, P>
+where
+    P::Of: 'a,
+{
+    /// Returns the number of parts that are still to come. O(1).
     #[inline]
     fn len(&self) -> usize {
         self.items.len()
     }
 }
 
-impl<'a, T, S: Table<T>, L: Table<Link>> FusedIterator for Values<'a, T, S, L> {}
+impl<'a, T, S: Table<T>, L: Table<Link>, P: Part<T>> FusedIterator for Parts<'a, T, S, L, P>
+where
+    P::Of: 'a,
+{}
 
-impl<'a, T, S: Table<T>, L: Table<Link>> Clone for Values<'a, T, S, L> {
+impl<'a, T, S: Table<T>, L: Table<Link>, P: Part<T>> Clone for Parts<'a, T, S, L, P>
+where
+    P::Of: 'a,
+{
     ghost is_clone = { λ iter clone. clone ≡ iter };
 
     ghost is_infallible = { λ _. ⊤ };
 
-    /// Returns an iterator over the values that are still to come. O(1). Never fails.
+    /// Returns an iterator over the parts that are still to come. O(1). Never fails.
     #[inline]
     fn clone(&self) -> Result<Self, AllocError> {
-        Ok(Values {
+        Ok(Parts {
             items: self.items.rest(),
+            part: PhantomData,
         })
     }
 }
 
-/// Prints a list of the values that are still to come. O(capacity).
-impl<'a, T: Debug, S: Table<T>, L: Table<Link>> Debug for Values<'a, T, S, L> {
+/// Prints a list of the parts that are still to come. O(capacity).
+impl<'a, T, S: Table<T>, L: Table<Link>, P: Part<T>> Debug for Parts<'a, T, S, L, P>
+where
+    P::Of: Debug + 'a,
+{
     fn fmt<W: Write>(&self, f: &mut Formatter<W>) -> fmt::Result {
         let mut list = f.debug_list();
         for (_, value) in self.items.rest() {
-            list.entry(value);
+            list.entry(P::of(value));
         }
         list.finish()
     }
