@@ -15,8 +15,8 @@ ROOMS = (("ix_slottable", "src/slottable/*.rt"), ("ix_slottable", "src/full_tabl
 FILES = {room: [path for path in paths(*room) if not path.endswith("/kinds.rt")] for room in ROOMS}
 # By file, the functions that go through places, as their documentation says: those that make, end, walk or print a container.
 WALKS = {
-    "compared": ("eq",),
-    "copies": ("fill_with_clones", "put_clones", "copy_free_keys", "clone", "try_clone_in"),
+    "eq": ("eq",),
+    "clone": ("fill_with_clones", "put_clones", "copy_free_keys", "clone", "try_clone_in"),
     "drain": ("drop", "next", "fmt"),
     "free_list": ("link_all", "copy_links"),
     "into_iter": ("next",),
@@ -25,7 +25,7 @@ WALKS = {
     "meta_slot_table": ("from_tables", "drop_all", "drop", "fmt"),
     "steps": ("held_from",),
     "values": ("fmt",),
-    "whole": ("clear", "for_each_mut", "retain"),
+    "retain": ("clear", "for_each_mut", "retain"),
     "meta_slot_map": ("held_from", "fmt"),
     "word_table": ("new", "copy_of", "drop"),
     "full_table": ("fill", "copy_items", "empty"),

@@ -1,20 +1,20 @@
 //! A bounded map from keys of your own to values, and what it finds keys by.
 
 mod callback_progression;
-mod compared;
-mod copies;
+mod clone;
 mod drain;
+mod eq;
 mod flat_map_error;
 mod index;
-mod insertions;
 mod iter;
 mod key_index;
 mod keys;
 mod kinds;
 mod meta_map;
 mod pair;
+mod retain;
+mod try_insert;
 mod values;
-mod whole;
 
 pub use callback_progression::CallbackProgression;
 pub use drain::Drain;

@@ -3,19 +3,19 @@
 //!
 //! [`FixedSizeSlotMap`] is stored inline, [`SlotMap`] and [`RelocatableSlotMap`] allocate only when they are made.
 
-mod compared;
+mod clone;
 mod content;
-mod copies;
 mod drain;
+mod eq;
 mod index;
 mod iter;
 mod keys;
 mod kinds;
 mod meta_slot_map;
+mod retain;
 mod slot_map_key;
 mod try_insert;
 mod values;
-mod whole;
 mod word_table;
 
 pub use content::Content;

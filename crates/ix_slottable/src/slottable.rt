@@ -2,9 +2,9 @@
 //!
 //! [`FixedSizeSlotTable`] is stored inline, [`SlotTable`] and [`RelocatableSlotTable`] allocate only when they are made.
 
-mod compared;
-mod copies;
+mod clone;
 mod drain;
+mod eq;
 mod free_list;
 mod index;
 mod into_iter;
@@ -14,11 +14,11 @@ mod kinds;
 mod link;
 mod meta_slot_table;
 mod part;
+mod retain;
 mod slot_table_key;
 mod steps;
 mod try_insert;
 mod values;
-mod whole;
 
 pub use drain::Drain;
 pub use into_iter::IntoIter;
