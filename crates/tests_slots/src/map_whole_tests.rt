@@ -1,5 +1,5 @@
 //! Calls that go through all values, values that are handed back, and maps that are compared and taken apart.
-use crate::rows::{LAST, key};
+use crate::map_rows::{LAST, key};
 use ix_slotmap::slotmap::default_key_law;
 use ix_slotmap::{FixedSizeSlotMap, MetaSlotMap, SlotMap, SlotMapKey, UninitSlotMap};
 use ix_slottable::Link;

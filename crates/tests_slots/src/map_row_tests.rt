@@ -1,7 +1,7 @@
 //! The worked examples on each kind of map and in each memory.
 ghost use Rattle.std.specs.Prelude.{◌≤◌};
 
-use crate::rows::{
+use crate::map_rows::{
     LAST, Row, dead_keys, each_place, no_place, no_such_keys, one_place, place_retired, size_zero,
 };
 use bumpalo::Bump;

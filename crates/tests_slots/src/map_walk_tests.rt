@@ -2,7 +2,7 @@
 //! that is dead by then. Places start a few generations before the greatest, so that many are retired.
 ghost use Rattle.std.specs.Prelude.{◌≤◌};
 
-use crate::rows::LAST;
+use crate::map_rows::LAST;
 use crate::slow_map::SlowMap;
 use ix_commands::SlotCommand;
 use ix_slotmap::{FixedSizeSlotMap, MetaSlotMap, SlotMap, SlotMapKey, UninitSlotMap};

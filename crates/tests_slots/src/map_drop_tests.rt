@@ -1,6 +1,6 @@
 //! When values are dropped: each one once, and by the drop of a map that of the least index first.
-use crate::drop_tests::Call::{Insert, InsertAt, Remove};
-use crate::rows::{LAST, key};
+use crate::map_drop_tests::Call::{Insert, InsertAt, Remove};
+use crate::map_rows::{LAST, key};
 use ix_slotmap::{FixedSizeSlotMap, MetaSlotMap, SlotMap, UninitSlotMap};
 use ix_slottable::Link;
 use ix_tables::{RelocatableContainer, Table};

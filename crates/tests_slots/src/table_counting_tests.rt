@@ -1,8 +1,8 @@
 //! How many calls of its tables a call of a slot table makes, at capacity 1,000, and how many a counted table makes.
 ghost use Rattle.std.specs.Prelude.{◌≡◌, ℕ};
 
-use crate::counting_tests::Call::{Contains, Get, GetMut, Insert, InsertAt, NextFreeKey, Remove};
-use crate::counting_tests::Outcome::{Key, Truth, Value};
+use crate::table_counting_tests::Call::{Contains, Get, GetMut, Insert, InsertAt, NextFreeKey, Remove};
+use crate::table_counting_tests::Outcome::{Key, Truth, Value};
 use ix_slottable::{Link, MetaSlotTable, SlotTableKey};
 use ix_tables::{Counted, HeapTable, InlineTable, Table, Touches};
 use std::alloc::{AllocError, Global};

@@ -1,6 +1,6 @@
 //! Each function once.
 use crate::inserting::{insert_and_get, insert_at_next};
-use crate::rows::EVERY_CALL;
+use crate::table_rows::EVERY_CALL;
 use ix_slottable::{
     FixedSizeSlotTable, Link, MetaSlotTable, RelocatableSlotTable, SlotTable, SlotTableKey,
     UninitSlotTable,

@@ -1,5 +1,5 @@
 //! Drains and clones of slot maps: the items that come, the values that are dropped, and the maps afterwards.
-use crate::rows::{LAST, key};
+use crate::map_rows::{LAST, key};
 use ix_slotmap::{FixedSizeSlotMap, MetaSlotMap, SlotMap, UninitSlotMap};
 use ix_slottable::Link;
 use ix_tables::{RelocatableContainer, Table};

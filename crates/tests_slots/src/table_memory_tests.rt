@@ -1,6 +1,6 @@
 //! Maps for which there is not enough memory, at each of the four allocations: nothing stays allocated. Where there is memory,
 //! none is refused, and a map takes just as much as `memory_size` returns.
-use crate::rows::Row;
+use crate::table_rows::Row;
 use ix_commands::Reply::{Bool, Number};
 use ix_commands::TableCommand::{Capacity, Full, Len};
 use ix_slottable::{SlotTable, UninitSlotTable};

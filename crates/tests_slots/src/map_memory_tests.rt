@@ -1,6 +1,6 @@
 //! Maps for which there is not enough memory, at each of the six allocations: nothing stays allocated. Where there is memory,
 //! none is refused, and a map takes just as much as `memory_size` returns.
-use crate::rows::{Row, key};
+use crate::map_rows::{Row, key};
 use ix_commands::Reply::Number;
 use ix_commands::SlotCommand::{Capacity, Len, Next, Retired};
 use ix_slotmap::{SlotMap, UninitSlotMap};

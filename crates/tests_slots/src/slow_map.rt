@@ -195,7 +195,7 @@ impl SlowMap {
 impl Runs<SlotCommand<u64>> for SlowMap {
     ghost use Rattle.std.specs.Prelude.{ℕ};
     ghost use Rattle.ix_slotmap.specs.Generations.{SlotMapState};
-    ghost use Rattle.tests_slot_maps.specs.SlowRun.{slow_reply, slow_after};
+    ghost use Rattle.tests_slots.specs.SlowRun.{slow_reply, slow_after};
 
     type Reply = Reply<SlotMapKey, u64>;
 

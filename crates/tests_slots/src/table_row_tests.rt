@@ -1,5 +1,5 @@
 //! The worked examples on each kind of map and in each memory.
-use crate::rows::{
+use crate::table_rows::{
     EVERY_CALL, FIRST_KEY_INSERTED, KEYS_AFTER_THE_FIRST, KEYS_OUT_OF_RANGE, MIDDLE_KEY_INSERTED,
     NO_KEY, ONE_KEY, REMOVED_KEY_IS_FIRST, REMOVED_KEY_IS_NEXT, Row, SIZE_ZERO, VALUE_REPLACED,
 };

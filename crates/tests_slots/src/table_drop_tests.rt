@@ -1,5 +1,5 @@
 //! When values are dropped: each one once, and by the drop of a map that of the least key first.
-use crate::drop_tests::Call::{Insert, InsertAt, Remove, Write};
+use crate::table_drop_tests::Call::{Insert, InsertAt, Remove, Write};
 use ix_slottable::{
     FixedSizeSlotTable, Link, MetaSlotTable, SlotTable, SlotTableKey, UninitSlotTable,
 };
