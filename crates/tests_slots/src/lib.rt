@@ -4,42 +4,30 @@
 #![tactic(auto)]
 
 #[cfg(test)]
-mod inserting;
+mod containers;
+#[cfg(test)]
+mod copy_tests;
 #[cfg(test)]
 mod map_counting_tests;
 #[cfg(test)]
-mod map_drop_tests;
-#[cfg(test)]
-mod map_key_tests;
-#[cfg(test)]
-mod map_memory_tests;
-#[cfg(test)]
-mod map_row_tests;
-#[cfg(test)]
 mod map_rows;
 #[cfg(test)]
-mod map_taking_tests;
+mod map_tests;
 #[cfg(test)]
-mod map_walk_tests;
+mod memory_tests;
 #[cfg(test)]
-mod map_whole_tests;
+mod noted_tests;
+#[cfg(test)]
+mod row_tests;
 #[cfg(test)]
 mod slow_map;
 #[cfg(test)]
 mod table_counting_tests;
 #[cfg(test)]
-mod table_drop_tests;
-#[cfg(test)]
-mod table_memory_tests;
-#[cfg(test)]
-mod table_row_tests;
-#[cfg(test)]
 mod table_rows;
-#[cfg(test)]
-mod table_taking_tests;
 #[cfg(test)]
 mod table_tests;
 #[cfg(test)]
-mod table_walk_tests;
+mod walk_tests;
 #[cfg(test)]
-mod table_whole_tests;
+mod whole_tests;

@@ -1,6 +1,7 @@
 //! The counted forms of calls return what the plain forms return, at capacity 1,000, and calls of either form take as long on a
 //! map of 100,000 places as on one of 16.
-use crate::map_rows::{Row, key};
+use crate::containers::key;
+use crate::map_rows::Row;
 use ix_commands::Reply::{self, Key, Number, Value};
 use ix_commands::Runs;
 use ix_commands::SlotCommand::{self, Get, Insert, InsertAt, Len, Next, Remove};

@@ -1,4 +1,5 @@
 //! Worked examples: commands of an empty map, and the replies to them.
+use crate::containers::{LAST, key};
 use ix_commands::Reply::{self, Bool, Entry, Key, Number, Value};
 use ix_commands::SlotCommand::{
     self, Capacity, Contains, Empty, From, Full, Get, Insert, InsertAt, Len, Next, Remove, Retired,
@@ -9,16 +10,8 @@ use ix_slotmap::SlotMapKey;
 /// A command of a slot map and the reply to it.
 pub type Row<T> = (SlotCommand<T>, Reply<SlotMapKey, T>);
 
-/// The greatest generation.
-pub const LAST: u32 = 4_294_967_295;
-
 /// The greatest index.
 const GREATEST: usize = 18_446_744_073_709_551_615;
-
-/// Returns the key of this index and generation.
-pub fn key(index: usize, generation: u32) -> SlotMapKey {
-    SlotMapKey::new(index, generation)
-}
 
 /// On a map with two places that start at the greatest generation.
 pub fn place_retired() -> [Row<u64>; 18] {

@@ -1,7 +1,9 @@
 //! How many calls of its tables a call of a slot table makes, at capacity 1,000, and how many a counted table makes.
 ghost use Rattle.std.specs.Prelude.{◌≡◌, ℕ};
 
-use crate::table_counting_tests::Call::{Contains, Get, GetMut, Insert, InsertAt, NextFreeKey, Remove};
+use crate::table_counting_tests::Call::{
+    Contains, Get, GetMut, Insert, InsertAt, NextFreeKey, Remove,
+};
 use crate::table_counting_tests::Outcome::{Key, Truth, Value};
 use ix_slottable::{Link, MetaSlotTable, SlotTableKey};
 use ix_tables::{Counted, HeapTable, InlineTable, Table, Touches};
@@ -227,22 +229,30 @@ fn calls_of_the_first_free_key(rt: HostRuntime) -> Result<(), Fail> {
     findings.verdict()
 }
 
+/// Makes each call with a key, whose value is `value`, on a map of which the first `held` keys have values. A key in range is
+/// looked up in the tables.
+fn check_key(findings: &Findings, alloc: Global, held: u64, key: usize, value: Option<u64>) {
+    let is_held = Truth(value.is_some());
+    let value = Value(value);
+    let is_in_range = key < 1000;
+    let calls = [
+        (InsertAt(key), 16, &Truth(is_in_range)),
+        (Remove(key), 16, &value),
+        (Contains(key), 2, &is_held),
+        (Get(key), 3, &value),
+        (GetMut(key), 4, &value),
+    ];
+    for (call, most, wanted) in &calls {
+        let least = u64::from(is_in_range);
+        check_call(findings, alloc, held, call, (least, *most, *wanted));
+    }
+}
+
 #[test]
 fn calls_on_a_key(rt: HostRuntime) -> Result<(), Fail> {
     let findings = Findings::new();
     for (held, key, value) in KEYS {
-        let is_held = Truth(value.is_some());
-        let value = Value(*value);
-        let calls = [
-            (InsertAt(*key), 16, &Truth(true)),
-            (Remove(*key), 16, &value),
-            (Contains(*key), 2, &is_held),
-            (Get(*key), 3, &value),
-            (GetMut(*key), 4, &value),
-        ];
-        for (call, most, wanted) in &calls {
-            check_call(&findings, rt.alloc(), *held, call, (1, *most, *wanted));
-        }
+        check_key(&findings, rt.alloc(), *held, *key, *value);
     }
     findings.verdict()
 }
@@ -251,17 +261,8 @@ fn calls_on_a_key(rt: HostRuntime) -> Result<(), Fail> {
 fn calls_out_of_range(rt: HostRuntime) -> Result<(), Fail> {
     let findings = Findings::new();
     for key in OUT_OF_RANGE {
-        let calls = [
-            (InsertAt(*key), 16, &Truth(false)),
-            (Remove(*key), 16, &Value(None)),
-            (Contains(*key), 2, &Truth(false)),
-            (Get(*key), 3, &Value(None)),
-            (GetMut(*key), 4, &Value(None)),
-        ];
         for held in &[0, 500, 1000] {
-            for (call, most, wanted) in &calls {
-                check_call(&findings, rt.alloc(), *held, call, (0, *most, *wanted));
-            }
+            check_key(&findings, rt.alloc(), *held, *key, None);
         }
     }
     findings.verdict()

@@ -1,5 +1,9 @@
-//! Each function once.
-use crate::inserting::{insert_and_get, insert_at_next};
+//! Each function of slot tables once, and functions over any slot table, as a user would write them, proved from the contracts
+//! of slot tables alone.
+ghost use Rattle.std.specs.Prelude.{◌≡◌, ◌↔◌, [], IsNone, IfSome};
+ghost use Rattle.std.specs.Bool.{OnFalse};
+
+use crate::containers::with_item;
 use crate::table_rows::EVERY_CALL;
 use ix_slottable::{
     FixedSizeSlotTable, Link, MetaSlotTable, RelocatableSlotTable, SlotTable, SlotTableKey,
@@ -9,7 +13,10 @@ use ix_tables::{HeapTable, InitError, InlineTable, RelocatableContainer, Table, 
 use std::alloc::{AllocError, Global};
 use std::mem::size_of;
 use std::test::Fail;
-use test_support::{Findings, check_rows, check_tables, check_text, hash_of, order_of};
+use test_support::{
+    Findings, Noted, Notes, check_display, check_printed, check_rows, check_tables, check_text,
+    hash_of, made, order_of,
+};
 
 #[test]
 fn keys() -> Result<(), Fail> {
@@ -46,33 +53,6 @@ fn keys_by_their_bounds() -> Result<(), Fail> {
 fn insert_two<S: Table<u64>, L: Table<Link>>(map: &mut MetaSlotTable<u64, S, L>) {
     let _ = map.insert_at(SlotTableKey::new(2), 7);
     let _ = map.insert(5);
-}
-
-#[test]
-fn texts(rt: HostRuntime) -> Result<(), Fail> {
-    let findings = Findings::new();
-    let mut fixed = FixedSizeSlotTable::<u64, 3>::new();
-    check_text(&findings, &fixed, "{}");
-    insert_two(&mut fixed);
-    check_text(&findings, &fixed, "{0: 5, 2: 7}");
-    match SlotTable::<u64>::new(rt.alloc(), 3) {
-        Ok(mut map) => {
-            check_text(&findings, &map, "{}");
-            insert_two(&mut map);
-            check_text(&findings, &map, "{0: 5, 2: 7}");
-        }
-        Err(AllocError) => findings.miss("there is memory"),
-    }
-    let mut walk = fixed.iter();
-    check_text(&findings, &walk, "[(0, 5), (2, 7)]");
-    findings.expect(walk.next().is_some(), "the first item");
-    check_text(&findings, &walk, "[(2, 7)]");
-    check_text(
-        &findings,
-        &SlotTableKey::new(7),
-        "SlotTableKey { number: 7 }",
-    );
-    findings.verdict()
 }
 
 #[test]
@@ -168,41 +148,6 @@ fn unchecked_calls(rt: HostRuntime) -> Result<(), Fail> {
     findings.verdict()
 }
 
-/// Returns each key and its value, both less than 10, as two digits.
-fn digits_of<S: Table<u64>, L: Table<Link>>(map: &MetaSlotTable<u64, S, L>) -> u64 {
-    let mut digits = 0u64;
-    for (key, value) in map.iter() {
-        let pair = (key.value() as u64).wrapping_mul(10).wrapping_add(*value);
-        digits = digits.wrapping_mul(100).wrapping_add(pair);
-    }
-    digits
-}
-
-#[test]
-fn walks_rise() -> Result<(), Fail> {
-    let findings = Findings::new();
-    let mut map = FixedSizeSlotTable::<u64, 4>::new();
-    findings.expect_same(digits_of(&map), 0, "no value");
-    let _ = map.insert_at(SlotTableKey::new(3), 7);
-    let _ = map.insert_at(SlotTableKey::new(1), 5);
-    findings.expect_same(digits_of(&map), 1537, "walks rise");
-    let none = FixedSizeSlotTable::<u64, 0>::new();
-    findings.expect_same(digits_of(&none), 0, "no key");
-    findings.verdict()
-}
-
-#[test]
-fn walks_end() -> Result<(), Fail> {
-    let findings = Findings::new();
-    let mut map = FixedSizeSlotTable::<u64, 2>::new();
-    let _ = map.insert_at(SlotTableKey::new(1), 5);
-    let mut walk = map.iter();
-    let is_first = walk.next() == Some((SlotTableKey::new(1), &5));
-    findings.expect(is_first, "the only value");
-    findings.expect(walk.next().is_none(), "the end");
-    findings.verdict()
-}
-
 #[test]
 fn loops_over_a_map() -> Result<(), Fail> {
     let findings = Findings::new();
@@ -221,7 +166,7 @@ fn loops_over_a_map() -> Result<(), Fail> {
     }
     findings.expect_same(last, 7, "a loop to the end");
     let none = FixedSizeSlotTable::<u64, 0>::new();
-    findings.expect_same(none.iter().len(), 0, "capacity 0");
+    findings.expect_same((none.iter().len(), none.iter().count()), (0, 0), "no key");
     let mut unit = FixedSizeSlotTable::<(), 2>::new();
     let _ = unit.insert(());
     findings.expect_same(
@@ -230,6 +175,33 @@ fn loops_over_a_map() -> Result<(), Fail> {
         "of size zero",
     );
     findings.verdict()
+}
+
+/// Inserts `value` and returns what the map then has at its key, or `None` if the map is full.
+fn insert_and_get<T: Copy, S: Table<T>, L: Table<Link>>(
+    map: &mut MetaSlotTable<T, S, L>,
+    value: T,
+) -> Option<T>
+    ensures value { IfSome result (λ found. found ≡ value) }
+    ensures full { IsNone result ↔ (map.old.free ≡ []) }
+{
+    match map.insert(value) {
+        Some(key) => map.get(key).copied(),
+        None => None,
+    }
+}
+
+/// Inserts `value` at the key that the map names as the next free one. Returns false if the map is full.
+fn insert_at_next<T: Drop, S: Table<T>, L: Table<Link>>(
+    map: &mut MetaSlotTable<T, S, L>,
+    value: T,
+) -> bool
+    ensures { OnFalse result (map.old.free ≡ []) }
+{
+    match map.next_free_key() {
+        Some(key) => map.insert_at(key, value),
+        None => false,
+    }
 }
 
 #[test]
@@ -262,5 +234,89 @@ fn values_without_a_test() -> Result<(), Fail> {
     } else {
         findings.miss("there is room");
     }
+    findings.verdict()
+}
+
+/// Puts values at all keys of an empty table of three: `{0: 1, 1: 5, 2: 3}`.
+fn fill<'a, S: Table<Noted<'a>>, L: Table<Link>>(
+    findings: &Findings,
+    map: &mut MetaSlotTable<Noted<'a>, S, L>,
+    notes: &'a Notes,
+) {
+    for (number, name) in [(0, 1), (1, 5), (2, 3)] {
+        let put = map.try_insert_at(SlotTableKey::new(number), Noted::new(name, notes));
+        let is_first = put.map(|old| old.is_none()).ok();
+        findings.expect_same(
+            (is_first, notes.take_drops()),
+            (Some(true), 0),
+            "a free key",
+        );
+    }
+}
+
+/// Checks the values that are taken out of a table of three, in rising order, and those that are dropped with the iterator.
+fn check_taken<'a, S: Table<Noted<'a>>, L: Table<Link>, E: Drop>(
+    findings: &Findings,
+    made: Result<MetaSlotTable<Noted<'a>, S, L>, E>,
+    notes: &'a Notes,
+) {
+    let Ok(mut map) = made else {
+        return findings.miss("there is memory");
+    };
+    fill(findings, &mut map, notes);
+    map.retain(|_, _| false);
+    findings.expect_same(notes.take_drops(), 153, "retain drops the values");
+    fill(findings, &mut map, notes);
+    let mut values = map.into_iter();
+    findings.expect_same(values.len(), 3, "three values");
+    if let Some((key, value)) = values.next() {
+        findings.expect_same((key.value(), value.name), (0, 1), "the least key");
+    }
+    findings.expect_same(notes.take_drops(), 1, "the caller drops a value");
+    findings.expect_same(values.size_hint(), (2, Some(2)), "two values");
+    drop(values);
+    findings.expect_same(notes.take_drops(), 53, "the iterator drops the others");
+}
+
+#[test]
+fn taken_apart(rt: HostRuntime) -> Result<(), Fail> {
+    let findings = Findings::new();
+    let notes = Notes::new(0);
+    check_taken(
+        &findings,
+        made(FixedSizeSlotTable::<Noted, 3>::new()),
+        &notes,
+    );
+    check_taken(&findings, SlotTable::<Noted>::new(rt.alloc(), 3), &notes);
+    let relocatable = UninitSlotTable::<Noted>::new_uninit(3).init(rt.alloc());
+    check_taken(&findings, relocatable, &notes);
+    let mut map = FixedSizeSlotTable::<u64, 4>::new();
+    let _ = map.insert_at(SlotTableKey::new(3), 7);
+    let _ = map.insert_at(SlotTableKey::new(1), 5);
+    let items = map.into_iter();
+    check_text(&findings, &items, "[(1, 5), (3, 7)]");
+    let mut seen = (0, 0);
+    for (key, value) in items {
+        seen = with_item(seen, key.value(), value);
+    }
+    findings.expect_same(seen, (2, 1537), "in rising order");
+    let mut unit = FixedSizeSlotTable::<(), 2>::new();
+    let _ = unit.try_insert(());
+    unit.clear();
+    findings.expect_same(unit.into_iter().count(), 0, "of size zero");
+    findings.verdict()
+}
+
+#[test]
+fn default_keys_and_texts() -> Result<(), Fail> {
+    let findings = Findings::new();
+    let key = SlotTableKey::default();
+    findings.expect_same(key.value(), usize::MAX, "the default key");
+    check_display(&findings, &key, "18446744073709551615");
+    let key = SlotTableKey::new(7);
+    check_printed(&findings, &key, "7", "SlotTableKey { number: 7 }");
+    let mut map = FixedSizeSlotTable::<u64, 2>::new();
+    let _ = (map.insert(5), map.insert(6));
+    check_text(&findings, &map.drain(), "[(0, 5), (1, 6)]");
     findings.verdict()
 }

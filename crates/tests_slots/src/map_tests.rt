@@ -1,12 +1,12 @@
-//! Keys by their traits, and the texts of maps.
+//! Keys of slot maps by their traits, texts, and loops over a map.
+use crate::containers::key;
 use ix_slotmap::slotmap::key_order_law;
-use ix_slotmap::{FixedSizeSlotMap, MetaSlotMap, SlotMap, SlotMapKey, UninitSlotMap};
+use ix_slotmap::{FixedSizeSlotMap, MetaSlotMap, SlotMapKey, UninitSlotMap};
 use ix_slottable::Link;
 use ix_tables::Table;
-use std::alloc::AllocError;
 use std::cmp::Ordering;
 use std::test::Fail;
-use test_support::{Findings, check_text, hash_of, order_of};
+use test_support::{Findings, check_display, check_printed, check_text, hash_of, order_of};
 
 /// The index and the generation of keys, in their order.
 const RISING: &[(usize, u32)] = &[
@@ -52,45 +52,6 @@ fn keys() -> Result<(), Fail> {
     findings.verdict()
 }
 
-/// Checks the texts of an empty map with three places, of one with a value, of a full one, and of its iterator as far as it has
-/// come.
-fn check_texts<S: Table<Option<u64>>, L: Table<Link>, G: Table<u64>>(
-    findings: &Findings,
-    map: &mut MetaSlotMap<Option<u64>, S, L, G>,
-) {
-    check_text(findings, &*map, "{}");
-    let _ = map.insert(5);
-    let _ = map.insert_at(0, 7);
-    check_text(findings, &*map, "{(0, 1): 7}");
-    let _ = map.insert_at(2, 9);
-    let _ = map.insert(8);
-    check_text(findings, &*map, "{(0, 1): 7, (1, 0): 8, (2, 0): 9}");
-    let mut walk = map.iter();
-    check_text(findings, &walk, "[(0, 1, 7), (1, 0, 8), (2, 0, 9)]");
-    let is_first = walk.next() == Some((SlotMapKey::new(0, 1), &7));
-    findings.expect(is_first, "the first item");
-    check_text(findings, &walk, "[(1, 0, 8), (2, 0, 9)]");
-    findings.expect(walk.nth(1).is_some(), "the last item");
-    check_text(findings, &walk, "[]");
-    findings.expect(walk.next().is_none(), "the end");
-}
-
-#[test]
-fn texts(rt: HostRuntime) -> Result<(), Fail> {
-    let findings = Findings::new();
-    let key = SlotMapKey::new(3, 1);
-    check_text(&findings, &key, "SlotMapKey { index: 3, generation: 1 }");
-    let uninit = UninitSlotMap::<u64>::starting_at(8, 3);
-    let text = "UninitSlotMap { capacity: 8, generation: 3 }";
-    check_text(&findings, &uninit, text);
-    check_texts(&findings, &mut FixedSizeSlotMap::<u64, 3>::new());
-    match SlotMap::<u64>::new(rt.alloc(), 3) {
-        Ok(mut map) => check_texts(&findings, &mut map),
-        Err(AllocError) => findings.miss("there is memory"),
-    }
-    findings.verdict()
-}
-
 /// Returns the values in the order of their places, up to the first that is `last`, as digits.
 fn values_up_to<S: Table<Option<u64>>, L: Table<Link>, G: Table<u64>>(
     map: &MetaSlotMap<Option<u64>, S, L, G>,
@@ -122,5 +83,25 @@ fn loops_over_a_map() -> Result<(), Fail> {
     let none = FixedSizeSlotMap::<u64, 0>::new();
     findings.expect_same(values_up_to(&none, 0), 0, "capacity 0");
     findings.expect_same(none.iter().len(), 0, "capacity 0");
+    findings.verdict()
+}
+
+#[test]
+fn default_keys_and_texts() -> Result<(), Fail> {
+    let findings = Findings::new();
+    findings.expect_same(SlotMapKey::default(), key(usize::MAX, 0), "the default key");
+    check_display(&findings, &SlotMapKey::default(), "18446744073709551615v0");
+    check_printed(
+        &findings,
+        &key(3, 1),
+        "3v1",
+        "SlotMapKey { index: 3, generation: 1 }",
+    );
+    let uninit = UninitSlotMap::<u64>::starting_at(8, 3);
+    let text = "UninitSlotMap { capacity: 8, generation: 3 }";
+    check_text(&findings, &uninit, text);
+    let mut map = FixedSizeSlotMap::<u64, 2>::new();
+    let _ = (map.insert(5), map.insert(6));
+    check_text(&findings, &map.drain(), "[(0, 0, 5), (1, 0, 6)]");
     findings.verdict()
 }

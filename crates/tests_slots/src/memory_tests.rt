@@ -1,0 +1,218 @@
+//! Slot tables and slot maps for which there is not enough memory, at each of the four or six allocations: nothing stays
+//! allocated. Where there is memory, none is refused, and each takes just as much as `memory_size` returns.
+use crate::containers::{LAST, key};
+use crate::memory_tests::Kind::{Map, Table};
+use crate::{map_rows, table_rows};
+use ix_commands::Reply::{Bool, Number};
+use ix_commands::{SlotCommand, TableCommand};
+use ix_slotmap::{SlotMap, UninitSlotMap};
+use ix_slottable::{SlotTable, UninitSlotTable};
+use ix_tables::RelocatableContainer;
+use linked_list_allocator::LocalHeap;
+use std::alloc::{AllocError, Allocator, Global};
+use std::test::Fail;
+use test_support::{
+    Findings, MAKINGS, Making, check_drawn_sizes, check_makings, check_memory_sizes, made,
+    read_again, read_with, reply_of_key,
+};
+
+/// A slot table, or a slot map whose places start at this generation.
+#[derive(Clone, Copy)]
+enum Kind {
+    Table,
+    Map(u32),
+}
+
+/// Makes a container, and returns what `read` returns then, or `None` if the making is refused. A value that is refused can be
+/// initialised from `ample`.
+fn read_made<A: Allocator + Copy, F: Fn() -> usize>(
+    findings: &Findings,
+    how: (Kind, Making),
+    alloc: A,
+    ample: Global,
+    capacity: usize,
+    read: F,
+) -> Option<usize>
+    requires { F.IsAlwaysCallable read }
+{
+    let (kind, making) = how;
+    match kind {
+        Table => read_table(findings, making, alloc, ample, capacity, &read),
+        Map(start) => read_map(findings, making, alloc, ample, (capacity, start), &read),
+    }
+}
+
+/// Does what [`read_made`] does. The table is empty, and full if it has no key.
+fn read_table<A: Allocator + Copy, F: Fn() -> usize>(
+    findings: &Findings,
+    making: Making,
+    alloc: A,
+    ample: Global,
+    capacity: usize,
+    read: &F,
+) -> Option<usize>
+    requires { F.IsAlwaysCallable read.now }
+{
+    let rows: [table_rows::Row<u64>; 3] = [
+        (TableCommand::Capacity, Number(capacity)),
+        (TableCommand::Len, Number(0)),
+        (TableCommand::Full, Bool(capacity == 0)),
+    ];
+    match making {
+        Making::New => {
+            let made = SlotTable::<u64, A>::new(alloc, capacity);
+            read_with(findings, made, &rows, read)
+        }
+        Making::Init => match UninitSlotTable::<u64>::new_uninit(capacity).init(alloc) {
+            Ok(map) => read_with(findings, made(map), &rows, read),
+            Err(error) => {
+                let again = error.into_uninit().init(ample);
+                read_again(findings, again, capacity, &rows, read)
+            }
+        },
+    }
+}
+
+/// Does what [`read_made`] does. The map is empty, and its places start at `start`.
+fn read_map<A: Allocator + Copy, F: Fn() -> usize>(
+    findings: &Findings,
+    making: Making,
+    alloc: A,
+    ample: Global,
+    places: (usize, u32),
+    read: &F,
+) -> Option<usize>
+    requires { F.IsAlwaysCallable read.now }
+{
+    let (capacity, start) = places;
+    let first = (capacity > 0).then_some(key(0, start));
+    let rows: [map_rows::Row<u64>; 4] = [
+        (SlotCommand::Capacity, Number(capacity)),
+        (SlotCommand::Len, Number(0)),
+        (SlotCommand::Retired, Number(0)),
+        (SlotCommand::Next, reply_of_key(first)),
+    ];
+    match making {
+        Making::New => {
+            let made = match start {
+                0 => SlotMap::<u64, A>::new(alloc, capacity),
+                _ => SlotMap::<u64, A>::starting_at(alloc, capacity, start),
+            };
+            read_with(findings, made, &rows, read)
+        }
+        Making::Init => match UninitSlotMap::<u64>::starting_at(capacity, start).init(alloc) {
+            Ok(map) => read_with(findings, made(map), &rows, read),
+            Err(error) => {
+                let again = error.into_uninit().init(ample);
+                read_again(findings, again, capacity, &rows, read)
+            }
+        },
+    }
+}
+
+/// The capacity of a table, and the number of blocks of 16 bytes that it takes: 8 bytes for each value and 16 for each link,
+/// and one for the mark of either.
+const TABLES: &[(usize, u16)] = &[
+    (0, 0),
+    (1, 1 + 1 + 1 + 1),
+    (3, 2 + 1 + 3 + 1),
+    (8, 4 + 1 + 8 + 1),
+    (16, 8 + 1 + 16 + 1),
+    (33, 17 + 3 + 33 + 3),
+    (200, 100 + 13 + 200 + 13),
+];
+
+/// The capacity of a map, and the number of blocks of 16 bytes that it takes: 16 bytes for each value, 16 for each link and 8
+/// for each generation, and one for the mark of each of the three.
+const MAPS: &[(usize, u16)] = &[
+    (0, 0),
+    (1, 1 + 1 + 1 + 1 + 1 + 1),
+    (3, 3 + 1 + 3 + 1 + 2 + 1),
+    (8, 8 + 1 + 8 + 1 + 4 + 1),
+    (16, 16 + 1 + 16 + 1 + 8 + 1),
+    (33, 33 + 3 + 33 + 3 + 17 + 3),
+];
+
+/// Checks the containers of a kind, which take so many blocks as `sizes` say.
+fn check_kind(findings: &Findings, alloc: Global, kind: Kind, sizes: &[(usize, u16)]) {
+    for (making, name) in MAKINGS {
+        let how = (kind, *making);
+        check_makings(findings, alloc, sizes, name, |heap: &LocalHeap, n| {
+            read_made(findings, how, heap, alloc, n, || heap.used())
+        });
+        check_drawn_sizes(findings, 60, name, |n| {
+            let drawn = match kind {
+                Table => Table,
+                Map(_) => Map((n % 65_536) as u32),
+            };
+            read_made(findings, (drawn, *making), alloc, alloc, n, || 0).is_some()
+        });
+        let greatest = read_made(findings, how, alloc, alloc, usize::MAX, || 0);
+        let past_all = read_made(findings, how, alloc, alloc, usize::MAX / 16 + 1, || 0);
+        findings.expect_same((greatest, past_all), (None, None), name);
+    }
+}
+
+#[test]
+fn each_making(rt: HostRuntime) -> Result<(), Fail> {
+    let findings = Findings::new();
+    for (kind, sizes) in &[(Table, TABLES), (Map(0), MAPS), (Map(LAST - 5), MAPS)] {
+        check_kind(&findings, rt.alloc(), *kind, *sizes);
+    }
+    findings.verdict()
+}
+
+/// Checks the sizes of tables of values that take `size` bytes each.
+fn check_tables<T: Drop>(findings: &Findings, alloc: Global, size: usize) {
+    check_memory_sizes(
+        findings,
+        alloc,
+        size.saturating_add(18),
+        usize::from(size > 0).saturating_add(3),
+        |n| {
+            let size = SlotTable::<T, &LocalHeap>::memory_size(n);
+            findings.expect_same(SlotTable::<T, Global>::memory_size(n), size, "any memory");
+            (size.bytes, size.blocks)
+        },
+        |heap: &LocalHeap, n| match SlotTable::<T, &LocalHeap>::new(heap, n) {
+            Ok(_made) => Some(heap.used()),
+            Err(AllocError) => None,
+        },
+    );
+}
+
+/// Checks the sizes of maps of values that take `size` bytes each, with the mark of the place.
+fn check_maps<T: Drop>(findings: &Findings, alloc: Global, size: usize) {
+    check_memory_sizes(
+        findings,
+        alloc,
+        size.saturating_add(27),
+        6,
+        |n| {
+            let size = SlotMap::<T, &LocalHeap>::memory_size(n);
+            findings.expect_same(SlotMap::<T, Global>::memory_size(n), size, "any memory");
+            (size.bytes, size.blocks)
+        },
+        |heap: &LocalHeap, n| match SlotMap::<T, &LocalHeap>::new(heap, n) {
+            Ok(_made) => Some(heap.used()),
+            Err(AllocError) => None,
+        },
+    );
+}
+
+/// Checks the sizes of tables and of maps of values that take `size` bytes each, and `marked` bytes with the mark of the place.
+fn check_item<T: Drop>(findings: &Findings, alloc: Global, size: usize, marked: usize) {
+    check_tables::<T>(findings, alloc, size);
+    check_maps::<T>(findings, alloc, marked);
+}
+
+#[test]
+fn memory_sizes(rt: HostRuntime) -> Result<(), Fail> {
+    let findings = Findings::new();
+    check_item::<()>(&findings, rt.alloc(), 0, 1);
+    check_item::<u8>(&findings, rt.alloc(), 1, 2);
+    check_item::<u64>(&findings, rt.alloc(), 8, 16);
+    check_item::<[u64; 3]>(&findings, rt.alloc(), 24, 32);
+    check_item::<[u64; 32]>(&findings, rt.alloc(), 256, 264);
+    findings.verdict()
+}
