@@ -2,27 +2,27 @@
 //! item lies.
 use crate::call_tests::Answer::{Done, Is, Item, Pushed};
 use crate::call_tests::Call::{
-    Back, DropBelow, GetRef, Has, Items, PopBack, Push, SetAt, SetBack, SetToZero, Truncate,
-    TryPush,
+    Back, DropBelow, GetRef, Has, Items, PopBack, Push, SetAt, SetBack, SetFront, SetToZero,
+    Truncate, TryPush,
 };
-use crate::own_table::CountedPuts;
-use crate::replacing::{drop_below, replace_at, replace_back, set_to_zero};
+use crate::replacing::{drop_below, replace_at, replace_back, replace_front, set_to_zero};
 use crate::rows::Row;
 use crate::turning::TURNS;
-use ix_queue::{FixedSizeQueue, MetaQueue, Queue, RelocatableQueue};
-use ix_tables::{InlineTable, RelocatableContainer, Table};
-use std::alloc::Global;
+use ix_queue::{FixedSizeQueue, MetaQueue, Queue};
+use ix_tables::Table;
 use std::test::Fail;
 use test_support::{Findings, check_rows, made};
 
 enum Call<'a> {
     Push(u64),
     TryPush(u64),
+    /// Replaces the front item through `peek_mut`, and returns the old one.
+    SetFront(u64),
     Back,
-    /// Replaces the back item through `back_mut`, and returns the old one.
+    /// As `SetFront`, of the back item through `back_mut`.
     SetBack(u64),
     GetRef(usize),
-    /// Replaces the item at an index through `get_mut_ref`, and returns the old one.
+    /// As `SetFront`, of the item at an index through `get_mut_ref`.
     SetAt(usize, u64),
     PopBack,
     Truncate(usize),
@@ -56,6 +56,7 @@ fn answer_of<S: Table<u64>>(queue: &mut MetaQueue<u64, S>, call: &Call) -> Answe
     match call {
         Push(item) => Is(queue.push(*item)),
         TryPush(item) => Pushed(queue.try_push(*item)),
+        SetFront(item) => Item(replace_front(queue, *item)),
         Back => Item(queue.back().copied()),
         SetBack(item) => Item(replace_back(queue, *item)),
         GetRef(index) => Item(queue.get_ref(*index).copied()),
@@ -83,6 +84,7 @@ type CallRow<'a> = (Call<'a>, Answer);
 /// Calls of a queue of capacity 3.
 const BACK_ITEMS: &[CallRow] = &[
     (Back, Item(None)),
+    (SetFront(9), Item(None)),
     (SetBack(9), Item(None)),
     (PopBack, Item(None)),
     (TryPush(1), Pushed(Ok(()))),
@@ -98,10 +100,10 @@ const BACK_ITEMS: &[CallRow] = &[
     (PopBack, Item(Some(2))),
     (Items(&[1]), Is(true)),
     (TryPush(6), Pushed(Ok(()))),
-    (Items(&[1, 6]), Is(true)),
+    (SetFront(4), Item(Some(1))),
+    (Items(&[4, 6]), Is(true)),
     (PopBack, Item(Some(6))),
-    (PopBack, Item(Some(1))),
-    (PopBack, Item(None)),
+    (PopBack, Item(Some(4))),
     (Items(&[]), Is(true)),
 ];
 
@@ -111,11 +113,7 @@ const BY_INDEX: &[CallRow] = &[
     (SetAt(0, 9), Item(None)),
     (Push(1), Is(true)),
     (Push(2), Is(true)),
-    (GetRef(0), Item(Some(1))),
-    (GetRef(1), Item(Some(2))),
-    (GetRef(2), Item(None)),
     (GetRef(usize::MAX), Item(None)),
-    (SetAt(2, 9), Item(None)),
     (SetAt(usize::MAX, 9), Item(None)),
     (SetAt(1, 7), Item(Some(2))),
     (SetAt(0, 8), Item(Some(1))),
@@ -190,31 +188,20 @@ fn check_made<S: Table<u64>, E: Drop>(
     }
 }
 
-/// Makes the calls on a queue of each kind, of capacity 3.
-fn check_kinds(findings: &Findings, alloc: Global, rows: &[CallRow]) {
-    for (turn, turned) in TURNS {
-        let fixed = made(FixedSizeQueue::<u64, 3>::new());
-        check_made(findings, fixed, *turn, rows, turned);
-        check_made(findings, Queue::new(alloc, 3), *turn, rows, turned);
-        let relocatable = RelocatableQueue::<u64, Global>::new_uninit(3).init(alloc);
-        check_made(findings, relocatable, *turn, rows, turned);
-        let own = MetaQueue::from_table(CountedPuts::new(InlineTable::<u64, 3>::new()));
-        check_made(findings, made(own), *turn, rows, turned);
-    }
-}
-
 #[test]
 fn each_kind(rt: HostRuntime) -> Result<(), Fail> {
     let findings = Findings::new();
     let alloc = rt.alloc();
     for rows in &[BACK_ITEMS, BY_INDEX, ALL_ITEMS] {
-        check_kinds(&findings, alloc, *rows);
+        for (turn, turned) in TURNS {
+            let fixed = made(FixedSizeQueue::<u64, 3>::new());
+            check_made(&findings, fixed, *turn, *rows, turned);
+            check_made(&findings, Queue::new(alloc, 3), *turn, *rows, turned);
+        }
     }
     let fixed = made(FixedSizeQueue::<u64, 0>::new());
     check_made(&findings, fixed, &[], OF_NONE, "fixed");
     check_made(&findings, Queue::new(alloc, 0), &[], OF_NONE, "allocated");
-    let relocatable = RelocatableQueue::<u64, Global>::new_uninit(0).init(alloc);
-    check_made(&findings, relocatable, &[], OF_NONE, "in two steps");
     findings.verdict()
 }
 
@@ -225,10 +212,14 @@ fn items_of_size_zero() -> Result<(), Fail> {
     findings.expect_same(queue.try_push(()), Ok(()), "a first item");
     findings.expect_same(queue.try_push(()), Ok(()), "a second item");
     findings.expect_same(queue.try_push(()), Err(()), "a third item");
+    findings.expect(queue.pop().is_some() && queue.push(()), "a turn");
+    findings.expect_same(queue.iter().count(), 2, "by reference");
     findings.expect(queue.contains(&()), "an equal item");
     findings.expect_same(queue.get_ref(1).copied(), Some(()), "by its index");
     findings.expect_same(queue.pop_back(), Some(()), "from the back");
     queue.retain(|_| false);
     findings.expect_same(queue.back().copied(), None, "none is kept");
+    queue.push(());
+    findings.expect_same(queue.into_iter().count(), 1, "by value");
     findings.verdict()
 }

@@ -1,9 +1,8 @@
 //! The calls of closures: one for each item, the front item first, in the closure's own state.
 use crate::replacing::{change_each, keep_passing};
 use crate::turning::TURNS;
-use ix_queue::{FixedSizeQueue, MetaQueue, Queue, RelocatableQueue};
-use ix_tables::{RelocatableContainer, Table};
-use std::alloc::Global;
+use ix_queue::{FixedSizeQueue, MetaQueue, Queue};
+use ix_tables::Table;
 use std::cell::Cell;
 use std::test::Fail;
 use test_support::{Findings, check_rows, made};
@@ -75,8 +74,6 @@ fn each_kind(rt: HostRuntime) -> Result<(), Fail> {
     let findings = Findings::new();
     let fixed = made(FixedSizeQueue::<u64, 3>::new());
     check_made(&findings, fixed, "fixed");
-    check_made(&findings, Queue::new(rt.alloc(), 3), "allocated");
-    let relocatable = RelocatableQueue::<u64, Global>::new_uninit(4).init(rt.alloc());
-    check_made(&findings, relocatable, "in two steps");
+    check_made(&findings, Queue::new(rt.alloc(), 4), "allocated");
     findings.verdict()
 }

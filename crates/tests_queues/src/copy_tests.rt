@@ -1,4 +1,5 @@
 //! Clones of queues: each item is cloned once, the front item first; a clone that fails leaves nothing.
+use crate::turning::fill_round;
 use ix_queue::{FixedSizeQueue, MetaQueue, Queue};
 use ix_tables::Table;
 use linked_list_allocator::LocalHeap;
@@ -16,18 +17,6 @@ const CLONES: &[(u64, bool, u64)] = &[
     (5, true, 234),
 ];
 
-/// Returns the queue, which is empty and of capacity 3, with the items 2, 3 and 4, round the end of its ring.
-fn filled<'a, S: Table<Noted<'a>>>(
-    mut queue: MetaQueue<Noted<'a>, S>,
-    notes: &'a Notes,
-) -> MetaQueue<Noted<'a>, S> {
-    for name in 1..5 {
-        drop(queue.push_with_overflow(Noted::new(name, notes)));
-    }
-    notes.take_drops();
-    queue
-}
-
 /// Checks a clone of a queue with the items 2, 3 and 4.
 fn check_clone<'a, S: Table<Noted<'a>>>(
     findings: &Findings,
@@ -41,12 +30,8 @@ fn check_clone<'a, S: Table<Noted<'a>>>(
         findings.expect_same_at(copy.len(), 3, row, "the items");
         findings.expect_same_at(copy.capacity(), 3, row, "the capacity");
         findings.expect_same_at(notes.drops(), 0, row, "dropped while cloning");
-        findings.expect_same_at(
-            notes.clones_left(),
-            allowed.saturating_sub(3),
-            row,
-            "clones",
-        );
+        let left = allowed.saturating_sub(3);
+        findings.expect_same_at(notes.clones_left(), left, row, "clones");
     }
     drop(clone);
     findings.expect_same_at(notes.take_drops(), *drops, row, "dropped with the clone");
@@ -56,7 +41,8 @@ fn check_clone<'a, S: Table<Noted<'a>>>(
 fn fixed() -> Result<(), Fail> {
     let findings = Findings::new();
     let notes = Notes::new(0);
-    let queue = filled(FixedSizeQueue::<Noted, 3>::new(), &notes);
+    let mut queue = FixedSizeQueue::<Noted, 3>::new();
+    fill_round(&mut queue, &notes);
     for row in CLONES {
         notes.allow_clones(row.0);
         check_clone(&findings, queue.clone(), &notes, row);
@@ -69,36 +55,15 @@ fn fixed() -> Result<(), Fail> {
 #[test]
 fn fixed_numbers() -> Result<(), Fail> {
     let findings = Findings::new();
-    let mut queue = FixedSizeQueue::<u64, 2>::new();
+    let mut queue = FixedSizeQueue::<u64, 2>::default();
+    findings.expect_same((queue.len(), queue.capacity()), (0, 2), "the default queue");
     for number in 1..4 {
         queue.push_with_overflow(number);
     }
     let copy: Result<_, AllocError> = queue.clone();
     check_text(&findings, &copy, "Ok([2, 3])");
-    let empty = FixedSizeQueue::<u64, 2>::default();
-    findings.expect_same((empty.len(), empty.capacity()), (0, 2), "the default queue");
-    let none = FixedSizeQueue::<u64, 0>::default();
-    let copy: Result<_, AllocError> = none.clone();
+    let copy: Result<_, AllocError> = FixedSizeQueue::<u64, 0>::default().clone();
     check_text(&findings, &copy, "Ok([])");
-    findings.verdict()
-}
-
-#[test]
-fn allocated(rt: HostRuntime) -> Result<(), Fail> {
-    let findings = Findings::new();
-    let notes = Notes::new(0);
-    let alloc = rt.alloc();
-    match Queue::new(alloc, 3) {
-        Ok(queue) => {
-            let queue = filled(queue, &notes);
-            for row in CLONES {
-                notes.allow_clones(row.0);
-                check_clone(&findings, queue.try_clone_in(alloc), &notes, row);
-            }
-        }
-        Err(_) => findings.miss("there is memory"),
-    }
-    findings.expect_same(notes.drops(), 234, "the items of the queue");
     findings.verdict()
 }
 
@@ -106,22 +71,20 @@ fn allocated(rt: HostRuntime) -> Result<(), Fail> {
 fn into_other_memory(rt: HostRuntime) -> Result<(), Fail> {
     let findings = Findings::new();
     let notes = Notes::new(0);
-    match LocalHeap::new(rt.alloc(), 512) {
-        Ok(heap) => {
-            match Queue::new(rt.alloc(), 3) {
-                Ok(made) => {
-                    let queue = filled(made, &notes);
-                    for row in CLONES {
-                        notes.allow_clones(row.0);
-                        check_clone(&findings, queue.try_clone_in(&heap), &notes, row);
-                        findings.expect_same_at(heap.used(), 0, row.0 as usize, "bytes in use");
-                    }
-                }
-                Err(_) => findings.miss("there is memory"),
-            }
+    let heap = LocalHeap::new(rt.alloc(), 512);
+    let made = Queue::new(rt.alloc(), 3);
+    if let (Ok(heap), Ok(mut queue)) = (heap, made) {
+        fill_round(&mut queue, &notes);
+        for row in CLONES {
+            notes.allow_clones(row.0);
+            check_clone(&findings, queue.try_clone_in(&heap), &notes, row);
+            findings.expect_same_at(heap.used(), 0, row.0 as usize, "bytes in use");
         }
-        Err(_) => findings.miss("a heap"),
+        drop(queue);
+    } else {
+        findings.miss("there is memory");
     }
+    findings.expect_same(notes.drops(), 234, "the items of the queue");
     findings.verdict()
 }
 

@@ -3,9 +3,8 @@ use crate::drop_tests::Call::{
     Clear, KeepOdd, Pop, PopBack, Push, PushWithOverflow, Truncate, TryPush, Write, WriteBack,
 };
 use crate::replacing::replace_back;
-use ix_queue::{FixedSizeQueue, MetaQueue, Queue, RelocatableQueue};
-use ix_tables::{RelocatableContainer, Table};
-use std::alloc::Global;
+use ix_queue::{FixedSizeQueue, MetaQueue, Queue};
+use ix_tables::Table;
 use std::test::Fail;
 use test_support::{Findings, Noted, Notes, made};
 
@@ -186,31 +185,18 @@ const OF_NINE: Example = (
     12_345,
 );
 
-/// Makes the calls on a queue of each kind, allocated from `alloc`.
-fn check_in_memory(
-    findings: &Findings,
-    notes: &Notes,
-    alloc: Global,
-    capacity: usize,
-    example: &Example,
-) {
-    check_made(findings, Queue::new(alloc, capacity), notes, example);
-    let relocatable = RelocatableQueue::<Noted, Global>::new_uninit(capacity).init(alloc);
-    check_made(findings, relocatable, notes, example);
-}
-
 #[test]
 fn each_kind(rt: HostRuntime) -> Result<(), Fail> {
     let findings = Findings::new();
-    let notes = Notes::new(0);
+    let (notes, alloc) = (Notes::new(0), rt.alloc());
     for example in OF_THREE {
         let fixed = made(FixedSizeQueue::<Noted, 3>::new());
         check_made(&findings, fixed, &notes, example);
-        check_in_memory(&findings, &notes, rt.alloc(), 3, example);
+        check_made(&findings, Queue::new(alloc, 3), &notes, example);
     }
     let fixed = made(FixedSizeQueue::<Noted, 0>::new());
     check_made(&findings, fixed, &notes, &OF_NONE);
-    check_in_memory(&findings, &notes, rt.alloc(), 0, &OF_NONE);
-    check_in_memory(&findings, &notes, rt.alloc(), 9, &OF_NINE);
+    check_made(&findings, Queue::new(alloc, 0), &notes, &OF_NONE);
+    check_made(&findings, Queue::new(alloc, 9), &notes, &OF_NINE);
     findings.verdict()
 }

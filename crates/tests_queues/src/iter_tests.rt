@@ -1,12 +1,12 @@
-//! Iterators over queues: the order of the items wherever the front item lies, walks that stop early, and which items
-//! are dropped with an iterator.
+//! Iterators and drains: the order of the items wherever the front item lies, walks that stop early, and which items are
+//! dropped with an iterator.
 use crate::iter_tests::Step::{Back, Left, Next};
-use crate::own_table::CountedPuts;
+use crate::replacing::{drain_all, drain_one};
 use crate::rows::Row;
-use crate::turning::TURNS;
-use ix_queue::{FixedSizeQueue, MetaQueue, Queue, RelocatableQueue};
-use ix_tables::{InlineTable, RelocatableContainer, Table};
-use std::alloc::{AllocError, Global};
+use crate::turning::{TURNS, fill_round};
+use ix_queue::{FixedSizeQueue, MetaQueue, Queue};
+use ix_tables::Table;
+use std::alloc::AllocError;
 use std::test::Fail;
 use test_support::{Findings, Noted, Notes, check_rows, check_text, made};
 
@@ -24,7 +24,9 @@ type Walk<'a> = (&'a [u64], &'a [Step]);
 
 const WALKS: &[Walk] = &[
     (&[], &[Left(0), Next(None), Next(None), Left(0)]),
+    (&[], &[Back(None), Next(None), Left(0)]),
     (&[4], &[Left(1), Next(Some(4)), Left(0), Next(None)]),
+    (&[4], &[Back(Some(4)), Left(0), Back(None), Next(None)]),
     (
         &[4, 5],
         &[Next(Some(4)), Left(1), Next(Some(5)), Next(None), Left(0)],
@@ -43,10 +45,6 @@ const WALKS: &[Walk] = &[
             Next(None),
         ],
     ),
-    (&[4, 5, 6], &[Next(Some(4)), Next(Some(5))]),
-    (&[4, 5, 6], &[]),
-    (&[], &[Back(None), Next(None), Left(0)]),
-    (&[4], &[Back(Some(4)), Left(0), Back(None), Next(None)]),
     (
         &[4, 5, 6],
         &[
@@ -74,33 +72,38 @@ const WALKS: &[Walk] = &[
     ),
 ];
 
-/// Takes the steps over the items of a queue, which stays as it is.
-fn walk<S: Table<u64>>(findings: &Findings, queue: &MetaQueue<u64, S>, steps: &[Step]) {
-    let mut iter = queue.iter();
-    for (number, step) in steps.iter().enumerate() {
-        match step {
-            Next(item) => findings.expect_same_at(iter.next().copied(), *item, number, "next"),
-            Back(item) => findings.expect_same_at(iter.next_back().copied(), *item, number, "back"),
-            Left(left) => {
-                findings.expect_same_at(iter.len(), *left, number, "len");
-                findings.expect_same_at(iter.size_hint(), (*left, Some(*left)), number, "hint");
-            }
+fn check_step<I: DoubleEndedIterator<Item = u64> + ExactSizeIterator>(
+    findings: &Findings,
+    iter: &mut I,
+    step: &Step,
+    number: usize,
+    place: &str,
+)
+    requires front { (at : I) → I.can_next at }
+    requires back { (at : I) → I.can_next_back at }
+{
+    match step {
+        Next(item) => findings.expect_same_at(iter.next(), *item, number, place),
+        Back(item) => findings.expect_same_at(iter.next_back(), *item, number, place),
+        Left(left) => {
+            findings.expect_same_at(iter.len(), *left, number, place);
+            findings.expect_same_at(iter.size_hint(), (*left, Some(*left)), number, place);
         }
     }
 }
 
-/// Takes the steps, and drops what is left of the queue.
-fn walk_by_value<S: Table<u64>>(findings: &Findings, queue: MetaQueue<u64, S>, steps: &[Step]) {
-    let mut iter = queue.into_iter();
+/// Takes the steps, and drops the iterator.
+fn check_steps<I: DoubleEndedIterator<Item = u64> + ExactSizeIterator>(
+    findings: &Findings,
+    mut iter: I,
+    steps: &[Step],
+    place: &str,
+)
+    requires front { (at : I) → I.can_next at }
+    requires back { (at : I) → I.can_next_back at }
+{
     for (number, step) in steps.iter().enumerate() {
-        match step {
-            Next(item) => findings.expect_same_at(iter.next(), *item, number, "next by value"),
-            Back(item) => findings.expect_same_at(iter.next_back(), *item, number, "back by value"),
-            Left(left) => {
-                findings.expect_same_at(iter.len(), *left, number, "len by value");
-                findings.expect_same_at(iter.size_hint(), (*left, Some(*left)), number, "hint");
-            }
-        }
+        check_step(findings, &mut iter, step, number, place);
     }
 }
 
@@ -121,7 +124,7 @@ fn fill<S: Table<u64>>(
     }
 }
 
-/// Goes the walk over a queue whose making did not fail, twice, and once more by value.
+/// Goes the walk over an empty queue whose making did not fail, in each way that there is. A drain leaves it empty.
 fn check_made<S: Table<u64>, E: Drop>(
     findings: &Findings,
     made: Result<MetaQueue<u64, S>, E>,
@@ -131,23 +134,15 @@ fn check_made<S: Table<u64>, E: Drop>(
     match made {
         Ok(mut queue) => {
             fill(findings, &mut queue, turn, items);
-            walk(findings, &queue, steps);
-            walk(findings, &queue, steps);
-            walk_by_value(findings, queue, steps);
+            check_steps(findings, queue.drain(), steps, "drained");
+            findings.expect(queue.is_empty(), "empty after the drain");
+            fill(findings, &mut queue, &[], items);
+            check_steps(findings, queue.iter().copied(), steps, "by reference");
+            check_steps(findings, queue.iter().copied(), steps, "once more");
+            check_steps(findings, queue.into_iter(), steps, "by value");
         }
         Err(_) => findings.miss("there is memory"),
     }
-}
-
-/// Goes the walk over a queue of each kind.
-fn check_walk(findings: &Findings, alloc: Global, turn: &[Row<u64>], example: &Walk) {
-    let fixed = made(FixedSizeQueue::<u64, 3>::new());
-    check_made(findings, fixed, turn, example);
-    check_made(findings, Queue::new(alloc, 3), turn, example);
-    let relocatable = RelocatableQueue::<u64, Global>::new_uninit(3).init(alloc);
-    check_made(findings, relocatable, turn, example);
-    let own = MetaQueue::from_table(CountedPuts::new(InlineTable::<u64, 3>::new()));
-    check_made(findings, made(own), turn, example);
 }
 
 #[test]
@@ -155,15 +150,11 @@ fn walks(rt: HostRuntime) -> Result<(), Fail> {
     let findings = Findings::new();
     for (turn, _) in TURNS {
         for example in WALKS {
-            check_walk(&findings, rt.alloc(), turn, example);
+            let fixed = made(FixedSizeQueue::<u64, 3>::new());
+            check_made(&findings, fixed, turn, example);
+            check_made(&findings, Queue::new(rt.alloc(), 3), turn, example);
         }
     }
-    findings.verdict()
-}
-
-#[test]
-fn capacity_0(rt: HostRuntime) -> Result<(), Fail> {
-    let findings = Findings::new();
     let none: Walk = (&[7], &[Left(0), Next(None), Left(0)]);
     let fixed = made(FixedSizeQueue::<u64, 0>::new());
     check_made(&findings, fixed, &[], &none);
@@ -172,47 +163,15 @@ fn capacity_0(rt: HostRuntime) -> Result<(), Fail> {
 }
 
 #[test]
-fn items_of_size_zero() -> Result<(), Fail> {
-    let findings = Findings::new();
-    let mut queue = FixedSizeQueue::<(), 3>::new();
-    for _ in 0..4 {
-        queue.push(());
-    }
-    queue.pop();
-    queue.push(());
-    findings.expect_same(queue.iter().count(), 3, "by reference");
-    findings.expect_same(queue.into_iter().count(), 3, "by value");
-    findings.verdict()
-}
-
-#[test]
-fn loops_that_stop() -> Result<(), Fail> {
+fn texts() -> Result<(), Fail> {
     let findings = Findings::new();
     let mut queue = FixedSizeQueue::<u64, 3>::new();
     fill(&findings, &mut queue, &[], &[4, 5, 6]);
-    let mut last = 0;
-    for item in &queue {
-        last = *item;
-        if last == 5 {
-            break;
-        }
-    }
-    findings.expect_same(last, 5, "by reference");
-    findings.expect_same(queue.len(), 3, "the queue is as it was");
-    for item in queue {
-        last = item;
-        if item == 4 {
-            break;
-        }
-    }
-    findings.expect_same(last, 4, "by value");
-    findings.verdict()
-}
-
-#[test]
-fn texts() -> Result<(), Fail> {
-    let findings = Findings::new();
-    let mut queue = FixedSizeQueue::<u64, 2>::new();
+    findings.expect_same(drain_all(&mut queue), 3, "all items");
+    fill(&findings, &mut queue, &[], &[8, 9]);
+    check_text(&findings, &queue.drain(), "[8, 9]");
+    fill(&findings, &mut queue, &[], &[8, 9]);
+    findings.expect_same(drain_one(&mut queue), Some(8), "one item");
     fill(&findings, &mut queue, &[], &[3, 4]);
     let mut iter = queue.iter();
     check_text(&findings, &iter, "[3, 4]");
@@ -229,7 +188,9 @@ fn texts() -> Result<(), Fail> {
 
 /// The number of items that are taken, the names of the items that are dropped then, and those once the iterator is
 /// dropped.
-const TAKEN: &[(usize, u64, u64)] = &[
+type Taken = (usize, u64, u64);
+
+const TAKEN: &[Taken] = &[
     (0, 0, 234),
     (1, 2, 234),
     (2, 23, 234),
@@ -237,42 +198,57 @@ const TAKEN: &[(usize, u64, u64)] = &[
     (4, 234, 234),
 ];
 
-/// Takes items of a queue with the items 2, 3 and 4 by value, and drops the iterator.
-fn check_drops<'a, S: Table<Noted<'a>>, E: Drop>(
+/// Takes an item and drops it.
+fn take_one<'a, I: Iterator<Item = Noted<'a>>>(iter: &mut I)
+    requires { (at : I) → I.can_next at }
+{
+    drop(iter.next());
+}
+
+/// Takes items of an iterator over the items 2, 3 and 4, and drops it.
+fn check_taken<'a, I: Iterator<Item = Noted<'a>>>(
     findings: &Findings,
-    made: Result<MetaQueue<Noted<'a>, S>, E>,
+    mut iter: I,
     notes: &'a Notes,
-    (taken, before, after): &(usize, u64, u64),
-) {
-    match made {
-        Ok(mut queue) => {
-            for name in 1..4 {
-                queue.push(Noted::new(name, notes));
-            }
-            let _ = queue.pop();
-            queue.push(Noted::new(4, notes));
-            notes.take_drops();
-            let mut iter = queue.into_iter();
-            for _ in 0..*taken {
-                drop(iter.next());
-            }
-            findings.expect_same_at(notes.drops(), *before, *taken, "taken");
-            drop(iter);
-            findings.expect_same_at(notes.drops(), *after, *taken, "dropped with the iterator");
-        }
-        Err(_) => findings.miss("there is memory"),
+    row: &Taken,
+)
+    requires { (at : I) → I.can_next at }
+{
+    let (taken, before, after) = row;
+    for _ in 0..*taken {
+        take_one(&mut iter);
     }
+    findings.expect_same_at(notes.drops(), *before, *taken, "taken");
+    drop(iter);
+    findings.expect_same_at(
+        notes.take_drops(),
+        *after,
+        *taken,
+        "dropped with the iterator",
+    );
 }
 
 #[test]
 fn drops(rt: HostRuntime) -> Result<(), Fail> {
     let findings = Findings::new();
     let notes = Notes::new(0);
+    let mut drained = FixedSizeQueue::<Noted, 3>::new();
     for row in TAKEN {
-        let fixed = made(FixedSizeQueue::<Noted, 3>::new());
-        check_drops(&findings, fixed, &notes, row);
-        check_drops(&findings, Queue::new(rt.alloc(), 3), &notes, row);
+        fill_round(&mut drained, &notes);
+        check_taken(&findings, drained.drain(), &notes, row);
+        let mut fixed = FixedSizeQueue::<Noted, 3>::new();
+        fill_round(&mut fixed, &notes);
+        check_taken(&findings, fixed.into_iter(), &notes, row);
+        match Queue::<Noted>::new(rt.alloc(), 3) {
+            Ok(mut queue) => {
+                fill_round(&mut queue, &notes);
+                check_taken(&findings, queue.into_iter(), &notes, row);
+            }
+            Err(AllocError) => findings.miss("there is memory"),
+        }
     }
+    drop(drained);
+    findings.expect_same(notes.drops(), 0, "nothing is dropped twice");
     findings.verdict()
 }
 
@@ -281,14 +257,27 @@ fn an_item_outlives_its_iterator() -> Result<(), Fail> {
     let findings = Findings::new();
     let notes = Notes::new(0);
     let mut queue = FixedSizeQueue::<Noted, 3>::new();
-    for name in 1..4 {
-        queue.push(Noted::new(name, &notes));
-    }
+    fill_round(&mut queue, &notes);
     let mut iter = queue.into_iter();
     let item = iter.next();
     drop(iter);
-    findings.expect_same(notes.drops(), 23, "dropped with the iterator");
+    findings.expect_same(notes.drops(), 34, "dropped with the iterator");
     drop(item);
-    findings.expect_same(notes.drops(), 231, "dropped by the caller");
+    findings.expect_same(notes.drops(), 342, "dropped by the caller");
+    findings.verdict()
+}
+
+#[test]
+fn a_loop_that_is_left_drops_the_rest() -> Result<(), Fail> {
+    let findings = Findings::new();
+    let notes = Notes::new(0);
+    let mut queue = FixedSizeQueue::<Noted, 3>::new();
+    fill_round(&mut queue, &notes);
+    for item in queue {
+        if item.name == 2 {
+            break;
+        }
+    }
+    findings.expect_same(notes.drops(), 234, "each item is dropped");
     findings.verdict()
 }

@@ -9,11 +9,7 @@ mod closure_tests;
 #[cfg(test)]
 mod copy_tests;
 #[cfg(test)]
-mod drain_tests;
-#[cfg(test)]
 mod drop_tests;
-#[cfg(test)]
-mod equality_tests;
 #[cfg(test)]
 mod function_tests;
 #[cfg(test)]

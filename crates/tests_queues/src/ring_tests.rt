@@ -38,19 +38,12 @@ const WRITES_OF_THE_FRONT: &[Row<u64>] = &[
     (Peek, Value(1)),
     (Set(10), Bool(true)),
     (Pop, Value(10)),
-    (Push(10), Bool(true)),
-    (Peek, Value(2)),
-    (Set(20), Bool(true)),
-    (Pop, Value(20)),
     (Push(20), Bool(true)),
-    (Peek, Value(3)),
+    (Peek, Value(2)),
+    (Pop, Value(2)),
+    (Pop, Value(3)),
     (Set(30), Bool(true)),
     (Pop, Value(30)),
-    (Push(30), Bool(true)),
-    (Pop, Value(10)),
-    (Pop, Value(20)),
-    (Pop, Value(30)),
-    (Pop, Reply::None),
 ];
 
 /// Commands of a queue of capacity 3.

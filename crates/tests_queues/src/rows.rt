@@ -3,15 +3,15 @@ ghost use Rattle.std.specs.Prelude.{◌≤◌};
 
 use crate::own_table::CountedPuts;
 use ix_commands::{QueueCommand, Reply};
-use ix_queue::{FixedSizeQueue, MetaQueue, Queue, RelocatableQueue};
-use ix_tables::{InlineTable, RelocatableContainer};
+use ix_queue::{FixedSizeQueue, MetaQueue, Queue};
+use ix_tables::InlineTable;
 use std::alloc::Allocator;
 use test_support::{Findings, check_tables, made};
 
 /// A command of a queue and the reply to it.
 pub type Row<T> = (QueueCommand<T>, Reply<usize, T>);
 
-/// Runs the rows of each table in turn on one queue of each kind. Those that are allocated are allocated from `alloc`.
+/// Runs the rows of each table in turn on one queue of each kind, of which one is allocated from `alloc`.
 pub fn check_kinds<A: Allocator + Copy, const CAPACITY: usize>(
     findings: &Findings,
     alloc: A,
@@ -25,6 +25,4 @@ pub fn check_kinds<A: Allocator + Copy, const CAPACITY: usize>(
     let own = CountedPuts::new(InlineTable::<u64, CAPACITY>::new());
     check_tables(findings, made(MetaQueue::from_table(own)), tables, place);
     check_tables(findings, Queue::new(alloc, CAPACITY), tables, place);
-    let relocatable = RelocatableQueue::<u64, A>::new_uninit(CAPACITY).init(alloc);
-    check_tables(findings, relocatable, tables, place);
 }
