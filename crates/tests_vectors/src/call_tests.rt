@@ -1,8 +1,7 @@
 //! Calls that hand items back, take one out of the middle, keep some, and move items between vectors.
 use crate::call_tests::Call::{Dedup, Retain, Room, SwapRemove, TryInsert, TryPush};
-use ix_tables::RelocatableContainer;
 use ix_vector::VectorModificationError::{self, InsertWouldExceedCapacity, OutOfBounds};
-use ix_vector::{PolymorphicVec, StaticVec, UninitVec, Vector};
+use ix_vector::{PolymorphicVec, StaticVec, Vector};
 use std::alloc::Global;
 use std::test::Fail;
 use test_support::{Findings, made};
@@ -110,8 +109,6 @@ fn each_kind(rt: HostRuntime) -> Result<(), Fail> {
     for (capacity, rows) in [(4, FOUR), (0, NONE)] {
         let allocated = PolymorphicVec::<u64, Global>::new(rt.alloc(), capacity);
         check_rows(&findings, allocated, rows, "allocated");
-        let relocatable = UninitVec::<u64>::new_uninit(capacity).init(rt.alloc());
-        check_rows(&findings, relocatable, rows, "in two steps");
     }
     findings.verdict()
 }
@@ -172,7 +169,6 @@ fn appends(rt: HostRuntime) -> Result<(), Fail> {
 /// An index, and the items before it and from it on, or `None` if it is refused.
 const SPLITS: &[(usize, Option<(&[u64], &[u64])>)] = &[
     (0, Some((&[], &[1, 2, 3]))),
-    (1, Some((&[1], &[2, 3]))),
     (3, Some((&[1, 2, 3], &[]))),
     (4, None),
     (usize::MAX, None),

@@ -1,11 +1,10 @@
 //! The drops and the clones of items: each is dropped once, the last one first, and no call clones more items than it keeps.
 use crate::rows::Way::{self, Clones, Closures, Unchecked};
 use ix_commands::VecCommand::{self, Clear, Extend, Insert, Pop, Push, Remove, Resize, Truncate};
-use ix_tables::RelocatableContainer;
 use ix_vector::VectorModificationError::{
     self, InsertWouldExceedCapacity, OutOfBounds, OutOfMemory,
 };
-use ix_vector::{PolymorphicVec, StaticVec, UninitVec, Vector};
+use ix_vector::{PolymorphicVec, StaticVec, Vector};
 use linked_list_allocator::LocalHeap;
 use std::alloc::{AllocError, Global};
 use std::test::Fail;
@@ -200,8 +199,6 @@ fn check_kinds<'a>(findings: &Findings, alloc: Global, notes: &'a Notes, others:
     for example in EXAMPLES {
         let fixed = made(StaticVec::<Noted<'a>, 4>::new());
         check_made(findings, fixed, example, notes, others);
-        let relocatable = UninitVec::<Noted<'a>>::new_uninit(4).init(alloc);
-        check_made(findings, relocatable, example, notes, others);
         let polymorphic = PolymorphicVec::<Noted<'a>, Global>::new(alloc, 4);
         check_made(findings, polymorphic, example, notes, others);
     }

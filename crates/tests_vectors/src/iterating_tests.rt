@@ -190,6 +190,8 @@ fn few_items_and_items_of_size_zero(rt: HostRuntime) -> Result<(), Fail> {
         Err(_) => findings.miss("size zero"),
     }
     if let Ok(units) = PolymorphicVec::from_fn(rt.alloc(), 3, |_| ()) {
+        let copy = units.try_clone().map(|copy| copy.len());
+        findings.expect_same(copy, Ok(3), "a clone of size zero");
         let mut items = units.into_iter();
         findings.expect_same((items.next(), items.len()), (Some(()), 2), "size zero");
     }

@@ -30,6 +30,7 @@ mod rows;
 mod shift_tests;
 #[cfg(test)]
 mod size_tests;
+#[cfg(test)]
 mod slice_tests;
 #[cfg(test)]
 mod table_tests;

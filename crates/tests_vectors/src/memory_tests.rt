@@ -2,7 +2,7 @@
 //! is refused.
 use ix_commands::Reply::{self, Number};
 use ix_commands::VecCommand::{self, Capacity, Len};
-use ix_tables::{HeapTable, RawSlots, RelocatableContainer, Table};
+use ix_tables::{HeapTable, MAX_FIXED_CAPACITY, RawSlots, RelocatableContainer, Table};
 use ix_vector::VectorModificationError::InsertWouldExceedCapacity;
 use ix_vector::{PolymorphicVec, StaticVec, UninitVec, Vector};
 use linked_list_allocator::LocalHeap;
@@ -215,6 +215,7 @@ const TOO_MANY: usize = 4_294_967_296;
 #[test]
 fn past_the_greatest_fixed_capacity() -> Result<(), Fail> {
     let findings = Findings::new();
+    findings.expect_same(MAX_FIXED_CAPACITY, TOO_MANY - 1, "the greatest");
     let refused = StaticVec::<(), TOO_MANY>::try_from([].as_slice()).err();
     findings.expect_same(refused, Some(InsertWouldExceedCapacity), "a static copy");
     findings.verdict()

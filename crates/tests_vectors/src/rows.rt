@@ -4,8 +4,7 @@ ghost use Rattle.ix_tables.specs.Cloning.{AreEqualClones};
 use crate::rows::Way::{Clones, Closures, Commands, Unchecked};
 use ix_commands::VecCommand::{Extend, Push, Resize};
 use ix_commands::{Reply, ReplyError, Runs, VecCommand};
-use ix_tables::RelocatableContainer;
-use ix_vector::{PolymorphicVec, StaticVec, UninitVec, Vector, VectorModificationError};
+use ix_vector::{PolymorphicVec, Vector, VectorModificationError};
 use std::alloc::{AllocError, Allocator};
 use std::cell::Cell;
 use std::fmt::Debug;
@@ -120,7 +119,7 @@ pub fn check_made<T: Copy + PartialEq + Debug, V: Vector<T> + Drop, E: Drop>(
     }
 }
 
-/// Runs the rows on `fixed`, which is empty, and on a vector of each other kind, which is allocated from `alloc`.
+/// Runs the rows on `fixed`, which is empty, and on a vector that is allocated from `alloc`.
 pub fn check_kinds<T: Copy + PartialEq + Debug, V: Vector<T> + Drop, A: Allocator + Copy>(
     findings: &Findings,
     alloc: A,
@@ -132,8 +131,6 @@ pub fn check_kinds<T: Copy + PartialEq + Debug, V: Vector<T> + Drop, A: Allocato
 {
     let capacity = fixed.capacity();
     check_made(findings, Ok::<_, AllocError>(fixed), rows, place);
-    let relocatable = UninitVec::<T>::new_uninit(capacity).init(alloc);
-    check_made(findings, relocatable, rows, place);
     let polymorphic = PolymorphicVec::<T, A>::new(alloc, capacity);
     check_made(findings, polymorphic, rows, place);
 }

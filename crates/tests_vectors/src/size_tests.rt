@@ -4,13 +4,7 @@ use ix_vector::PolymorphicVec;
 use linked_list_allocator::LocalHeap;
 use std::alloc::{AllocError, Global};
 use std::test::Fail;
-use test_support::{Findings, check_room, check_text};
-
-/// Numbers of items.
-const NUMBERS: &[usize] = &[0, 1, 7, 64, 1000];
-
-/// Numbers of items that fill whole blocks of 16 bytes, whatever the size of one is.
-const WHOLE: &[usize] = &[0, 16, 64, 1008];
+use test_support::{Findings, check_memory_sizes, check_text};
 
 const NONE: MemorySize = MemorySize {
     bytes: 0,
@@ -22,45 +16,7 @@ fn taken(bytes: usize, blocks: usize) -> MemorySize {
     MemorySize { bytes, blocks }
 }
 
-fn check_numbers<T: Drop>(findings: &Findings, size: usize) {
-    for n in NUMBERS {
-        let places = n.saturating_mul(size);
-        let vector = PolymorphicVec::<T, Global>::memory_size(*n);
-        let some = usize::from(*n > 0);
-        findings.expect_same_at(vector, taken(places, some), *n, "a vector");
-        let table = HeapTable::<T, Global>::memory_size(*n);
-        let wanted = taken(
-            places.saturating_add(*n),
-            some.saturating_add(usize::from(places > 0)),
-        );
-        findings.expect_same_at(table, wanted, *n, "a table");
-        let slots = RawSlots::<T, Global>::memory_size(*n);
-        findings.expect_same_at(slots, table, *n, "raw places");
-        let both = vector.saturating_add(table);
-        findings.expect_same_at(
-            both.bytes,
-            vector.bytes.saturating_add(table.bytes),
-            *n,
-            "both",
-        );
-        findings.expect_same_at(
-            both.blocks,
-            vector.blocks.saturating_add(table.blocks),
-            *n,
-            "both",
-        );
-    }
-}
-
-/// Makes a vector and returns the bytes that are used then, or `None` if there is not enough memory.
-fn used_by_vector<T: Drop>(heap: &LocalHeap, n: usize) -> Option<usize> {
-    match PolymorphicVec::<T, &LocalHeap>::new(heap, n) {
-        Ok(_vector) => Some(heap.used()),
-        Err(AllocError) => None,
-    }
-}
-
-/// The same of a table.
+/// Makes a table and returns the bytes that are used then, or `None` if there is not enough memory.
 fn used_by_table<T: Drop>(heap: &LocalHeap, n: usize) -> Option<usize> {
     match HeapTable::<T, &LocalHeap>::new(heap, n) {
         Ok(table) => {
@@ -72,21 +28,38 @@ fn used_by_table<T: Drop>(heap: &LocalHeap, n: usize) -> Option<usize> {
     }
 }
 
+/// Checks the sizes of vectors and of tables of items that take `size` bytes each.
 fn check_item<T: Drop>(findings: &Findings, alloc: Global, size: usize) {
-    check_numbers::<T>(findings, size);
-    for n in WHOLE {
-        // A heap takes a whole block for one of no bytes.
-        if size > 0 {
-            let bytes = PolymorphicVec::<T, &LocalHeap>::memory_size(*n).bytes;
-            check_room(findings, alloc, bytes, *n, |heap: &LocalHeap| {
-                used_by_vector::<T>(heap, *n)
-            });
-        }
-        let bytes = HeapTable::<T, &LocalHeap>::memory_size(*n).bytes;
-        check_room(findings, alloc, bytes, *n, |heap: &LocalHeap| {
-            used_by_table::<T>(heap, *n)
-        });
+    // A heap takes a whole block for one of no bytes.
+    if size > 0 {
+        check_memory_sizes(
+            findings,
+            alloc,
+            size,
+            1,
+            |n| {
+                let size = PolymorphicVec::<T, Global>::memory_size(n);
+                (size.bytes, size.blocks)
+            },
+            |heap: &LocalHeap, n| match PolymorphicVec::<T, &LocalHeap>::new(heap, n) {
+                Ok(_made) => Some(heap.used()),
+                Err(AllocError) => None,
+            },
+        );
     }
+    check_memory_sizes(
+        findings,
+        alloc,
+        size.saturating_add(1),
+        usize::from(size > 0).saturating_add(1),
+        |n| {
+            let size = HeapTable::<T, Global>::memory_size(n);
+            let slots = RawSlots::<T, Global>::memory_size(n);
+            findings.expect_same_at(slots, size, n, "raw places");
+            (size.bytes, size.blocks)
+        },
+        |heap: &LocalHeap, n| used_by_table::<T>(heap, n),
+    );
 }
 
 #[test]
@@ -103,17 +76,21 @@ fn memory_sizes(rt: HostRuntime) -> Result<(), Fail> {
 #[test]
 fn greatest_sizes() -> Result<(), Fail> {
     let findings = Findings::new();
-    let most = MemorySize {
-        bytes: usize::MAX,
-        blocks: 1,
-    };
+    let most = taken(usize::MAX, 1);
     let vector = PolymorphicVec::<u64, Global>::memory_size(usize::MAX);
     findings.expect_same(vector, most, "a vector");
     let table = HeapTable::<u64, Global>::memory_size(usize::MAX);
     findings.expect_same(table.bytes, usize::MAX, "a table");
-    findings.expect_same(most.saturating_add(vector).bytes, usize::MAX, "both");
-    let units = PolymorphicVec::<(), Global>::memory_size(usize::MAX);
-    findings.expect_same(units, taken(0, 1), "items of size zero");
+    findings.expect_same(most.saturating_add(vector), taken(usize::MAX, 2), "both");
+    findings.expect_same(
+        taken(7, 1).saturating_add(taken(16, 2)),
+        taken(23, 3),
+        "both",
+    );
+    for (n, blocks) in [(0, 0), (1, 1), (1000, 1), (usize::MAX, 1)] {
+        let units = PolymorphicVec::<(), Global>::memory_size(n);
+        findings.expect_same_at(units, taken(0, blocks), n, "items of size zero");
+    }
     findings.expect_same(MemorySize::of_items::<u16>(3).bytes, 6, "items");
     findings.verdict()
 }
