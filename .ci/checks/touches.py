@@ -30,7 +30,7 @@ WALKS = {
     "word_table": ("new", "copy_of", "drop"),
     "full_table": ("fill", "copy_items", "empty"),
 }
-# Calls of a single step: those of counted tables, of new values, and of std.
+# Calls of a single step: those of counted tables, of new values, of a value's part, and of std.
 CALLS = {"item", "item_mut", ".put", ".take", ".get", ".get_mut", ".len", ".inline_len", ".as_ref", ".is_some", ".ok", "Touches::new", "SlotTableKey::new", "SlotMapKey::new",
          "Link::held", "Iter::new", "Keys::new", "Values::new", "P::of", "mem::replace", "write!", "Some", "Ok", "Err"}
 FUNCTION = re.compile(r"( *)(?:pub(?:\(crate\))? )?fn (\w+)")
