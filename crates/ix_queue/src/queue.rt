@@ -2,15 +2,15 @@
 //!
 //! [`FixedSizeQueue`] is stored inline, [`Queue`] and [`RelocatableQueue`] allocate only when they are made.
 
-mod copies;
+mod clone;
 mod drain;
-mod edits;
+mod get;
 mod index;
-mod items;
 mod iter;
 mod kinds;
 mod meta_queue;
 mod order;
+mod retain;
 
 pub use drain::Drain;
 pub use iter::{IntoIter, Iter};

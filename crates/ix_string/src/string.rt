@@ -9,7 +9,7 @@ mod heap_text;
 mod kinds;
 mod modification_error;
 mod nul;
-mod retaining;
+mod retain;
 mod static_string;
 mod static_text;
 mod static_traits;

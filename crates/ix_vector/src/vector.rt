@@ -1,13 +1,13 @@
 //! Vectors: contiguous lists with a capacity that is set when they are made.
 
+mod append;
 mod drain;
-mod filters;
+mod insert;
 mod modification_error;
-mod moves;
 mod order;
 mod polymorphic_vec;
 mod relocatable_vec;
-mod shifts;
+mod retain;
 mod slices;
 mod static_vec;
 mod vector_trait;

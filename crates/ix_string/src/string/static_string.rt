@@ -5,7 +5,7 @@ ghost use Rattle.ix_string.specs.TextSteps.{StringFromBytes};
 ghost use Rattle.ix_string.specs.declared.string.modification_error.StringModificationError.TheVariants.{InvalidCharacter};
 
 use crate::string::gaps::{close_gap_with_zeros, open_gap};
-use crate::string::retaining::move_kept_back;
+use crate::string::retain::move_kept_back;
 use crate::string::text::is_text;
 use crate::string::{String, StringModificationError, strnlen};
 use std::marker::Model;

@@ -6,7 +6,7 @@ ghost use Rattle.ix_string.specs.Text.{IsText};
 ghost use Rattle.ix_string.specs.TextSteps.{text_insert_slice, text_remove_range};
 
 use crate::string::gaps::{close_gap, open_gap};
-use crate::string::retaining::move_kept_back;
+use crate::string::retain::move_kept_back;
 use ix_vector::Vector;
 
 /// Inserts `bytes` at index `idx`, shifting all later bytes to the right. Writes each byte once.

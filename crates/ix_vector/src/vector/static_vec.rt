@@ -10,7 +10,7 @@ ghost use Rattle.ix_vector.specs.declared.vector.modification_error.VectorModifi
 ghost use Rattle.std.proofs.Common.{arith, ap};
 ghost use Rattle.std.proofs.lemmas.Grind.{common_steps};
 
-use crate::vector::moves::move_tail;
+use crate::vector::append::move_tail;
 use crate::vector::{Vector, VectorModificationError};
 use arrayvec::ArrayVec;
 use ix_tables::cells::MAX_FIXED_CAPACITY;

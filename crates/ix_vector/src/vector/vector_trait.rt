@@ -15,9 +15,9 @@ ghost use Rattle.ix_vector.specs.VectorDrain.{drain_items, drain_capacity, drain
 ghost use Rattle.ix_vector.specs.VectorSteps.{HasRoomFor, LacksRoomFor, vec_push_result, vec_insert, vec_insert_result, vec_remove, vec_pop, vec_last, vec_truncate, vec_extend, vec_resize, vec_resize_result};
 ghost use Rattle.ix_vector.specs.declared.vector.modification_error.VectorModificationError.TheVariants.{InsertWouldExceedCapacity, OutOfMemory};
 
-use crate::vector::filters::{keep_in_front, unlike_in_front};
-use crate::vector::moves::move_tail;
-use crate::vector::shifts::{move_last_to, move_to_end};
+use crate::vector::append::move_tail;
+use crate::vector::insert::{move_last_to, move_to_end};
+use crate::vector::retain::{keep_in_front, unlike_in_front};
 use crate::vector::{Drain, VectorModificationError};
 use std::alloc::AllocError;
 use std::slice;

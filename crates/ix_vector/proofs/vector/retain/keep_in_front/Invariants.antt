@@ -2,7 +2,7 @@ use Rattle.std.proofs.Common.{◌≡◌, length, drop}
 use Rattle.std.specs.Fn.{CalledAt}
 use Rattle.ix_tables.specs.Calls.{IsCallableOnEach}
 use Rattle.ix_vector.proofs.Kept.{AreInFront}
-use Rattle.ix_vector.proofs.vector.filters.keep_in_front.Given as goal
+use Rattle.ix_vector.proofs.vector.retain.keep_in_front.Given as goal
 
 -- the closure was called with the first items, and may be called with the others
 abbrev pub invariant-loop-i : goal.invariant-loop-i

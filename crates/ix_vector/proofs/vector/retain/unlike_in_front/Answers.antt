@@ -3,8 +3,8 @@ use Rattle.std.specs.List.{swap}
 use Rattle.std.specs.List.Retain.{DiffersFromLast}
 use Rattle.std.proofs.lemmas.List.Filters.{dedup_is}
 use Rattle.ix_vector.proofs.Kept.{AreInFront-start, AreInFront-order, AreInFront-keeps, AreInFront-drops, AreInFront-last, AreInFront-end, DiffersFromLast-kept}
-use Rattle.ix_vector.proofs.vector.filters.unlike_in_front.Goals.{then-is_unlike_last, else-is_unlike_last}
-use Rattle.ix_vector.proofs.vector.filters.unlike_in_front.Goals as goal
+use Rattle.ix_vector.proofs.vector.retain.unlike_in_front.Goals.{then-is_unlike_last, else-is_unlike_last}
+use Rattle.ix_vector.proofs.vector.retain.unlike_in_front.Goals as goal
 
 pub loop-i-init : goal.loop-i-init
 loop-i-init g c = record { len = refl; front = AreInFront-start (DiffersFromLast g.T.PartialEq.eq) _ _ }

@@ -2,7 +2,7 @@ use Rattle.std.proofs.Common.{of_calls, ℕ, ◌≡◌, ◌-◌, ◌∷◌, ◌�
 use Rattle.std.proofs.lemmas.List.{take-set-le}
 use Rattle.ix_string.specs.Retain.{retained_items}
 use Rattle.ix_string.proofs.Retaining.{Retains-back, take-front, drop-put, IsTextByte-front, IsCallableAtText-now, IsCallableAtText-on}
-use Rattle.ix_string.proofs.string.retaining.move_kept_back.Goals as goal
+use Rattle.ix_string.proofs.string.retain.move_kept_back.Goals as goal
 
 pub loop-idx-preserved-then-not-f : goal.loop-idx-preserved-then-not-f
 loop-idx-preserved-then-not-f g c =

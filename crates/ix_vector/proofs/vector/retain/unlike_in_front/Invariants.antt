@@ -1,7 +1,7 @@
 use Rattle.std.proofs.Common.{◌≡◌, ◌-◌, [], length, drop, take}
 use Rattle.std.specs.List.Retain.{DiffersFromLast}
 use Rattle.ix_vector.proofs.Kept.{AreInFront}
-use Rattle.ix_vector.proofs.vector.filters.unlike_in_front.Given as goal
+use Rattle.ix_vector.proofs.vector.retain.unlike_in_front.Given as goal
 
 -- the first items were compared
 abbrev pub invariant-loop-i : goal.invariant-loop-i

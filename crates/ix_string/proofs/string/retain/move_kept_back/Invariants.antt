@@ -1,7 +1,7 @@
 use Rattle.std.proofs.Common.{◌≡◌, ◌≤◌, List, Bool, length, take, drop}
 use Rattle.std.specs.Prelude.{reverse}
 use Rattle.ix_string.specs.Retain.{ResultsAt, retained_items, IsCallableAtText}
-use Rattle.ix_string.proofs.string.retaining.move_kept_back.Given as goal
+use Rattle.ix_string.proofs.string.retain.move_kept_back.Given as goal
 
 abbrev pub invariant-loop-idx : goal.invariant-loop-idx
 invariant-loop-idx g l =

@@ -3,8 +3,8 @@ use Rattle.std.specs.Fn.{CalledAt}
 use Rattle.std.proofs.lemmas.Fn.{called_at}
 use Rattle.ix_tables.proofs.Calls.{Callable-now, Callable-on}
 use Rattle.ix_vector.proofs.Kept.{AreInFront-start, AreInFront-order, AreInFront-item, AreInFront-keeps, AreInFront-drops, AreInFront-end}
-use Rattle.ix_vector.proofs.vector.filters.keep_in_front.Goals.{then-f, else-f}
-use Rattle.ix_vector.proofs.vector.filters.keep_in_front.Goals as goal
+use Rattle.ix_vector.proofs.vector.retain.keep_in_front.Goals.{then-f, else-f}
+use Rattle.ix_vector.proofs.vector.retain.keep_in_front.Goals as goal
 
 pub loop-i-init : goal.loop-i-init
 loop-i-init g c = record { len = refl; callable = c.requires; front = AreInFront-start (CalledAt g.F.FnMut) _ _ }

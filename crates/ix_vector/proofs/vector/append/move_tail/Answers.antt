@@ -3,7 +3,7 @@ use Rattle.std.proofs.lemmas.List.{reverse-reverse}
 use Rattle.ix_tables.specs.Bounded.{with_items}
 use Rattle.ix_vector.specs.VectorSteps.{vec_extend, vec_truncate}
 use Rattle.ix_vector.proofs.Tails.{take-reversed, drop-reversed, length-reversed}
-use Rattle.ix_vector.proofs.vector.moves.move_tail.Goals as goal
+use Rattle.ix_vector.proofs.vector.append.move_tail.Goals as goal
 
 pub pop_into-requires : goal.pop_into-requires
 pop_into-requires g c =

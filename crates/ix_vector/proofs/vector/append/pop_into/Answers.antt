@@ -3,7 +3,7 @@ use Rattle.std.proofs.lemmas.Grind.{common_steps}
 use Rattle.ix_tables.specs.Bounded.{with_items}
 use Rattle.ix_vector.specs.VectorSteps.{vec_extend, vec_pop, vec_last}
 use Rattle.ix_vector.proofs.Tails.{no_last, popped-next, popped-count, popped-items, popped-moved}
-use Rattle.ix_vector.proofs.vector.moves.pop_into.Goals as goal
+use Rattle.ix_vector.proofs.vector.append.pop_into.Goals as goal
 
 pub loop-from-init : goal.loop-from-init
 loop-from-init g c =

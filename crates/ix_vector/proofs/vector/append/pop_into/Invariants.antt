@@ -1,7 +1,7 @@
 use Rattle.std.proofs.Common.{◌≡◌, ◌++◌, ◌≤◌, List, length, reverse}
 use Rattle.ix_tables.specs.Bounded.{with_items}
 use Rattle.ix_vector.specs.VectorSteps.{vec_extend}
-use Rattle.ix_vector.proofs.vector.moves.pop_into.Given as goal
+use Rattle.ix_vector.proofs.vector.append.pop_into.Given as goal
 
 -- the last items are in the other vector already
 abbrev pub invariant-loop-from : goal.invariant-loop-from

@@ -1,7 +1,7 @@
 use Rattle.std.proofs.Common.{ℕ, List, ap₂, arith, rules}
 use Rattle.ix_tables.specs.Bounded.{Bounded}
 use Rattle.ix_queue.proofs.QueueClones.{AreInfallible-none, clones_are_equal}
-use Rattle.ix_queue.proofs.queue.copies.Queue+T+A.try_clone_in.Goals as goal
+use Rattle.ix_queue.proofs.queue.clone.Queue+T+A.try_clone_in.Goals as goal
 
 pub returns-in_err-fill_with_clones-clause-memory : goal.returns-in_err-fill_with_clones-clause-memory
 returns-in_err-fill_with_clones-clause-memory g c none =
