@@ -1,7 +1,7 @@
 //! Numbers that are read from a container, and raised up to a bound that is read there too.
 ghost use Rattle.std.specs.Prelude.{◌≡◌, ◌≢◌, ◌+◌, IsNone, IsTrue};
 ghost use Rattle.std.specs.Bool.{OnFalse};
-ghost use Rattle.ix_maps.specs.Generations.{SlotKey, map_value};
+ghost use Rattle.ix_maps.specs.Generations.{SlotKey, slot_map_value};
 
 use ix_maps::{SlotMap, SlotMapKey};
 
@@ -16,7 +16,7 @@ pub struct Service {
 pub fn open_session(services: &mut SlotMap<Service>, key: SlotMapKey) -> Option<u8>
     ensures refused { IsNone result → services.new ≡ services.old }
     ensures kept { (other : SlotKey) → other ≢ key
-        → map_value services.new other ≡ map_value services.old other }
+        → slot_map_value services.new other ≡ slot_map_value services.old other }
 {
     let held = services.get_mut(key)?;
     // A copy: its numbers have the range of their type, those behind the reference have none that is known.

@@ -1,8 +1,8 @@
 //! A table of sessions, whose numbers are used again.
 ghost use Rattle.std.specs.Prelude.{◌≡◌, ◌≢◌, ◌↔◌, ℕ, Some, None, IsTrue, IfSome, slice_get, option_map};
 ghost use Rattle.examples.specs.declared.session_table.Session.{Session};
-ghost use Rattle.ix_maps.specs.SlotState.{value_at, IsHeld};
-ghost use Rattle.ix_maps.specs.SlotSteps.{slot_insert};
+ghost use Rattle.ix_maps.specs.SlotTableState.{value_at, IsHeld};
+ghost use Rattle.ix_maps.specs.SlotTableSteps.{slot_table_insert};
 
 use ix_maps::{SlotTable, SlotTableKey};
 use std::alloc::Allocator;
@@ -24,7 +24,7 @@ pub fn open<A: Allocator>(table: &mut SessionTable<A>, session: Session) -> Opti
     ensures kept { (other : ℕ) → IsHeld table.old other
         → value_at table.new other ≡ value_at table.old other }
     // No other session is opened.
-    ensures table { table.new ≡ slot_insert table.old session }
+    ensures table { table.new ≡ slot_table_insert table.old session }
 {
     table.insert(session)
 }

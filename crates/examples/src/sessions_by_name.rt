@@ -2,10 +2,10 @@
 ghost use Rattle.std.specs.Prelude.{◌≡◌, ◌↔◌, ℕ, [], Some, None, Err, IsTrue, IsSome, IsOk, OnErr, IfSome, option_map, false};
 ghost use Rattle.std.specs.Bool.{OnFalse};
 ghost use Rattle.examples.specs.declared.sessions_by_name.Seen.{Seen};
-ghost use Rattle.ix_maps.specs.FlatState.{flat_value};
-ghost use Rattle.ix_maps.specs.declared.flatmap.FlatMapError.TheVariants.{KeyAlreadyExists, IsFull};
+ghost use Rattle.ix_maps.specs.MapState.{map_value};
+ghost use Rattle.ix_maps.specs.declared.flatmap.MapError.TheVariants.{KeyAlreadyExists, IsFull};
 
-use ix_maps::{BoundedMap, FixedSizeFlatMap, FixedSizeHashMap, FlatMapError};
+use ix_maps::{BoundedMap, FixedSizeFlatMap, FixedSizeHashMap, MapError};
 
 /// What is known of a session.
 #[derive(Clone, Copy, PartialEq, Eq, Debug)]
@@ -25,16 +25,16 @@ pub fn open<N: Eq, M: BoundedMap<N, Seen>>(
     sessions: &mut M,
     peer: N,
     time: u64,
-) -> Result<(), FlatMapError>
-    ensures opened { IsOk result → flat_value N.eq (M.state sessions.new) peer
+) -> Result<(), MapError>
+    ensures opened { IsOk result → map_value N.eq (M.state sessions.new) peer
         ≡ Some (record { opened = time; last_heard = time }) }
     ensures taken { result ≡ Err KeyAlreadyExists
-        ↔ IsSome (flat_value N.eq (M.state sessions.old) peer) }
+        ↔ IsSome (map_value N.eq (M.state sessions.old) peer) }
     ensures full { result ≡ Err IsFull → (M.state sessions.old).free ≡ [] }
     ensures refused { OnErr result (M.state sessions.new ≡ M.state sessions.old) }
     ensures kept { (other : N) → N.eq other peer ≡ false
-        → flat_value N.eq (M.state sessions.new) other
-        ≡ flat_value N.eq (M.state sessions.old) other }
+        → map_value N.eq (M.state sessions.new) other
+        ≡ map_value N.eq (M.state sessions.old) other }
 {
     sessions.insert(
         peer,
@@ -48,7 +48,7 @@ pub fn open<N: Eq, M: BoundedMap<N, Seen>>(
 /// Opens the session of a peer at `time` if it has none and there is room: a map that is not full takes a new key. Returns
 /// `false` otherwise.
 pub fn open_new<N: Eq + Drop, M: BoundedMap<N, Seen>>(sessions: &mut M, peer: N, time: u64) -> bool
-    ensures opened { IsTrue result → flat_value N.eq (M.state sessions.new) peer
+    ensures opened { IsTrue result → map_value N.eq (M.state sessions.new) peer
         ≡ Some (record { opened = time; last_heard = time }) }
     ensures refused { OnFalse result (M.state sessions.new ≡ M.state sessions.old) }
 {
@@ -62,16 +62,16 @@ pub fn open_new<N: Eq + Drop, M: BoundedMap<N, Seen>>(sessions: &mut M, peer: N,
 
 /// Notes that a peer was heard at `time`. Returns `false` if it has no session.
 pub fn note_heard<N: Eq, M: BoundedMap<N, Seen>>(sessions: &mut M, peer: &N, time: u64) -> bool
-    ensures value { IsTrue result ↔ IsSome (flat_value N.eq (M.state sessions.old) peer.now) }
-    ensures heard { IfSome (flat_value N.eq (M.state sessions.new) peer.now)
+    ensures value { IsTrue result ↔ IsSome (map_value N.eq (M.state sessions.old) peer.now) }
+    ensures heard { IfSome (map_value N.eq (M.state sessions.new) peer.now)
         (λ seen. seen.last_heard ≡ time) }
     ensures opened { option_map (λ (seen : Seen). seen.opened)
-        (flat_value N.eq (M.state sessions.new) peer.now)
+        (map_value N.eq (M.state sessions.new) peer.now)
         ≡ option_map (λ (seen : Seen). seen.opened)
-        (flat_value N.eq (M.state sessions.old) peer.now) }
+        (map_value N.eq (M.state sessions.old) peer.now) }
     ensures kept { (other : N) → N.eq other peer.now ≡ false
-        → flat_value N.eq (M.state sessions.new) other
-        ≡ flat_value N.eq (M.state sessions.old) other }
+        → map_value N.eq (M.state sessions.new) other
+        ≡ map_value N.eq (M.state sessions.old) other }
 {
     match sessions.get_mut_ref(peer) {
         Some(seen) => {
@@ -84,11 +84,11 @@ pub fn note_heard<N: Eq, M: BoundedMap<N, Seen>>(sessions: &mut M, peer: &N, tim
 
 /// Closes the session of a peer and returns what was known of it, or `None` if it has none.
 pub fn close<N: Eq, M: BoundedMap<N, Seen>>(sessions: &mut M, peer: &N) -> Option<Seen>
-    ensures value { result ≡ flat_value N.eq (M.state sessions.old) peer.now }
-    ensures closed { flat_value N.eq (M.state sessions.new) peer.now ≡ None }
+    ensures value { result ≡ map_value N.eq (M.state sessions.old) peer.now }
+    ensures closed { map_value N.eq (M.state sessions.new) peer.now ≡ None }
     ensures kept { (other : N) → N.eq other peer.now ≡ false
-        → flat_value N.eq (M.state sessions.new) other
-        ≡ flat_value N.eq (M.state sessions.old) other }
+        → map_value N.eq (M.state sessions.new) other
+        ≡ map_value N.eq (M.state sessions.old) other }
 {
     sessions.remove(peer)
 }

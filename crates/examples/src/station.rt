@@ -1,8 +1,8 @@
 //! A struct of a program's own, which has one of each container.
 ghost use Rattle.std.specs.Prelude.{◌≡◌, IfOk};
 ghost use Rattle.ix_cells.specs.Bounded.{bounded_push, has_room};
-ghost use Rattle.ix_maps.specs.Generations.{map_new};
-ghost use Rattle.ix_maps.specs.SlotState.{slot_new};
+ghost use Rattle.ix_maps.specs.Generations.{slot_map_new};
+ghost use Rattle.ix_maps.specs.SlotTableState.{slot_table_new};
 
 use ix_atomic::{FixedSizeByteAtomic, ReaderSeat, SequencedByteAtomic, WriterSeat};
 use ix_cells::StaticVec;
@@ -33,9 +33,9 @@ pub fn empty_station(
     name: GroupName,
 ) -> Result<(Station, WriterSeat<u64>), AllocError>
     ensures name { IfOk result (λ made. made.0.name ≡ name) }
-    ensures services { IfOk result (λ made. made.0.services ≡ map_new 32 0) }
-    ensures sessions { IfOk result (λ made. made.0.sessions ≡ slot_new 16) }
-    ensures ports { IfOk result (λ made. made.0.ports ≡ slot_new 8) }
+    ensures services { IfOk result (λ made. made.0.services ≡ slot_map_new 32 0) }
+    ensures sessions { IfOk result (λ made. made.0.sessions ≡ slot_table_new 16) }
+    ensures ports { IfOk result (λ made. made.0.ports ≡ slot_table_new 8) }
     ensures seat { IfOk result (λ made. made.1.cell ≡ made.0.limit) }
 {
     let services = SlotMap::new(alloc, 32)?;

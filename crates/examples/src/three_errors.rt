@@ -1,6 +1,6 @@
 //! Errors of three containers, which `?` passes on as one.
 ghost use Rattle.std.specs.Prelude.{◌≡◌, nat_eq, IsOk, OnErr, IsSomeAnd};
-ghost use Rattle.ix_maps.specs.FlatState.{flat_value};
+ghost use Rattle.ix_maps.specs.MapState.{map_value};
 
 use ix_cells::StaticVec;
 use ix_maps::FixedSizeFlatMap;
@@ -24,13 +24,13 @@ pub fn add(
     ports: &[u16],
 ) -> Result<(), anyhow::Error>
     ensures name { IsOk result
-        → IsSomeAnd (flat_value nat_eq services.new number) (λ service. service.name ≡ name.now) }
+        → IsSomeAnd (map_value nat_eq services.new number) (λ service. service.name ≡ name.now) }
     ensures ports { IsOk result
-        → IsSomeAnd (flat_value nat_eq services.new number) (λ service. service.ports ≡ ports.now) }
+        → IsSomeAnd (map_value nat_eq services.new number) (λ service. service.ports ≡ ports.now) }
     ensures refused { OnErr result (services.new ≡ services.old) }
 {
     let name = StaticString::try_from(name)?; // a StringModificationError
     let ports = StaticVec::try_from(ports)?; // a VectorModificationError
-    services.insert(number, Service { name, ports })?; // a FlatMapError
+    services.insert(number, Service { name, ports })?; // a MapError
     Ok(())
 }

@@ -14,7 +14,7 @@ fn main(rt: HostRuntime) -> Result<(), anyhow::Error> {
     println!(rt; "latest: {latest:?}")?;
 
     let mut ports = FlatMap::<u16, &str>::new(rt.alloc(), 2)?; // allocated: AllocError
-    ports.insert(80, "web")?; // FlatMapError
+    ports.insert(80, "web")?; // MapError
     ports.insert(22, "shell")?;
     for (port, name) in &ports {
         println!(rt; "{port} {name}")?;

@@ -7,14 +7,14 @@ use Rattle.std.proofs.lemmas.Bool.Decides.{nat_tests}
 use Rattle.std.proofs.lemmas.List.{length-set, get_or-set_same, get_or-set_other, get_or_past}
 use Rattle.std.proofs.lemmas.List.Sums.{sum_by-cons}
 use Rattle.ix_tables.specs.Places.{place_at, IsEmptyAt}
-use Rattle.ix_slottable.specs.SlotState.{value_at}
-use Rattle.ix_slottable.specs.SlotSteps.{keys_without, slot_fill}
-use Rattle.ix_slotmap.specs.Generations.{SlotKey, SlotMapState, generation_at, place_value, map_value, IsRetired, IsDead, IsMapFormed}
-use Rattle.ix_slotmap.specs.SlotMapSteps.{is_raisable, map_set_at, map_set, map_insert, map_fill, map_replace, map_vacate, map_retire, map_remove}
+use Rattle.ix_slottable.specs.SlotTableState.{value_at}
+use Rattle.ix_slottable.specs.SlotTableSteps.{keys_without, slot_table_fill}
+use Rattle.ix_slotmap.specs.Generations.{SlotKey, SlotMapState, generation_at, place_value, slot_map_value, IsRetired, IsDead, IsSlotMapFormed}
+use Rattle.ix_slotmap.specs.SlotMapSteps.{is_raisable, slot_map_set_at, slot_map_set, slot_map_insert, slot_map_fill, slot_map_replace, slot_map_vacate, slot_map_retire, slot_map_remove}
 use Rattle.ix_commands.specs.Run.{run_state}
-use Rattle.ix_commands.specs.SlotRun.{is_free_place, is_replaceable, map_insert_at, slot_after, DeadStaysDead}
-use Rattle.ix_commands.specs.declared.command.SlotCommand.{SlotCommand}
-use Rattle.ix_commands.specs.declared.command.SlotCommand.TheVariants.{Insert, InsertAt, Remove, Set}
+use Rattle.ix_commands.specs.SlotMapRun.{is_free_place, is_replaceable, slot_map_insert_at, slot_map_after, DeadStaysDead}
+use Rattle.ix_commands.specs.declared.command.SlotMapCommand.{SlotMapCommand}
+use Rattle.ix_commands.specs.declared.command.SlotMapCommand.TheVariants.{Insert, InsertAt, Remove, Set}
 
 -- how often the place is listed
 abbrev times : ℕ → List ℕ → ℕ
@@ -185,7 +185,7 @@ module _ {X : Type 0} where
   is_some-cond false content is = absurd (cc)
 
   -- the place of a key that has a value holds it
-  held-place : (s : SlotMapState X) (key : SlotKey) → is_some (map_value s key) ≡ true → (x : X) × (value_at s.slots key.index ≡ Some (Some x))
+  held-place : (s : SlotMapState X) (key : SlotKey) → is_some (slot_map_value s key) ≡ true → (x : X) × (value_at s.slots key.index ≡ Some (Some x))
   held-place s key is = flatten-some (value_at s.slots key.index) (is_some-cond (nat_eq (generation_at s key.index) key.generation) (place_value s key.index) is)
 
   in-range : (values : List (Option (Option X))) (place : ℕ) → (place_at values place ≡ None → ⊥) → place < length values
@@ -205,46 +205,46 @@ module _ {X : Type 0} where
   Keeps-cond s s' other test is_true is_false = Keeps-by s s' other test test refl is_true is_false
 
   -- another value in a place that holds one
-  Keeps-set : (s : SlotMapState X) (place : ℕ) (old x : X) → ListsOnce s.slots.values s.slots.free → value_at s.slots place ≡ Some (Some old) → Keeps s (map_set_at s place x)
+  Keeps-set : (s : SlotMapState X) (place : ℕ) (old x : X) → ListsOnce s.slots.values s.slots.free → value_at s.slots place ≡ Some (Some old) → Keeps s (slot_map_set_at s place x)
   Keeps-set s place old x once is =
       let held = holds-some (value_at s.slots place) old is in record {
         listed = ListsOnce-set s.slots.values s.slots.free place (Some (Some x)) once held.0;
-        dead = dead-kept s (map_set_at s place x) (length-set s.slots.values place (Some (Some x))) (retired-set s.slots.values place (Some (Some x)) held.1) (λ other. omega arith);
+        dead = dead-kept s (slot_map_set_at s place x) (length-set s.slots.values place (Some (Some x))) (retired-set s.slots.values place (Some (Some x)) held.1) (λ other. omega arith);
       }
 
-  Keeps-replace : (s : SlotMapState X) (place : ℕ) (old x : X) → ListsOnce s.slots.values s.slots.free → value_at s.slots place ≡ Some (Some old) → Keeps s (map_replace s place x)
+  Keeps-replace : (s : SlotMapState X) (place : ℕ) (old x : X) → ListsOnce s.slots.values s.slots.free → value_at s.slots place ≡ Some (Some old) → Keeps s (slot_map_replace s place x)
   Keeps-replace s place old x once is =
       let held = holds-some (value_at s.slots place) old is in record {
         listed = ListsOnce-set s.slots.values s.slots.free place (Some (Some x)) once held.0;
-        dead = dead-kept s (map_replace s place x) (length-set s.slots.values place (Some (Some x))) (retired-set s.slots.values place (Some (Some x)) held.1) (raise-le s.generations place);
+        dead = dead-kept s (slot_map_replace s place x) (length-set s.slots.values place (Some (Some x))) (retired-set s.slots.values place (Some (Some x)) held.1) (raise-le s.generations place);
       }
 
-  Keeps-fill : (s : SlotMapState X) (place : ℕ) (x : X) → ListsOnce s.slots.values s.slots.free → value_at s.slots place ≡ None → Keeps s (map_fill s place x)
+  Keeps-fill : (s : SlotMapState X) (place : ℕ) (x : X) → ListsOnce s.slots.values s.slots.free → value_at s.slots place ≡ None → Keeps s (slot_map_fill s place x)
   Keeps-fill s place x once empty = record {
     listed = ListsOnce-fill s.slots.values s.slots.free place (Some (Some x)) once;
-    dead = dead-kept s (map_fill s place x) (length-set s.slots.values place (Some (Some x)))
+    dead = dead-kept s (slot_map_fill s place x) (length-set s.slots.values place (Some (Some x)))
         (retired-set s.slots.values place (Some (Some x)) (λ e. let no : None ≡ Some None = sym empty ∙ e in cc)) (λ other. omega arith);
   }
 
-  Keeps-vacate : (s : SlotMapState X) (place : ℕ) (old : X) → ListsOnce s.slots.values s.slots.free → value_at s.slots place ≡ Some (Some old) → Keeps s (map_vacate s place)
+  Keeps-vacate : (s : SlotMapState X) (place : ℕ) (old : X) → ListsOnce s.slots.values s.slots.free → value_at s.slots place ≡ Some (Some old) → Keeps s (slot_map_vacate s place)
   Keeps-vacate s place old once is =
       let held = holds-some (value_at s.slots place) old is in record {
         listed = ListsOnce-vacate s.slots.values s.slots.free place once held.0 (in-range s.slots.values place held.0);
-        dead = dead-kept s (map_vacate s place) (length-set s.slots.values place None) (retired-set s.slots.values place None held.1) (raise-le s.generations place);
+        dead = dead-kept s (slot_map_vacate s place) (length-set s.slots.values place None) (retired-set s.slots.values place None held.1) (raise-le s.generations place);
       }
 
-  Keeps-retire : (s : SlotMapState X) (place : ℕ) (old : X) → ListsOnce s.slots.values s.slots.free → value_at s.slots place ≡ Some (Some old) → Keeps s (map_retire s place)
+  Keeps-retire : (s : SlotMapState X) (place : ℕ) (old : X) → ListsOnce s.slots.values s.slots.free → value_at s.slots place ≡ Some (Some old) → Keeps s (slot_map_retire s place)
   Keeps-retire s place old once is =
       let held = holds-some (value_at s.slots place) old is in record {
         listed = ListsOnce-set s.slots.values s.slots.free place (Some None) once held.0;
-        dead = dead-kept s (map_retire s place) (length-set s.slots.values place (Some None)) (retired-set s.slots.values place (Some None) held.1) (λ other. omega arith);
+        dead = dead-kept s (slot_map_retire s place) (length-set s.slots.values place (Some None)) (retired-set s.slots.values place (Some None) held.1) (λ other. omega arith);
       }
 
   -- the value in the first of the places, if there is one
   abbrev inserted-by : SlotMapState X → X → List ℕ → SlotMapState X
-  inserted-by s x listed = record { slots = option_map_or (λ place. slot_fill s.slots place (Some x)) (slice_get listed 0) s.slots; generations = s.generations }
+  inserted-by s x listed = record { slots = option_map_or (λ place. slot_table_fill s.slots place (Some x)) (slice_get listed 0) s.slots; generations = s.generations }
 
-  Keeps-insert : (s : SlotMapState X) (x : X) (listed : List ℕ) → s.slots.free ≡ listed → ListsOnce s.slots.values s.slots.free → Keeps s (map_insert s x)
+  Keeps-insert : (s : SlotMapState X) (x : X) (listed : List ℕ) → s.slots.free ≡ listed → ListsOnce s.slots.values s.slots.free → Keeps s (slot_map_insert s x)
   Keeps-insert s x [] e once = rw (ap (inserted-by s x) e) (Keeps-none s once)
   Keeps-insert s x (place ∷ listed) e once =
       let one = hit-same place place refl in
@@ -260,33 +260,33 @@ module _ {X : Type 0} where
   free-place : (s : SlotMapState X) (place : ℕ) → is_free_place s place ≡ true → value_at s.slots place ≡ None
   free-place s place is = none-by (value_at s.slots place) (and_parts (nat_lt place (length s.slots.values)) (not (is_some (value_at s.slots place))) is).1
 
-  Keeps-insert_at : (s : SlotMapState X) (place : ℕ) (x : X) → ListsOnce s.slots.values s.slots.free → Keeps s (map_insert_at s place x)
+  Keeps-insert_at : (s : SlotMapState X) (place : ℕ) (x : X) → ListsOnce s.slots.values s.slots.free → Keeps s (slot_map_insert_at s place x)
   Keeps-insert_at s place x once =
-      Keeps-cond s (map_fill s place x) _ (is_free_place s place) (λ free. Keeps-fill s place x once (free-place s place free))
-      (λ _. Keeps-cond s (map_replace s place x) s (is_replaceable s place)
+      Keeps-cond s (slot_map_fill s place x) _ (is_free_place s place) (λ free. Keeps-fill s place x once (free-place s place free))
+      (λ _. Keeps-cond s (slot_map_replace s place x) s (is_replaceable s place)
       (λ is. let old = flatten-some (value_at s.slots place) (and_parts (is_some (place_value s place)) (is_raisable s place) is).0 in Keeps-replace s place old.0 x once old.1)
       (λ _. Keeps-none s once))
 
-  Keeps-remove : (s : SlotMapState X) (key : SlotKey) → ListsOnce s.slots.values s.slots.free → Keeps s (map_remove s key)
+  Keeps-remove : (s : SlotMapState X) (key : SlotKey) → ListsOnce s.slots.values s.slots.free → Keeps s (slot_map_remove s key)
   Keeps-remove s key once =
-      Keeps-cond s (if is_raisable s key.index then map_vacate s key.index else map_retire s key.index) s (is_some (map_value s key))
+      Keeps-cond s (if is_raisable s key.index then slot_map_vacate s key.index else slot_map_retire s key.index) s (is_some (slot_map_value s key))
       (λ is. let old = held-place s key is in
-      Keeps-cond s (map_vacate s key.index) (map_retire s key.index) (is_raisable s key.index)
+      Keeps-cond s (slot_map_vacate s key.index) (slot_map_retire s key.index) (is_raisable s key.index)
       (λ _. Keeps-vacate s key.index old.0 once old.1) (λ _. Keeps-retire s key.index old.0 once old.1))
       (λ _. Keeps-none s once)
 
-  Keeps-command : (s : SlotMapState X) (command : SlotCommand X) → ListsOnce s.slots.values s.slots.free → Keeps s (slot_after s command)
+  Keeps-command : (s : SlotMapState X) (command : SlotMapCommand X) → ListsOnce s.slots.values s.slots.free → Keeps s (slot_map_after s command)
   Keeps-command s (Insert x) once = Keeps-insert s x s.slots.free refl once
   Keeps-command s (InsertAt place x) once = Keeps-insert_at s place x once
   Keeps-command s (Remove key) once = Keeps-remove s key once
   Keeps-command s (Set key x) once =
-      Keeps-cond s (map_set s key x) s (is_some (map_value s key)) (λ is. let old = held-place s key is in Keeps-set s key.index old.0 x once old.1) (λ _. Keeps-none s once)
+      Keeps-cond s (slot_map_set s key x) s (is_some (slot_map_value s key)) (λ is. let old = held-place s key is in Keeps-set s key.index old.0 x once old.1) (λ _. Keeps-none s once)
   Keeps-command s other once = Keeps-none s once
 
-  dead-run : (s : SlotMapState X) (commands : List (SlotCommand X)) → ListsOnce s.slots.values s.slots.free → (key : SlotKey) → IsDead s key → IsDead (run_state slot_after s commands) key
+  dead-run : (s : SlotMapState X) (commands : List (SlotMapCommand X)) → ListsOnce s.slots.values s.slots.free → (key : SlotKey) → IsDead s key → IsDead (run_state slot_map_after s commands) key
   dead-run s [] once key is = is
   dead-run s (command ∷ commands) once key is =
-      let step = Keeps-command s command once in dead-run (slot_after s command) commands step.listed key (step.dead key is)
+      let step = Keeps-command s command once in dead-run (slot_map_after s command) commands step.listed key (step.dead key is)
 
   value-None : (s : SlotMapState X) (key : SlotKey) (same : Bool) → nat_eq (generation_at s key.index) key.generation ≡ same → IsDead s key → cond same (place_value s key.index) None ≡ None
   value-None s key false e is = refl
@@ -299,13 +299,13 @@ module _ {X : Type 0} where
   none_of_flatten (Some None) empty unretired = absurd (unretired refl)
   none_of_flatten (Some (Some x)) empty unretired = absurd (cc)
 
-  ListsOnce-formed : (s : SlotMapState X) → IsMapFormed s → ListsOnce s.slots.values s.slots.free
+  ListsOnce-formed : (s : SlotMapState X) → IsSlotMapFormed s → ListsOnce s.slots.values s.slots.free
   ListsOnce-formed s formed = λ place some.
       let usable = formed.listed_is_usable place some in
       ((usable.within, none_of_flatten (value_at s.slots place) usable.empty usable.unretired), formed.usable_is_listed place usable)
 
-  pub DeadStaysDead-formed : (s : SlotMapState X) (commands : List (SlotCommand X)) → IsMapFormed s → DeadStaysDead s commands
+  pub DeadStaysDead-formed : (s : SlotMapState X) (commands : List (SlotMapCommand X)) → IsSlotMapFormed s → DeadStaysDead s commands
   DeadStaysDead-formed s commands formed = λ key is.
       let later = dead-run s commands (ListsOnce-formed s formed) key is in
-      let end = run_state slot_after s commands in
+      let end = run_state slot_map_after s commands in
       (later, value-None end key (nat_eq (generation_at end key.index) key.generation) refl later)

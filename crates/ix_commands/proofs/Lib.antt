@@ -1,7 +1,7 @@
 pub mod Copies
 pub mod DeadKeys
 pub mod Tests
-pub mod TextMatches
-pub mod TextRetain
-pub mod TextTests
+pub mod StringMatches
+pub mod StringRetain
+pub mod StringTests
 mod WorkedRuns

@@ -1,8 +1,8 @@
-pub mod FlatRun
+pub mod MapRun
 pub mod QueueRun
 pub mod Replies
 pub mod Run
-pub mod SlotRun
-pub mod TableRun
-pub mod TextRun
-pub mod VecRun
+pub mod SlotMapRun
+pub mod SlotTableRun
+pub mod StringRun
+pub mod VectorRun

@@ -1,9 +1,9 @@
 -- Replies to commands of containers, as values.
 use Rattle.std.specs.Prelude.{Option, None, Some, Result, Ok, Err}
 use Rattle.ix_vector.specs.declared.vector.VectorModificationError.{VectorModificationError}
-use Rattle.ix_vector.specs.declared.vector.VectorModificationError.TheVariants as vec_error
-use Rattle.ix_flatmap.specs.declared.flatmap.FlatMapError.{FlatMapError}
-use Rattle.ix_flatmap.specs.declared.flatmap.FlatMapError.TheVariants as flat_error
+use Rattle.ix_vector.specs.declared.vector.VectorModificationError.TheVariants as vector_error
+use Rattle.ix_flatmap.specs.declared.flatmap.MapError.{MapError}
+use Rattle.ix_flatmap.specs.declared.flatmap.MapError.TheVariants as map_error
 use Rattle.ix_commands.specs.declared.reply.Reply.{Reply}
 use Rattle.ix_commands.specs.declared.reply.Reply.TheVariants as reply
 use Rattle.ix_commands.specs.declared.reply.ReplyError.{ReplyError}
@@ -31,12 +31,12 @@ module _ {K X : Type 0} where
   result_reply named (Err e) = reply.Error (named e)
 
 -- the name of an error of a vector; without clones, memory is never lacking
-abbrev pub vec_reply_error : VectorModificationError → ReplyError
-vec_reply_error vec_error.OutOfBounds = error.OutOfBounds
-vec_reply_error vec_error.InsertWouldExceedCapacity = error.InsertWouldExceedCapacity
-vec_reply_error vec_error.OutOfMemory = error.InsertWouldExceedCapacity
+abbrev pub vector_reply_error : VectorModificationError → ReplyError
+vector_reply_error vector_error.OutOfBounds = error.OutOfBounds
+vector_reply_error vector_error.InsertWouldExceedCapacity = error.InsertWouldExceedCapacity
+vector_reply_error vector_error.OutOfMemory = error.InsertWouldExceedCapacity
 
 -- the name of an error of a flat map
-abbrev pub flat_reply_error : FlatMapError → ReplyError
-flat_reply_error flat_error.KeyAlreadyExists = error.KeyAlreadyExists
-flat_reply_error flat_error.IsFull = error.IsFull
+abbrev pub map_reply_error : MapError → ReplyError
+map_reply_error map_error.KeyAlreadyExists = error.KeyAlreadyExists
+map_reply_error map_error.IsFull = error.IsFull

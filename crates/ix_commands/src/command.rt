@@ -43,7 +43,7 @@ impl<T: Copy> Clone for QueueCommand<T> {
 
 /// A command of a vector of `T`.
 #[derive(Clone, Copy, PartialEq, Eq, Debug)]
-pub enum VecCommand<'a, T> {
+pub enum VectorCommand<'a, T> {
     /// `push X`: appends the item.
     Push(T),
     /// `insert I X`: inserts the item at index I.
@@ -76,7 +76,7 @@ pub enum VecCommand<'a, T> {
 
 /// A command of a slot table of `T`.
 #[derive(Copy, PartialEq, Eq, Debug)]
-pub enum TableCommand<T> {
+pub enum SlotTableCommand<T> {
     /// `insert X`: inserts the value at the next free key.
     Insert(T),
     /// `next`: the next free key.
@@ -103,7 +103,7 @@ pub enum TableCommand<T> {
     Full,
 }
 
-impl<T: Copy> Clone for TableCommand<T> {
+impl<T: Copy> Clone for SlotTableCommand<T> {
     ghost is_clone = { λ command copy. copy ≡ command };
 
     ghost is_infallible = { λ _. ⊤ };
@@ -115,7 +115,7 @@ impl<T: Copy> Clone for TableCommand<T> {
 
 /// A command of a slot map of `T`.
 #[derive(Copy, PartialEq, Eq, Debug)]
-pub enum SlotCommand<T> {
+pub enum SlotMapCommand<T> {
     /// `insert X`: inserts the value in the first free place.
     Insert(T),
     /// `next`: the key that the next `insert` returns.
@@ -144,7 +144,7 @@ pub enum SlotCommand<T> {
     Full,
 }
 
-impl<T: Copy> Clone for SlotCommand<T> {
+impl<T: Copy> Clone for SlotMapCommand<T> {
     ghost is_clone = { λ command copy. copy ≡ command };
 
     ghost is_infallible = { λ _. ⊤ };
@@ -156,7 +156,7 @@ impl<T: Copy> Clone for SlotCommand<T> {
 
 /// A command of a flat map from `K` to `V`.
 #[derive(Copy, PartialEq, Eq, Debug)]
-pub enum FlatCommand<K, V> {
+pub enum MapCommand<K, V> {
     /// `insert K V`: inserts the value at key K, unless the map has the key.
     Insert(K, V),
     /// `get K`: reads the value at key K.
@@ -177,7 +177,7 @@ pub enum FlatCommand<K, V> {
     Full,
 }
 
-impl<K: Copy, V: Copy> Clone for FlatCommand<K, V> {
+impl<K: Copy, V: Copy> Clone for MapCommand<K, V> {
     ghost is_clone = { λ command copy. copy ≡ command };
 
     ghost is_infallible = { λ _. ⊤ };
@@ -189,7 +189,7 @@ impl<K: Copy, V: Copy> Clone for FlatCommand<K, V> {
 
 /// A command of a string.
 #[derive(Clone, Copy, PartialEq, Eq, Debug)]
-pub enum TextCommand<'a> {
+pub enum StringCommand<'a> {
     /// `push B`: appends the byte.
     Push(u8),
     /// `append B..`: appends the bytes.

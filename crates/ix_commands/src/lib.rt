@@ -5,7 +5,7 @@
 #![tactic(auto)]
 
 mod command;
-mod flatmap;
+mod map;
 mod queue;
 mod reply;
 mod runs;
@@ -14,12 +14,14 @@ mod slottable;
 mod string;
 mod vector;
 
-pub use command::{FlatCommand, QueueCommand, SlotCommand, TableCommand, TextCommand, VecCommand};
-pub use flatmap::run_flat;
+pub use command::{
+    MapCommand, QueueCommand, SlotMapCommand, SlotTableCommand, StringCommand, VectorCommand,
+};
+pub use map::run_map;
 pub use queue::run_queue;
 pub use reply::{Reply, ReplyError};
 pub use runs::{Runs, run_all};
-pub use slotmap::{dead_law, run_slot};
-pub use slottable::run_table;
-pub use string::run_text;
-pub use vector::run_vec;
+pub use slotmap::{dead_law, run_slot_map};
+pub use slottable::run_slot_table;
+pub use string::run_string;
+pub use vector::run_vector;

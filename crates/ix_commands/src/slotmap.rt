@@ -1,23 +1,23 @@
 //! Commands of slot maps.
 ghost use Rattle.std.specs.Prelude.{◌≡◌, List, is_some, if◌then◌else◌, IfOk, OnOk, OnErr};
-ghost use Rattle.ix_slotmap.specs.Generations.{SlotMapState, map_value, IsMapFormed};
-ghost use Rattle.ix_slotmap.specs.SlotMapSteps.{map_set};
+ghost use Rattle.ix_slotmap.specs.Generations.{SlotMapState, slot_map_value, IsSlotMapFormed};
+ghost use Rattle.ix_slotmap.specs.SlotMapSteps.{slot_map_set};
 ghost use Rattle.ix_commands.specs.Run.{run_replies, run_state};
-ghost use Rattle.ix_commands.specs.SlotRun.{slot_reply, slot_after, slot_from, DeadStaysDead};
-ghost use Rattle.ix_commands.specs.declared.command.SlotCommand.{SlotCommand};
+ghost use Rattle.ix_commands.specs.SlotMapRun.{slot_map_reply, slot_map_after, slot_map_from, DeadStaysDead};
+ghost use Rattle.ix_commands.specs.declared.command.SlotMapCommand.{SlotMapCommand};
 
 use crate::reply::{reply_of_entry, reply_of_key, reply_of_option};
-use crate::{Reply, Runs, SlotCommand, run_all};
+use crate::{Reply, Runs, SlotMapCommand, run_all};
 use ix_slotmap::{MetaSlotMap, SlotMapKey};
 use ix_slottable::Link;
 use ix_tables::Table;
 use std::alloc::{AllocError, Global};
 
 /// The commands of a slot map, of any kind.
-impl<T: Copy, S: Table<Option<T>>, L: Table<Link>, G: Table<u64>> Runs<SlotCommand<T>>
+impl<T: Copy, S: Table<Option<T>>, L: Table<Link>, G: Table<u64>> Runs<SlotMapCommand<T>>
     for MetaSlotMap<Option<T>, S, L, G> {
     ghost use Rattle.ix_slotmap.specs.Generations.{SlotMapState};
-    ghost use Rattle.ix_commands.specs.SlotRun.{slot_reply, slot_after};
+    ghost use Rattle.ix_commands.specs.SlotMapRun.{slot_map_reply, slot_map_after};
 
     type Reply = Reply<SlotMapKey, T>;
 
@@ -25,44 +25,44 @@ impl<T: Copy, S: Table<Option<T>>, L: Table<Link>, G: Table<u64>> Runs<SlotComma
 
     ghost model = { λ map. map };
 
-    ghost reply = { slot_reply };
+    ghost reply = { slot_map_reply };
 
-    ghost after = { slot_after };
+    ghost after = { slot_map_after };
 
-    fn run_command(&mut self, command: SlotCommand<T>) -> Reply<SlotMapKey, T> {
+    fn run_command(&mut self, command: SlotMapCommand<T>) -> Reply<SlotMapKey, T> {
         match command {
-            SlotCommand::Insert(value) => reply_of_key(self.insert(value)),
-            SlotCommand::Next => reply_of_key(self.next_free_key()),
-            SlotCommand::InsertAt(index, value) => reply_of_key(self.insert_at(index, value)),
-            SlotCommand::Remove(key) => reply_of_option(self.remove(key)),
-            SlotCommand::Get(key) => reply_of_option(self.get(key).copied()),
-            SlotCommand::Set(key, value) => Reply::Bool(overwrite(self, key, value)),
-            SlotCommand::Contains(key) => Reply::Bool(self.contains(key)),
-            SlotCommand::From(index) => reply_of_entry(first_entry_from(self, index)),
-            SlotCommand::Retired => Reply::Number(self.retired()),
-            SlotCommand::Len => Reply::Number(self.len()),
-            SlotCommand::Capacity => Reply::Number(self.capacity()),
-            SlotCommand::Empty => Reply::Bool(self.is_empty()),
-            SlotCommand::Full => Reply::Bool(self.is_full()),
+            SlotMapCommand::Insert(value) => reply_of_key(self.insert(value)),
+            SlotMapCommand::Next => reply_of_key(self.next_free_key()),
+            SlotMapCommand::InsertAt(index, value) => reply_of_key(self.insert_at(index, value)),
+            SlotMapCommand::Remove(key) => reply_of_option(self.remove(key)),
+            SlotMapCommand::Get(key) => reply_of_option(self.get(key).copied()),
+            SlotMapCommand::Set(key, value) => Reply::Bool(overwrite(self, key, value)),
+            SlotMapCommand::Contains(key) => Reply::Bool(self.contains(key)),
+            SlotMapCommand::From(index) => reply_of_entry(first_entry_from(self, index)),
+            SlotMapCommand::Retired => Reply::Number(self.retired()),
+            SlotMapCommand::Len => Reply::Number(self.len()),
+            SlotMapCommand::Capacity => Reply::Number(self.capacity()),
+            SlotMapCommand::Empty => Reply::Bool(self.is_empty()),
+            SlotMapCommand::Full => Reply::Bool(self.is_full()),
         }
     }
 }
 
 /// Runs the commands on a slot map of any kind, in order, and returns the replies to them. Allocates the list of replies from
-/// `alloc` before the first command. O(`commands.len()`) beside the calls of the slot map; `SlotCommand::From` takes
+/// `alloc` before the first command. O(`commands.len()`) beside the calls of the slot map; `SlotMapCommand::From` takes
 /// O(capacity).
 ///
 /// A key that is dead before is dead after any commands.
 ///
 /// Returns `AllocError` if there is no memory for the list. Then no command was run.
-pub fn run_slot<T: Copy, S: Table<Option<T>>, L: Table<Link>, G: Table<u64>>(
+pub fn run_slot_map<T: Copy, S: Table<Option<T>>, L: Table<Link>, G: Table<u64>>(
     alloc: Global,
     map: &mut MetaSlotMap<Option<T>, S, L, G>,
-    commands: &[SlotCommand<T>],
+    commands: &[SlotMapCommand<T>],
 ) -> Result<Vec<Reply<SlotMapKey, T>>, AllocError>
     ensures value { IfOk result
-        (λ replies. replies.items ≡ run_replies slot_reply slot_after map.old commands.now) }
-    ensures map { OnOk result (map.new ≡ run_state slot_after map.old commands.now) }
+        (λ replies. replies.items ≡ run_replies slot_map_reply slot_map_after map.old commands.now) }
+    ensures map { OnOk result (map.new ≡ run_state slot_map_after map.old commands.now) }
     ensures refused { OnErr result (map.new ≡ map.old) }
     ensures dead { DeadStaysDead map.old commands.now }
 {
@@ -74,7 +74,7 @@ pub fn run_slot<T: Copy, S: Table<Option<T>>, L: Table<Link>, G: Table<u64>>(
 /// A key that is dead before any list of commands is dead after it, and has no value then. This function does nothing: its
 /// contract is the law.
 pub fn dead_law<T>()
-    ensures { (map : SlotMapState T) (commands : List (SlotCommand T)) → IsMapFormed map
+    ensures { (map : SlotMapState T) (commands : List (SlotMapCommand T)) → IsSlotMapFormed map
         → DeadStaysDead map commands }
 {}
 
@@ -84,9 +84,9 @@ fn overwrite<T: Copy, S: Table<Option<T>>, L: Table<Link>, G: Table<u64>>(
     key: SlotMapKey,
     value: T,
 ) -> bool
-    ensures value { result ≡ is_some (map_value map.old key) }
+    ensures value { result ≡ is_some (slot_map_value map.old key) }
     ensures map { map.new
-        ≡ if is_some (map_value map.old key) then map_set map.old key value else map.old }
+        ≡ if is_some (slot_map_value map.old key) then slot_map_set map.old key value else map.old }
 {
     match map.get_mut(key) {
         Some(held) => {
@@ -102,7 +102,7 @@ fn first_entry_from<T: Copy, S: Table<Option<T>>, L: Table<Link>, G: Table<u64>>
     map: &MetaSlotMap<Option<T>, S, L, G>,
     start: usize,
 ) -> Option<(SlotMapKey, T)>
-    ensures { result ≡ slot_from map.now start }
+    ensures { result ≡ slot_map_from map.now start }
 {
     for (key, value) in map.iter() {
         if key.index() >= start {

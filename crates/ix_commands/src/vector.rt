@@ -2,19 +2,19 @@
 ghost use Rattle.std.specs.Prelude.{◌≡◌, length, set, slice_get, nat_lt, nat_le, if◌then◌else◌, IfOk, OnOk, OnErr};
 ghost use Rattle.ix_tables.specs.Bounded.{Bounded, with_items};
 ghost use Rattle.ix_vector.specs.VectorSteps.{vec_extend, vec_resize, vec_resize_result};
-ghost use Rattle.ix_commands.specs.Replies.{option_reply, result_reply, vec_reply_error};
+ghost use Rattle.ix_commands.specs.Replies.{option_reply, result_reply, vector_reply_error};
 ghost use Rattle.ix_commands.specs.Run.{run_replies, run_state};
-ghost use Rattle.ix_commands.specs.VecRun.{vec_extend_result, vec_reply, vec_after};
+ghost use Rattle.ix_commands.specs.VectorRun.{vec_extend_result, vector_reply, vector_after};
 
 use crate::reply::reply_of_option;
-use crate::{Reply, ReplyError, Runs, VecCommand, run_all};
+use crate::{Reply, ReplyError, Runs, VectorCommand, run_all};
 use ix_vector::{Vector, VectorModificationError};
 use std::alloc::{AllocError, Global};
 
 /// The commands of a vector, of any kind.
-impl<'a, T: Copy, V: Vector<T>> Runs<VecCommand<'a, T>> for V {
+impl<'a, T: Copy, V: Vector<T>> Runs<VectorCommand<'a, T>> for V {
     ghost use Rattle.ix_tables.specs.Bounded.{Bounded};
-    ghost use Rattle.ix_commands.specs.VecRun.{vec_reply, vec_after};
+    ghost use Rattle.ix_commands.specs.VectorRun.{vector_reply, vector_after};
 
     type Reply = Reply<usize, T>;
 
@@ -22,32 +22,32 @@ impl<'a, T: Copy, V: Vector<T>> Runs<VecCommand<'a, T>> for V {
 
     ghost model = { V.bounded };
 
-    ghost reply = { vec_reply };
+    ghost reply = { vector_reply };
 
-    ghost after = { vec_after };
+    ghost after = { vector_after };
 
-    fn run_command(&mut self, command: VecCommand<'a, T>) -> Reply<usize, T> {
+    fn run_command(&mut self, command: VectorCommand<'a, T>) -> Reply<usize, T> {
         match command {
-            VecCommand::Push(item) => reply_of_result(self.push(item)),
-            VecCommand::Insert(index, item) => reply_of_result(self.insert(index, item)),
-            VecCommand::Extend(items) => reply_of_result(extend_by_copies(self, items)),
-            VecCommand::Resize(n, item) => reply_of_result(resize_by_copies(self, n, item)),
-            VecCommand::Pop => reply_of_option(self.pop()),
-            VecCommand::Remove(index) => reply_of_option(self.remove(index)),
-            VecCommand::At(index) => reply_of_option(item_at(self, index)),
-            VecCommand::Set(index, item) => Reply::Bool(overwrite(self, index, item)),
-            VecCommand::Truncate(n) => {
+            VectorCommand::Push(item) => reply_of_result(self.push(item)),
+            VectorCommand::Insert(index, item) => reply_of_result(self.insert(index, item)),
+            VectorCommand::Extend(items) => reply_of_result(extend_by_copies(self, items)),
+            VectorCommand::Resize(n, item) => reply_of_result(resize_by_copies(self, n, item)),
+            VectorCommand::Pop => reply_of_option(self.pop()),
+            VectorCommand::Remove(index) => reply_of_option(self.remove(index)),
+            VectorCommand::At(index) => reply_of_option(item_at(self, index)),
+            VectorCommand::Set(index, item) => Reply::Bool(overwrite(self, index, item)),
+            VectorCommand::Truncate(n) => {
                 self.truncate(n);
                 Reply::Done
             }
-            VecCommand::Clear => {
+            VectorCommand::Clear => {
                 self.clear();
                 Reply::Done
             }
-            VecCommand::Len => Reply::Number(self.len()),
-            VecCommand::Capacity => Reply::Number(self.capacity()),
-            VecCommand::Empty => Reply::Bool(self.is_empty()),
-            VecCommand::Full => Reply::Bool(self.is_full()),
+            VectorCommand::Len => Reply::Number(self.len()),
+            VectorCommand::Capacity => Reply::Number(self.capacity()),
+            VectorCommand::Empty => Reply::Bool(self.is_empty()),
+            VectorCommand::Full => Reply::Bool(self.is_full()),
         }
     }
 }
@@ -56,15 +56,15 @@ impl<'a, T: Copy, V: Vector<T>> Runs<VecCommand<'a, T>> for V {
 /// from `alloc` before the first command. O(`commands.len()`) beside the calls of the vector.
 ///
 /// Returns `AllocError` if there is no memory for the list. Then no command was run.
-pub fn run_vec<T: Copy, V: Vector<T>>(
+pub fn run_vector<T: Copy, V: Vector<T>>(
     alloc: Global,
     vector: &mut V,
-    commands: &[VecCommand<'_, T>],
+    commands: &[VectorCommand<'_, T>],
 ) -> Result<Vec<Reply<usize, T>>, AllocError>
     ensures value { IfOk result (λ replies. replies.items
-        ≡ run_replies vec_reply vec_after (V.bounded vector.old) commands.now) }
+        ≡ run_replies vector_reply vector_after (V.bounded vector.old) commands.now) }
     ensures vector { OnOk result
-        (V.bounded vector.new ≡ run_state vec_after (V.bounded vector.old) commands.now) }
+        (V.bounded vector.new ≡ run_state vector_after (V.bounded vector.old) commands.now) }
     ensures refused { OnErr result (vector.new ≡ vector.old) }
 {
     run_all(alloc, vector, commands)
@@ -73,7 +73,7 @@ pub fn run_vec<T: Copy, V: Vector<T>>(
 /// Returns the result of a change as a reply.
 #[inline]
 fn reply_of_result<T: Copy>(outcome: Result<(), VectorModificationError>) -> Reply<usize, T>
-    ensures { result ≡ result_reply vec_reply_error outcome }
+    ensures { result ≡ result_reply vector_reply_error outcome }
 {
     match outcome {
         Ok(()) => Reply::Done,

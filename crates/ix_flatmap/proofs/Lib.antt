@@ -1,7 +1,7 @@
 pub mod FlatBounds
-pub mod FlatCalls
-pub mod FlatCopies
-pub mod FlatEntries
-pub mod FlatEqual
-pub mod FlatSteps
+pub mod MapCalls
+pub mod MapCopies
+pub mod MapEntries
+pub mod MapEqual
+pub mod MapSteps
 mod WorkedFlatMaps

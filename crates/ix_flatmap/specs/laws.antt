@@ -1,3 +1,3 @@
 -- Laws of definitions.
 pub mod Bounds
-pub mod FlatCompared
+pub mod MapCompared

@@ -4,17 +4,17 @@ ghost use Rattle.std.specs.Borrow.{sem};
 ghost use Rattle.std.specs.List.{FoldsTo, list_any};
 ghost use Rattle.std.specs.Option.{option_copied_mut};
 ghost use Rattle.std.specs.Result.{IfErr};
-ghost use Rattle.ix_slottable.specs.SlotState.{SlotState, IsWellFormed, value_at, held_count};
-ghost use Rattle.ix_slottable.specs.SlotSteps.{slot_clear};
-ghost use Rattle.ix_flatmap.specs.FlatState.{HasDistinctKeys, flat_entry, flat_value, flat_keys, flat_item, flat_items};
-ghost use Rattle.ix_flatmap.specs.FlatCompared.{is_same_item, has_each};
-ghost use Rattle.ix_flatmap.specs.FlatCalls.{CallAtKey, TakesKey};
-ghost use Rattle.ix_slottable.specs.SlotCalls.{IsCallableOnEach, ChangesItem, RetainsItem};
-ghost use Rattle.ix_flatmap.specs.FlatSteps.{flat_insert_result, flat_insert, flat_replace, flat_set, flat_remove};
+ghost use Rattle.ix_slottable.specs.SlotTableState.{SlotTableState, IsWellFormed, value_at, held_count};
+ghost use Rattle.ix_slottable.specs.SlotTableSteps.{slot_table_clear};
+ghost use Rattle.ix_flatmap.specs.MapState.{HasDistinctKeys, map_entry, map_value, map_keys, map_item, map_items};
+ghost use Rattle.ix_flatmap.specs.MapCompared.{is_same_item, has_each};
+ghost use Rattle.ix_flatmap.specs.MapCalls.{CallAtKey, TakesKey};
+ghost use Rattle.ix_slottable.specs.SlotTableCalls.{IsCallableOnEach, ChangesItem, RetainsItem};
+ghost use Rattle.ix_flatmap.specs.MapSteps.{map_insert_result, map_insert, map_replace, map_set, map_remove};
 ghost use Rattle.ix_flatmap.specs.BoundedMap.{map_lends};
 ghost use Rattle.ix_flatmap.specs.declared.map.pair.Pair.{Pair};
 
-use crate::map::{FlatMapError, Iter, KeyIndex, MetaMap, Pair};
+use crate::map::{Iter, KeyIndex, MapError, MetaMap, Pair};
 use ix_slottable::slottable::Link;
 use ix_tables::Table;
 
@@ -22,49 +22,49 @@ use ix_tables::Table;
 /// map is written over this trait. What a call costs is said at the map.
 pub trait BoundedMap<K: Eq, V>: Sized {
     /// The pair or nothing at each place.
-    ghost state: { Self → SlotState (Pair K V) };
+    ghost state: { Self → SlotTableState (Pair K V) };
 
     /// The map with another value of a key that it has.
     ghost with_value: { Self → K → V → Self };
 
     /// Does what [`MetaMap::insert`](crate::map::MetaMap::insert) does.
-    fn insert(&mut self, key: K, value: V) -> Result<(), FlatMapError>
-        ensures value { result ≡ flat_insert_result K.eq (state self.old) key }
-        ensures map { state self.new ≡ flat_insert K.eq (state self.old) key value }
-        ensures holds { IsOk result → flat_value K.eq (state self.new) key ≡ Some value }
+    fn insert(&mut self, key: K, value: V) -> Result<(), MapError>
+        ensures value { result ≡ map_insert_result K.eq (state self.old) key }
+        ensures map { state self.new ≡ map_insert K.eq (state self.old) key value }
+        ensures holds { IsOk result → map_value K.eq (state self.new) key ≡ Some value }
         ensures refused { OnErr result (state self.new ≡ state self.old) }
         ensures kept { (other : K) → K.eq other key ≡ false
-            → flat_value K.eq (state self.new) other ≡ flat_value K.eq (state self.old) other }
+            → map_value K.eq (state self.new) other ≡ map_value K.eq (state self.old) other }
         ensures distinct { HasDistinctKeys K.eq (state self.new) };
 
     /// Does what [`MetaMap::try_insert`](crate::map::MetaMap::try_insert) does.
-    fn try_insert(&mut self, key: K, value: V) -> Result<(), (FlatMapError, K, V)>
-        ensures inserted { IsOk result ↔ IsOk (flat_insert_result K.eq (state self.old) key) }
+    fn try_insert(&mut self, key: K, value: V) -> Result<(), (MapError, K, V)>
+        ensures inserted { IsOk result ↔ IsOk (map_insert_result K.eq (state self.old) key) }
         ensures error { IfErr result (λ refused.
-            IfErr (flat_insert_result K.eq (state self.old) key) (λ error. refused.0 ≡ error)) }
+            IfErr (map_insert_result K.eq (state self.old) key) (λ error. refused.0 ≡ error)) }
         ensures returned { IfErr result (λ refused. (refused.1 ≡ key) × (refused.2 ≡ value)) }
-        ensures map { state self.new ≡ flat_insert K.eq (state self.old) key value }
-        ensures holds { IsOk result → flat_value K.eq (state self.new) key ≡ Some value }
+        ensures map { state self.new ≡ map_insert K.eq (state self.old) key value }
+        ensures holds { IsOk result → map_value K.eq (state self.new) key ≡ Some value }
         ensures refused { OnErr result (state self.new ≡ state self.old) }
         ensures kept { (other : K) → K.eq other key ≡ false
-            → flat_value K.eq (state self.new) other ≡ flat_value K.eq (state self.old) other }
+            → map_value K.eq (state self.new) other ≡ map_value K.eq (state self.old) other }
         ensures distinct { HasDistinctKeys K.eq (state self.new) };
 
     /// Does what [`MetaMap::replace`](crate::map::MetaMap::replace) does.
     fn replace(&mut self, key: K, value: V) -> Result<Option<V>, (K, V)>
-        ensures value { IfOk result (λ old. old ≡ flat_value K.eq (state self.old) key) }
+        ensures value { IfOk result (λ old. old ≡ map_value K.eq (state self.old) key) }
         ensures full { IsErr result
-            ↔ ((flat_value K.eq (state self.old) key ≡ None) × ((state self.old).free ≡ [])) }
+            ↔ ((map_value K.eq (state self.old) key ≡ None) × ((state self.old).free ≡ [])) }
         ensures returned { IfErr result (λ refused. refused ≡ (key, value)) }
-        ensures map { state self.new ≡ flat_replace K.eq (state self.old) key value }
-        ensures holds { IsOk result → flat_value K.eq (state self.new) key ≡ Some value }
+        ensures map { state self.new ≡ map_replace K.eq (state self.old) key value }
+        ensures holds { IsOk result → map_value K.eq (state self.new) key ≡ Some value }
         ensures refused { OnErr result (state self.new ≡ state self.old) }
         ensures kept { (other : K) → K.eq other key ≡ false
-            → flat_value K.eq (state self.new) other ≡ flat_value K.eq (state self.old) other };
+            → map_value K.eq (state self.new) other ≡ map_value K.eq (state self.old) other };
 
     /// Does what [`MetaMap::get_ref`](crate::map::MetaMap::get_ref) does.
     fn get_ref(&self, key: &K) -> Option<&V>
-        ensures value { option_copied result ≡ flat_value K.eq (state self.now) key.now }
+        ensures value { option_copied result ≡ map_value K.eq (state self.now) key.now }
         // The key's value is that of the one pair whose key equals it.
         ensures found { (place : ℕ) (pair : Pair K V) → value_at (state self.now) place ≡ Some pair
             → K.eq pair.key key.now ≡ true → option_copied result ≡ Some pair.value }
@@ -74,65 +74,65 @@ pub trait BoundedMap<K: Eq, V>: Sized {
     /// Does what [`MetaMap::get_key_value`](crate::map::MetaMap::get_key_value) does.
     fn get_key_value(&self, key: &K) -> Option<(&K, &V)>
         ensures { option_map (λ item. (item.0.now, item.1.now)) result
-            ≡ option_map (λ entry. flat_item entry) (flat_entry K.eq (state self.now) key.now) };
+            ≡ option_map (λ entry. map_item entry) (map_entry K.eq (state self.now) key.now) };
 
     /// Does what [`MetaMap::get_mut_ref`](crate::map::MetaMap::get_mut_ref) does.
     fn get_mut_ref(&mut self, key: &K) -> Option<&mut V>
         ensures* writes_back { sem 𝓛 (map_lends Self.row V.row with_value self.entry key.now result) }
-        ensures value { option_copied_mut result ≡ flat_value K.eq (state self.old) key.now }
+        ensures value { option_copied_mut result ≡ map_value K.eq (state self.old) key.now }
         // Whatever value is written, the key has it, and any other key keeps its own.
-        ensures holds { (written : V) → IsSome (flat_value K.eq (state self.old) key.now)
-            → flat_value K.eq (flat_set K.eq (state self.old) key.now written) key.now
+        ensures holds { (written : V) → IsSome (map_value K.eq (state self.old) key.now)
+            → map_value K.eq (map_set K.eq (state self.old) key.now written) key.now
             ≡ Some written }
         ensures kept { (written : V) (other : K) → K.eq other key.now ≡ false
-            → flat_value K.eq (flat_set K.eq (state self.old) key.now written) other
-            ≡ flat_value K.eq (state self.old) other };
+            → map_value K.eq (map_set K.eq (state self.old) key.now written) other
+            ≡ map_value K.eq (state self.old) other };
 
     /// Does what [`MetaMap::remove`](crate::map::MetaMap::remove) does.
     fn remove(&mut self, key: &K) -> Option<V>
-        ensures value { result ≡ flat_value K.eq (state self.old) key.now }
-        ensures map { state self.new ≡ flat_remove K.eq (state self.old) key.now }
-        ensures gone { flat_value K.eq (state self.new) key.now ≡ None }
+        ensures value { result ≡ map_value K.eq (state self.old) key.now }
+        ensures map { state self.new ≡ map_remove K.eq (state self.old) key.now }
+        ensures gone { map_value K.eq (state self.new) key.now ≡ None }
         ensures refused { IsNone result → state self.new ≡ state self.old }
         ensures kept { (other : K) → K.eq other key.now ≡ false
-            → flat_value K.eq (state self.new) other ≡ flat_value K.eq (state self.old) other }
+            → map_value K.eq (state self.new) other ≡ map_value K.eq (state self.old) other }
         ensures distinct { HasDistinctKeys K.eq (state self.new) };
 
     /// Does what [`MetaMap::remove_entry`](crate::map::MetaMap::remove_entry) does.
     fn remove_entry(&mut self, key: &K) -> Option<(K, V)>
         ensures value { result
-            ≡ option_map (λ entry. flat_item entry) (flat_entry K.eq (state self.old) key.now) }
-        ensures map { state self.new ≡ flat_remove K.eq (state self.old) key.now }
-        ensures gone { flat_value K.eq (state self.new) key.now ≡ None }
+            ≡ option_map (λ entry. map_item entry) (map_entry K.eq (state self.old) key.now) }
+        ensures map { state self.new ≡ map_remove K.eq (state self.old) key.now }
+        ensures gone { map_value K.eq (state self.new) key.now ≡ None }
         ensures refused { IsNone result → state self.new ≡ state self.old }
         ensures kept { (other : K) → K.eq other key.now ≡ false
-            → flat_value K.eq (state self.new) other ≡ flat_value K.eq (state self.old) other }
+            → map_value K.eq (state self.new) other ≡ map_value K.eq (state self.old) other }
         ensures distinct { HasDistinctKeys K.eq (state self.new) };
 
     /// Does what [`MetaMap::clear`](crate::map::MetaMap::clear) does.
     fn clear(&mut self)
-        ensures map { state self.new ≡ slot_clear (state self.old) }
+        ensures map { state self.new ≡ slot_table_clear (state self.old) }
         ensures values { (state self.new).values ≡ replicate (length (state self.old).values) None };
 
     /// Does what [`MetaMap::for_each_mut`](crate::map::MetaMap::for_each_mut) does.
     fn for_each_mut<F: FnMut(&K, &mut V)>(&mut self, f: F)
-        requires { IsCallableOnEach (CallAtKey F.step) (TakesKey F.pre) f (flat_items (state self.old)) }
-        ensures calls { (last : F) × FoldsTo (ChangesItem (flat_set K.eq) (CallAtKey F.step))
-            (f, state self.old) (flat_items (state self.old)) (last, state self.new) }
-        ensures keys { flat_keys (state self.new) ≡ flat_keys (state self.old) }
+        requires { IsCallableOnEach (CallAtKey F.step) (TakesKey F.pre) f (map_items (state self.old)) }
+        ensures calls { (last : F) × FoldsTo (ChangesItem (map_set K.eq) (CallAtKey F.step))
+            (f, state self.old) (map_items (state self.old)) (last, state self.new) }
+        ensures keys { map_keys (state self.new) ≡ map_keys (state self.old) }
         ensures free { (state self.new).free ≡ (state self.old).free }
         ensures distinct { HasDistinctKeys K.eq (state self.new) }
         ensures capacity { length (state self.new).values ≡ length (state self.old).values };
 
     /// Does what [`MetaMap::retain`](crate::map::MetaMap::retain) does.
     fn retain<F: FnMut(&K, &mut V) -> bool>(&mut self, f: F)
-        requires { IsCallableOnEach (CallAtKey F.step) (TakesKey F.pre) f (flat_items (state self.old)) }
+        requires { IsCallableOnEach (CallAtKey F.step) (TakesKey F.pre) f (map_items (state self.old)) }
         ensures calls { (last : F)
-            × FoldsTo (RetainsItem (flat_set K.eq) (flat_remove K.eq) (CallAtKey F.step))
-            (f, state self.old) (flat_items (state self.old)) (last, state self.new) }
+            × FoldsTo (RetainsItem (map_set K.eq) (map_remove K.eq) (CallAtKey F.step))
+            (f, state self.old) (map_items (state self.old)) (last, state self.new) }
         // A key that the map has was there before.
-        ensures keys { (key : K) → IsSome (flat_value K.eq (state self.new) key)
-            → IsSome (flat_value K.eq (state self.old) key) }
+        ensures keys { (key : K) → IsSome (map_value K.eq (state self.new) key)
+            → IsSome (map_value K.eq (state self.old) key) }
         ensures distinct { HasDistinctKeys K.eq (state self.new) }
         ensures capacity { length (state self.new).values ≡ length (state self.old).values };
 
@@ -152,7 +152,7 @@ pub trait BoundedMap<K: Eq, V>: Sized {
 
     /// Does what [`MetaMap::contains`](crate::map::MetaMap::contains) does.
     fn contains(&self, key: &K) -> bool
-        ensures { IsTrue result ↔ IsSome (flat_value K.eq (state self.now) key.now) };
+        ensures { IsTrue result ↔ IsSome (map_value K.eq (state self.now) key.now) };
 
     /// Does what [`MetaMap::len`](crate::map::MetaMap::len) does.
     fn len(&self) -> usize
@@ -165,11 +165,11 @@ pub trait BoundedMap<K: Eq, V>: Sized {
 
     /// Does what [`MetaMap::nth_key`](crate::map::MetaMap::nth_key) does.
     fn nth_key(&self, n: usize) -> Option<&K>
-        ensures { option_copied result ≡ slice_get (flat_keys (state self.now)) n };
+        ensures { option_copied result ≡ slice_get (map_keys (state self.now)) n };
 
     /// Another value of a key is what a write to it leaves.
     ghost state_with_value: { (map : Self) (key : K) (value : V)
-        → state (with_value map key value) ≡ flat_set K.eq (state map) key value };
+        → state (with_value map key value) ≡ map_set K.eq (state map) key value };
 }
 
 impl<K: Eq + Drop, V: Drop, S: Table<Pair<K, V>>, L: Table<Link>, I: KeyIndex<K, V>> BoundedMap<
@@ -178,17 +178,17 @@ impl<K: Eq + Drop, V: Drop, S: Table<Pair<K, V>>, L: Table<Link>, I: KeyIndex<K,
 > for MetaMap<Pair<K, V>, S, L, I> {
     ghost state = { λ map. map };
 
-    ghost with_value = { λ map key value. flat_set K.eq map key value };
+    ghost with_value = { λ map key value. map_set K.eq map key value };
 
     ghost state_with_value = { λ map key value. refl };
 
     #[inline]
-    fn insert(&mut self, key: K, value: V) -> Result<(), FlatMapError> {
+    fn insert(&mut self, key: K, value: V) -> Result<(), MapError> {
         MetaMap::insert(self, key, value)
     }
 
     #[inline]
-    fn try_insert(&mut self, key: K, value: V) -> Result<(), (FlatMapError, K, V)> {
+    fn try_insert(&mut self, key: K, value: V) -> Result<(), (MapError, K, V)> {
         MetaMap::try_insert(self, key, value)
     }
 
@@ -274,7 +274,7 @@ pub fn has_each_of<K: Eq, V: PartialEq, M: BoundedMap<K, V>, S: Table<Pair<K, V>
     map: &M,
     items: Iter<'_, K, V, S, L>,
 ) -> bool
-    ensures { result ≡ has_each (is_same_item K.eq V.eq) (flat_items (M.state map.now)) items.entry }
+    ensures { result ≡ has_each (is_same_item K.eq V.eq) (map_items (M.state map.now)) items.entry }
 {
     for (key, value) in items {
         if !has_equal(map, key, value) {
@@ -288,7 +288,7 @@ pub fn has_each_of<K: Eq, V: PartialEq, M: BoundedMap<K, V>, S: Table<Pair<K, V>
 #[inline]
 fn has_equal<K: Eq, V: PartialEq, M: BoundedMap<K, V>>(map: &M, key: &K, value: &V) -> bool
     ensures { result ≡ list_any (λ item. is_same_item K.eq V.eq item (key.now, value.now))
-        (flat_items (M.state map.now)) }
+        (map_items (M.state map.now)) }
 {
     // Names the number of keys, by which the check knows that no two keys are equal.
     let _len = map.len();

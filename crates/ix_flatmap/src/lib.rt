@@ -13,6 +13,6 @@ pub use flatmap::{
     Bound, FixedSizeFlatMap, FlatMap, FlatMapFamily, MetaFlatMap, RelocatableFlatMap, UninitFlatMap,
 };
 pub use map::{
-    CallbackProgression, CopyIn, CopyInline, FlatMapError, HeapIndex, HeapMap, InlineIndex,
-    InlineMap, KeyIndex, Keyed, Keys, MetaMap, Pair, PairIndex,
+    CallbackProgression, CopyIn, CopyInline, HeapIndex, HeapMap, InlineIndex, InlineMap, KeyIndex,
+    Keyed, Keys, MapError, MetaMap, Pair, PairIndex,
 };

@@ -4,17 +4,17 @@ use Rattle.std.specs.Prelude.{option_map, replicate, IfSome}
 use Rattle.std.specs.Option.{option_map_or}
 use Rattle.std.proofs.lemmas.Bool.{cases_eq, cases_lt, both_ways}
 use Rattle.std.proofs.lemmas.List.{get_or-set_other, get_or-replicate, get_or_past, length-set, length-replicate}
-use Rattle.ix_slottable.specs.SlotState.{SlotState, value_at, IsHeld, slot_new}
-use Rattle.ix_slottable.specs.SlotSteps.{slot_fill, SlotInsert, SlotRemove}
-use Rattle.ix_flatmap.specs.FlatState.{flat_entry}
+use Rattle.ix_slottable.specs.SlotTableState.{SlotTableState, value_at, IsHeld, slot_table_new}
+use Rattle.ix_slottable.specs.SlotTableSteps.{slot_table_fill, SlotTableInsert, SlotTableRemove}
+use Rattle.ix_flatmap.specs.MapState.{map_entry}
 use Rattle.ix_flatmap.specs.declared.map.Pair.{Pair}
 use Rattle.ix_hashmap.specs.declared.hashmap.chain_link.ChainLink.{ChainLink}
 use Rattle.ix_flatmap.specs.inner.FlatSearch.{is_key_at}
 use Rattle.ix_hashmap.specs.inner.HashChains.{no_place, no_link, link_head, bucket_of, head_at, next_at, links_set_next, links_insert_first, chain_from, chain_at, IsLinked, IsChain, IsOnChain, IsUnlinked, HasChain, IsHashed, LeadsToKey, IsBucket}
 use Rattle.ix_slottable.proofs.FreeKeys.{key_count, key_count-cons, hit, hit_same, hit_other}
 use Rattle.ix_tables.proofs.VacantTables.{place_at-replicate}
-use Rattle.ix_slottable.proofs.SlotSteps.{SlotInsert-fills, SlotRemove-vacates}
-use Rattle.ix_flatmap.proofs.FlatEntries.{IsEntry-flat_entry}
+use Rattle.ix_slottable.proofs.SlotTableSteps.{SlotTableInsert-fills, SlotTableRemove-vacates}
+use Rattle.ix_flatmap.proofs.MapEntries.{IsEntry-map_entry}
 use Rattle.ix_hashmap.proofs.HashChains.{link_head-none, length-set_head, length-set_next, next_at-set_head, head_at-set_next, head_at-set_head, head_at-set_head_other, next_at-set_next, next_at-set_next_other, IsLinked-kept, chain_from-IsChain, IsChainFrom-of, HasRest-from, empty_chain, on_chain-first}
 
 -- the bucket of a hash among those of so many places, which are counted
@@ -23,11 +23,11 @@ bucket_of-counted hash bucket places n is counted = ap (bucket_of hash) (sym cou
 
 module _ {T : Type 0} (hash : T → ℕ) where
   -- the bucket, of so many, of what is at a place
-  abbrev bucket_at : SlotState T → ℕ → ℕ → Option ℕ
+  abbrev bucket_at : SlotTableState T → ℕ → ℕ → Option ℕ
   bucket_at s buckets place = option_map (λ value. bucket_of (hash value) buckets) (value_at s place)
 
   -- a bucket has the chain of these places
-  HasChain-of : (s : SlotState T) (links : List ChainLink) (buckets bucket : ℕ) (places : List ℕ) → buckets ≡ length links → IsChain links (head_at links bucket) places
+  HasChain-of : (s : SlotTableState T) (links : List ChainLink) (buckets bucket : ℕ) (places : List ℕ) → buckets ≡ length links → IsChain links (head_at links bucket) places
       → ((place : ℕ) → (0 < key_count place places) ↔ (bucket_at s buckets place ≡ Some bucket)) → HasChain hash s links bucket
   HasChain-of s links buckets bucket places as_many chain exactly =
       let is = chain_from-IsChain links (head_at links bucket) places chain in record {
@@ -38,7 +38,7 @@ module _ {T : Type 0} (hash : T → ℕ) where
       }
 
   -- a chain keeps its places if its head, the next ones of its places and their buckets stay
-  HasChain-kept : (s t : SlotState T) (links new : List ChainLink) (bucket : ℕ) → length new ≡ length links → HasChain hash s links bucket → head_at new bucket ≡ head_at links bucket
+  HasChain-kept : (s t : SlotTableState T) (links new : List ChainLink) (bucket : ℕ) → length new ≡ length links → HasChain hash s links bucket → head_at new bucket ≡ head_at links bucket
       → ((place : ℕ) → IsOnChain links (head_at links bucket) place → next_at new place ≡ next_at links place)
       → ((place : ℕ) → (bucket_at s (length links) place ≡ Some bucket) ↔ (bucket_at t (length links) place ≡ Some bucket)) → HasChain hash t new bucket
   HasChain-kept s t links new bucket lengths was head nexts buckets =
@@ -53,11 +53,11 @@ module _ {T : Type 0} (hash : T → ℕ) where
       })
       (λ place. (λ on. (buckets place).0 ((was.exactly place).0 on), λ is. (was.exactly place).1 ((buckets place).1 is)))
 
-  pub IsHashed-equal : (s t : SlotState T) (links others : List ChainLink) → t ≡ s → others ≡ links → IsHashed hash s links → IsHashed hash t others
+  pub IsHashed-equal : (s t : SlotTableState T) (links others : List ChainLink) → t ≡ s → others ≡ links → IsHashed hash s links → IsHashed hash t others
   IsHashed-equal s t links others same same_links hashed = subst (λ ls. IsHashed hash t ls) (sym same_links) (subst (λ u. IsHashed hash u links) (sym same) hashed)
 
   -- no value, and no chain
-  pub IsHashed-empty : (s : SlotState T) (links : List ChainLink) (buckets : ℕ) → links ≡ replicate buckets no_link → buckets ≡ length s.values → buckets ≤ no_place → ((place : ℕ) → value_at s place ≡ None) → IsHashed hash s links
+  pub IsHashed-empty : (s : SlotTableState T) (links : List ChainLink) (buckets : ℕ) → links ≡ replicate buckets no_link → buckets ≡ length s.values → buckets ≤ no_place → ((place : ℕ) → value_at s place ≡ None) → IsHashed hash s links
   IsHashed-empty s links buckets is as_many fits empty =
       let len : length links ≡ buckets = ap length is ∙ length-replicate buckets no_link in record {
         lengths = len ∙ as_many;
@@ -82,15 +82,15 @@ module _ {T : Type 0} (hash : T → ℕ) where
       ]
 
   -- the links of a new table, without a chain
-  pub IsHashed-new : (capacity : ℕ) (links : List ChainLink) → links ≡ replicate capacity no_link → length links ≤ no_place → IsHashed hash (slot_new capacity) links
+  pub IsHashed-new : (capacity : ℕ) (links : List ChainLink) → links ≡ replicate capacity no_link → length links ≤ no_place → IsHashed hash (slot_table_new capacity) links
   IsHashed-new capacity links is fits =
       let len : length links ≡ capacity = ap length is ∙ length-replicate capacity no_link in
-      IsHashed-empty (slot_new capacity) links capacity is (sym (length-replicate capacity None)) (omega (arith, len, fits)) (place_at-replicate capacity)
+      IsHashed-empty (slot_table_new capacity) links capacity is (sym (length-replicate capacity None)) (omega (arith, len, fits)) (place_at-replicate capacity)
 
   -- a value is inserted, and its place becomes the first of its chain
-  module _ (old new : SlotState T) (x : T) (place bucket : ℕ) (links : List ChainLink) (hashed : IsHashed hash old links) (step : SlotInsert old x new (Some place)) (is : bucket_of (hash x) (length links) ≡ bucket) (below : bucket < 4 * length links) where
-    filled : new ≡ slot_fill old place x
-    filled = SlotInsert-fills old x new place step
+  module _ (old new : SlotTableState T) (x : T) (place bucket : ℕ) (links : List ChainLink) (hashed : IsHashed hash old links) (step : SlotTableInsert old x new (Some place)) (is : bucket_of (hash x) (length links) ≡ bucket) (below : bucket < 4 * length links) where
+    filled : new ≡ slot_table_fill old place x
+    filled = SlotTableInsert-fills old x new place step
 
     was_none : bucket_at old (length links) place ≡ None
     was_none = ap (option_map (λ value. bucket_of (hash value) (length links))) step.was_free.1
@@ -101,7 +101,7 @@ module _ {T : Type 0} (hash : T → ℕ) where
     elsewhere : (other : ℕ) → other ≢ place → bucket_at new (length links) other ≡ bucket_at old (length links) other
     elsewhere other apart =
         ap (option_map (λ value. bucket_of (hash value) (length links)))
-        (ap (λ (s : SlotState T). value_at s other) filled ∙ get_or-set_other old.values place other (Some x) None apart)
+        (ap (λ (s : SlotTableState T). value_at s other) filled ∙ get_or-set_other old.values place other (Some x) None apart)
 
     in_range : place < length links
     in_range = let was = step.was_free.0 in let lengths = hashed.lengths in omega arith
@@ -194,7 +194,7 @@ module _ {T : Type 0} (hash : T → ℕ) where
 
     pub IsHashed-inserted : IsHashed hash new (links_insert_first links bucket place)
     IsHashed-inserted = record {
-      lengths = as_long ∙ hashed.lengths ∙ sym (ap (λ (s : SlotState T). length s.values) filled ∙ length-set old.values place (Some x));
+      lengths = as_long ∙ hashed.lengths ∙ sym (ap (λ (s : SlotTableState T). length s.values) filled ∙ length-set old.values place (Some x));
       fits = let same = as_long in let fits = hashed.fits in omega arith;
       each = λ other. elim (cases_eq other bucket) [
         | inl same ↦ subst (HasChain hash new after) (sym same) own_chain
@@ -203,12 +203,12 @@ module _ {T : Type 0} (hash : T → ℕ) where
     }
 
   -- the chain of a value's bucket has its place
-  pub on_chain-held : (s : SlotState T) (links : List ChainLink) (place bucket : ℕ) (x : T) → IsHashed hash s links → value_at s place ≡ Some x → bucket_of (hash x) (length links) ≡ bucket → IsOnChain links (head_at links bucket) place
+  pub on_chain-held : (s : SlotTableState T) (links : List ChainLink) (place bucket : ℕ) (x : T) → IsHashed hash s links → value_at s place ≡ Some x → bucket_of (hash x) (length links) ≡ bucket → IsOnChain links (head_at links bucket) place
   on_chain-held s links place bucket x hashed at is =
       ((hashed.each bucket).exactly place).1 (ap (option_map (λ value. bucket_of (hash value) (length links))) at ∙ ap Some is)
 
   -- a value is removed, and its place leaves its chain
-  module _ (old new : SlotState T) (x : T) (place bucket : ℕ) (links after : List ChainLink) (hashed : IsHashed hash old links) (step : SlotRemove old place new (Some x)) (is : bucket_of (hash x) (length links) ≡ bucket) (unlinked : IsUnlinked links bucket place after) where
+  module _ (old new : SlotTableState T) (x : T) (place bucket : ℕ) (links after : List ChainLink) (hashed : IsHashed hash old links) (step : SlotTableRemove old place new (Some x)) (is : bucket_of (hash x) (length links) ≡ bucket) (unlinked : IsUnlinked links bucket place after) where
     was_here : bucket_at old (length links) place ≡ Some bucket
     was_here = ap (option_map (λ value. bucket_of (hash value) (length links))) (sym step.value) ∙ ap Some is
 
@@ -267,7 +267,7 @@ module _ {T : Type 0} (hash : T → ℕ) where
 
     pub IsHashed-removed : IsHashed hash new after
     IsHashed-removed = record {
-      lengths = unlinked.lengths ∙ hashed.lengths ∙ sym (ap (λ (s : SlotState T). length s.values) (SlotRemove-vacates old place new x step) ∙ length-set old.values place None);
+      lengths = unlinked.lengths ∙ hashed.lengths ∙ sym (ap (λ (s : SlotTableState T). length s.values) (SlotTableRemove-vacates old place new x step) ∙ length-set old.values place None);
       fits = let same = unlinked.lengths in let fits = hashed.fits in omega arith;
       each = λ other. elim (cases_eq other bucket) [
         | inl same ↦ subst (HasChain hash new after) (sym same) own_rest
@@ -277,7 +277,7 @@ module _ {T : Type 0} (hash : T → ℕ) where
 
 module _ {K V : Type 0} (eq : K → K → Bool) where
   -- the chain of a key's bucket leads to it
-  pub LeadsToKey-hashed : (hash : Pair K V → ℕ) (s : SlotState (Pair K V)) (links : List ChainLink) (key : K) (bucket : ℕ) → IsHashed hash s links → ((pair : Pair K V) → eq pair.key key ≡ true → bucket_of (hash pair) (length links) ≡ bucket) → LeadsToKey eq s links key (head_at links bucket)
+  pub LeadsToKey-hashed : (hash : Pair K V → ℕ) (s : SlotTableState (Pair K V)) (links : List ChainLink) (key : K) (bucket : ℕ) → IsHashed hash s links → ((pair : Pair K V) → eq pair.key key ≡ true → bucket_of (hash pair) (length links) ≡ bucket) → LeadsToKey eq s links key (head_at links bucket)
   LeadsToKey-hashed hash s links key bucket hashed same =
       let at = hashed.each bucket in record {
         chain = at.chain;
@@ -293,7 +293,7 @@ module _ {K V : Type 0} (eq : K → K → Bool) where
       bucket_if_key None none = absurd (cc)
       bucket_if_key (Some pair) is = ap Some (same pair is)
 
-  module _ (s : SlotState (Pair K V)) (links : List ChainLink) (key : K) (first : ℕ) (leads : LeadsToKey eq s links key first) where
+  module _ (s : SlotTableState (Pair K V)) (links : List ChainLink) (key : K) (first : ℕ) (leads : LeadsToKey eq s links key first) where
     pub LeadsToKey-held : first ≢ no_place → IsHeld s first
     LeadsToKey-held apart = leads.held first (on_chain-first links first leads.chain apart)
 
@@ -320,13 +320,13 @@ module _ {K V : Type 0} (eq : K → K → Bool) where
     LeadsToKey-shorter apart = let is = ap length (HasRest-from links first leads.chain apart).is in omega arith
 
     -- at the end no place has the key
-    pub LeadsToKey-end : first ≡ no_place → flat_entry eq s key ≡ None
-    LeadsToKey-end ended = go (flat_entry eq s key) refl
+    pub LeadsToKey-end : first ≡ no_place → map_entry eq s key ≡ None
+    LeadsToKey-end ended = go (map_entry eq s key) refl
       where
-        go : (found : Option (ℕ × Pair K V)) → flat_entry eq s key ≡ found → found ≡ None
+        go : (found : Option (ℕ × Pair K V)) → map_entry eq s key ≡ found → found ≡ None
         go None none = refl
         go (Some entry) some =
-            let is = IsEntry-flat_entry eq s key entry some in
+            let is = IsEntry-map_entry eq s key entry some in
             absurd (empty_chain links first leads.chain ended entry.0
             (leads.has entry.0 (ap (λ (content : Option (Pair K V)). option_map_or (λ pair. eq pair.key key) content false) is.at ∙ is.equal)))
 
@@ -337,13 +337,13 @@ IsBucket-none hash (link ∷ links) none = absurd (omega (arith, none))
 
 module _ {K V : Type 0} (eq : K → K → Bool) (hash : K → ℕ) (respects : (a b : K) → eq a b ≡ true → hash a ≡ hash b) where
   -- the bucket of a key is that of the equal key
-  pub IsBucket-equal : (s : SlotState (Pair K V)) (links : List ChainLink) (key : K) (number first : ℕ) → IsBucket (hash key) links number first → IfSome (flat_entry eq s key) (λ entry. IsBucket (hash entry.1.key) links number first)
-  IsBucket-equal s links key number first bucket = go (flat_entry eq s key) refl
+  pub IsBucket-equal : (s : SlotTableState (Pair K V)) (links : List ChainLink) (key : K) (number first : ℕ) → IsBucket (hash key) links number first → IfSome (map_entry eq s key) (λ entry. IsBucket (hash entry.1.key) links number first)
+  IsBucket-equal s links key number first bucket = go (map_entry eq s key) refl
     where
-      go : (found : Option (ℕ × Pair K V)) → flat_entry eq s key ≡ found → IfSome found (λ entry. IsBucket (hash entry.1.key) links number first)
+      go : (found : Option (ℕ × Pair K V)) → map_entry eq s key ≡ found → IfSome found (λ entry. IsBucket (hash entry.1.key) links number first)
       go None none = tt
       go (Some entry) some = record {
-        is = ap (λ (h : ℕ). bucket_of h (length links)) (respects entry.1.key key (IsEntry-flat_entry eq s key entry some).equal) ∙ bucket.is;
+        is = ap (λ (h : ℕ). bucket_of h (length links)) (respects entry.1.key key (IsEntry-map_entry eq s key entry some).equal) ∙ bucket.is;
         below = bucket.below;
         starts = bucket.starts;
       }

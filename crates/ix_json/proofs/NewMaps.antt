@@ -11,15 +11,15 @@ use Rattle.std.specs.List.Sorted.{IsStrictlySortedBy}
 use Rattle.std.specs.Map.{keys_of, lookup}
 use Rattle.std.specs.Ordering.{nat_cmp, match_ordering}
 use Rattle.std.specs.Prelude.{nat_eq, if◌then◌else◌, replicate, slice_set}
-use Rattle.ix_slottable.specs.SlotState.{entries_from, slot_new}
-use Rattle.ix_slottable.specs.SlotSteps.{keys_without}
-use Rattle.ix_flatmap.specs.FlatState.{HasDistinctKeys, flat_value, flat_item, flat_items}
-use Rattle.ix_flatmap.specs.FlatSteps.{flat_insert}
+use Rattle.ix_slottable.specs.SlotTableState.{entries_from, slot_table_new}
+use Rattle.ix_slottable.specs.SlotTableSteps.{keys_without}
+use Rattle.ix_flatmap.specs.MapState.{HasDistinctKeys, map_value, map_item, map_items}
+use Rattle.ix_flatmap.specs.MapSteps.{map_insert}
 use Rattle.ix_flatmap.specs.declared.flatmap.Pair.{Pair}
-use Rattle.ix_flatmap.proofs.FlatEntries.{lookup-flat_items}
-use Rattle.ix_flatmap.proofs.FlatSteps.{flat_insert-fresh}
+use Rattle.ix_flatmap.proofs.MapEntries.{lookup-map_items}
+use Rattle.ix_flatmap.proofs.MapSteps.{map_insert-fresh}
 use Rattle.ix_json.specs.JsonTree.{TextMap, HasSameEntries, map_with, by_key}
-use Rattle.ix_json.proofs.TextMaps.{same, tied_is, sorted_with, All-by_key, sorted-by_key, length-by_key, flat_entry-no_value, values-flat_items, apart_from_sorted}
+use Rattle.ix_json.proofs.TextMaps.{same, tied_is, sorted_with, All-by_key, sorted-by_key, length-by_key, map_entry-no_value, values-map_items, apart_from_sorted}
 
 module _ {V : Type 0} where
   -- the value of the first item with the key
@@ -42,12 +42,12 @@ module _ {V : Type 0} where
   no_entries start zero = refl
   no_entries start (suc n) = no_entries (start + 1) n
 
-  items_from : (start : ℕ) (items : List (List ℕ × V)) (n : ℕ) → map flat_item (entries_from start (map pair_at items ++ replicate n nothing)) ≡ items
-  items_from start [] n = ap (map flat_item) (no_entries start n)
+  items_from : (start : ℕ) (items : List (List ℕ × V)) (n : ℕ) → map map_item (entries_from start (map pair_at items ++ replicate n nothing)) ≡ items
+  items_from start [] n = ap (map map_item) (no_entries start n)
   items_from start (item ∷ items) n = ap (λ others. item ∷ others) (items_from (start + 1) items n)
 
-  flat_value-map_of : (items : List (List ℕ × V)) (n : ℕ) (key : List ℕ) → flat_value same (map_of items n) key ≡ value_of key items
-  flat_value-map_of items n key = sym (lookup-flat_items same (map_of items n) key) ∙ ap (value_of key) (items_from 0 items n)
+  map_value-map_of : (items : List (List ℕ × V)) (n : ℕ) (key : List ℕ) → map_value same (map_of items n) key ≡ value_of key items
+  map_value-map_of items n key = sym (lookup-map_items same (map_of items n) key) ∙ ap (value_of key) (items_from 0 items n)
 
   module _ (items : List (List ℕ × V)) (n : ℕ) (item : List ℕ × V) where
     values-inserted : slice_set (map pair_at items ++ nothing ∷ replicate n nothing) (length items) (pair_at item) ≡ map pair_at (items ++ item ∷ []) ++ replicate n nothing
@@ -64,9 +64,9 @@ module _ {V : Type 0} where
         ∙ ap (λ start. range_with_len start n) (sym (length-append items (item ∷ [])))
 
     -- a new key gets the first free place
-    flat_insert-map_of : value_of item.0 items ≡ None → flat_insert same (map_of items (suc n)) item.0 item.1 ≡ map_of (items ++ item ∷ []) n
-    flat_insert-map_of new =
-        flat_insert-fresh same (map_of items (suc n)) item.0 item.1 (flat_entry-no_value (map_of items (suc n)) item.0 (flat_value-map_of items (suc n) item.0 ∙ new))
+    map_insert-map_of : value_of item.0 items ≡ None → map_insert same (map_of items (suc n)) item.0 item.1 ≡ map_of (items ++ item ∷ []) n
+    map_insert-map_of new =
+        map_insert-fresh same (map_of items (suc n)) item.0 item.1 (map_entry-no_value (map_of items (suc n)) item.0 (map_value-map_of items (suc n) item.0 ∙ new))
         ∙ (λ i. record { values = values-inserted i; free = free-inserted i })
 
   -- no key of the second items is one of the first
@@ -91,14 +91,14 @@ module _ {V : Type 0} where
   AreNew-behind items item (other ∷ others) new apart = (value_of-behind items item other.0 new.0 apart.0, AreNew-behind items item others new.1 apart.1)
 
   -- the map that takes in sorted items has theirs behind its own
-  flat_value-map_with : (items others : List (List ℕ × V)) (n : ℕ) → length others ≤ n → AreNew items others → IsStrictlySortedBy (slice_cmp nat_cmp) (keys_of others) → (key : List ℕ)
-      → flat_value same (map_with (map_of items n) others) key ≡ value_of key (items ++ others)
+  map_value-map_with : (items others : List (List ℕ × V)) (n : ℕ) → length others ≤ n → AreNew items others → IsStrictlySortedBy (slice_cmp nat_cmp) (keys_of others) → (key : List ℕ)
+      → map_value same (map_with (map_of items n) others) key ≡ value_of key (items ++ others)
   unfolding IsStrictlySortedBy
-  flat_value-map_with items [] n fits new sorted key = flat_value-map_of items n key ∙ ap (value_of key) (sym (append-nil items))
-  flat_value-map_with items (other ∷ others) zero fits new sorted key = absurd (omega (arith, fits))
-  flat_value-map_with items (other ∷ others) (suc n) fits new sorted key =
-      ap (λ (t : TextMap V). flat_value same (map_with t others) key) (flat_insert-map_of items n other new.0)
-      ∙ flat_value-map_with (items ++ other ∷ []) others n (omega (arith, fits)) (AreNew-behind items other others new.1 (apart_from_sorted other.0 others sorted.0)) sorted.1 key
+  map_value-map_with items [] n fits new sorted key = map_value-map_of items n key ∙ ap (value_of key) (sym (append-nil items))
+  map_value-map_with items (other ∷ others) zero fits new sorted key = absurd (omega (arith, fits))
+  map_value-map_with items (other ∷ others) (suc n) fits new sorted key =
+      ap (λ (t : TextMap V). map_value same (map_with t others) key) (map_insert-map_of items n other new.0)
+      ∙ map_value-map_with (items ++ other ∷ []) others n (omega (arith, fits)) (AreNew-behind items other others new.1 (apart_from_sorted other.0 others sorted.0)) sorted.1 key
       ∙ ap (value_of key) (append_assoc items (other ∷ []) others)
 
   -- ---- the items in the order of their keys have the values of the map
@@ -133,26 +133,26 @@ module _ {V : Type 0} where
         (first.1, ap (λ b. cond b (Some item.1) (value_of key items)) first.0 ∙ rest.1)
 
     module _ (s : TextMap V) where
-      flat_value-found : (items : List (List ℕ × V)) → AllByRecursion (λ item. flat_value same s item.0 ≡ Some item.1) items → (value : V) → value_of key items ≡ Some value → flat_value same s key ≡ Some value
-      flat_value-found [] have value found = absurd (cc)
-      flat_value-found (item ∷ items) have value found = by (same item.0 key) refl (flat_value-found items have.1 value) found
+      map_value-found : (items : List (List ℕ × V)) → AllByRecursion (λ item. map_value same s item.0 ≡ Some item.1) items → (value : V) → value_of key items ≡ Some value → map_value same s key ≡ Some value
+      map_value-found [] have value found = absurd (cc)
+      map_value-found (item ∷ items) have value found = by (same item.0 key) refl (map_value-found items have.1 value) found
         where
-          by : (b : Bool) → same item.0 key ≡ b → (value_of key items ≡ Some value → flat_value same s key ≡ Some value) → cond b (Some item.1) (value_of key items) ≡ Some value → flat_value same s key ≡ Some value
-          by true is later found = ap (flat_value same s) (sym ((bytes_eq-Decides item.0 key).0 is)) ∙ have.0 ∙ found
+          by : (b : Bool) → same item.0 key ≡ b → (value_of key items ≡ Some value → map_value same s key ≡ Some value) → cond b (Some item.1) (value_of key items) ≡ Some value → map_value same s key ≡ Some value
+          by true is later found = ap (map_value same s) (sym ((bytes_eq-Decides item.0 key).0 is)) ∙ have.0 ∙ found
           by false is later found = later found
 
-      value_of-by_key : HasDistinctKeys same s → value_of key (by_key (flat_items s)) ≡ flat_value same s key
-      value_of-by_key distinct = go (value_of key (by_key (flat_items s))) refl
+      value_of-by_key : HasDistinctKeys same s → value_of key (by_key (map_items s)) ≡ map_value same s key
+      value_of-by_key distinct = go (value_of key (by_key (map_items s))) refl
         where
-          go : (found : Option V) → value_of key (by_key (flat_items s)) ≡ found → value_of key (by_key (flat_items s)) ≡ flat_value same s key
-          go None none = none ∙ sym (sym (lookup-flat_items same s key) ∙ (value_of-sorted_with [] (flat_items s) none).1)
+          go : (found : Option V) → value_of key (by_key (map_items s)) ≡ found → value_of key (by_key (map_items s)) ≡ map_value same s key
+          go None none = none ∙ sym (sym (lookup-map_items same s key) ∙ (value_of-sorted_with [] (map_items s) none).1)
           go (Some value) some =
-              let have = All-by_key (λ item. flat_value same s item.0 ≡ Some item.1) (flat_items s) (values-flat_items s distinct) in
-              some ∙ sym (flat_value-found (by_key (flat_items s)) have value some)
+              let have = All-by_key (λ item. map_value same s item.0 ≡ Some item.1) (map_items s) (values-map_items s distinct) in
+              some ∙ sym (map_value-found (by_key (map_items s)) have value some)
 
   -- a new map that takes in the items has the same entries
-  pub HasSameEntries-map_with : (s : TextMap V) → HasDistinctKeys same s → (capacity : ℕ) → length (flat_items s) ≤ capacity → HasSameEntries s (map_with (slot_new capacity) (by_key (flat_items s)))
+  pub HasSameEntries-map_with : (s : TextMap V) → HasDistinctKeys same s → (capacity : ℕ) → length (map_items s) ≤ capacity → HasSameEntries s (map_with (slot_table_new capacity) (by_key (map_items s)))
   HasSameEntries-map_with s distinct capacity fits key =
-      let fewer = length-by_key (flat_items s) in
-      flat_value-map_with [] (by_key (flat_items s)) capacity (omega arith) (AreNew-none (by_key (flat_items s))) (sorted-by_key (flat_items s)) key
+      let fewer = length-by_key (map_items s) in
+      map_value-map_with [] (by_key (map_items s)) capacity (omega arith) (AreNew-none (by_key (map_items s))) (sorted-by_key (map_items s)) key
       ∙ value_of-by_key key s distinct

@@ -16,14 +16,14 @@ use Rattle.serde_json.specs.Events.{members_len}
 use Rattle.serde_json.specs.Find.{as_object}
 use Rattle.serde_json.specs.View.{view}
 use Rattle.serde_json.specs.declared.value.Value.{Value}
-use Rattle.ix_slottable.specs.SlotState.{slot_new}
-use Rattle.ix_flatmap.specs.FlatState.{HasDistinctKeys, flat_entry, flat_value, flat_items}
+use Rattle.ix_slottable.specs.SlotTableState.{slot_table_new}
+use Rattle.ix_flatmap.specs.MapState.{HasDistinctKeys, map_entry, map_value, map_items}
 use Rattle.ix_json.specs.JsonTree.{TextMap, bytes_read, with_first, object_tree, with_key, members_read, object_read, new_key, map_with, object_filled, by_key, map_without, HasSameEntries}
 use Rattle.ix_json.specs.inner.Objects.{IsItemReadBack}
 use Rattle.ix_json.specs.declared.json.json_fault.JsonFault.{JsonFault}
 use Rattle.ix_json.specs.declared.json.json_fault.JsonFault.TheVariants.{WrongKind, InvalidContent, TooLong}
 use Rattle.ix_json.proofs.NewMaps.{HasSameEntries-map_with}
-use Rattle.ix_json.proofs.TextMaps.{same, sorted_with, All-by_key, sorted-by_key, length-by_key, gone-map_without, flat_entry-no_value, map_with-map_without, length-map_without, values-flat_items, flat_entry-slot_new, length-map_with, length-flat_items}
+use Rattle.ix_json.proofs.TextMaps.{same, sorted_with, All-by_key, sorted-by_key, length-by_key, gone-map_without, map_entry-no_value, map_with-map_without, length-map_without, values-map_items, map_entry-slot_table_new, length-map_with, length-map_items}
 
 module _ {V : Type 0} (tree_of : V → Data) where
   -- the members of sorted items
@@ -72,7 +72,7 @@ module _ {V : Type 0} (tree_of : V → Data) where
 
   module _ (key_capacity : ℕ) (read : Data → Result V JsonFault) where
     -- items whose keys a map has not are read as themselves
-    all_new : (s : TextMap V) (es : List (List ℕ × V)) → AllByRecursion (IsItemReadBack key_capacity tree_of read) es → AllByRecursion (λ e. flat_entry same s e.0 ≡ None) es
+    all_new : (s : TextMap V) (es : List (List ℕ × V)) → AllByRecursion (IsItemReadBack key_capacity tree_of read) es → AllByRecursion (λ e. map_entry same s e.0 ≡ None) es
         → AllByRecursion (λ e. (new_key s (bytes_read key_capacity e.0) ≡ Ok e.0) × (read (tree_of e.1) ≡ Ok e.1)) es
     all_new s [] back none = tt
     all_new s (e ∷ es) back none = (
@@ -80,55 +80,55 @@ module _ {V : Type 0} (tree_of : V → Data) where
       all_new s es back.1 none.1,
     )
 
-    all_absent : (s : TextMap V) (es : List (List ℕ × V)) → AllByRecursion (λ e. flat_value same s e.0 ≡ None) es → AllByRecursion (λ e. flat_entry same s e.0 ≡ None) es
+    all_absent : (s : TextMap V) (es : List (List ℕ × V)) → AllByRecursion (λ e. map_value same s e.0 ≡ None) es → AllByRecursion (λ e. map_entry same s e.0 ≡ None) es
     all_absent s [] none = tt
-    all_absent s (e ∷ es) none = (flat_entry-no_value s e.0 none.0, all_absent s es none.1)
+    all_absent s (e ∷ es) none = (map_entry-no_value s e.0 none.0, all_absent s es none.1)
 
-    all_absent-slot_new : (capacity : ℕ) (es : List (List ℕ × V)) → AllByRecursion (λ e. flat_entry same (let s : TextMap V = slot_new capacity in s) e.0 ≡ None) es
-    all_absent-slot_new capacity [] = tt
-    all_absent-slot_new capacity (e ∷ es) = (flat_entry-slot_new capacity e.0, all_absent-slot_new capacity es)
+    all_absent-slot_table_new : (capacity : ℕ) (es : List (List ℕ × V)) → AllByRecursion (λ e. map_entry same (let s : TextMap V = slot_table_new capacity in s) e.0 ≡ None) es
+    all_absent-slot_table_new capacity [] = tt
+    all_absent-slot_table_new capacity (e ∷ es) = (map_entry-slot_table_new capacity e.0, all_absent-slot_table_new capacity es)
 
-    module _ (s : TextMap V) (back : AllByRecursion (IsItemReadBack key_capacity tree_of read) (flat_items s)) where
+    module _ (s : TextMap V) (back : AllByRecursion (IsItemReadBack key_capacity tree_of read) (map_items s)) where
       -- the map without its items takes them in again
-      pub object_filled-map_without : HasDistinctKeys same s → object_filled key_capacity read (map_without s (by_key (flat_items s))) (object_tree tree_of (flat_items s)) ≡ Ok s
+      pub object_filled-map_without : HasDistinctKeys same s → object_filled key_capacity read (map_without s (by_key (map_items s))) (object_tree tree_of (map_items s)) ≡ Ok s
       object_filled-map_without distinct =
-          let items = by_key (flat_items s) in
+          let items = by_key (map_items s) in
           let empty = map_without s items in
-          let sorted = sorted-by_key (flat_items s) in
-          let values = All-by_key (λ item. flat_value same s item.0 ≡ Some item.1) (flat_items s) (values-flat_items s distinct) in
-          let new = all_new empty items (All-by_key (IsItemReadBack key_capacity tree_of read) (flat_items s) back) (all_absent empty items (gone-map_without s items distinct)) in
-          ap (result_map_both (map_with empty) (λ fault. fault)) (object_read-tree (λ key. new_key empty (bytes_read key_capacity key)) read (length empty.free) (flat_items s) (length-map_without s distinct items sorted values) new)
+          let sorted = sorted-by_key (map_items s) in
+          let values = All-by_key (λ item. map_value same s item.0 ≡ Some item.1) (map_items s) (values-map_items s distinct) in
+          let new = all_new empty items (All-by_key (IsItemReadBack key_capacity tree_of read) (map_items s) back) (all_absent empty items (gone-map_without s items distinct)) in
+          ap (result_map_both (map_with empty) (λ fault. fault)) (object_read-tree (λ key. new_key empty (bytes_read key_capacity key)) read (length empty.free) (map_items s) (length-map_without s distinct items sorted values) new)
           ∙ ap Ok (map_with-map_without s distinct items sorted values)
 
       -- a new map takes in the items in the order of their keys, if there is room for them
-      object_filled-new : (capacity : ℕ) → length (flat_items s) ≤ capacity → object_filled key_capacity read (slot_new capacity) (object_tree tree_of (flat_items s)) ≡ Ok (map_with (slot_new capacity) (by_key (flat_items s)))
+      object_filled-new : (capacity : ℕ) → length (map_items s) ≤ capacity → object_filled key_capacity read (slot_table_new capacity) (object_tree tree_of (map_items s)) ≡ Ok (map_with (slot_table_new capacity) (by_key (map_items s)))
       object_filled-new capacity fits =
-          let items = by_key (flat_items s) in
-          let empty : TextMap V = slot_new capacity in
-          let new = all_new empty items (All-by_key (IsItemReadBack key_capacity tree_of read) (flat_items s) back) (all_absent-slot_new capacity items) in
+          let items = by_key (map_items s) in
+          let empty : TextMap V = slot_table_new capacity in
+          let new = all_new empty items (All-by_key (IsItemReadBack key_capacity tree_of read) (map_items s) back) (all_absent-slot_table_new capacity items) in
           let free : length empty.free ≡ capacity = length-range_with_len 0 capacity in
-          let fewer = length-by_key (flat_items s) in
-          ap (result_map_both (map_with empty) (λ fault. fault)) (object_read-tree (λ key. new_key empty (bytes_read key_capacity key)) read (length empty.free) (flat_items s) (omega arith) new)
+          let fewer = length-by_key (map_items s) in
+          ap (result_map_both (map_with empty) (λ fault. fault)) (object_read-tree (λ key. new_key empty (bytes_read key_capacity key)) read (length empty.free) (map_items s) (omega arith) new)
 
       -- a map that a new one becomes by its items in the order of their keys is read back
-      pub object_filled-slot_new : (capacity : ℕ) → map_with (slot_new capacity) (by_key (flat_items s)) ≡ s → object_filled key_capacity read (slot_new capacity) (object_tree tree_of (flat_items s)) ≡ Ok s
-      object_filled-slot_new capacity is =
-          let empty : TextMap V = slot_new capacity in
-          let places : length s.values ≡ length empty.values = ap (λ (t : TextMap V). length t.values) (sym is) ∙ length-map_with empty (by_key (flat_items s)) in
+      pub object_filled-slot_table_new : (capacity : ℕ) → map_with (slot_table_new capacity) (by_key (map_items s)) ≡ s → object_filled key_capacity read (slot_table_new capacity) (object_tree tree_of (map_items s)) ≡ Ok s
+      object_filled-slot_table_new capacity is =
+          let empty : TextMap V = slot_table_new capacity in
+          let places : length s.values ≡ length empty.values = ap (λ (t : TextMap V). length t.values) (sym is) ∙ length-map_with empty (by_key (map_items s)) in
           let all_places : length empty.values ≡ capacity = length-replicate capacity None in
-          let few = length-flat_items s in
+          let few = length-map_items s in
           object_filled-new capacity (omega arith) ∙ ap Ok is
 
       -- whatever its places are, the new map has the same entries
-      pub object_filled-same_entries : HasDistinctKeys same s → (capacity : ℕ) → length (flat_items s) ≤ capacity
-          → IsOkAnd (object_filled key_capacity read (slot_new capacity) (object_tree tree_of (flat_items s))) (HasSameEntries s)
+      pub object_filled-same_entries : HasDistinctKeys same s → (capacity : ℕ) → length (map_items s) ≤ capacity
+          → IsOkAnd (object_filled key_capacity read (slot_table_new capacity) (object_tree tree_of (map_items s))) (HasSameEntries s)
       object_filled-same_entries distinct capacity fits =
           subst (λ r. IsOkAnd r (HasSameEntries s)) (sym (object_filled-new capacity fits)) (HasSameEntries-map_with s distinct capacity fits)
 
       -- the same where the number of places is that of the new map
       pub object_filled-same_places : HasDistinctKeys same s → (capacity : ℕ) → length s.values ≡ capacity
-          → IsOkAnd (object_filled key_capacity read (slot_new capacity) (object_tree tree_of (flat_items s))) (HasSameEntries s)
-      object_filled-same_places distinct capacity is = let few = length-flat_items s in object_filled-same_entries distinct capacity (omega arith)
+          → IsOkAnd (object_filled key_capacity read (slot_table_new capacity) (object_tree tree_of (map_items s))) (HasSameEntries s)
+      object_filled-same_places distinct capacity is = let few = length-map_items s in object_filled-same_entries distinct capacity (omega arith)
 
 -- ---- members that are read in turn
 
@@ -170,7 +170,7 @@ module _ {V : Type 0} (s : TextMap V) where
 
   new_key-old : (read_key : Result (List ℕ) JsonFault) (key : List ℕ) → new_key s read_key ≡ Ok key → read_key ≡ Ok key
   new_key-old (Err fault) key is = absurd (cc)
-  new_key-old (Ok other) key is = by (is_some (flat_entry same s other)) is
+  new_key-old (Ok other) key is = by (is_some (map_entry same s other)) is
     where
       by : (has : Bool) → tested has other ≡ Ok key → tested false other ≡ Ok key
       by true is = absurd (cc)
@@ -222,9 +222,9 @@ module _ {V : Type 0} (read_key : List ℕ → Result (List ℕ) JsonFault) (rea
       by (Err found) is = let same_fault : fault ≡ found = cc in ap Err (sym same_fault)
 
 -- in a new map each key is new
-pub new_key-slot_new : (V : Type 0) (capacity : ℕ) (key : Result (List ℕ) JsonFault) → new_key (let s : TextMap V = slot_new capacity in s) key ≡ key
-new_key-slot_new V capacity (Ok key) = ap (λ found. if is_some found then Err InvalidContent else Ok key) (flat_entry-slot_new capacity key)
-new_key-slot_new V capacity (Err fault) = refl
+pub new_key-slot_table_new : (V : Type 0) (capacity : ℕ) (key : Result (List ℕ) JsonFault) → new_key (let s : TextMap V = slot_table_new capacity in s) key ≡ key
+new_key-slot_table_new V capacity (Ok key) = ap (λ found. if is_some found then Err InvalidContent else Ok key) (map_entry-slot_table_new capacity key)
+new_key-slot_table_new V capacity (Err fault) = refl
 
 -- what holds of the tree holds of a value that has it
 pub read_back-IfOk : {X : Type 0} (read : Data → Result X JsonFault) (tree : Data) (x : X) (result : Result Value JsonFault) → IfOk result (λ value. view value ≡ tree) → (IsOk result → read tree ≡ Ok x) → IfOk result (λ value. read (view value) ≡ Ok x)
@@ -251,18 +251,18 @@ module _ {V : Type 0} (key_capacity : ℕ) (read : Data → Result V JsonFault) 
       ∙ ap (λ b. result_map_both (map_with s) (λ fault. fault) (if b then members_read (λ key. new_key s (bytes_read key_capacity key)) read members else Err TooLong)) (le-leb _ _ fits)
 
 module _ {V : Type 0} (key_capacity : ℕ) (read : Data → Result V JsonFault) (capacity : ℕ) (tree : Data) (members : Members) (found : Some members ≡ as_object tree) where
-  pub object_filled-too_long_for_new : capacity < members_len members → object_filled key_capacity read (slot_new capacity) tree ≡ Err TooLong
+  pub object_filled-too_long_for_new : capacity < members_len members → object_filled key_capacity read (slot_table_new capacity) tree ≡ Err TooLong
   object_filled-too_long_for_new more =
       let free = length-range_with_len 0 capacity in
-      object_filled-too_long key_capacity read (slot_new capacity) tree members found (omega arith)
+      object_filled-too_long key_capacity read (slot_table_new capacity) tree members found (omega arith)
 
   -- a new map takes in whatever members are read as
-  pub object_filled-members_for_new : (new : TextMap V) → new ≡ slot_new capacity → members_len members ≤ capacity → object_filled key_capacity read (slot_new capacity) tree ≡ members_make (bytes_read key_capacity) read (map_with new) members
+  pub object_filled-members_for_new : (new : TextMap V) → new ≡ slot_table_new capacity → members_len members ≤ capacity → object_filled key_capacity read (slot_table_new capacity) tree ≡ members_make (bytes_read key_capacity) read (map_with new) members
   object_filled-members_for_new new is fits =
       let free = length-range_with_len 0 capacity in
-      let keys : (λ (key : List ℕ). new_key (let s : TextMap V = slot_new capacity in s) (bytes_read key_capacity key)) ≡ bytes_read key_capacity = λ i key. new_key-slot_new V capacity (bytes_read key_capacity key) i in
-      object_filled-members key_capacity read (slot_new capacity) tree members found (omega arith)
-      ∙ ap (λ read_key. members_make read_key read (map_with (slot_new capacity)) members) keys
+      let keys : (λ (key : List ℕ). new_key (let s : TextMap V = slot_table_new capacity in s) (bytes_read key_capacity key)) ≡ bytes_read key_capacity = λ i key. new_key-slot_table_new V capacity (bytes_read key_capacity key) i in
+      object_filled-members key_capacity read (slot_table_new capacity) tree members found (omega arith)
+      ∙ ap (λ read_key. members_make read_key read (map_with (slot_table_new capacity)) members) keys
       ∙ ap (λ t. members_make (bytes_read key_capacity) read (map_with t) members) (sym is)
 
 module _ {X Y : Type 0} (result : Result Y JsonFault) (made : Result X JsonFault) where

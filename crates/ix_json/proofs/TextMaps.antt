@@ -17,69 +17,69 @@ use Rattle.std.specs.Ordering.{is_eq, nat_cmp, match_ordering, ordering_reverse}
 use Rattle.std.specs.Prelude.{◌==◌, nat_eq, if◌then◌else◌, is_some, option_map, slice_get}
 use Rattle.ix_tables.specs.Places.{place_at}
 use Rattle.ix_tables.proofs.Places.{place_at_within}
-use Rattle.ix_slottable.specs.SlotState.{SlotState, value_at, entries_from, slot_new}
-use Rattle.ix_slottable.specs.SlotSteps.{slot_vacate, slot_fill, slot_insert, keys_without, SlotRemove}
-use Rattle.ix_flatmap.specs.FlatState.{HasDistinctKeys, flat_entry, flat_value, flat_item, flat_items}
-use Rattle.ix_flatmap.specs.FlatSteps.{flat_insert, flat_remove}
+use Rattle.ix_slottable.specs.SlotTableState.{SlotTableState, value_at, entries_from, slot_table_new}
+use Rattle.ix_slottable.specs.SlotTableSteps.{slot_table_vacate, slot_table_fill, slot_table_insert, keys_without, SlotTableRemove}
+use Rattle.ix_flatmap.specs.MapState.{HasDistinctKeys, map_entry, map_value, map_item, map_items}
+use Rattle.ix_flatmap.specs.MapSteps.{map_insert, map_remove}
 use Rattle.ix_flatmap.specs.declared.flatmap.Pair.{Pair}
-use Rattle.ix_flatmap.proofs.FlatEntries.{IsEntry-flat_entry, flat_entry-absent, flat_value-IsEntry}
-use Rattle.ix_flatmap.proofs.FlatSteps.{HasDistinctKeys-removed, flat_value-removed, flat_value-removed_other}
+use Rattle.ix_flatmap.proofs.MapEntries.{IsEntry-map_entry, map_entry-absent, map_value-IsEntry}
+use Rattle.ix_flatmap.proofs.MapSteps.{HasDistinctKeys-removed, map_value-removed, map_value-removed_other}
 use Rattle.ix_tables.proofs.VacantTables.{place_at-replicate}
 use Rattle.ix_json.specs.JsonTree.{TextMap, map_with, by_key, map_without}
 
 module _ {K V : Type 0} (eq : K → K → Bool) (laws : IsEquivalence eq) where
-  SlotRemove-vacated : (s : SlotState (Pair K V)) (place : ℕ) (pair : Pair K V) → value_at s place ≡ Some pair → SlotRemove s place (slot_vacate s place) (Some pair)
-  SlotRemove-vacated s place pair at = record {
+  SlotTableRemove-vacated : (s : SlotTableState (Pair K V)) (place : ℕ) (pair : Pair K V) → value_at s place ≡ Some pair → SlotTableRemove s place (slot_table_vacate s place) (Some pair)
+  SlotTableRemove-vacated s place pair at = record {
     value = sym at;
-    map = sym (ap (λ content. if is_some content then slot_vacate s place else s) at);
+    map = sym (ap (λ content. if is_some content then slot_table_vacate s place else s) at);
     gone = get_or-set_same s.values place None None (place_at_within s.values place pair at);
     refused = λ none. absurd (cc);
     kept = λ other apart. get_or-set_other s.values place other None None apart;
   }
 
   -- what is left of a map without a key
-  record IsWithout (s : SlotState (Pair K V)) (key : K) (new : SlotState (Pair K V)) : Type 0 where
+  record IsWithout (s : SlotTableState (Pair K V)) (key : K) (new : SlotTableState (Pair K V)) : Type 0 where
     distinct : HasDistinctKeys eq new
-    gone : flat_value eq new key ≡ None
-    kept : (other : K) → eq other key ≡ false → flat_value eq new other ≡ flat_value eq s other
+    gone : map_value eq new key ≡ None
+    kept : (other : K) → eq other key ≡ false → map_value eq new other ≡ map_value eq s other
 
-  module _ (s : SlotState (Pair K V)) (key : K) (distinct : HasDistinctKeys eq s) where
-    flat_remove-found : (found : Option (ℕ × Pair K V)) → flat_entry eq s key ≡ found → flat_remove eq s key ≡ option_map_or (λ (entry : ℕ × Pair K V). slot_vacate s entry.0) found s
-    flat_remove-found found is = ap (λ found. option_map_or (λ (entry : ℕ × Pair K V). slot_vacate s entry.0) found s) is
+  module _ (s : SlotTableState (Pair K V)) (key : K) (distinct : HasDistinctKeys eq s) where
+    map_remove-found : (found : Option (ℕ × Pair K V)) → map_entry eq s key ≡ found → map_remove eq s key ≡ option_map_or (λ (entry : ℕ × Pair K V). slot_table_vacate s entry.0) found s
+    map_remove-found found is = ap (λ found. option_map_or (λ (entry : ℕ × Pair K V). slot_table_vacate s entry.0) found s) is
 
-    IsWithout-flat_remove : IsWithout s key (flat_remove eq s key)
-    IsWithout-flat_remove = go (flat_entry eq s key) refl
+    IsWithout-map_remove : IsWithout s key (map_remove eq s key)
+    IsWithout-map_remove = go (map_entry eq s key) refl
       where
-        go : (found : Option (ℕ × Pair K V)) → flat_entry eq s key ≡ found → IsWithout s key (flat_remove eq s key)
-        go None none = subst (IsWithout s key) (sym (flat_remove-found None none)) (record {
+        go : (found : Option (ℕ × Pair K V)) → map_entry eq s key ≡ found → IsWithout s key (map_remove eq s key)
+        go None none = subst (IsWithout s key) (sym (map_remove-found None none)) (record {
           distinct = distinct;
           gone = ap (option_map (λ (e : ℕ × Pair K V). e.1.value)) none;
           kept = λ other differs. refl;
         })
         go (Some entry) some =
-            let left = slot_vacate s entry.0 in
-            let step = SlotRemove-vacated s entry.0 entry.1 (IsEntry-flat_entry eq s key entry some).at in
-            let has : Some entry.0 ≡ option_map (λ (e : ℕ × Pair K V). e.0) (flat_entry eq s key) = sym (ap (option_map (λ (e : ℕ × Pair K V). e.0)) some) in
-            subst (IsWithout s key) (sym (flat_remove-found (Some entry) some)) (record {
+            let left = slot_table_vacate s entry.0 in
+            let step = SlotTableRemove-vacated s entry.0 entry.1 (IsEntry-map_entry eq s key entry some).at in
+            let has : Some entry.0 ≡ option_map (λ (e : ℕ × Pair K V). e.0) (map_entry eq s key) = sym (ap (option_map (λ (e : ℕ × Pair K V). e.0)) some) in
+            subst (IsWithout s key) (sym (map_remove-found (Some entry) some)) (record {
               distinct = HasDistinctKeys-removed eq laws s left key entry.0 entry.1 has step distinct;
-              gone = flat_value-removed eq laws s left key entry.0 entry.1 has step distinct;
-              kept = λ other differs. flat_value-removed_other eq laws s left key entry.0 entry.1 has step distinct other differs;
+              gone = map_value-removed eq laws s left key entry.0 entry.1 has step distinct;
+              kept = λ other differs. map_value-removed_other eq laws s left key entry.0 entry.1 has step distinct other differs;
             })
 
     -- a key that was removed is inserted again with its value: the map is what it was
-    flat_insert-again : (value : V) (place : ℕ) → flat_entry eq s key ≡ Some (place, record { key = key; value = value }) → flat_insert eq (flat_remove eq s key) key value ≡ s
-    flat_insert-again value place found =
+    map_insert-again : (value : V) (place : ℕ) → map_entry eq s key ≡ Some (place, record { key = key; value = value }) → map_insert eq (map_remove eq s key) key value ≡ s
+    map_insert-again value place found =
         let pair : Pair K V = record { key = key; value = value } in
-        let left = slot_vacate s place in
-        let is : flat_remove eq s key ≡ left = flat_remove-found (Some (place, pair)) found in
-        let none : flat_entry eq left key ≡ None =
-        flat_entry-absent eq left key (λ some. let no = subst IsSome (ap (λ t. flat_value eq t key) (sym is) ∙ IsWithout-flat_remove.gone) some in cc) in
-        let at = (IsEntry-flat_entry eq s key (place, pair) found).at in
+        let left = slot_table_vacate s place in
+        let is : map_remove eq s key ≡ left = map_remove-found (Some (place, pair)) found in
+        let none : map_entry eq left key ≡ None =
+        map_entry-absent eq left key (λ some. let no = subst IsSome (ap (λ t. map_value eq t key) (sym is) ∙ IsWithout-map_remove.gone) some in cc) in
+        let at = (IsEntry-map_entry eq s key (place, pair) found).at in
         let values = set-set s.values place None (Some pair) ∙ ap (set s.values place) (sym at) ∙ set-get_or s.values place None in
         let yes : nat_eq place place ≡ true = grind (arith, nat_tests) in
         let free = ap (λ b. if b then s.free else place ∷ keys_without place s.free) yes in
-        ap (λ t. flat_insert eq t key value) is
-        ∙ ap (λ found. if is_some found then left else slot_insert left pair) none
+        ap (λ t. map_insert eq t key value) is
+        ∙ ap (λ found. if is_some found then left else slot_table_insert left pair) none
         ∙ (λ i. record { values = values i; free = free i })
 
 abbrev pub same : List ℕ → List ℕ → Bool
@@ -172,116 +172,116 @@ module _ {V : Type 0} where
   HasDistinctKeys-map_without : (s : TextMap V) (items : List (List ℕ × V)) → HasDistinctKeys same s → HasDistinctKeys same (map_without s items)
   HasDistinctKeys-map_without s [] distinct = distinct
   HasDistinctKeys-map_without s (item ∷ items) distinct =
-      (IsWithout-flat_remove same nat_list_eq_equiv (map_without s items) item.0 (HasDistinctKeys-map_without s items distinct)).distinct
+      (IsWithout-map_remove same nat_list_eq_equiv (map_without s items) item.0 (HasDistinctKeys-map_without s items distinct)).distinct
 
   pub apart_from_sorted : (key : List ℕ) (items : List (List ℕ × V)) → AllByRecursion (λ y. slice_cmp nat_cmp key y ≡ Less) (keys_of items) → AllByRecursion (λ item. same key item.0 ≡ false) items
   apart_from_sorted key [] below = tt
   apart_from_sorted key (item ∷ items) below = (sym (is_eq-slice_cmp key item.0) ∙ ap is_eq below.0, apart_from_sorted key items below.1)
 
   -- a key that is not among the items keeps its value
-  flat_value-map_without_other : (s : TextMap V) (items : List (List ℕ × V)) (key : List ℕ) → HasDistinctKeys same s → AllByRecursion (λ item. same key item.0 ≡ false) items → flat_value same (map_without s items) key ≡ flat_value same s key
-  flat_value-map_without_other s [] key distinct apart = refl
-  flat_value-map_without_other s (item ∷ items) key distinct apart =
-      (IsWithout-flat_remove same nat_list_eq_equiv (map_without s items) item.0 (HasDistinctKeys-map_without s items distinct)).kept key apart.0
-      ∙ flat_value-map_without_other s items key distinct apart.1
+  map_value-map_without_other : (s : TextMap V) (items : List (List ℕ × V)) (key : List ℕ) → HasDistinctKeys same s → AllByRecursion (λ item. same key item.0 ≡ false) items → map_value same (map_without s items) key ≡ map_value same s key
+  map_value-map_without_other s [] key distinct apart = refl
+  map_value-map_without_other s (item ∷ items) key distinct apart =
+      (IsWithout-map_remove same nat_list_eq_equiv (map_without s items) item.0 (HasDistinctKeys-map_without s items distinct)).kept key apart.0
+      ∙ map_value-map_without_other s items key distinct apart.1
 
   -- a key that has no value has none after another is removed
-  none_stays : (s : TextMap V) (key other : List ℕ) → HasDistinctKeys same s → flat_value same s other ≡ None → flat_value same (flat_remove same s key) other ≡ None
+  none_stays : (s : TextMap V) (key other : List ℕ) → HasDistinctKeys same s → map_value same s other ≡ None → map_value same (map_remove same s key) other ≡ None
   none_stays s key other distinct none = elim (cases_Bool (same other key)) [
-    | inl equal ↦ ap (flat_value same (flat_remove same s key)) ((bytes_eq-Decides other key).0 equal) ∙ (IsWithout-flat_remove same nat_list_eq_equiv s key distinct).gone
-    | inr apart ↦ (IsWithout-flat_remove same nat_list_eq_equiv s key distinct).kept other apart ∙ none
+    | inl equal ↦ ap (map_value same (map_remove same s key)) ((bytes_eq-Decides other key).0 equal) ∙ (IsWithout-map_remove same nat_list_eq_equiv s key distinct).gone
+    | inr apart ↦ (IsWithout-map_remove same nat_list_eq_equiv s key distinct).kept other apart ∙ none
   ]
 
-  all_stay : (s : TextMap V) (key : List ℕ) (items : List (List ℕ × V)) → HasDistinctKeys same s → AllByRecursion (λ item. flat_value same s item.0 ≡ None) items → AllByRecursion (λ item. flat_value same (flat_remove same s key) item.0 ≡ None) items
+  all_stay : (s : TextMap V) (key : List ℕ) (items : List (List ℕ × V)) → HasDistinctKeys same s → AllByRecursion (λ item. map_value same s item.0 ≡ None) items → AllByRecursion (λ item. map_value same (map_remove same s key) item.0 ≡ None) items
   all_stay s key [] distinct none = tt
   all_stay s key (item ∷ items) distinct none = (none_stays s key item.0 distinct none.0, all_stay s key items distinct none.1)
 
   -- no item is left
-  pub gone-map_without : (s : TextMap V) (items : List (List ℕ × V)) → HasDistinctKeys same s → AllByRecursion (λ item. flat_value same (map_without s items) item.0 ≡ None) items
+  pub gone-map_without : (s : TextMap V) (items : List (List ℕ × V)) → HasDistinctKeys same s → AllByRecursion (λ item. map_value same (map_without s items) item.0 ≡ None) items
   gone-map_without s [] distinct = tt
   gone-map_without s (item ∷ items) distinct =
       let rest = HasDistinctKeys-map_without s items distinct in
-      ((IsWithout-flat_remove same nat_list_eq_equiv (map_without s items) item.0 rest).gone, all_stay (map_without s items) item.0 items rest (gone-map_without s items distinct))
+      ((IsWithout-map_remove same nat_list_eq_equiv (map_without s items) item.0 rest).gone, all_stay (map_without s items) item.0 items rest (gone-map_without s items distinct))
 
-  pub flat_entry-no_value : (s : TextMap V) (key : List ℕ) → flat_value same s key ≡ None → flat_entry same s key ≡ None
-  flat_entry-no_value s key none = flat_entry-absent same s key (λ some. let no = subst IsSome none some in cc)
+  pub map_entry-no_value : (s : TextMap V) (key : List ℕ) → map_value same s key ≡ None → map_entry same s key ≡ None
+  map_entry-no_value s key none = map_entry-absent same s key (λ some. let no = subst IsSome none some in cc)
 
   -- the place of a key that has a value
-  entry_of : (s : TextMap V) (key : List ℕ) (value : V) → flat_value same s key ≡ Some value → (place : ℕ) × (flat_entry same s key ≡ Some (place, record { key = key; value = value }))
-  entry_of s key value has = go (flat_entry same s key) refl has
+  entry_of : (s : TextMap V) (key : List ℕ) (value : V) → map_value same s key ≡ Some value → (place : ℕ) × (map_entry same s key ≡ Some (place, record { key = key; value = value }))
+  entry_of s key value has = go (map_entry same s key) refl has
     where
-      go : (found : Option (ℕ × Pair (List ℕ) V)) → flat_entry same s key ≡ found → option_map (λ (e : ℕ × Pair (List ℕ) V). e.1.value) found ≡ Some value → (place : ℕ) × (flat_entry same s key ≡ Some (place, record { key = key; value = value }))
+      go : (found : Option (ℕ × Pair (List ℕ) V)) → map_entry same s key ≡ found → option_map (λ (e : ℕ × Pair (List ℕ) V). e.1.value) found ≡ Some value → (place : ℕ) × (map_entry same s key ≡ Some (place, record { key = key; value = value }))
       go None none has = absurd (cc)
       go (Some entry) some has =
           let value_is : entry.1.value ≡ value = cc in
-          let key_is : entry.1.key ≡ key = (bytes_eq-Decides entry.1.key key).0 (IsEntry-flat_entry same s key entry some).equal in
+          let key_is : entry.1.key ≡ key = (bytes_eq-Decides entry.1.key key).0 (IsEntry-map_entry same s key entry some).equal in
           (entry.0, some ∙ (λ i. Some (entry.0, record { key = key_is i; value = value_is i })))
 
   module _ (s : TextMap V) (distinct : HasDistinctKeys same s) where
     -- the place of an item in the map without those after it
-    item_entry : (item : List ℕ × V) (items : List (List ℕ × V)) → AllByRecursion (λ y. slice_cmp nat_cmp item.0 y ≡ Less) (keys_of items) → flat_value same s item.0 ≡ Some item.1
-        → (place : ℕ) × (flat_entry same (map_without s items) item.0 ≡ Some (place, record { key = item.0; value = item.1 }))
+    item_entry : (item : List ℕ × V) (items : List (List ℕ × V)) → AllByRecursion (λ y. slice_cmp nat_cmp item.0 y ≡ Less) (keys_of items) → map_value same s item.0 ≡ Some item.1
+        → (place : ℕ) × (map_entry same (map_without s items) item.0 ≡ Some (place, record { key = item.0; value = item.1 }))
     item_entry item items below has =
-        entry_of (map_without s items) item.0 item.1 (flat_value-map_without_other s items item.0 distinct (apart_from_sorted item.0 items below) ∙ has)
+        entry_of (map_without s items) item.0 item.1 (map_value-map_without_other s items item.0 distinct (apart_from_sorted item.0 items below) ∙ has)
 
     -- the items are put back where they were
-    pub map_with-map_without : (items : List (List ℕ × V)) → IsStrictlySortedBy (slice_cmp nat_cmp) (keys_of items) → AllByRecursion (λ item. flat_value same s item.0 ≡ Some item.1) items → map_with (map_without s items) items ≡ s
+    pub map_with-map_without : (items : List (List ℕ × V)) → IsStrictlySortedBy (slice_cmp nat_cmp) (keys_of items) → AllByRecursion (λ item. map_value same s item.0 ≡ Some item.1) items → map_with (map_without s items) items ≡ s
     unfolding IsStrictlySortedBy
     map_with-map_without [] sorted have = refl
     map_with-map_without (item ∷ items) sorted have =
         let entry = item_entry item items sorted.0 have.0 in
-        ap (λ t. map_with t items) (flat_insert-again same nat_list_eq_equiv (map_without s items) item.0 (HasDistinctKeys-map_without s items distinct) item.1 entry.0 entry.1)
+        ap (λ t. map_with t items) (map_insert-again same nat_list_eq_equiv (map_without s items) item.0 (HasDistinctKeys-map_without s items distinct) item.1 entry.0 entry.1)
         ∙ map_with-map_without items sorted.1 have.1
 
     -- there is room for them
-    pub length-map_without : (items : List (List ℕ × V)) → IsStrictlySortedBy (slice_cmp nat_cmp) (keys_of items) → AllByRecursion (λ item. flat_value same s item.0 ≡ Some item.1) items → length items ≤ length (map_without s items).free
+    pub length-map_without : (items : List (List ℕ × V)) → IsStrictlySortedBy (slice_cmp nat_cmp) (keys_of items) → AllByRecursion (λ item. map_value same s item.0 ≡ Some item.1) items → length items ≤ length (map_without s items).free
     unfolding IsStrictlySortedBy
     length-map_without [] sorted have = omega arith
     length-map_without (item ∷ items) sorted have =
         let rest = map_without s items in
         let entry = item_entry item items sorted.0 have.0 in
-        let longer : length (flat_remove same rest item.0).free ≡ suc (length rest.free) =
-        ap (λ (t : TextMap V). length t.free) (flat_remove-found same nat_list_eq_equiv rest item.0 (HasDistinctKeys-map_without s items distinct) _ entry.1) in
+        let longer : length (map_remove same rest item.0).free ≡ suc (length rest.free) =
+        ap (λ (t : TextMap V). length t.free) (map_remove-found same nat_list_eq_equiv rest item.0 (HasDistinctKeys-map_without s items distinct) _ entry.1) in
         let fits = length-map_without items sorted.1 have.1 in omega arith
 
-    values_from : (start : ℕ) (places : List (Option (Pair (List ℕ) V))) → ((i : ℕ) (pair : Pair (List ℕ) V) → place_at places i ≡ Some pair → flat_value same s pair.key ≡ Some pair.value)
-        → AllByRecursion (λ item. flat_value same s item.0 ≡ Some item.1) (map flat_item (entries_from start places))
+    values_from : (start : ℕ) (places : List (Option (Pair (List ℕ) V))) → ((i : ℕ) (pair : Pair (List ℕ) V) → place_at places i ≡ Some pair → map_value same s pair.key ≡ Some pair.value)
+        → AllByRecursion (λ item. map_value same s item.0 ≡ Some item.1) (map map_item (entries_from start places))
     values_from start [] each = tt
     values_from start (None ∷ places) each = values_from (start + 1) places (λ i. each (suc i))
     values_from start (Some pair ∷ places) each = (each 0 pair refl, values_from (start + 1) places (λ i. each (suc i)))
 
     -- each item has its value
-    pub values-flat_items : AllByRecursion (λ item. flat_value same s item.0 ≡ Some item.1) (flat_items s)
-    values-flat_items = values_from 0 s.values (λ i pair at. flat_value-IsEntry same nat_list_eq_equiv s pair.key i pair distinct at (nat_list_eq_equiv.refl pair.key))
+    pub values-map_items : AllByRecursion (λ item. map_value same s item.0 ≡ Some item.1) (map_items s)
+    values-map_items = values_from 0 s.values (λ i pair at. map_value-IsEntry same nat_list_eq_equiv s pair.key i pair distinct at (nat_list_eq_equiv.refl pair.key))
 
   -- ---- a new map
 
-  pub flat_entry-slot_new : (capacity : ℕ) (key : List ℕ) → flat_entry same (let s : TextMap V = slot_new capacity in s) key ≡ None
-  flat_entry-slot_new capacity key = go (flat_entry same new key) refl
+  pub map_entry-slot_table_new : (capacity : ℕ) (key : List ℕ) → map_entry same (let s : TextMap V = slot_table_new capacity in s) key ≡ None
+  map_entry-slot_table_new capacity key = go (map_entry same new key) refl
     where
       new : TextMap V
-      new = slot_new capacity
+      new = slot_table_new capacity
 
-      go : (found : Option (ℕ × Pair (List ℕ) V)) → flat_entry same new key ≡ found → flat_entry same new key ≡ None
+      go : (found : Option (ℕ × Pair (List ℕ) V)) → map_entry same new key ≡ found → map_entry same new key ≡ None
       go None none = none
-      go (Some entry) some = absurd (let clash : Some entry.1 ≡ None = sym (IsEntry-flat_entry same new key entry some).at ∙ place_at-replicate capacity entry.0 in cc)
+      go (Some entry) some = absurd (let clash : Some entry.1 ≡ None = sym (IsEntry-map_entry same new key entry some).at ∙ place_at-replicate capacity entry.0 in cc)
 
-  length-flat_insert : (s : TextMap V) (key : List ℕ) (value : V) → length (flat_insert same s key value).values ≡ length s.values
-  length-flat_insert s key value = go (is_some (flat_entry same s key)) (slice_get s.free 0)
+  length-map_insert : (s : TextMap V) (key : List ℕ) (value : V) → length (map_insert same s key value).values ≡ length s.values
+  length-map_insert s key value = go (is_some (map_entry same s key)) (slice_get s.free 0)
     where
-      go : (has : Bool) (first : Option ℕ) → length (if has then s else option_map_or (λ place. slot_fill s place (record { key = key; value = value })) first s).values ≡ length s.values
+      go : (has : Bool) (first : Option ℕ) → length (if has then s else option_map_or (λ place. slot_table_fill s place (record { key = key; value = value })) first s).values ≡ length s.values
       go true first = refl
       go false None = refl
       go false (Some place) = length-set s.values place (Some (record { key = key; value = value }))
 
   pub length-map_with : (s : TextMap V) (items : List (List ℕ × V)) → length (map_with s items).values ≡ length s.values
   length-map_with s [] = refl
-  length-map_with s (item ∷ items) = length-map_with (flat_insert same s item.0 item.1) items ∙ length-flat_insert s item.0 item.1
+  length-map_with s (item ∷ items) = length-map_with (map_insert same s item.0 item.1) items ∙ length-map_insert s item.0 item.1
 
-  length-items_from : (start : ℕ) (places : List (Option (Pair (List ℕ) V))) → length (map flat_item (entries_from start places)) ≤ length places
+  length-items_from : (start : ℕ) (places : List (Option (Pair (List ℕ) V))) → length (map map_item (entries_from start places)) ≤ length places
   length-items_from start [] = omega arith
   length-items_from start (None ∷ places) = let rest = length-items_from (start + 1) places in omega arith
   length-items_from start (Some pair ∷ places) = let rest = length-items_from (start + 1) places in omega arith
 
-  pub length-flat_items : (s : TextMap V) → length (flat_items s) ≤ length s.values
-  length-flat_items s = length-items_from 0 s.values
+  pub length-map_items : (s : TextMap V) → length (map_items s) ≤ length s.values
+  length-map_items s = length-items_from 0 s.values

@@ -11,9 +11,9 @@ use Rattle.serde_json.specs.Events.{items_len, members_len}
 use Rattle.serde_json.specs.Find.{as_null, as_bool, as_number, as_str, as_array, as_object, as_u64, as_i64, of_integer}
 use Rattle.serde_json.specs.View.{items_of}
 use Rattle.ix_tables.specs.Bounded.{Bounded, with_items}
-use Rattle.ix_flatmap.specs.FlatState.{flat_entry, flat_value}
-use Rattle.ix_flatmap.specs.FlatSteps.{flat_insert, flat_remove}
-use Rattle.ix_slottable.specs.SlotState.{SlotState}
+use Rattle.ix_flatmap.specs.MapState.{map_entry, map_value}
+use Rattle.ix_flatmap.specs.MapSteps.{map_insert, map_remove}
+use Rattle.ix_slottable.specs.SlotTableState.{SlotTableState}
 use Rattle.ix_flatmap.specs.declared.flatmap.Pair.{Pair}
 use Rattle.ix_string.specs.Text.{is_text}
 use Rattle.ix_semantic_string.specs.Rules.{TextRules}
@@ -119,7 +119,7 @@ module _ {T : Type 0} where
 
 -- a flat map from texts to values
 abbrev pub TextMap : Type 0 → Type 0
-TextMap V = SlotState (Pair (List ℕ) V)
+TextMap V = SlotTableState (Pair (List ℕ) V)
 
 module _ {V : Type 0} where
   -- the members that these items are, each put at its key
@@ -148,12 +148,12 @@ module _ {V : Type 0} where
 
   -- the key that was read, if the map has no equal one
   abbrev pub new_key : TextMap V → Result (List ℕ) JsonFault → Result (List ℕ) JsonFault
-  new_key s (Ok key) = if is_some (flat_entry (pointwise ◌==◌) s key) then Err InvalidContent else Ok key
+  new_key s (Ok key) = if is_some (map_entry (pointwise ◌==◌) s key) then Err InvalidContent else Ok key
   new_key s (Err fault) = Err fault
 
   -- the map with these items too, inserted in turn
   abbrev pub map_with : TextMap V → List (List ℕ × V) → TextMap V
-  map_with s items = fold (λ s entry. flat_insert (pointwise ◌==◌) s entry.0 entry.1) s items
+  map_with s items = fold (λ s entry. map_insert (pointwise ◌==◌) s entry.0 entry.1) s items
 
   -- the map with the items of an object too, if there is room for them and it has none of their keys
   abbrev pub object_filled : ℕ → (Data → Result V JsonFault) → TextMap V → Data → Result (TextMap V) JsonFault
@@ -167,8 +167,8 @@ module _ {V : Type 0} where
   -- the map without the keys of these items, of which the last is removed first
   abbrev pub map_without : TextMap V → List (List ℕ × V) → TextMap V
   map_without s [] = s
-  map_without s (entry ∷ items) = flat_remove (pointwise ◌==◌) (map_without s items) entry.0
+  map_without s (entry ∷ items) = map_remove (pointwise ◌==◌) (map_without s items) entry.0
 
   -- each key has the same value in both maps, or none in both
   abbrev pub HasSameEntries : TextMap V → TextMap V → Type 0
-  HasSameEntries s other = (key : List ℕ) → flat_value (pointwise ◌==◌) other key ≡ flat_value (pointwise ◌==◌) s key
+  HasSameEntries s other = (key : List ℕ) → map_value (pointwise ◌==◌) other key ≡ map_value (pointwise ◌==◌) s key

@@ -12,7 +12,7 @@ pub mod slottable;
 
 pub use ix_flatmap::{
     Bound, BoundedMap, CallbackProgression, CopyIn, CopyInline, FixedSizeFlatMap, FlatMap,
-    FlatMapError, FlatMapFamily, HeapIndex, HeapMap, InlineIndex, InlineMap, KeyIndex, Keyed, Keys,
+    FlatMapFamily, HeapIndex, HeapMap, InlineIndex, InlineMap, KeyIndex, Keyed, Keys, MapError,
     MetaFlatMap, MetaMap, Pair, PairIndex, RelocatableFlatMap, UninitFlatMap, bounded_map, map,
 };
 pub use ix_hashmap::{

@@ -16,7 +16,7 @@ use Rattle.ix_run.specs.declared.run.grammar.header.FixedCapacity.{FixedCapacity
 use Rattle.ix_run.specs.declared.run.grammar.header.FixedCapacity.TheVariants.{Zero, One, Three, Eight}
 use Rattle.ix_run.specs.declared.run.devices.limits.TheConstants.{MAX_CAPACITY}
 use Rattle.ix_run.specs.declared.run.grammar.header.Container.{Container}
-use Rattle.ix_run.specs.declared.run.grammar.header.Container.TheVariants.{Queue, Vec, Table, Slot, Flat, Text}
+use Rattle.ix_run.specs.declared.run.grammar.header.Container.TheVariants.{Queue, Vector, SlotTable, SlotMap, FlatMap, String}
 use Rattle.ix_run.specs.declared.run.grammar.header.Storage.{Storage}
 use Rattle.ix_run.specs.declared.run.grammar.header.Storage.TheVariants.{Fixed, Heap, Arena}
 use Rattle.ix_run.specs.declared.run.grammar.header.Header.{Header}
@@ -119,7 +119,7 @@ abbrev IsStarted : List ℕ → List ℕ → List (List ℕ) → Container → T
 IsStarted name word words c = IsStart c × ((name ≡ container_name c) × ((text : List ℕ) → with_start c text ≡ text ++ (32 ∷ join_with_byte 32 (word ∷ words))))
 
 cond-starting : (word : List ℕ) (words : List (List ℕ)) (n : ℕ) (fits : Bool) → fits_generation n ≡ fits → word ≡ codes "at" → join_with_byte 32 (word ∷ words) ≡ words_text word (n ∷ [])
-    → IfSome (cond fits (Some (Slot (Some n))) None) (IsStarted (codes "slot") word words)
+    → IfSome (cond fits (Some (SlotMap (Some n))) None) (IsStarted (codes "slot") word words)
 cond-starting word words n true e is text = ((grind (arith, common_steps)), (refl, λ front. ap (λ l. front ++ (32 ∷ l)) (sym (text ∙ ap (λ w. words_text w (n ∷ [])) is))))
 cond-starting word words n false e is text = tt
 
@@ -132,12 +132,12 @@ starting-text word words true (Some (n ∷ [])) e t = cond-starting word words n
 starting-text word words true (Some (n ∷ m ∷ ns)) e t = tt
 
 started-text : (container : Container) (word : List ℕ) (words : List (List ℕ)) → IfSome (container_with_start container (word ∷ words)) (IsStarted (container_name container) word words)
-started-text (Slot start) word words = starting-text word words (bytes_eq word (codes "at")) (numbers_in words) refl (numbers_in-IsText word words)
+started-text (SlotMap start) word words = starting-text word words (bytes_eq word (codes "at")) (numbers_in words) refl (numbers_in-IsText word words)
 started-text Queue word words = tt
-started-text Vec word words = tt
-started-text Table word words = tt
-started-text Flat word words = tt
-started-text Text word words = tt
+started-text Vector word words = tt
+started-text SlotTable word words = tt
+started-text FlatMap word words = tt
+started-text String word words = tt
 
 -- the header is what the parts of a line say
 abbrev IsHeaderText : List (List ℕ) → Header → Type 0
@@ -238,25 +238,25 @@ plain-read : (container : Container) (storage : Storage) → IsStorage storage �
 plain-read container storage h named words =
     ap header_of_words (words ∙ ap (λ ws. container_name container ∷ ws) (storage-split storage h)) ∙ words-made container container (container_name container) storage [] h named refl
 
-at-made : (n : ℕ) → n ≤ greatest_generation → container_with_start (Slot None) (codes "at" ∷ decimal n ∷ []) ≡ Some (Slot (Some n))
+at-made : (n : ℕ) → n ≤ greatest_generation → container_with_start (SlotMap None) (codes "at" ∷ decimal n ∷ []) ≡ Some (SlotMap (Some n))
 at-made n h = let fits : fits_generation n ≡ true = grind (arith, common_steps) in rw (one-number n (omega (arith, h)), fits) refl
 
 started-read : (n : ℕ) (storage : Storage) → IsStorage storage → n ≤ greatest_generation
-    → header_of ((codes "slot" ++ (32 ∷ storage_text storage)) ++ (32 ∷ words_text (codes "at") (n ∷ []))) ≡ Some (record { container = Slot (Some n); storage = storage })
+    → header_of ((codes "slot" ++ (32 ∷ storage_text storage)) ++ (32 ∷ words_text (codes "at") (n ∷ []))) ≡ Some (record { container = SlotMap (Some n); storage = storage })
 started-read n storage h small =
     let at : slice_split is_space (words_text (codes "at") (n ∷ [])) ≡ codes "at" ∷ decimal n ∷ [] = ap (λ words. codes "at" ∷ words) (last-number n (omega (arith, small))) in
     let words = storage-split_then storage (words_text (codes "at") (n ∷ [])) h ∙ ap (λ ws. storage_name storage ∷ decimal (capacity_of storage) ∷ ws) at in
-    ap header_of_words (ap (λ ws. codes "slot" ∷ ws) words) ∙ words-made (Slot None) (Slot (Some n)) (codes "slot") storage (codes "at" ∷ decimal n ∷ []) h refl (at-made n small)
+    ap header_of_words (ap (λ ws. codes "slot" ∷ ws) words) ∙ words-made (SlotMap None) (SlotMap (Some n)) (codes "slot") storage (codes "at" ∷ decimal n ∷ []) h refl (at-made n small)
 
 header-read : (container : Container) (storage : Storage) → IsStorage storage → IsStart container
     → header_of (header_text (record { container = container; storage = storage })) ≡ Some (record { container = container; storage = storage })
 header-read Queue storage h start = plain-read Queue storage h refl refl
-header-read Vec storage h start = plain-read Vec storage h refl refl
-header-read Table storage h start = plain-read Table storage h refl refl
-header-read (Slot None) storage h start = plain-read (Slot None) storage h refl refl
-header-read (Slot (Some n)) storage h start = started-read n storage h start
-header-read Flat storage h start = plain-read Flat storage h refl refl
-header-read Text storage h start = plain-read Text storage h refl refl
+header-read Vector storage h start = plain-read Vector storage h refl refl
+header-read SlotTable storage h start = plain-read SlotTable storage h refl refl
+header-read (SlotMap None) storage h start = plain-read (SlotMap None) storage h refl refl
+header-read (SlotMap (Some n)) storage h start = started-read n storage h start
+header-read FlatMap storage h start = plain-read FlatMap storage h refl refl
+header-read String storage h start = plain-read String storage h refl refl
 
 -- the text of a header is read as that header
 pub header_of_header_text : (line : List ℕ) (header : Header) → IsStorage header.storage → IsStart header.container → line ≡ header_text header → header_of line ≡ Some header

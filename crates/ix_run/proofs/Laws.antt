@@ -15,7 +15,7 @@ use Rattle.ix_run.specs.Lines.{line_feed, IsOneLine, with_line_feed, text_of_lin
 use Rattle.ix_run.specs.Script.{replies_to, script_replies, container_replies, replies_to_lines, read_reply, read_after}
 use Rattle.ix_run.specs.Words.{words_text}
 use Rattle.ix_run.specs.declared.run.grammar.header.Container.{Container}
-use Rattle.ix_run.specs.declared.run.grammar.header.Container.TheVariants.{Queue, Vec, Table, Slot, Flat, Text}
+use Rattle.ix_run.specs.declared.run.grammar.header.Container.TheVariants.{Queue, Vector, SlotTable, SlotMap, FlatMap, String}
 use Rattle.ix_run.specs.declared.run.grammar.header.Storage.{Storage}
 use Rattle.ix_run.specs.declared.run.grammar.header.Storage.TheVariants.{Fixed, Heap, Arena}
 use Rattle.ix_run.specs.declared.run.grammar.header.FixedCapacity.{FixedCapacity}
@@ -94,11 +94,11 @@ Lacks-append (x ∷ a) b (n, m) k = (n, Lacks-append a b m k)
 -- the text of a header is one line that is read
 Lacks-container_name : (container : Container) → Lacks (container_name container)
 Lacks-container_name Queue = search rules
-Lacks-container_name Vec = search rules
-Lacks-container_name Table = search rules
-Lacks-container_name (Slot start) = search rules
-Lacks-container_name Flat = search rules
-Lacks-container_name Text = search rules
+Lacks-container_name Vector = search rules
+Lacks-container_name SlotTable = search rules
+Lacks-container_name (SlotMap start) = search rules
+Lacks-container_name FlatMap = search rules
+Lacks-container_name String = search rules
 
 Lacks-last_number : (name : List ℕ) (n : ℕ) → n < 2 ^ 64 → Lacks name → Lacks (name ++ ((codes " " ++ decimal n) ++ []))
 Lacks-last_number name n h k = Lacks-append name ((codes " " ++ decimal n) ++ []) k (Lacks-append (codes " " ++ decimal n) [] (refl, Lacks-decimal n h) tt)
@@ -126,23 +126,23 @@ length-storage_text (Arena n) h = length-last_number (codes "arena") n (omega (a
 
 length-container_name : (container : Container) → length (container_name container) ≤ 5
 length-container_name Queue = omega arith
-length-container_name Vec = omega arith
-length-container_name Table = omega arith
-length-container_name (Slot start) = omega arith
-length-container_name Flat = omega arith
-length-container_name Text = omega arith
+length-container_name Vector = omega arith
+length-container_name SlotTable = omega arith
+length-container_name (SlotMap start) = omega arith
+length-container_name FlatMap = omega arith
+length-container_name String = omega arith
 
 Lacks-with_start : (container : Container) (text : List ℕ) → IsStart container → Lacks text → Lacks (with_start container text)
-Lacks-with_start (Slot (Some g)) text h k =
+Lacks-with_start (SlotMap (Some g)) text h k =
     Lacks-append text (codes " " ++ words_text (codes "at") (g ∷ [])) k (refl, Lacks-last_number (codes "at") g (omega (arith, h)) (search rules))
-Lacks-with_start (Slot None) text h k = k
+Lacks-with_start (SlotMap None) text h k = k
 Lacks-with_start other text h k = k
 
 length-with_start : (container : Container) (text : List ℕ) → IsStart container → length text ≤ 40 → length (with_start container text) ≤ 80
-length-with_start (Slot (Some g)) text h short =
+length-with_start (SlotMap (Some g)) text h short =
     let more = length-last_number (codes "at") g (omega (arith, h)) (omega arith) in
     grind (arith, common_steps, short, more)
-length-with_start (Slot None) text h short = omega (arith, short)
+length-with_start (SlotMap None) text h short = omega (arith, short)
 length-with_start other text h short = omega (arith, short)
 
 IsOneLine-header_line : (container : Container) (storage : Storage) → IsStorage storage → IsStart container → IsOneLine (header_line container storage)

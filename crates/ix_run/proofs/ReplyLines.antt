@@ -12,8 +12,8 @@ use Rattle.ix_run.specs.Laws.{HasU64s, HasU64sAnd, IsSlotKey, IsU64}
 use Rattle.ix_slotmap.specs.Generations.{SlotKey}
 use Rattle.ix_run.specs.Words.{key_text}
 use Rattle.ix_run.specs.Lines.{line_feed, IsOneLine}
-use Rattle.ix_run.specs.ReplyTexts.{error_name, reply_text_by, reply_text, slot_reply_text, entry_text, key_entry_text, more_items_text, items_text}
-use Rattle.ix_run.specs.Script.{text_shown}
+use Rattle.ix_run.specs.ReplyTexts.{error_name, reply_text_by, reply_text, slot_map_reply_text, entry_text, key_entry_text, more_items_text, items_text}
+use Rattle.ix_run.specs.Script.{string_shown}
 use Rattle.ix_run.proofs.Laws.{IsOneLine-Lacks, Lacks-append, Lacks-decimal}
 use Rattle.ix_run.proofs.Pieces.{Lacks}
 
@@ -51,8 +51,8 @@ Lacks-key_text : (key : SlotKey) → IsSlotKey key → Lacks (key_text key)
 Lacks-key_text key (h, g) =
     Lacks-append (decimal key.index) (codes ":" ++ decimal key.generation) (Lacks-decimal key.index h) (refl, Lacks-decimal key.generation (omega (arith, g)))
 
-pub IsOneLine-slot_reply_text : (reply : Reply SlotKey ℕ) → HasU64sAnd IsSlotKey reply → IsOneLine (slot_reply_text reply)
-IsOneLine-slot_reply_text = IsOneLine-reply_text_by key_text IsSlotKey Lacks-key_text
+pub IsOneLine-slot_map_reply_text : (reply : Reply SlotKey ℕ) → HasU64sAnd IsSlotKey reply → IsOneLine (slot_map_reply_text reply)
+IsOneLine-slot_map_reply_text = IsOneLine-reply_text_by key_text IsSlotKey Lacks-key_text
 
 pub Lacks-key_entry_text : (entry : SlotKey × ℕ) → IsSlotKey entry.0 × IsU64 entry.1 → Lacks (key_entry_text entry)
 Lacks-key_entry_text entry (h, g) = Lacks-append (key_text entry.0) (codes "=" ++ decimal entry.1) (Lacks-key_text entry.0 h) (refl, Lacks-decimal entry.1 g)
@@ -82,6 +82,6 @@ Lacks-escaped_text : (bytes : List ℕ) → Lacks (escaped_text bytes)
 Lacks-escaped_text [] = tt
 Lacks-escaped_text (b ∷ bytes) = Lacks-append (escaped_byte b) (escaped_text bytes) (Lacks-escaped_byte b) (Lacks-escaped_text bytes)
 
-pub IsOneLine-text_shown : (text : Bounded ℕ) → IsOneLine (text_shown text)
-IsOneLine-text_shown text =
-    IsOneLine-Lacks (text_shown text) (refl, Lacks-append (escaped_text text.items) (codes "\"") (Lacks-escaped_text text.items) (search rules))
+pub IsOneLine-string_shown : (text : Bounded ℕ) → IsOneLine (string_shown text)
+IsOneLine-string_shown text =
+    IsOneLine-Lacks (string_shown text) (refl, Lacks-append (escaped_text text.items) (codes "\"") (Lacks-escaped_text text.items) (search rules))

@@ -4,16 +4,16 @@ use Rattle.std.specs.Option.{option_or}
 use Rattle.ix_run.specs.Words.{Form, KeyForm, command_of, key_command_of, takes_none, takes_one, takes_two, takes_any, one_byte, number_byte, many_bytes, number_many_bytes, slice_of}
 use Rattle.ix_commands.specs.declared.command.QueueCommand.{QueueCommand}
 use Rattle.ix_commands.specs.declared.command.QueueCommand.TheVariants as queue
-use Rattle.ix_commands.specs.declared.command.VecCommand.{VecCommand}
-use Rattle.ix_commands.specs.declared.command.VecCommand.TheVariants as vec
-use Rattle.ix_commands.specs.declared.command.TableCommand.{TableCommand}
-use Rattle.ix_commands.specs.declared.command.TableCommand.TheVariants as table
-use Rattle.ix_commands.specs.declared.command.SlotCommand.{SlotCommand}
-use Rattle.ix_commands.specs.declared.command.SlotCommand.TheVariants as slot
-use Rattle.ix_commands.specs.declared.command.FlatCommand.{FlatCommand}
-use Rattle.ix_commands.specs.declared.command.FlatCommand.TheVariants as flat
-use Rattle.ix_commands.specs.declared.command.TextCommand.{TextCommand}
-use Rattle.ix_commands.specs.declared.command.TextCommand.TheVariants as text
+use Rattle.ix_commands.specs.declared.command.VectorCommand.{VectorCommand}
+use Rattle.ix_commands.specs.declared.command.VectorCommand.TheVariants as vec
+use Rattle.ix_commands.specs.declared.command.SlotTableCommand.{SlotTableCommand}
+use Rattle.ix_commands.specs.declared.command.SlotTableCommand.TheVariants as table
+use Rattle.ix_commands.specs.declared.command.SlotMapCommand.{SlotMapCommand}
+use Rattle.ix_commands.specs.declared.command.SlotMapCommand.TheVariants as slot
+use Rattle.ix_commands.specs.declared.command.MapCommand.{MapCommand}
+use Rattle.ix_commands.specs.declared.command.MapCommand.TheVariants as flat
+use Rattle.ix_commands.specs.declared.command.StringCommand.{StringCommand}
+use Rattle.ix_commands.specs.declared.command.StringCommand.TheVariants as text
 
 abbrev pub queue_forms : List (Form (QueueCommand ℕ))
 queue_forms =
@@ -30,8 +30,8 @@ queue_forms =
     ∷ (codes "full", takes_none queue.Full)
     ∷ []
 
-abbrev pub vec_forms : List (Form (VecCommand ℕ))
-vec_forms =
+abbrev pub vector_forms : List (Form (VectorCommand ℕ))
+vector_forms =
     (codes "push", takes_one vec.Push)
     ∷ (codes "insert", takes_two vec.Insert)
     ∷ (codes "extend", takes_any (λ xs. vec.Extend (slice_of xs)))
@@ -48,8 +48,8 @@ vec_forms =
     ∷ (codes "full", takes_none vec.Full)
     ∷ []
 
-abbrev pub table_forms : List (Form (TableCommand ℕ))
-table_forms =
+abbrev pub slot_table_forms : List (Form (SlotTableCommand ℕ))
+slot_table_forms =
     (codes "insert", takes_one table.Insert)
     ∷ (codes "next", takes_none table.Next)
     ∷ (codes "insert_at", takes_two table.InsertAt)
@@ -64,8 +64,8 @@ table_forms =
     ∷ (codes "full", takes_none table.Full)
     ∷ []
 
-abbrev pub slot_forms : List (Form (SlotCommand ℕ))
-slot_forms =
+abbrev pub slot_map_forms : List (Form (SlotMapCommand ℕ))
+slot_map_forms =
     (codes "insert", takes_one slot.Insert)
     ∷ (codes "next", takes_none slot.Next)
     ∷ (codes "insert_at", takes_two slot.InsertAt)
@@ -78,7 +78,7 @@ slot_forms =
     ∷ []
 
 -- the commands of a slot map that have a key
-abbrev pub slot_key_forms : List (KeyForm (SlotCommand ℕ))
+abbrev pub slot_key_forms : List (KeyForm (SlotMapCommand ℕ))
 slot_key_forms =
     (codes "remove", λ key. takes_none (slot.Remove key))
     ∷ (codes "get", λ key. takes_none (slot.Get key))
@@ -87,11 +87,11 @@ slot_key_forms =
     ∷ []
 
 -- the command of a slot map that a line spells
-abbrev pub slot_command_of : List ℕ → Option (SlotCommand ℕ)
-slot_command_of line = option_or (command_of slot_forms line) (key_command_of slot_key_forms line)
+abbrev pub slot_map_command_of : List ℕ → Option (SlotMapCommand ℕ)
+slot_map_command_of line = option_or (command_of slot_map_forms line) (key_command_of slot_key_forms line)
 
-abbrev pub flat_forms : List (Form (FlatCommand ℕ ℕ))
-flat_forms =
+abbrev pub map_forms : List (Form (MapCommand ℕ ℕ))
+map_forms =
     (codes "insert", takes_two flat.Insert)
     ∷ (codes "get", takes_one flat.Get)
     ∷ (codes "set", takes_two flat.Set)
@@ -103,8 +103,8 @@ flat_forms =
     ∷ (codes "full", takes_none flat.Full)
     ∷ []
 
-abbrev pub text_forms : List (Form TextCommand)
-text_forms =
+abbrev pub string_forms : List (Form StringCommand)
+string_forms =
     (codes "push", one_byte text.Push)
     ∷ (codes "append", many_bytes (λ bs. text.Append (slice_of bs)))
     ∷ (codes "insert", number_byte text.Insert)
@@ -127,15 +127,15 @@ text_forms =
     ∷ []
 
 -- a command with the addresses of its slices left open
-abbrev pub vec_plain : VecCommand ℕ → VecCommand ℕ
-vec_plain (vec.Extend xs) = vec.Extend (slice_of xs.now)
-vec_plain other = other
+abbrev pub vector_plain : VectorCommand ℕ → VectorCommand ℕ
+vector_plain (vec.Extend xs) = vec.Extend (slice_of xs.now)
+vector_plain other = other
 
-abbrev pub text_plain : TextCommand → TextCommand
-text_plain (text.Append bs) = text.Append (slice_of bs.now)
-text_plain (text.InsertBytes i bs) = text.InsertBytes i (slice_of bs.now)
-text_plain (text.Find bs) = text.Find (slice_of bs.now)
-text_plain (text.Rfind bs) = text.Rfind (slice_of bs.now)
-text_plain (text.StripPrefix bs) = text.StripPrefix (slice_of bs.now)
-text_plain (text.StripSuffix bs) = text.StripSuffix (slice_of bs.now)
-text_plain other = other
+abbrev pub string_plain : StringCommand → StringCommand
+string_plain (text.Append bs) = text.Append (slice_of bs.now)
+string_plain (text.InsertBytes i bs) = text.InsertBytes i (slice_of bs.now)
+string_plain (text.Find bs) = text.Find (slice_of bs.now)
+string_plain (text.Rfind bs) = text.Rfind (slice_of bs.now)
+string_plain (text.StripPrefix bs) = text.StripPrefix (slice_of bs.now)
+string_plain (text.StripSuffix bs) = text.StripSuffix (slice_of bs.now)
+string_plain other = other

@@ -7,7 +7,7 @@ use Rattle.ix_run.specs.declared.run.grammar.header.FixedCapacity.{FixedCapacity
 use Rattle.ix_run.specs.declared.run.grammar.header.FixedCapacity.TheVariants.{Zero, One, Three, Eight}
 use Rattle.ix_run.specs.declared.run.devices.limits.TheConstants.{MAX_CAPACITY}
 use Rattle.ix_run.specs.declared.run.grammar.header.Container.{Container}
-use Rattle.ix_run.specs.declared.run.grammar.header.Container.TheVariants.{Queue, Vec, Table, Slot, Flat, Text}
+use Rattle.ix_run.specs.declared.run.grammar.header.Container.TheVariants.{Queue, Vector, SlotTable, SlotMap, FlatMap, String}
 use Rattle.ix_run.specs.declared.run.grammar.header.Storage.{Storage}
 use Rattle.ix_run.specs.declared.run.grammar.header.Storage.TheVariants.{Fixed, Heap, Arena}
 use Rattle.ix_run.specs.declared.run.grammar.header.Header.{Header}
@@ -26,11 +26,11 @@ capacity_of (Arena n) = n
 
 abbrev pub container_name : Container → List ℕ
 container_name Queue = codes "queue"
-container_name Vec = codes "vec"
-container_name Table = codes "table"
-container_name (Slot start) = codes "slot"
-container_name Flat = codes "flat"
-container_name Text = codes "text"
+container_name Vector = codes "vec"
+container_name SlotTable = codes "table"
+container_name (SlotMap start) = codes "slot"
+container_name FlatMap = codes "flat"
+container_name String = codes "text"
 
 abbrev pub storage_text : Storage → List ℕ
 storage_text (Fixed capacity) = words_text (codes "fixed") (fixed_capacity capacity ∷ [])
@@ -45,7 +45,7 @@ IsStorage (Arena n) = n ≤ MAX_CAPACITY
 
 -- the generation of a slot map's places at first, if a header says it, is a generation
 abbrev pub IsStart : Container → Type 0
-IsStart (Slot (Some generation)) = generation ≤ greatest_generation
+IsStart (SlotMap (Some generation)) = generation ≤ greatest_generation
 IsStart other = ⊤
 
 -- the generation of a slot map's places at first
@@ -54,7 +54,7 @@ first_generation start = unwrap_or start 0
 
 -- a text, and behind it the generation, if one is said
 abbrev pub with_start : Container → List ℕ → List ℕ
-with_start (Slot (Some generation)) text = text ++ (codes " " ++ words_text (codes "at") (generation ∷ []))
+with_start (SlotMap (Some generation)) text = text ++ (codes " " ++ words_text (codes "at") (generation ∷ []))
 with_start other text = text
 
 -- the text of a header
@@ -62,7 +62,7 @@ abbrev pub header_text : Header → List ℕ
 header_text header = with_start header.container (container_name header.container ++ (codes " " ++ storage_text header.storage))
 
 abbrev pub containers : List Container
-containers = Queue ∷ Vec ∷ Table ∷ Slot None ∷ Flat ∷ Text ∷ []
+containers = Queue ∷ Vector ∷ SlotTable ∷ SlotMap None ∷ FlatMap ∷ String ∷ []
 
 abbrev pub fixed_capacities : List FixedCapacity
 fixed_capacities = Zero ∷ One ∷ Three ∷ Eight ∷ []
@@ -86,13 +86,13 @@ storage_forms = (codes "fixed", takes_fixed_capacity) ∷ (codes "heap", up_to_m
 
 -- one number, which is the generation of a slot map's places at first
 abbrev pub starting_at : List ℕ → Option Container
-starting_at (n ∷ []) = if fits_generation n then Some (Slot (Some n)) else None
+starting_at (n ∷ []) = if fits_generation n then Some (SlotMap (Some n)) else None
 starting_at other = None
 
 -- the container, by the words after its storage
 abbrev pub container_with_start : Container → List (List ℕ) → Option Container
 container_with_start container [] = Some container
-container_with_start (Slot start) (word ∷ words) = if bytes_eq word (codes "at") then option_and_then starting_at (numbers_in words) else None
+container_with_start (SlotMap start) (word ∷ words) = if bytes_eq word (codes "at") then option_and_then starting_at (numbers_in words) else None
 container_with_start other (word ∷ words) = None
 
 -- a container's name, the name and the number of a storage, and where generations start

@@ -33,8 +33,8 @@ abbrev pub reply_text : Reply ℕ ℕ → List ℕ
 reply_text reply = reply_text_by decimal reply
 
 -- the text of a reply of a slot map
-abbrev pub slot_reply_text : Reply SlotKey ℕ → List ℕ
-slot_reply_text reply = reply_text_by key_text reply
+abbrev pub slot_map_reply_text : Reply SlotKey ℕ → List ℕ
+slot_map_reply_text reply = reply_text_by key_text reply
 
 -- a key and its value
 abbrev pub entry_text : (ℕ × ℕ) → List ℕ

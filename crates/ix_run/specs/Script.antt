@@ -1,26 +1,26 @@
 -- The replies to a script: one line for each line, in order.
 use Rattle.std.specs.Prelude.{ℕ, List, [], ◌∷◌, ◌++◌, if◌then◌else◌, Option, None, Some, option_map, option_and_then, unwrap_or, map, codes, decimal, bytes_eq, nat_eq}
 use Rattle.ix_tables.specs.Bounded.{Bounded, bounded_new}
-use Rattle.ix_slottable.specs.SlotState.{SlotState, slot_new, entries}
-use Rattle.ix_slotmap.specs.Generations.{SlotMapState, map_entries, map_new}
-use Rattle.ix_flatmap.specs.FlatState.{flat_keys}
+use Rattle.ix_slottable.specs.SlotTableState.{SlotTableState, slot_table_new, entries}
+use Rattle.ix_slotmap.specs.Generations.{SlotMapState, slot_map_entries, slot_map_new}
+use Rattle.ix_flatmap.specs.MapState.{map_keys}
 use Rattle.ix_flatmap.specs.declared.flatmap.Pair.{Pair}
 use Rattle.ix_string.specs.Escape.{escaped_text}
 use Rattle.ix_commands.specs.QueueRun.{queue_reply, queue_after}
-use Rattle.ix_commands.specs.VecRun.{vec_reply, vec_after}
-use Rattle.ix_commands.specs.TableRun.{table_reply, table_after}
-use Rattle.ix_commands.specs.SlotRun.{slot_reply, slot_after}
-use Rattle.ix_commands.specs.FlatRun.{flat_reply, flat_after}
-use Rattle.ix_commands.specs.TextRun.{text_reply, text_after}
+use Rattle.ix_commands.specs.VectorRun.{vector_reply, vector_after}
+use Rattle.ix_commands.specs.SlotTableRun.{slot_table_reply, slot_table_after}
+use Rattle.ix_commands.specs.SlotMapRun.{slot_map_reply, slot_map_after}
+use Rattle.ix_commands.specs.MapRun.{map_reply, map_after}
+use Rattle.ix_commands.specs.StringRun.{string_reply, string_after}
 use Rattle.ix_commands.specs.declared.reply.Reply.{Reply}
-use Rattle.ix_run.specs.Forms.{queue_forms, vec_forms, table_forms, slot_command_of, flat_forms, text_forms}
+use Rattle.ix_run.specs.Forms.{queue_forms, vector_forms, slot_table_forms, slot_map_command_of, map_forms, string_forms}
 use Rattle.ix_run.specs.Headers.{header_of, capacity_of, first_generation}
 use Rattle.ix_run.specs.Lines.{LimitedLine, limited_line, lines_of, with_line_feed}
-use Rattle.ix_run.specs.ReplyTexts.{reply_text, slot_reply_text, items_text, entry_text, key_entry_text}
+use Rattle.ix_run.specs.ReplyTexts.{reply_text, slot_map_reply_text, items_text, entry_text, key_entry_text}
 use Rattle.ix_run.specs.Words.{Form, command_of}
 use Rattle.ix_run.specs.declared.run.grammar.header.Header.{Header}
 use Rattle.ix_run.specs.declared.run.grammar.header.Container.{Container}
-use Rattle.ix_run.specs.declared.run.grammar.header.Container.TheVariants.{Queue, Vec, Table, Slot, Flat, Text}
+use Rattle.ix_run.specs.declared.run.grammar.header.Container.TheVariants.{Queue, Vector, SlotTable, SlotMap, FlatMap, String}
 
 -- reply and after: the text of the reply to the command that a line spells, if any, and the model after it; shown: what
 -- `show` prints
@@ -63,36 +63,36 @@ module _ {M C : Type 0} where
   spelled_after forms after = read_after (command_of forms) after
 
 -- the same of a slot map
-abbrev pub slot_line_reply : SlotMapState ℕ → List ℕ → Option (List ℕ)
-slot_line_reply = read_reply slot_command_of slot_reply_text slot_reply
+abbrev pub slot_map_line_reply : SlotMapState ℕ → List ℕ → Option (List ℕ)
+slot_map_line_reply = read_reply slot_map_command_of slot_map_reply_text slot_map_reply
 
-abbrev pub slot_line_after : SlotMapState ℕ → List ℕ → SlotMapState ℕ
-slot_line_after = read_after slot_command_of slot_after
+abbrev pub slot_map_line_after : SlotMapState ℕ → List ℕ → SlotMapState ℕ
+slot_map_line_after = read_after slot_map_command_of slot_map_after
 
 -- what `show` prints
 abbrev pub list_shown : Bounded ℕ → List ℕ
 list_shown list = items_text decimal list.items
 
-abbrev pub table_shown : SlotState ℕ → List ℕ
-table_shown map = items_text entry_text (entries map)
+abbrev pub slot_table_shown : SlotTableState ℕ → List ℕ
+slot_table_shown map = items_text entry_text (entries map)
 
-abbrev pub slot_shown : SlotMapState ℕ → List ℕ
-slot_shown map = items_text key_entry_text (map_entries map)
+abbrev pub slot_map_shown : SlotMapState ℕ → List ℕ
+slot_map_shown map = items_text key_entry_text (slot_map_entries map)
 
-abbrev pub flat_shown : SlotState (Pair ℕ ℕ) → List ℕ
-flat_shown map = items_text decimal (flat_keys map)
+abbrev pub map_shown : SlotTableState (Pair ℕ ℕ) → List ℕ
+map_shown map = items_text decimal (map_keys map)
 
-abbrev pub text_shown : Bounded ℕ → List ℕ
-text_shown text = codes "\"" ++ (escaped_text text.items ++ codes "\"")
+abbrev pub string_shown : Bounded ℕ → List ℕ
+string_shown text = codes "\"" ++ (escaped_text text.items ++ codes "\"")
 
 -- the replies to lines for an empty container of this capacity
 abbrev pub container_replies : Container → ℕ → List LimitedLine → List ℕ
 container_replies Queue n = replies_to_lines (spelled_reply queue_forms queue_reply) (spelled_after queue_forms queue_after) list_shown (bounded_new n)
-container_replies Vec n = replies_to_lines (spelled_reply vec_forms vec_reply) (spelled_after vec_forms vec_after) list_shown (bounded_new n)
-container_replies Table n = replies_to_lines (spelled_reply table_forms table_reply) (spelled_after table_forms table_after) table_shown (slot_new n)
-container_replies (Slot start) n = replies_to_lines slot_line_reply slot_line_after slot_shown (map_new n (first_generation start))
-container_replies Flat n = replies_to_lines (spelled_reply flat_forms (flat_reply nat_eq)) (spelled_after flat_forms (flat_after nat_eq)) flat_shown (slot_new n)
-container_replies Text n = replies_to_lines (spelled_reply text_forms text_reply) (spelled_after text_forms text_after) text_shown (bounded_new n)
+container_replies Vector n = replies_to_lines (spelled_reply vector_forms vector_reply) (spelled_after vector_forms vector_after) list_shown (bounded_new n)
+container_replies SlotTable n = replies_to_lines (spelled_reply slot_table_forms slot_table_reply) (spelled_after slot_table_forms slot_table_after) slot_table_shown (slot_table_new n)
+container_replies (SlotMap start) n = replies_to_lines slot_map_line_reply slot_map_line_after slot_map_shown (slot_map_new n (first_generation start))
+container_replies FlatMap n = replies_to_lines (spelled_reply map_forms (map_reply nat_eq)) (spelled_after map_forms (map_after nat_eq)) map_shown (slot_table_new n)
+container_replies String n = replies_to_lines (spelled_reply string_forms string_reply) (spelled_after string_forms string_after) string_shown (bounded_new n)
 
 -- the replies once a container of this capacity is made, and to the lines that come for it
 abbrev pub replies_from_ready : Container → ℕ → List LimitedLine → List ℕ

@@ -9,12 +9,14 @@ mod scripts;
 
 pub use devices::{MAX_CAPACITY, MAX_LINE_LEN, MAX_NUMBERS, ScriptFault, exit_status, fault_line};
 pub use grammar::{
-    Container, FixedCapacity, Header, Storage, read_flat_command, read_header, read_number,
-    read_queue_command, read_slot_command, read_table_command, read_text_command, read_vec_command,
+    Container, FixedCapacity, Header, Storage, read_header, read_map_command, read_number,
+    read_queue_command, read_slot_map_command, read_slot_table_command, read_string_command,
+    read_vector_command,
 };
 pub use ix_commands::{
-    FlatCommand, QueueCommand, Reply, ReplyError, Runs, SlotCommand, TableCommand, TextCommand,
-    VecCommand, dead_law, run_all, run_flat, run_queue, run_slot, run_table, run_text, run_vec,
+    MapCommand, QueueCommand, Reply, ReplyError, Runs, SlotMapCommand, SlotTableCommand,
+    StringCommand, VectorCommand, dead_law, run_all, run_map, run_queue, run_slot_map,
+    run_slot_table, run_string, run_vector,
 };
 pub use laws::{line_law, reply_law, script_law, spelling_law};
 pub use scripts::script;

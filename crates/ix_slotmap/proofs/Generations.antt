@@ -46,10 +46,10 @@ module _ {T : Type 0} where
   if_none true value is = is
   if_none false value is = refl
 
-  pub map_value-dead : (s : SlotMapState T) → DeadAreNotHeld s
-  map_value-dead s key (inl past) = if_none _ _ (ap option_flatten (place_at_past s.slots.values key.index past))
-  map_value-dead s key (inr (inl retired)) = if_none _ _ (ap option_flatten retired)
-  map_value-dead s key (inr (inr lower)) =
+  pub slot_map_value-dead : (s : SlotMapState T) → DeadAreNotHeld s
+  slot_map_value-dead s key (inl past) = if_none _ _ (ap option_flatten (place_at_past s.slots.values key.index past))
+  slot_map_value-dead s key (inr (inl retired)) = if_none _ _ (ap option_flatten retired)
+  slot_map_value-dead s key (inr (inr lower)) =
       let no : nat_eq (generation_at s key.index) key.generation ≡ false = grind (arith, nat_tests) in
       ap (λ b. if b then place_value s key.index else None) no
 

@@ -1,6 +1,6 @@
 pub mod Generations
-pub mod MapDrains
-pub mod MapEntries
+pub mod SlotMapDrains
+pub mod SlotMapEntries
 pub mod SlotMapCalls
 pub mod SlotMapCopies
 pub mod WordTables

@@ -11,11 +11,11 @@ use Rattle.std.proofs.lemmas.List.Sums.{sum_by-set}
 use Rattle.std.proofs.lemmas.List.Folds.{sum_by-replicate}
 use Rattle.ix_tables.proofs.Places.{place_at_within}
 use Rattle.ix_tables.specs.Places.{place_at}
-use Rattle.ix_slottable.specs.SlotState.{SlotState, value_at, IsFree, IsWellFormed, slot_new}
-use Rattle.ix_slotmap.specs.Generations.{SlotKey, SlotMapState, greatest_generation, generation_at, place_value, map_value, IsRetired, is_retired, IsMapFormed, map_new}
-use Rattle.ix_slottable.specs.SlotSteps.{slot_set, slot_fill, slot_vacate, SlotInsert, SlotInsertAt, SlotRemove}
-use Rattle.ix_slotmap.specs.SlotMapSteps.{map_fill, map_replace, map_vacate, map_retire}
-use Rattle.ix_slottable.proofs.SlotSteps.{SlotInsert-fills, SlotInsertAt-fills, SlotRemove-vacates}
+use Rattle.ix_slottable.specs.SlotTableState.{SlotTableState, value_at, IsFree, IsWellFormed, slot_table_new}
+use Rattle.ix_slotmap.specs.Generations.{SlotKey, SlotMapState, greatest_generation, generation_at, place_value, slot_map_value, IsRetired, is_retired, IsSlotMapFormed, slot_map_new}
+use Rattle.ix_slottable.specs.SlotTableSteps.{slot_table_set, slot_table_fill, slot_table_vacate, SlotTableInsert, SlotTableInsertAt, SlotTableRemove}
+use Rattle.ix_slotmap.specs.SlotMapSteps.{slot_map_fill, slot_map_replace, slot_map_vacate, slot_map_retire}
+use Rattle.ix_slottable.proofs.SlotTableSteps.{SlotTableInsert-fills, SlotTableInsertAt-fills, SlotTableRemove-vacates}
 use Rattle.ix_tables.proofs.VacantTables.{place_at-replicate}
 use Rattle.ix_slotmap.proofs.Generations.{one_if_retired, if_none, free_of_usable, retired_count-room}
 use Rattle.ix_slotmap.specs.inner.Words.{word_at, retired_word, word_generation, word_generations, IsWordOf, HasWords}
@@ -28,10 +28,10 @@ word_generation-retired : (word : ℕ) → word ≡ retired_word → word_genera
 word_generation-retired word is = ap word_generation is
 
 -- what contracts see of the places and their words
-abbrev pub state_of : {T : Type 0} → SlotState (Option T) → List ℕ → SlotMapState T
+abbrev pub state_of : {T : Type 0} → SlotTableState (Option T) → List ℕ → SlotMapState T
 state_of slots words = record { slots = slots; generations = word_generations words }
 
-module _ {T : Type 0} (slots : SlotState (Option T)) (words : List ℕ) where
+module _ {T : Type 0} (slots : SlotTableState (Option T)) (words : List ℕ) where
   pub generation_at-word : (place : ℕ) → generation_at (state_of slots words) place ≡ word_generation (word_at words place)
   generation_at-word place = get_or-map word_generation words place 0
 
@@ -113,21 +113,21 @@ module _ {T : Type 0} (slots : SlotState (Option T)) (words : List ℕ) where
         )
 
     -- a key is held exactly if its place has this word
-    pub key_by_word : (key : SlotKey) → key.index < length slots.values → IsTrue (nat_eq (word_at words key.index) (2 * key.generation + 1)) ↔ IsSome (map_value (state_of slots words) key)
+    pub key_by_word : (key : SlotKey) → key.index < length slots.values → IsTrue (nat_eq (word_at words key.index) (2 * key.generation + 1)) ↔ IsSome (slot_map_value (state_of slots words) key)
     key_by_word key below = go (value_at slots key.index) refl
       where
-        unheld : (content : Option (Option T)) → value_at slots key.index ≡ content → option_flatten content ≡ None → IsSome (map_value (state_of slots words) key) → ⊥
+        unheld : (content : Option (Option T)) → value_at slots key.index ≡ content → option_flatten content ≡ None → IsSome (slot_map_value (state_of slots words) key) → ⊥
         unheld content at none held =
-            let nothing : map_value (state_of slots words) key ≡ None = if_none _ _ (ap option_flatten at ∙ none) in
+            let nothing : slot_map_value (state_of slots words) key ≡ None = if_none _ _ (ap option_flatten at ∙ none) in
             let no = subst IsSome nothing held in absurd (cc)
 
         either : (b : Bool) (value : T) → nat_eq (generation_at (state_of slots words) key.index) key.generation ≡ b → value_at slots key.index ≡ Some (Some value)
-            → IsSome (map_value (state_of slots words) key) → b ≡ true
+            → IsSome (slot_map_value (state_of slots words) key) → b ≡ true
         either true value is at held = refl
         either false value is at held =
             let nothing = subst (λ b. IsSome (if b then place_value (state_of slots words) key.index else None)) is held in absurd (cc)
 
-        go : (content : Option (Option T)) → value_at slots key.index ≡ content → IsTrue (nat_eq (word_at words key.index) (2 * key.generation + 1)) ↔ IsSome (map_value (state_of slots words) key)
+        go : (content : Option (Option T)) → value_at slots key.index ≡ content → IsTrue (nat_eq (word_at words key.index) (2 * key.generation + 1)) ↔ IsSome (slot_map_value (state_of slots words) key)
         go None at = let word = free_word key.index below at in (
           λ same. let is = eqb-true (word_at words key.index) (2 * key.generation + 1) same in absurd (omega (arith, word.0, is)),
           λ held. absurd (unheld None at refl held),
@@ -157,8 +157,8 @@ module _ {T : Type 0} (slots : SlotState (Option T)) (words : List ℕ) where
         go (Some (Some value)) at = let word = held_word place value below at in (omega (arith, word.0), word.1)
 
     -- a map is formed if its slots are
-    pub IsMapFormed-words : IsWellFormed slots → IsMapFormed (state_of slots words)
-    IsMapFormed-words formed = record {
+    pub IsSlotMapFormed-words : IsWellFormed slots → IsSlotMapFormed (state_of slots words)
+    IsSlotMapFormed-words formed = record {
       listed_is_usable = λ place listed. (let free = formed.listed_is_free place listed in record {
         within = free.0;
         empty = ap option_flatten free.1;
@@ -170,7 +170,7 @@ module _ {T : Type 0} (slots : SlotState (Option T)) (words : List ℕ) where
     }
 
     -- so many places are retired once a place gets another content, and each place has a word
-    HasWords-set : (place : ℕ) (content : Option (Option T)) (word : ℕ) (slots' : SlotState (Option T)) (retired' : ℕ) → slots'.values ≡ set slots.values place content → place < length slots.values
+    HasWords-set : (place : ℕ) (content : Option (Option T)) (word : ℕ) (slots' : SlotTableState (Option T)) (retired' : ℕ) → slots'.values ≡ set slots.values place content → place < length slots.values
         → IsWordOf is_retired content word → retired' + one_if_retired (value_at slots place) ≡ retired + one_if_retired content → HasWords is_retired slots' (set words place word) retired'
     HasWords-set place content word slots' retired' is below of counts =
         let long = has.lengths in
@@ -191,17 +191,17 @@ module _ {T : Type 0} (slots : SlotState (Option T)) (words : List ℕ) where
               let was = has.counted in omega arith;
         }
 
-    both : (words' : List ℕ) {slots' t : SlotState (Option T)} {generations : List ℕ} → slots' ≡ t → word_generations words' ≡ generations → state_of slots' words' ≡ record { slots = t; generations = generations }
+    both : (words' : List ℕ) {slots' t : SlotTableState (Option T)} {generations : List ℕ} → slots' ≡ t → word_generations words' ≡ generations → state_of slots' words' ≡ record { slots = t; generations = generations }
     both words' {slots'} {t} {generations} slots_are shown =
-        ap (λ (u : SlotState (Option T)). let st : SlotMapState T = record { slots = u; generations = word_generations words' } in st) slots_are
+        ap (λ (u : SlotTableState (Option T)). let st : SlotMapState T = record { slots = u; generations = word_generations words' } in st) slots_are
         ∙ ap (λ (gs : List ℕ). let st : SlotMapState T = record { slots = t; generations = gs } in st) shown
 
     -- after a step the words are those of the places, and contracts see these generations in them
-    pub record Stepped (slots' : SlotState (Option T)) (words' : List ℕ) (retired' : ℕ) (generations : List ℕ) : Type 0 where
+    pub record Stepped (slots' : SlotTableState (Option T)) (words' : List ℕ) (retired' : ℕ) (generations : List ℕ) : Type 0 where
       pub holds : HasWords is_retired slots' words' retired'
       pub shown : word_generations words' ≡ generations
 
-    module _ (place : ℕ) (slots' : SlotState (Option T)) (words' : List ℕ) where
+    module _ (place : ℕ) (slots' : SlotTableState (Option T)) (words' : List ℕ) where
       -- a free place gets a value
       filled : (value : T) → place < length slots.values → value_at slots place ≡ None → slots'.values ≡ set slots.values place (Some (Some value)) → words' ≡ set words place (word_at words place + 1)
           → Stepped slots' words' retired (word_generations words)
@@ -285,22 +285,22 @@ module _ {T : Type 0} (slots : SlotState (Option T)) (words : List ℕ) where
         let counted = has.counted in omega (arith, room, counted)
 
     -- each call that changes a map, from what it does to the slots and the words: the slots are those of a key that equals the place
-    module _ (s : SlotMapState T) (is : state_of slots words ≡ s) (place key : ℕ) (same : key ≡ place) (slots' : SlotState (Option T)) (words' : List ℕ) where
-      pub inserts : (value : T) → SlotInsert slots (Some value) slots' (Some key) → words' ≡ set words place (word_at words place + 1)
+    module _ (s : SlotMapState T) (is : state_of slots words ≡ s) (place key : ℕ) (same : key ≡ place) (slots' : SlotTableState (Option T)) (words' : List ℕ) where
+      pub inserts : (value : T) → SlotTableInsert slots (Some value) slots' (Some key) → words' ≡ set words place (word_at words place + 1)
           → HasWords is_retired slots' words' retired × (word_generations words' ≡ s.generations)
       inserts value step words_are =
-          let slots_are = SlotInsert-fills slots (Some value) slots' key step ∙ ap (λ k. slot_fill slots k (Some value)) same in
+          let slots_are = SlotTableInsert-fills slots (Some value) slots' key step ∙ ap (λ k. slot_table_fill slots k (Some value)) same in
           let free = subst (λ k. IsFree slots k) same step.was_free in
-          let stepped = filled place slots' words' value free.0 free.1 (ap (λ (t : SlotState (Option T)). t.values) slots_are) words_are in
+          let stepped = filled place slots' words' value free.0 free.1 (ap (λ (t : SlotTableState (Option T)). t.values) slots_are) words_are in
           (stepped.holds, stepped.shown ∙ ap (λ (t : SlotMapState T). t.generations) is)
 
-      pub fills : (value : T) → IsFree s.slots place → SlotInsertAt slots key (Some value) slots' true → words' ≡ set words place (word_at words place + 1)
-          → HasWords is_retired slots' words' retired × (state_of slots' words' ≡ map_fill s place value)
+      pub fills : (value : T) → IsFree s.slots place → SlotTableInsertAt slots key (Some value) slots' true → words' ≡ set words place (word_at words place + 1)
+          → HasWords is_retired slots' words' retired × (state_of slots' words' ≡ slot_map_fill s place value)
       fills value is_free step words_are =
-          let slots_are = SlotInsertAt-fills slots key (Some value) slots' step ∙ ap (λ k. slot_fill slots k (Some value)) same in
+          let slots_are = SlotTableInsertAt-fills slots key (Some value) slots' step ∙ ap (λ k. slot_table_fill slots k (Some value)) same in
           let free = subst (λ (t : SlotMapState T). IsFree t.slots place) (sym is) is_free in
-          let stepped = filled place slots' words' value free.0 free.1 (ap (λ (t : SlotState (Option T)). t.values) slots_are) words_are in
-          (stepped.holds, both words' slots_are stepped.shown ∙ ap (λ t. map_fill t place value) is)
+          let stepped = filled place slots' words' value free.0 free.1 (ap (λ (t : SlotTableState (Option T)). t.values) slots_are) words_are in
+          (stepped.holds, both words' slots_are stepped.shown ∙ ap (λ t. slot_map_fill t place value) is)
 
       module _ (held : IsSome (place_value s place)) where
         was : (value : T) × (value_at slots place ≡ Some (Some value))
@@ -309,26 +309,26 @@ module _ {T : Type 0} (slots : SlotState (Option T)) (words : List ℕ) where
         below : place < length slots.values
         below = place_at_within slots.values place (Some was.0) was.1
 
-        pub vacates : (value : Option T) → generation_at s place < greatest_generation → SlotRemove slots key slots' (Some value) → words' ≡ set words place (word_at words place + 1)
-            → HasWords is_retired slots' words' retired × (state_of slots' words' ≡ map_vacate s place)
+        pub vacates : (value : Option T) → generation_at s place < greatest_generation → SlotTableRemove slots key slots' (Some value) → words' ≡ set words place (word_at words place + 1)
+            → HasWords is_retired slots' words' retired × (state_of slots' words' ≡ slot_map_vacate s place)
         vacates value less step words_are =
-            let slots_are = SlotRemove-vacates slots key slots' value step ∙ ap (slot_vacate slots) same in
-            let stepped = vacated place slots' words' was.0 below was.1 (subst (λ t. generation_at t place < greatest_generation) (sym is) less) (ap (λ (t : SlotState (Option T)). t.values) slots_are) words_are in
-            (stepped.holds, both words' slots_are stepped.shown ∙ ap (λ t. map_vacate t place) is)
+            let slots_are = SlotTableRemove-vacates slots key slots' value step ∙ ap (slot_table_vacate slots) same in
+            let stepped = vacated place slots' words' was.0 below was.1 (subst (λ t. generation_at t place < greatest_generation) (sym is) less) (ap (λ (t : SlotTableState (Option T)). t.values) slots_are) words_are in
+            (stepped.holds, both words' slots_are stepped.shown ∙ ap (λ t. slot_map_vacate t place) is)
 
-        pub replaces : (value : T) → generation_at s place < greatest_generation → slots' ≡ slot_set slots key (Some value) → words' ≡ set words place (word_at words place + 2)
-            → HasWords is_retired slots' words' retired × (state_of slots' words' ≡ map_replace s place value)
+        pub replaces : (value : T) → generation_at s place < greatest_generation → slots' ≡ slot_table_set slots key (Some value) → words' ≡ set words place (word_at words place + 2)
+            → HasWords is_retired slots' words' retired × (state_of slots' words' ≡ slot_map_replace s place value)
         replaces value less sets words_are =
-            let slots_are = sets ∙ ap (λ k. slot_set slots k (Some value)) same in
-            let stepped = replaced place slots' words' was.0 below was.1 value (subst (λ t. generation_at t place < greatest_generation) (sym is) less) (ap (λ (t : SlotState (Option T)). t.values) slots_are) words_are in
-            (stepped.holds, both words' slots_are stepped.shown ∙ ap (λ t. map_replace t place value) is)
+            let slots_are = sets ∙ ap (λ k. slot_table_set slots k (Some value)) same in
+            let stepped = replaced place slots' words' was.0 below was.1 value (subst (λ t. generation_at t place < greatest_generation) (sym is) less) (ap (λ (t : SlotTableState (Option T)). t.values) slots_are) words_are in
+            (stepped.holds, both words' slots_are stepped.shown ∙ ap (λ t. slot_map_replace t place value) is)
 
-        pub retires : generation_at s place ≡ greatest_generation → slots' ≡ slot_set slots key None → words' ≡ set words place (word_at words place + 1)
-            → HasWords is_retired slots' words' (retired + 1) × (state_of slots' words' ≡ map_retire s place)
+        pub retires : generation_at s place ≡ greatest_generation → slots' ≡ slot_table_set slots key None → words' ≡ set words place (word_at words place + 1)
+            → HasWords is_retired slots' words' (retired + 1) × (state_of slots' words' ≡ slot_map_retire s place)
         retires last sets words_are =
-            let slots_are = sets ∙ ap (λ k. slot_set slots k None) same in
-            let stepped = retired_now place slots' words' was.0 below was.1 (subst (λ t. generation_at t place ≡ greatest_generation) (sym is) last) (ap (λ (t : SlotState (Option T)). t.values) slots_are) words_are in
-            (stepped.holds, both words' slots_are stepped.shown ∙ ap (λ t. map_retire t place) is)
+            let slots_are = sets ∙ ap (λ k. slot_table_set slots k None) same in
+            let stepped = retired_now place slots' words' was.0 below was.1 (subst (λ t. generation_at t place ≡ greatest_generation) (sym is) last) (ap (λ (t : SlotTableState (Option T)). t.values) slots_are) words_are in
+            (stepped.holds, both words' slots_are stepped.shown ∙ ap (λ t. slot_map_retire t place) is)
 
         -- the next generation is read where it was written
         pub reads_raised : (new : SlotMapState T) → new.generations ≡ set s.generations place (generation_at s place + 1) → generation_at new place ≡ generation_at s place + 1
@@ -337,29 +337,29 @@ module _ {T : Type 0} (slots : SlotState (Option T)) (words : List ℕ) where
             ap (λ gs. get_or gs place 0) raised ∙ get_or-set_same s.generations place (generation_at s place + 1) 0 (let within = below in omega (arith, long, within))
 
         -- a value that is written leaves the words
-        pub writes : (value : T) → slots' ≡ slot_set slots key (Some value) → HasWords is_retired slots' words retired
+        pub writes : (value : T) → slots' ≡ slot_table_set slots key (Some value) → HasWords is_retired slots' words retired
         writes value sets =
-            let slots_are = sets ∙ ap (λ k. slot_set slots k (Some value)) same in
+            let slots_are = sets ∙ ap (λ k. slot_table_set slots k (Some value)) same in
             let word = held_word place was.0 below was.1 in
             let one = ap one_if_retired was.1 in
             subst (λ ws. HasWords (is_retired {T = T}) slots' ws retired) (set-get_or words place 0)
-            (HasWords-set place (Some (Some value)) (word_at words place) slots' retired (ap (λ (t : SlotState (Option T)). t.values) slots_are) below
+            (HasWords-set place (Some (Some value)) (word_at words place) slots' retired (ap (λ (t : SlotTableState (Option T)). t.values) slots_are) below
             (generation_at (state_of slots words) place, (word.1, word.0)) (omega (arith, one)))
 
 module _ {T : Type 0} where
   -- every place of a new map is free, and has this generation
-  pub HasWords-new : (slots : SlotState (Option T)) (words : List ℕ) (capacity n generation : ℕ) → slots ≡ slot_new capacity → n ≡ capacity → words ≡ replicate n (2 * generation) → generation ≤ greatest_generation
+  pub HasWords-new : (slots : SlotTableState (Option T)) (words : List ℕ) (capacity n generation : ℕ) → slots ≡ slot_table_new capacity → n ≡ capacity → words ≡ replicate n (2 * generation) → generation ≤ greatest_generation
       → HasWords is_retired slots words 0
   HasWords-new slots words capacity n generation new as_many all most =
       let long = ap length all ∙ length-replicate n (2 * generation) in
-      let places = ap (λ (s : SlotState (Option T)). length s.values) new ∙ length-replicate capacity None in
+      let places = ap (λ (s : SlotTableState (Option T)). length s.values) new ∙ length-replicate capacity None in
       record {
         lengths = long ∙ (as_many ∙ sym places);
         each = λ place below.
-            let empty = ap (λ (s : SlotState (Option T)). value_at s place) new ∙ place_at-replicate capacity place in
+            let empty = ap (λ (s : SlotTableState (Option T)). value_at s place) new ∙ place_at-replicate capacity place in
             let word = ap (λ ws. word_at ws place) all ∙ get_or-replicate n place (2 * generation) 0 (omega arith) in
             subst (λ c. IsWordOf is_retired c (word_at words place)) (sym empty) (generation, (most, omega (arith, word)));
-        counted = let none = sum_by-replicate (one_if_retired {T = T}) capacity None in let same = ap (λ (s : SlotState (Option T)). count_by is_retired s.values) new in omega (arith, none, same);
+        counted = let none = sum_by-replicate (one_if_retired {T = T}) capacity None in let same = ap (λ (s : SlotTableState (Option T)). count_by is_retired s.values) new in omega (arith, none, same);
       }
 
 map-replicate : (f : ℕ → ℕ) (n word : ℕ) → map f (replicate n word) ≡ replicate n (f word)
@@ -373,9 +373,9 @@ word_generations-new words n generation all most =
     ap word_generations all ∙ (map-replicate word_generation n (2 * generation) ∙ ap (replicate n) is)
 
 -- contracts see a new map
-pub new_state : {T : Type 0} (slots : SlotState (Option T)) (words : List ℕ) (capacity n generation : ℕ) → slots ≡ slot_new capacity → n ≡ capacity → words ≡ replicate n (2 * generation) → generation ≤ greatest_generation
-    → state_of slots words ≡ map_new capacity generation
+pub new_state : {T : Type 0} (slots : SlotTableState (Option T)) (words : List ℕ) (capacity n generation : ℕ) → slots ≡ slot_table_new capacity → n ≡ capacity → words ≡ replicate n (2 * generation) → generation ≤ greatest_generation
+    → state_of slots words ≡ slot_map_new capacity generation
 new_state {T} slots words capacity n generation new as_many all most =
     let generations = word_generations-new words n generation all most ∙ ap (λ (k : ℕ). replicate k generation) as_many in
-    ap (λ (u : SlotState (Option T)). let st : SlotMapState T = record { slots = u; generations = word_generations words } in st) new
-    ∙ ap (λ (gs : List ℕ). let st : SlotMapState T = record { slots = slot_new capacity; generations = gs } in st) generations
+    ap (λ (u : SlotTableState (Option T)). let st : SlotMapState T = record { slots = u; generations = word_generations words } in st) new
+    ∙ ap (λ (gs : List ℕ). let st : SlotMapState T = record { slots = slot_table_new capacity; generations = gs } in st) generations

@@ -1,7 +1,7 @@
 -- Worked examples: the steps of a slot map with generations do what users expect.
 use Rattle.std.proofs.Common.{ℕ, ◌≡◌, inl, inr, List, [], ◌∷◌, Option, Some, None, option_map, slice_get, refl, lit<, lit≤, arith}
-use Rattle.ix_slotmap.specs.Generations.{SlotKey, SlotMapState, key_at, map_value, IsDead, retired_count, map_len, map_entries, map_new, IsMapFormed}
-use Rattle.ix_slotmap.specs.SlotMapSteps.{map_insert, map_fill, map_replace, map_remove, CanInsertAt}
+use Rattle.ix_slotmap.specs.Generations.{SlotKey, SlotMapState, key_at, slot_map_value, IsDead, retired_count, slot_map_len, slot_map_entries, slot_map_new, IsSlotMapFormed}
+use Rattle.ix_slotmap.specs.SlotMapSteps.{slot_map_insert, slot_map_fill, slot_map_replace, slot_map_remove, CanInsertAt}
 
 abbrev key : ℕ → ℕ → SlotKey
 key index generation = record { index = index; generation = generation }
@@ -40,64 +40,64 @@ abbrev thirty : SlotMapState ℕ
 thirty = slot_map (with 30 ∷ free ∷ free ∷ []) (1 ∷ 2 ∷ []) (2 ∷ 0 ∷ 0 ∷ [])
 
 -- the first value gets the key 0:0
-next_key-new : next_key (map_new 3 0) ≡ Some (key 0 0)
+next_key-new : next_key (slot_map_new 3 0) ≡ Some (key 0 0)
 next_key-new = refl
 
 -- it takes the first place, which is no longer free
-map_insert-new : map_insert (map_new 3 0) 10 ≡ ten
-map_insert-new = refl
+slot_map_insert-new : slot_map_insert (slot_map_new 3 0) 10 ≡ ten
+slot_map_insert-new = refl
 
 -- a removed key's place is the first free one, and has the next generation
-map_remove-held : map_remove ten (key 0 0) ≡ without_ten
-map_remove-held = refl
+slot_map_remove-held : slot_map_remove ten (key 0 0) ≡ without_ten
+slot_map_remove-held = refl
 
 -- so the next value gets the key 0:1
 next_key-removed : next_key without_ten ≡ Some (key 0 1)
 next_key-removed = refl
 
 -- it takes that place, whose generation stays
-map_insert-removed : map_insert without_ten 20 ≡ twenty
-map_insert-removed = refl
+slot_map_insert-removed : slot_map_insert without_ten 20 ≡ twenty
+slot_map_insert-removed = refl
 
 -- the key 0:1 has the value
-map_value-held : map_value twenty (key 0 1) ≡ Some 20
-map_value-held = refl
+slot_map_value-held : slot_map_value twenty (key 0 1) ≡ Some 20
+slot_map_value-held = refl
 
 -- the removed key 0:0 has none
-map_value-removed : map_value twenty (key 0 0) ≡ None
-map_value-removed = refl
+slot_map_value-removed : slot_map_value twenty (key 0 0) ≡ None
+slot_map_value-removed = refl
 
 -- and it is not removed again
-map_remove-removed : map_remove twenty (key 0 0) ≡ twenty
-map_remove-removed = refl
+slot_map_remove-removed : slot_map_remove twenty (key 0 0) ≡ twenty
+slot_map_remove-removed = refl
 
 -- a held place takes another value
 CanInsertAt-held : CanInsertAt twenty 0
 CanInsertAt-held = inr (refl, lit< tt)
 
 -- it has the next generation then
-map_replace-held : map_replace twenty 0 30 ≡ thirty
-map_replace-held = refl
+slot_map_replace-held : slot_map_replace twenty 0 30 ≡ thirty
+slot_map_replace-held = refl
 
 -- so the new key is 0:2
 key_at-replaced : key_at thirty 0 ≡ key 0 2
 key_at-replaced = refl
 
 -- the former key has no value
-map_value-replaced : map_value thirty (key 0 1) ≡ None
-map_value-replaced = refl
+slot_map_value-replaced : slot_map_value thirty (key 0 1) ≡ None
+slot_map_value-replaced = refl
 
 -- the place of the new key, removed, is the first free one again
-map_remove-replaced : map_remove thirty (key 0 2) ≡ slot_map (free ∷ free ∷ free ∷ []) (0 ∷ 1 ∷ 2 ∷ []) (3 ∷ 0 ∷ 0 ∷ [])
-map_remove-replaced = refl
+slot_map_remove-replaced : slot_map_remove thirty (key 0 2) ≡ slot_map (free ∷ free ∷ free ∷ []) (0 ∷ 1 ∷ 2 ∷ []) (3 ∷ 0 ∷ 0 ∷ [])
+slot_map_remove-replaced = refl
 
 -- a free place of one's own choice takes a value
 CanInsertAt-free : CanInsertAt ten 2
 CanInsertAt-free = inl (lit< tt, refl)
 
 -- it is no longer free then, and keeps its generation
-map_fill-free : map_fill ten 2 5 ≡ slot_map (with 10 ∷ free ∷ with 5 ∷ []) (1 ∷ []) (0 ∷ 0 ∷ 0 ∷ [])
-map_fill-free = refl
+slot_map_fill-free : slot_map_fill ten 2 5 ≡ slot_map (with 10 ∷ free ∷ with 5 ∷ []) (1 ∷ []) (0 ∷ 0 ∷ 0 ∷ [])
+slot_map_fill-free = refl
 
 -- there is no place past the end
 CanInsertAt-past : CanInsertAt ten 3 → ⊥
@@ -115,32 +115,32 @@ abbrev eight : SlotMapState ℕ
 eight = slot_map (retired ∷ with 8 ∷ []) [] (4294967295 ∷ 4294967295 ∷ [])
 
 -- at the greatest generation a removed key's place is retired, and not free again
-map_remove-last : map_remove seven (key 0 4294967295) ≡ slot_map (retired ∷ free ∷ []) (1 ∷ []) (4294967295 ∷ 4294967295 ∷ [])
-map_remove-last = refl
+slot_map_remove-last : slot_map_remove seven (key 0 4294967295) ≡ slot_map (retired ∷ free ∷ []) (1 ∷ []) (4294967295 ∷ 4294967295 ∷ [])
+slot_map_remove-last = refl
 
 -- so the next value takes another place
-map_insert-retired : map_insert (slot_map (retired ∷ free ∷ []) (1 ∷ []) (4294967295 ∷ 4294967295 ∷ [])) 8 ≡ eight
-map_insert-retired = refl
+slot_map_insert-retired : slot_map_insert (slot_map (retired ∷ free ∷ []) (1 ∷ []) (4294967295 ∷ 4294967295 ∷ [])) 8 ≡ eight
+slot_map_insert-retired = refl
 
 -- one generation earlier the place is free again, at the greatest
-map_remove-last_but_one : map_remove (slot_map (with 7 ∷ []) [] (4294967294 ∷ [])) (key 0 4294967294) ≡ slot_map (free ∷ []) (0 ∷ []) (4294967295 ∷ [])
-map_remove-last_but_one = refl
+slot_map_remove-last_but_one : slot_map_remove (slot_map (with 7 ∷ []) [] (4294967294 ∷ [])) (key 0 4294967294) ≡ slot_map (free ∷ []) (0 ∷ []) (4294967295 ∷ [])
+slot_map_remove-last_but_one = refl
 
 -- a map whose places are retired or held is full: no key is next
 next_key-full : next_key eight ≡ None
 next_key-full = refl
 
 -- and nothing more is inserted
-map_insert-full : map_insert eight 9 ≡ eight
-map_insert-full = refl
+slot_map_insert-full : slot_map_insert eight 9 ≡ eight
+slot_map_insert-full = refl
 
 -- one of its places is retired
 retired_count-one : retired_count eight ≡ 1
 retired_count-one = refl
 
 -- and one is held
-map_len-one : map_len eight ≡ 1
-map_len-one = refl
+slot_map_len-one : slot_map_len eight ≡ 1
+slot_map_len-one = refl
 
 -- a retired place takes no value
 CanInsertAt-retired : CanInsertAt eight 0 → ⊥
@@ -157,12 +157,12 @@ CanInsertAt-last can = elim can [
 ]
 
 -- a map whose places are all retired holds nothing, and is full as well
-map_remove-all : map_remove eight (key 1 4294967295) ≡ slot_map (retired ∷ retired ∷ []) [] (4294967295 ∷ 4294967295 ∷ [])
-map_remove-all = refl
+slot_map_remove-all : slot_map_remove eight (key 1 4294967295) ≡ slot_map (retired ∷ retired ∷ []) [] (4294967295 ∷ 4294967295 ∷ [])
+slot_map_remove-all = refl
 
 -- keys are listed by their places, without the free and the retired ones
-map_entries-two : map_entries (slot_map (retired ∷ with 5 ∷ free ∷ with 7 ∷ []) (2 ∷ []) (4294967295 ∷ 2 ∷ 1 ∷ 0 ∷ [])) ≡ (key 1 2, 5) ∷ (key 3 0, 7) ∷ []
-map_entries-two = refl
+slot_map_entries-two : slot_map_entries (slot_map (retired ∷ with 5 ∷ free ∷ with 7 ∷ []) (2 ∷ []) (4294967295 ∷ 2 ∷ 1 ∷ 0 ∷ [])) ≡ (key 1 2, 5) ∷ (key 3 0, 7) ∷ []
+slot_map_entries-two = refl
 
 -- a key past the end is dead
 IsDead-past : IsDead eight (key 2 0)
@@ -197,13 +197,13 @@ IsDead-later dead = elim dead [
 ]
 
 -- it has no value yet
-map_value-later : map_value thirty (key 0 3) ≡ None
-map_value-later = refl
+slot_map_value-later : slot_map_value thirty (key 0 3) ≡ None
+slot_map_value-later = refl
 
 -- no slot map lists a retired place as free
-IsMapFormed-listed : IsMapFormed (slot_map (retired ∷ []) (0 ∷ []) (4294967295 ∷ [])) → ⊥
-IsMapFormed-listed formed = let usable = formed.listed_is_usable 0 (lit< tt) in usable.unretired refl
+IsSlotMapFormed-listed : IsSlotMapFormed (slot_map (retired ∷ []) (0 ∷ []) (4294967295 ∷ [])) → ⊥
+IsSlotMapFormed-listed formed = let usable = formed.listed_is_usable 0 (lit< tt) in usable.unretired refl
 
 -- none has a retired place whose generation could be raised
-IsMapFormed-early : IsMapFormed (slot_map (retired ∷ []) [] (4294967294 ∷ [])) → ⊥
-IsMapFormed-early formed = let last = formed.retired_is_last 0 refl in omega arith
+IsSlotMapFormed-early : IsSlotMapFormed (slot_map (retired ∷ []) [] (4294967294 ∷ [])) → ⊥
+IsSlotMapFormed-early formed = let last = formed.retired_is_last 0 refl in omega arith

@@ -4,7 +4,7 @@ use Rattle.std.specs.Option.{option_flatten}
 use Rattle.std.specs.List.Sorted.{IsStrictlyIncreasing}
 use Rattle.std.specs.Map.{lookup}
 use Rattle.std.specs.Coded.{Coded, code_by, coded×, coded_ℕ, coded_list}
-use Rattle.ix_slottable.specs.SlotState.{SlotState, slot_state_code, value_at, slot_new, entries}
+use Rattle.ix_slottable.specs.SlotTableState.{SlotTableState, slot_table_state_code, value_at, slot_table_new, entries}
 
 -- a key: the number of a place, and a generation
 pub record SlotKey : Type 0 where
@@ -20,7 +20,7 @@ slot_key_code =
 
 -- the places, and the generation of each
 pub record GenerationState (C : Type 0) : Type 0 where
-  pub slots : SlotState C
+  pub slots : SlotTableState C
   pub generations : List ℕ
 
 -- a place is free, has a value in it, or has nothing in it: then it is retired
@@ -30,8 +30,8 @@ SlotMapState T = GenerationState (Option T)
 abbrev pub generation_state_code : {C : Type 0} → Coded C → Coded (GenerationState C)
 generation_state_code {C} code =
     code_by
-    (SlotState C × List ℕ)
-    (coded× (slot_state_code code) (coded_list coded_ℕ))
+    (SlotTableState C × List ℕ)
+    (coded× (slot_table_state_code code) (coded_list coded_ℕ))
     (λ s. (s.slots, s.generations))
     (λ p. record { slots = p.0; generations = p.1 })
     (λ _. refl)
@@ -66,8 +66,8 @@ module _ {T : Type 0} where
   place_value s place = option_flatten (value_at s.slots place)
 
   -- the value of a key: that in its place, if the place has the key's generation
-  abbrev pub map_value : SlotMapState T → SlotKey → Option T
-  map_value s key = if nat_eq (generation_at s key.index) key.generation then place_value s key.index else None
+  abbrev pub slot_map_value : SlotMapState T → SlotKey → Option T
+  slot_map_value s key = if nat_eq (generation_at s key.index) key.generation then place_value s key.index else None
 
   -- nothing is in the place, and it is not free
   abbrev pub IsRetired : SlotMapState T → ℕ → Type 0
@@ -86,8 +86,8 @@ module _ {T : Type 0} where
   retired_count s = count_by is_retired s.slots.values
 
   -- the number of held keys
-  abbrev pub map_len : SlotMapState T → ℕ
-  map_len s = count_by (λ content. is_some (option_flatten content)) s.slots.values
+  abbrev pub slot_map_len : SlotMapState T → ℕ
+  slot_map_len s = count_by (λ content. is_some (option_flatten content)) s.slots.values
 
   -- the entries whose places have a value in them, each the key of its place and the value
   abbrev pub held_entries : SlotMapState T → List (ℕ × Option T) → List (SlotKey × T)
@@ -96,16 +96,16 @@ module _ {T : Type 0} where
   held_entries s ((place, Some value) ∷ rest) = (key_at s place, value) ∷ held_entries s rest
 
   -- the held keys in the order of their places, each with its value
-  abbrev pub map_entries : SlotMapState T → List (SlotKey × T)
-  map_entries s = held_entries s (entries s.slots)
+  abbrev pub slot_map_entries : SlotMapState T → List (SlotKey × T)
+  slot_map_entries s = held_entries s (entries s.slots)
 
   -- every place is free, and has this generation
-  abbrev pub map_new : ℕ → ℕ → SlotMapState T
-  map_new capacity generation = record { slots = slot_new capacity; generations = replicate capacity generation }
+  abbrev pub slot_map_new : ℕ → ℕ → SlotMapState T
+  slot_map_new capacity generation = record { slots = slot_table_new capacity; generations = replicate capacity generation }
 
   -- a dead key has no value
   abbrev pub DeadAreNotHeld : SlotMapState T → Type 0
-  DeadAreNotHeld s = (key : SlotKey) → IsDead s key → map_value s key ≡ None
+  DeadAreNotHeld s = (key : SlotKey) → IsDead s key → slot_map_value s key ≡ None
 
   -- in range, without a value, and not retired
   pub record IsUsable (s : SlotMapState T) (place : ℕ) : Type 0 where
@@ -115,7 +115,7 @@ module _ {T : Type 0} where
 
   -- the free list has exactly the places without a value that are not retired, each once; a retired place has the greatest
   -- generation
-  pub record IsMapFormed (s : SlotMapState T) : Type 0 where
+  pub record IsSlotMapFormed (s : SlotMapState T) : Type 0 where
     pub listed_is_usable : (place : ℕ) → 0 < count_by (nat_eq place) s.slots.free → IsUsable s place
     pub usable_is_listed : (place : ℕ) → IsUsable s place → count_by (nat_eq place) s.slots.free ≡ 1
     pub generations : length s.generations ≡ length s.slots.values
@@ -127,4 +127,4 @@ module _ {T : Type 0} where
 
   -- a key is listed with its value exactly if it has one
   abbrev pub ListsExactly : List (SlotKey × T) → SlotMapState T → Type 0
-  ListsExactly items s = (key : SlotKey) → lookup (slot_key_eq key) items ≡ map_value s key
+  ListsExactly items s = (key : SlotKey) → lookup (slot_key_eq key) items ≡ slot_map_value s key

@@ -1,13 +1,13 @@
 pub use Rattle.ix_slottable.specs.Draining
 pub use Rattle.ix_slottable.specs.FullTables
 pub use Rattle.ix_slottable.specs.Memory
-pub use Rattle.ix_slottable.specs.SlotCalls
-pub use Rattle.ix_slottable.specs.SlotState
-pub use Rattle.ix_slottable.specs.SlotSteps
+pub use Rattle.ix_slottable.specs.SlotTableCalls
+pub use Rattle.ix_slottable.specs.SlotTableState
+pub use Rattle.ix_slottable.specs.SlotTableSteps
 pub use Rattle.ix_tables.specs.Cloning
 pub use Rattle.ix_tables.specs.Places
 pub mod Generations
-pub mod MapDrain
+pub mod SlotMapDrain
 pub mod SlotMapCopies
 pub mod SlotMapSteps
 pub mod inner

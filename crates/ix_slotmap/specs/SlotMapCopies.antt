@@ -1,15 +1,15 @@
 -- Clones of slot maps.
 use Rattle.std.specs.Prelude.{◌≡◌, ℕ, Some}
 use Rattle.ix_slotmap.specs.Generations.{SlotMapState, place_value}
-use Rattle.ix_slottable.specs.SlotCopies.{IsCloneAt, SlotIsClone}
+use Rattle.ix_slottable.specs.SlotTableCopies.{IsCloneAt, SlotTableIsClone}
 
 module _ {T : Type 0} where
   -- clones of the values in the same places, the same free and retired places, the former in the same order, and the same
   -- generations
-  pub record MapIsClone (is_clone : T → T → Type 0) (s copy : SlotMapState T) : Type 0 where
-    pub slots : SlotIsClone (IsCloneAt is_clone) s.slots copy.slots
+  pub record SlotMapIsClone (is_clone : T → T → Type 0) (s copy : SlotMapState T) : Type 0 where
+    pub slots : SlotTableIsClone (IsCloneAt is_clone) s.slots copy.slots
     pub generations : copy.generations ≡ s.generations
 
   -- cloning each value can't fail
-  abbrev pub MapIsInfallible : (T → Type 0) → SlotMapState T → Type 0
-  MapIsInfallible is_infallible s = (place : ℕ) (value : T) → place_value s place ≡ Some value → is_infallible value
+  abbrev pub SlotMapIsInfallible : (T → Type 0) → SlotMapState T → Type 0
+  SlotMapIsInfallible is_infallible s = (place : ℕ) (value : T) → place_value s place ≡ Some value → is_infallible value

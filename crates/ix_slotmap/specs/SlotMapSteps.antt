@@ -1,9 +1,9 @@
 -- The steps of a slot map with generations: the state after each call, and what the calls that change a map promise.
 use Rattle.std.specs.Prelude.{◌≡◌, ◌≢◌, ◌↔◌, ◌⊎◌, ℕ, ◌+◌, ◌<◌, List, [], length, nat_lt, if◌then◌else◌, Bool, Option, Some, None, IsSome, IsNone, IfSome, is_some, option_map, slice_get, slice_set}
 use Rattle.std.specs.List.{fold, range_with_len}
-use Rattle.ix_slottable.specs.SlotState.{IsFree}
-use Rattle.ix_slottable.specs.SlotSteps.{slot_set, slot_fill, slot_vacate, slot_insert}
-use Rattle.ix_slotmap.specs.Generations.{SlotKey, SlotMapState, greatest_generation, generation_at, key_at, place_value, map_value, IsDead}
+use Rattle.ix_slottable.specs.SlotTableState.{IsFree}
+use Rattle.ix_slottable.specs.SlotTableSteps.{slot_table_set, slot_table_fill, slot_table_vacate, slot_table_insert}
+use Rattle.ix_slotmap.specs.Generations.{SlotKey, SlotMapState, greatest_generation, generation_at, key_at, place_value, slot_map_value, IsDead}
 
 module _ {T : Type 0} where
   -- the generation of the place is raised by one
@@ -15,55 +15,55 @@ module _ {T : Type 0} where
   is_raisable s place = nat_lt (generation_at s place) greatest_generation
 
   -- the value in the place
-  abbrev pub map_set_at : SlotMapState T → ℕ → T → SlotMapState T
-  map_set_at s place value = record { slots = slot_set s.slots place (Some value); generations = s.generations }
+  abbrev pub slot_map_set_at : SlotMapState T → ℕ → T → SlotMapState T
+  slot_map_set_at s place value = record { slots = slot_table_set s.slots place (Some value); generations = s.generations }
 
   -- the value in the place of the key
-  abbrev pub map_set : SlotMapState T → SlotKey → T → SlotMapState T
-  map_set s key value = map_set_at s key.index value
+  abbrev pub slot_map_set : SlotMapState T → SlotKey → T → SlotMapState T
+  slot_map_set s key value = slot_map_set_at s key.index value
 
   -- the value in the first free place, if there is one
-  abbrev pub map_insert : SlotMapState T → T → SlotMapState T
-  map_insert s value = record { slots = slot_insert s.slots (Some value); generations = s.generations }
+  abbrev pub slot_map_insert : SlotMapState T → T → SlotMapState T
+  slot_map_insert s value = record { slots = slot_table_insert s.slots (Some value); generations = s.generations }
 
   -- the value in the place, which is no longer free
-  abbrev pub map_fill : SlotMapState T → ℕ → T → SlotMapState T
-  map_fill s place value = record { slots = slot_fill s.slots place (Some value); generations = s.generations }
+  abbrev pub slot_map_fill : SlotMapState T → ℕ → T → SlotMapState T
+  slot_map_fill s place value = record { slots = slot_table_fill s.slots place (Some value); generations = s.generations }
 
   -- another value in the place, and the next generation
-  abbrev pub map_replace : SlotMapState T → ℕ → T → SlotMapState T
-  map_replace s place value = record { slots = slot_set s.slots place (Some value); generations = generations_raise s place }
+  abbrev pub slot_map_replace : SlotMapState T → ℕ → T → SlotMapState T
+  slot_map_replace s place value = record { slots = slot_table_set s.slots place (Some value); generations = generations_raise s place }
 
   -- the place is the first free one, and has the next generation
-  abbrev pub map_vacate : SlotMapState T → ℕ → SlotMapState T
-  map_vacate s place = record { slots = slot_vacate s.slots place; generations = generations_raise s place }
+  abbrev pub slot_map_vacate : SlotMapState T → ℕ → SlotMapState T
+  slot_map_vacate s place = record { slots = slot_table_vacate s.slots place; generations = generations_raise s place }
 
   -- nothing is in the place, and it is not free
-  abbrev pub map_retire : SlotMapState T → ℕ → SlotMapState T
-  map_retire s place = record { slots = slot_set s.slots place None; generations = s.generations }
+  abbrev pub slot_map_retire : SlotMapState T → ℕ → SlotMapState T
+  slot_map_retire s place = record { slots = slot_table_set s.slots place None; generations = s.generations }
 
   -- the place of a removed key is used again, if its generation can be raised
-  abbrev pub map_remove : SlotMapState T → SlotKey → SlotMapState T
-  map_remove s key =
-      if is_some (map_value s key) then (if is_raisable s key.index then map_vacate s key.index else map_retire s key.index) else s
+  abbrev pub slot_map_remove : SlotMapState T → SlotKey → SlotMapState T
+  slot_map_remove s key =
+      if is_some (slot_map_value s key) then (if is_raisable s key.index then slot_map_vacate s key.index else slot_map_retire s key.index) else s
 
   -- the key of the place is removed, if a value is there
-  abbrev pub map_remove_at : SlotMapState T → ℕ → SlotMapState T
-  map_remove_at s place = map_remove s (key_at s place)
+  abbrev pub slot_map_remove_at : SlotMapState T → ℕ → SlotMapState T
+  slot_map_remove_at s place = slot_map_remove s (key_at s place)
 
   -- each held key is removed, that of the least place first
-  abbrev pub map_clear : SlotMapState T → SlotMapState T
-  map_clear s = fold map_remove_at s (range_with_len 0 (length s.slots.values))
+  abbrev pub slot_map_clear : SlotMapState T → SlotMapState T
+  slot_map_clear s = fold slot_map_remove_at s (range_with_len 0 (length s.slots.values))
 
   -- what `insert` and `insert_counted` promise
-  pub record MapInsert (old : SlotMapState T) (x : T) (new : SlotMapState T) (result : Option SlotKey) : Type 0 where
+  pub record SlotMapInsert (old : SlotMapState T) (x : T) (new : SlotMapState T) (result : Option SlotKey) : Type 0 where
     pub key : result ≡ option_map (key_at old) (slice_get old.slots.free 0)
-    pub map : new ≡ map_insert old x
-    pub holds : IfSome result (λ key. map_value new key ≡ Some x)
+    pub map : new ≡ slot_map_insert old x
+    pub holds : IfSome result (λ key. slot_map_value new key ≡ Some x)
     pub was_free : IfSome result (λ key. IsFree old.slots key.index)
     pub full : IsNone result ↔ (old.slots.free ≡ [])
     pub refused : IsNone result → new ≡ old
-    pub kept : (key : SlotKey) → IsSome (map_value old key) → map_value new key ≡ map_value old key
+    pub kept : (key : SlotKey) → IsSome (slot_map_value old key) → slot_map_value new key ≡ slot_map_value old key
     pub dead : (key : SlotKey) → IsDead old key → IsDead new key
 
   -- the place is free; or it holds a value, and its generation can be raised
@@ -71,21 +71,21 @@ module _ {T : Type 0} where
   CanInsertAt s place = IsFree s.slots place ⊎ (IsSome (place_value s place) × (generation_at s place < greatest_generation))
 
   -- what `insert_at` and `insert_at_counted` promise
-  pub record MapInsertAt (old : SlotMapState T) (place : ℕ) (x : T) (new : SlotMapState T) (result : Option SlotKey) : Type 0 where
+  pub record SlotMapInsertAt (old : SlotMapState T) (place : ℕ) (x : T) (new : SlotMapState T) (result : Option SlotKey) : Type 0 where
     pub some : IsSome result ↔ CanInsertAt old place
     pub key : IfSome result (λ key. key ≡ key_at new place)
-    pub holds : IfSome result (λ key. map_value new key ≡ Some x)
-    pub free : IsFree old.slots place → new ≡ map_fill old place x
-    pub replaced : IsSome (place_value old place) → IsSome result → (new ≡ map_replace old place x) × IsDead new (key_at old place)
+    pub holds : IfSome result (λ key. slot_map_value new key ≡ Some x)
+    pub free : IsFree old.slots place → new ≡ slot_map_fill old place x
+    pub replaced : IsSome (place_value old place) → IsSome result → (new ≡ slot_map_replace old place x) × IsDead new (key_at old place)
     pub refused : IsNone result → new ≡ old
-    pub kept : (key : SlotKey) → key.index ≢ place → map_value new key ≡ map_value old key
+    pub kept : (key : SlotKey) → key.index ≢ place → slot_map_value new key ≡ slot_map_value old key
     pub dead : (key : SlotKey) → IsDead old key → IsDead new key
 
   -- what `remove` and `remove_counted` promise
-  pub record MapRemove (old : SlotMapState T) (key : SlotKey) (new : SlotMapState T) (result : Option T) : Type 0 where
-    pub value : result ≡ map_value old key
-    pub map : new ≡ map_remove old key
+  pub record SlotMapRemove (old : SlotMapState T) (key : SlotKey) (new : SlotMapState T) (result : Option T) : Type 0 where
+    pub value : result ≡ slot_map_value old key
+    pub map : new ≡ slot_map_remove old key
     pub killed : IsSome result → IsDead new key
     pub refused : IsNone result → new ≡ old
-    pub kept : (other : SlotKey) → other ≢ key → map_value new other ≡ map_value old other
+    pub kept : (other : SlotKey) → other ≢ key → slot_map_value new other ≡ slot_map_value old other
     pub dead : (other : SlotKey) → IsDead old other → IsDead new other

@@ -6,7 +6,7 @@ use Rattle.std.specs.Map.{keys_of, lookup}
 use Rattle.std.proofs.lemmas.Bool.Decides.{nat_tests}
 use Rattle.std.proofs.lemmas.List.Sums.{sum_by-cons}
 use Rattle.ix_tables.specs.Places.{place_at, IsHeldAt}
-use Rattle.ix_slottable.specs.SlotState.{SlotState, value_at, entries_from, entries}
+use Rattle.ix_slottable.specs.SlotTableState.{SlotTableState, value_at, entries_from, entries}
 
 -- some keys rise, and none is less than `start`
 pub record Rises (start : ℕ) (keys : List ℕ) : Type 0 where
@@ -43,7 +43,7 @@ module _ {T : Type 0} where
   Rises-entries_from start (None ∷ places) = Rises-weaken start _ (Rises-entries_from (start + 1) places)
   Rises-entries_from start (Some value ∷ places) = Rises-cons start _ (Rises-entries_from (start + 1) places)
 
-  pub IsStrictlyIncreasing-entries : (s : SlotState T) → IsStrictlyIncreasing (keys_of (entries s))
+  pub IsStrictlyIncreasing-entries : (s : SlotTableState T) → IsStrictlyIncreasing (keys_of (entries s))
   IsStrictlyIncreasing-entries s = (Rises-entries_from 0 s.values).rise
 
   lookup-entries_from_below : (start key : ℕ) (places : List (Option T)) → key < start → lookup (nat_eq key) (entries_from start places) ≡ None
@@ -68,7 +68,7 @@ module _ {T : Type 0} where
       ap (λ b. if b then Some value else lookup (nat_eq (start + suc i)) (entries_from (start + 1) places)) no
       ∙ ap (λ key. lookup (nat_eq key) (entries_from (start + 1) places)) next ∙ lookup-entries_from (start + 1) i places
 
-  pub lookup-entries : (s : SlotState T) (key : ℕ) → lookup (nat_eq key) (entries s) ≡ value_at s key
+  pub lookup-entries : (s : SlotTableState T) (key : ℕ) → lookup (nat_eq key) (entries s) ≡ value_at s key
   lookup-entries s key = let from : key ≡ 0 + key = omega arith in ap (λ k. lookup (nat_eq k) (entries s)) from ∙ lookup-entries_from 0 key s.values
 
   pub count_by-is_some : (start : ℕ) (places : List (Option T)) → count_by is_some places ≡ length (entries_from start places)

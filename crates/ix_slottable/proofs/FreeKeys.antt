@@ -5,7 +5,7 @@ use Rattle.std.specs.List.{range_with_len}
 use Rattle.std.proofs.lemmas.Bool.{cases_eq}
 use Rattle.std.proofs.lemmas.Bool.Decides.{nat_tests}
 use Rattle.std.proofs.lemmas.List.Sums.{sum_by-cons, sum_by-append}
-use Rattle.ix_slottable.specs.SlotSteps.{keys_without}
+use Rattle.ix_slottable.specs.SlotTableSteps.{keys_without}
 use Rattle.ix_slottable.specs.inner.FreeList.{first_or, last_or}
 
 -- how often the key occurs

@@ -4,9 +4,9 @@ pub mod Entries
 pub mod FreeKeys
 pub mod FullTables
 pub mod Memory
-pub mod SlotCalls
-pub mod SlotCopies
-pub mod SlotDrains
-pub mod SlotSteps
+pub mod SlotTableCalls
+pub mod SlotTableCopies
+pub mod SlotTableDrains
+pub mod SlotTableSteps
 pub mod SlotTables
 mod WorkedSlotTables

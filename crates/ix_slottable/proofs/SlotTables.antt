@@ -4,8 +4,8 @@ use Rattle.std.proofs.lemmas.Bool.{cases_eq}
 use Rattle.std.proofs.lemmas.List.{length-append}
 use Rattle.ix_tables.specs.Places.{place_at, IsEmptyAt, IsHeldAt, IsVacant}
 use Rattle.ix_slottable.specs.declared.slottable.link.Link.{Link}
-use Rattle.ix_slottable.specs.SlotState.{SlotState, value_at, IsHeld, IsFree, IsWellFormed}
-use Rattle.ix_slottable.specs.SlotSteps.{keys_without}
+use Rattle.ix_slottable.specs.SlotTableState.{SlotTableState, value_at, IsHeld, IsFree, IsWellFormed}
+use Rattle.ix_slottable.specs.SlotTableSteps.{keys_without}
 use Rattle.ix_slottable.specs.inner.FreeList.{no_key, held_link, free_link, first_or, last_or, links_keys_from, IsChain, IsLinkTable, IsKeyOrNone, IsLinkWithin, slots_of, IsLinkOf, MatchesLink, MatchesLinks, Represents}
 use Rattle.ix_slottable.proofs.FreeKeys.{key_count, key_count-cons, hit, hit_same, key_count-append, split_at_key, first_occurs, apart_from_last_or, apart_from_first_or}
 use Rattle.ix_tables.proofs.Places.{place_at_within}
@@ -26,11 +26,11 @@ module _ {T : Type 0} where
   empty_or_held (Some x) = inr refl
 
   -- two tables, a first free key and a number of values represent a slot state, and contracts see it in them
-  pub record Shows (s : SlotState T) (values : List (Option T)) (links : List (Option Link)) (first len : ℕ) : Type 0 where
+  pub record Shows (s : SlotTableState T) (values : List (Option T)) (links : List (Option Link)) (first len : ℕ) : Type 0 where
     pub sound : Represents (slots_of values links first) links first len
     pub is : slots_of values links first ≡ s
 
-  module _ (s : SlotState T) (links : List (Option Link)) (first len : ℕ) (r : Represents s links first len) where
+  module _ (s : SlotTableState T) (links : List (Option Link)) (first len : ℕ) (r : Represents s links first len) where
     -- no key occurs twice in the free list
     pub key_count_le_one : (key : ℕ) → key_count key s.free ≤ 1
     key_count_le_one key = elim (cases_eq (key_count key s.free) 0) [
@@ -183,7 +183,7 @@ module _ {T : Type 0} where
     slots_of-links : slots_of s.values links first ≡ s
     slots_of-links =
         let fits = r.counted in let lengths = r.lengths in let low = r.below in
-        ap (λ keys. let t : SlotState T = record { values = s.values; free = keys } in t)
+        ap (λ keys. let t : SlotTableState T = record { values = s.values; free = keys } in t)
         (ap (links_keys_from (length links) links) r.head ∙ links_keys_from-chain links (length links) no_key s.free no_key (omega arith) (place_at_past links no_key (omega arith)) r.chain)
 
     pub Shows-from : (values : List (Option T)) → values ≡ s.values → Shows s values links first len
@@ -191,22 +191,22 @@ module _ {T : Type 0} where
         let all = ap (λ vs. slots_of vs links first) is ∙ slots_of-links in
         record { sound = subst (λ t. Represents t links first len) (sym all) r; is = all }
 
-  pub represents_of : (s : SlotState T) (values : List (Option T)) (links : List (Option Link)) (first len : ℕ) → Shows s values links first len → Represents s links first len × (values ≡ s.values)
-  represents_of s values links first len shown = (subst (λ t. Represents t links first len) shown.is shown.sound, ap (λ (t : SlotState T). t.values) shown.is)
+  pub represents_of : (s : SlotTableState T) (values : List (Option T)) (links : List (Option Link)) (first len : ℕ) → Shows s values links first len → Represents s links first len × (values ≡ s.values)
+  represents_of s values links first len shown = (subst (λ t. Represents t links first len) shown.is shown.sound, ap (λ (t : SlotTableState T). t.values) shown.is)
 
-  pub link_held : (s : SlotState T) (values : List (Option T)) (links : List (Option Link)) (first len key : ℕ) → Shows s values links first len → key < length s.values → IsHeldAt links key
+  pub link_held : (s : SlotTableState T) (values : List (Option T)) (links : List (Option Link)) (first len key : ℕ) → Shows s values links first len → key < length s.values → IsHeldAt links key
   link_held s values links first len key shown below =
       let known = (represents_of s values links first len shown).0 in
       let lengths = known.lengths in (IsLinkTable-links s links first len known).held key (omega arith)
 
   -- the link of a key in the table is its link
-  pub IsLinkOf-shown : (s : SlotState T) (values : List (Option T)) (links : List (Option Link)) (first len key : ℕ) (link : Link) → Shows s values links first len → place_at links key ≡ Some link → IsLinkOf link s key
+  pub IsLinkOf-shown : (s : SlotTableState T) (values : List (Option T)) (links : List (Option Link)) (first len key : ℕ) (link : Link) → Shows s values links first len → place_at links key ≡ Some link → IsLinkOf link s key
   IsLinkOf-shown s values links first len key link shown at = λ before after is.
       let chain = (represents_of s values links first len shown).0.chain in
       let parts = chain_parts links no_key before key after no_key (subst (λ keys. IsChain links no_key keys no_key) is chain) in
       let same : Some link ≡ Some (free_link (last_or no_key before) (first_or after no_key)) = sym at ∙ parts.at_key in cc
 
-  pub free_by_link : (s : SlotState T) (values : List (Option T)) (links : List (Option Link)) (first len key : ℕ) (link : Link) → Shows s values links first len → place_at links key ≡ Some link → link.previous ≢ key → IsFree s key
+  pub free_by_link : (s : SlotTableState T) (values : List (Option T)) (links : List (Option Link)) (first len key : ℕ) (link : Link) → Shows s values links first len → place_at links key ≡ Some link → link.previous ≢ key → IsFree s key
   free_by_link s values links first len key link shown at apart =
       let r = (represents_of s values links first len shown).0 in
       elim (cases_eq (key_count key s.free) 0) [
@@ -217,7 +217,7 @@ module _ {T : Type 0} where
         | inr some ↦ r.formed.listed_is_free key (omega arith)
       ]
 
-  pub held_by_link : (s : SlotState T) (values : List (Option T)) (links : List (Option Link)) (first len key : ℕ) (link : Link) → Shows s values links first len → key < length s.values → place_at links key ≡ Some link → link.previous ≡ key → IsHeld s key
+  pub held_by_link : (s : SlotTableState T) (values : List (Option T)) (links : List (Option Link)) (first len key : ℕ) (link : Link) → Shows s values links first len → key < length s.values → place_at links key ≡ Some link → link.previous ≡ key → IsHeld s key
   held_by_link s values links first len key link shown below at held =
       let r = (represents_of s values links first len shown).0 in
       elim (cases_eq (key_count key s.free) 0) [
@@ -231,7 +231,7 @@ module _ {T : Type 0} where
       ]
 
   -- the same facts, of the state that contracts see
-  module _ (s : SlotState T) (values : List (Option T)) (links : List (Option Link)) (first len : ℕ) where
+  module _ (s : SlotTableState T) (values : List (Option T)) (links : List (Option Link)) (first len : ℕ) where
     pub IsWellFormed-shown : Shows s values links first len → IsWellFormed s
     IsWellFormed-shown shown = (represents_of s values links first len shown).0.formed
 

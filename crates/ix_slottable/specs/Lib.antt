@@ -3,9 +3,9 @@ pub use Rattle.ix_tables.specs.Places
 pub mod Draining
 pub mod FullTables
 pub mod Memory
-pub mod SlotCalls
-pub mod SlotCopies
-pub mod SlotDrain
-pub mod SlotState
-pub mod SlotSteps
+pub mod SlotTableCalls
+pub mod SlotTableCopies
+pub mod SlotTableDrain
+pub mod SlotTableState
+pub mod SlotTableSteps
 pub mod inner

@@ -4,7 +4,7 @@ use Rattle.std.specs.Prelude.{nat_eq, nat_lt, if◌then◌else◌, not, cond}
 use Rattle.std.specs.List.{range_with_len, remove, position, position_or_len}
 use Rattle.std.proofs.lemmas.Bool.{cases_lt}
 use Rattle.std.proofs.lemmas.Bool.Decides.{nat_tests}
-use Rattle.ix_slottable.specs.SlotSteps.{keys_without}
+use Rattle.ix_slottable.specs.SlotTableSteps.{keys_without}
 
 -- the keys but for the one at this place, if there is a place
 abbrev pub keys_without_at : List ℕ → Option ℕ → List ℕ

@@ -1,12 +1,12 @@
 //! A plain slow slot table, with which tests compare slot tables, and of which other slow maps are made.
 ghost use Rattle.std.specs.Prelude.{◌≡◌, ◌≤◌, ◌<◌, None, length, replicate, nat_eq, nat_lt, is_some, slice_get, slice_set, if◌then◌else◌, IfOk};
 ghost use Rattle.std.specs.List.{position, range_with_len};
-ghost use Rattle.ix_slottable.specs.SlotState.{value_at, slot_new, held_count};
-ghost use Rattle.ix_slottable.specs.SlotSteps.{keys_without, slot_set, slot_fill, slot_vacate, slot_insert, slot_insert_at, slot_remove};
+ghost use Rattle.ix_slottable.specs.SlotTableState.{value_at, slot_table_new, held_count};
+ghost use Rattle.ix_slottable.specs.SlotTableSteps.{keys_without, slot_table_set, slot_table_fill, slot_table_vacate, slot_table_insert, slot_table_insert_at, slot_table_remove};
 ghost use Rattle.ix_commands.specs.Replies.{option_reply, key_reply};
 
 use arrayvec::ArrayVec;
-use ix_commands::{Reply, Runs, TableCommand};
+use ix_commands::{Reply, Runs, SlotTableCommand};
 use std::alloc::{AllocError, Global};
 use std::marker::Model;
 
@@ -19,11 +19,11 @@ pub struct SlowTable<T> {
 }
 
 impl<T> Model for SlowTable<T> {
-    ghost use Rattle.ix_slottable.specs.SlotState.{SlotState, slot_state_code};
+    ghost use Rattle.ix_slottable.specs.SlotTableState.{SlotTableState, slot_table_state_code};
 
-    ghost Value = { SlotState T };
+    ghost Value = { SlotTableState T };
 
-    ghost coded = { slot_state_code T.code };
+    ghost coded = { slot_table_state_code T.code };
 
     ghost view = { λ table. record {
       values = table.values.items;
@@ -103,7 +103,7 @@ impl<T: Copy> SlowTable<T> {
     /// Returns an empty table with `capacity` keys. Returns `AllocError` if there is not enough memory, or `capacity` is
     /// above 512.
     pub fn new(alloc: Global, capacity: usize) -> Result<SlowTable<T>, AllocError>
-        ensures { IfOk result (λ table. table ≡ slot_new capacity) }
+        ensures { IfOk result (λ table. table ≡ slot_table_new capacity) }
     {
         if capacity > 512 {
             return Err(AllocError);
@@ -164,14 +164,14 @@ impl<T: Copy> SlowTable<T> {
 
     /// Overwrites the value at `key`, which is no free one.
     pub fn set(&mut self, key: usize, value: T)
-        ensures { self.new ≡ slot_set self.old key value }
+        ensures { self.new ≡ slot_table_set self.old key value }
     {
         write(&mut self.values, key, Some(value));
     }
 
     /// Inserts `value` at `key`, which is in range.
     pub fn fill(&mut self, key: usize, value: T)
-        ensures { self.new ≡ slot_fill self.old key value }
+        ensures { self.new ≡ slot_table_fill self.old key value }
     {
         write(&mut self.values, key, Some(value));
         remove_key(&mut self.free, key);
@@ -180,7 +180,7 @@ impl<T: Copy> SlowTable<T> {
     /// Removes the value at `key`, which becomes the first free key.
     pub fn vacate(&mut self, key: usize)
         requires { length self.old.free < 512 }
-        ensures { self.new ≡ slot_vacate self.old key }
+        ensures { self.new ≡ slot_table_vacate self.old key }
     {
         write(&mut self.values, key, None);
         self.free.insert(0, key);
@@ -189,7 +189,7 @@ impl<T: Copy> SlowTable<T> {
     /// Inserts `value` at the first free key and returns that key, or `None` if no key is free.
     pub fn insert(&mut self, value: T) -> Option<usize>
         ensures key { result ≡ slice_get self.old.free 0 }
-        ensures table { self.new ≡ slot_insert self.old value }
+        ensures table { self.new ≡ slot_table_insert self.old value }
     {
         let key = self.first_free()?;
         self.fill(key, value);
@@ -199,7 +199,7 @@ impl<T: Copy> SlowTable<T> {
     /// Inserts `value` at `key` and returns `true`, or returns `false` if `key` is out of range.
     pub fn insert_at(&mut self, key: usize, value: T) -> bool
         ensures value { result ≡ nat_lt key (length self.old.values) }
-        ensures table { self.new ≡ slot_insert_at self.old key value }
+        ensures table { self.new ≡ slot_table_insert_at self.old key value }
     {
         if key >= self.values.len() {
             return false;
@@ -212,7 +212,7 @@ impl<T: Copy> SlowTable<T> {
     pub fn overwrite(&mut self, key: usize, value: T) -> bool
         ensures value { result ≡ is_some (value_at self.old key) }
         ensures table { self.new
-            ≡ if is_some (value_at self.old key) then slot_set self.old key value else self.old }
+            ≡ if is_some (value_at self.old key) then slot_table_set self.old key value else self.old }
     {
         if self.get(key).is_none() {
             return false;
@@ -225,7 +225,7 @@ impl<T: Copy> SlowTable<T> {
     pub fn remove(&mut self, key: usize) -> Option<T>
         requires { length self.old.free < 512 }
         ensures value { result ≡ value_at self.old key }
-        ensures table { self.new ≡ slot_remove self.old key }
+        ensures table { self.new ≡ slot_table_remove self.old key }
     {
         let value = self.get(key);
         if value.is_some() {
@@ -236,13 +236,13 @@ impl<T: Copy> SlowTable<T> {
 }
 
 /// The commands of a slot table but for `From`, to which the reply is `None`. A table with 512 free keys does nothing.
-impl<T: Copy> Runs<TableCommand<T>> for SlowTable<T> {
-    ghost use Rattle.ix_slottable.specs.SlotState.{SlotState};
+impl<T: Copy> Runs<SlotTableCommand<T>> for SlowTable<T> {
+    ghost use Rattle.ix_slottable.specs.SlotTableState.{SlotTableState};
     ghost use Rattle.test_support.specs.SlowRun.{slow_reply, slow_after};
 
     type Reply = Reply<usize, T>;
 
-    ghost Model = { SlotState T };
+    ghost Model = { SlotTableState T };
 
     ghost model = { λ table. table };
 
@@ -250,23 +250,23 @@ impl<T: Copy> Runs<TableCommand<T>> for SlowTable<T> {
 
     ghost after = { slow_after };
 
-    fn run_command(&mut self, command: TableCommand<T>) -> Reply<usize, T> {
+    fn run_command(&mut self, command: SlotTableCommand<T>) -> Reply<usize, T> {
         if !self.has_room() {
             return Reply::None;
         }
         match command {
-            TableCommand::Insert(value) => reply_of_key(self.insert(value)),
-            TableCommand::Next => reply_of_key(self.first_free()),
-            TableCommand::InsertAt(key, value) => Reply::Bool(self.insert_at(key, value)),
-            TableCommand::Remove(key) => reply_of_option(self.remove(key)),
-            TableCommand::Get(key) => reply_of_option(self.get(key)),
-            TableCommand::Set(key, value) => Reply::Bool(self.overwrite(key, value)),
-            TableCommand::Contains(key) => Reply::Bool(self.get(key).is_some()),
-            TableCommand::From(_) => Reply::None,
-            TableCommand::Len => Reply::Number(self.len()),
-            TableCommand::Capacity => Reply::Number(self.capacity()),
-            TableCommand::Empty => Reply::Bool(self.len() == 0),
-            TableCommand::Full => Reply::Bool(self.len() == self.capacity()),
+            SlotTableCommand::Insert(value) => reply_of_key(self.insert(value)),
+            SlotTableCommand::Next => reply_of_key(self.first_free()),
+            SlotTableCommand::InsertAt(key, value) => Reply::Bool(self.insert_at(key, value)),
+            SlotTableCommand::Remove(key) => reply_of_option(self.remove(key)),
+            SlotTableCommand::Get(key) => reply_of_option(self.get(key)),
+            SlotTableCommand::Set(key, value) => Reply::Bool(self.overwrite(key, value)),
+            SlotTableCommand::Contains(key) => Reply::Bool(self.get(key).is_some()),
+            SlotTableCommand::From(_) => Reply::None,
+            SlotTableCommand::Len => Reply::Number(self.len()),
+            SlotTableCommand::Capacity => Reply::Number(self.capacity()),
+            SlotTableCommand::Empty => Reply::Bool(self.len() == 0),
+            SlotTableCommand::Full => Reply::Bool(self.len() == self.capacity()),
         }
     }
 }

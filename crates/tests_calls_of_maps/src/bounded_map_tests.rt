@@ -1,5 +1,5 @@
 //! Examples of functions over any bounded map, called with a flat map or a hash map.
-use ix_maps::FlatMapError::{IsFull, KeyAlreadyExists};
+use ix_maps::MapError::{IsFull, KeyAlreadyExists};
 use ix_maps::{BoundedMap, FixedSizeFlatMap, FixedSizeHashMap};
 use std::test::Fail;
 
@@ -115,7 +115,7 @@ fn keys_are_removed_from_any_map(rt: HostRuntime) -> Result<(), Fail> {
 // Shows: BoundedMap::insert
 #[test]
 fn any_map_refuses_for_one_of_two_reasons(rt: HostRuntime) {
-    fn fill<M: BoundedMap<u16, char>>(map: &mut M) -> [Result<(), ix_maps::FlatMapError>; 3] {
+    fn fill<M: BoundedMap<u16, char>>(map: &mut M) -> [Result<(), ix_maps::MapError>; 3] {
         [
             map.insert(80, 'a'),
             map.insert(80, 'b'),

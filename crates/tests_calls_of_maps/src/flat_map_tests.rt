@@ -1,6 +1,6 @@
 //! Examples of flat maps.
 use ix_cells::{ContainerFamily, RelocatableContainer};
-use ix_maps::FlatMapError::{IsFull, KeyAlreadyExists};
+use ix_maps::MapError::{IsFull, KeyAlreadyExists};
 use ix_maps::{
     CallbackProgression, FixedSizeFlatMap, FlatMap, FlatMapFamily, Pair, RelocatableFlatMap,
     UninitFlatMap,
@@ -296,7 +296,7 @@ fn a_family_makes_maps_for_any_allocator(rt: HostRuntime) -> Result<(), Fail> {
     Ok(())
 }
 
-// Shows: Debug for MetaMap, fmt::Display for FlatMapError
+// Shows: Debug for MetaMap, fmt::Display for MapError
 #[test]
 fn maps_and_errors_are_printed(rt: HostRuntime) -> Result<(), Fail> {
     let mut map = FixedSizeFlatMap::<u16, char, 3>::new();

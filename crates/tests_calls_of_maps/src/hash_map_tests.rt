@@ -1,6 +1,6 @@
 //! Examples of hash maps: how they are made. Their calls are those of flat maps.
 use ix_cells::{ContainerFamily, RelocatableContainer};
-use ix_maps::FlatMapError::{IsFull, KeyAlreadyExists};
+use ix_maps::MapError::{IsFull, KeyAlreadyExists};
 use ix_maps::{
     DefaultHashBuilder, FixedSizeHashMap, HashMap, HashMapFamily, RelocatableHashMap, UninitHashMap,
 };

@@ -1,8 +1,9 @@
 //! Examples of lists of commands.
 use ix_cells::StaticVec;
 use ix_commands::{
-    FlatCommand, QueueCommand, Reply, ReplyError, Runs, SlotCommand, TableCommand, TextCommand,
-    VecCommand, run_all, run_flat, run_queue, run_slot, run_table, run_text, run_vec,
+    MapCommand, QueueCommand, Reply, ReplyError, Runs, SlotMapCommand, SlotTableCommand,
+    StringCommand, VectorCommand, run_all, run_map, run_queue, run_slot_map, run_slot_table,
+    run_string, run_vector,
 };
 use ix_maps::{FixedSizeFlatMap, FixedSizeQueue, FixedSizeSlotMap, FixedSizeSlotTable, SlotMapKey};
 use ix_string::{StaticString, String};
@@ -37,16 +38,16 @@ fn commands_run_on_a_queue(rt: HostRuntime) -> Result<(), Fail> {
     Ok(())
 }
 
-// Shows: VecCommand, ix_commands::run_vec
+// Shows: VectorCommand, ix_commands::run_vector
 #[test]
 fn commands_run_on_a_vector(rt: HostRuntime) -> Result<(), Fail> {
     let mut vector = StaticVec::<u64, 2>::new();
     let commands = [
-        VecCommand::Extend(&[7, 8]),
-        VecCommand::Push(9),
-        VecCommand::Remove(0),
+        VectorCommand::Extend(&[7, 8]),
+        VectorCommand::Push(9),
+        VectorCommand::Remove(0),
     ];
-    let replies = run_vec(rt.alloc(), &mut vector, &commands)?;
+    let replies = run_vector(rt.alloc(), &mut vector, &commands)?;
     let full = Reply::Error(ReplyError::InsertWouldExceedCapacity);
     assert_eq!(rt;
         replies.as_slice(),
@@ -55,63 +56,63 @@ fn commands_run_on_a_vector(rt: HostRuntime) -> Result<(), Fail> {
     Ok(())
 }
 
-// Shows: TextCommand, ix_commands::run_text
+// Shows: StringCommand, ix_commands::run_string
 #[test]
 fn commands_run_on_a_string(rt: HostRuntime) -> Result<(), Fail> {
     let mut string = StaticString::<8>::new();
     let commands = [
-        TextCommand::Append(b"hello"),
-        TextCommand::Find(b"l"),
-        TextCommand::Pop,
+        StringCommand::Append(b"hello"),
+        StringCommand::Find(b"l"),
+        StringCommand::Pop,
     ];
-    let replies = run_text(rt.alloc(), &mut string, &commands)?;
+    let replies = run_string(rt.alloc(), &mut string, &commands)?;
     let wanted = [Reply::Done, Reply::Key(2), Reply::Value(b'o')];
     assert_eq!(rt; replies.as_slice(), wanted.as_slice());
     assert_eq!(rt; string.as_str(), "hell");
     Ok(())
 }
 
-// Shows: TableCommand, ix_commands::run_table
+// Shows: SlotTableCommand, ix_commands::run_slot_table
 #[test]
 fn commands_run_on_a_slot_table(rt: HostRuntime) -> Result<(), Fail> {
     let mut table = FixedSizeSlotTable::<u64, 3>::new();
     let commands = [
-        TableCommand::Insert(7),
-        TableCommand::From(0),
-        TableCommand::Remove(0),
+        SlotTableCommand::Insert(7),
+        SlotTableCommand::From(0),
+        SlotTableCommand::Remove(0),
     ];
-    let replies = run_table(rt.alloc(), &mut table, &commands)?;
+    let replies = run_slot_table(rt.alloc(), &mut table, &commands)?;
     let wanted = [Reply::Key(0), Reply::Entry(0, 7), Reply::Value(7)];
     assert_eq!(rt; replies.as_slice(), wanted.as_slice());
     Ok(())
 }
 
-// Shows: SlotCommand, ix_commands::run_slot
+// Shows: SlotMapCommand, ix_commands::run_slot_map
 #[test]
 fn commands_run_on_a_slot_map(rt: HostRuntime) -> Result<(), Fail> {
     let mut map = FixedSizeSlotMap::<u64, 3>::new();
     let key = SlotMapKey::new(0, 0);
     let commands = [
-        SlotCommand::Insert(7),
-        SlotCommand::Remove(key),
-        SlotCommand::Get(key),
+        SlotMapCommand::Insert(7),
+        SlotMapCommand::Remove(key),
+        SlotMapCommand::Get(key),
     ];
-    let replies = run_slot(rt.alloc(), &mut map, &commands)?;
+    let replies = run_slot_map(rt.alloc(), &mut map, &commands)?;
     let wanted = [Reply::Key(key), Reply::Value(7), Reply::None];
     assert_eq!(rt; replies.as_slice(), wanted.as_slice());
     Ok(())
 }
 
-// Shows: FlatCommand, ix_commands::run_flat
+// Shows: MapCommand, ix_commands::run_map
 #[test]
 fn commands_run_on_a_flat_map(rt: HostRuntime) -> Result<(), Fail> {
     let mut map = FixedSizeFlatMap::<u16, u64, 3>::new();
     let commands = [
-        FlatCommand::Insert(80, 7),
-        FlatCommand::Insert(80, 8),
-        FlatCommand::Get(80),
+        MapCommand::Insert(80, 7),
+        MapCommand::Insert(80, 8),
+        MapCommand::Get(80),
     ];
-    let replies = run_flat(rt.alloc(), &mut map, &commands)?;
+    let replies = run_map(rt.alloc(), &mut map, &commands)?;
     let held = Reply::Error(ReplyError::KeyAlreadyExists);
     assert_eq!(rt;
         replies.as_slice(),

@@ -1,10 +1,12 @@
 //! Examples of scripts, and of how their lines are read.
-use ix_commands::{FlatCommand, QueueCommand, SlotCommand, TableCommand, TextCommand, VecCommand};
+use ix_commands::{
+    MapCommand, QueueCommand, SlotMapCommand, SlotTableCommand, StringCommand, VectorCommand,
+};
 use ix_maps::SlotMapKey;
 use ix_run::run::{
-    Container, FixedCapacity, Header, MAX_CAPACITY, MAX_NUMBERS, Storage, read_flat_command,
-    read_header, read_number, read_queue_command, read_slot_command, read_table_command,
-    read_text_command, read_vec_command,
+    Container, FixedCapacity, Header, MAX_CAPACITY, MAX_NUMBERS, Storage, read_header,
+    read_map_command, read_number, read_queue_command, read_slot_map_command,
+    read_slot_table_command, read_string_command, read_vector_command,
 };
 use ix_run::{ScriptFault, exit_status, fault_line, script};
 use std::test::Fail;
@@ -49,7 +51,7 @@ fn a_header_names_a_container_and_its_storage(rt: HostRuntime) {
     };
     assert_eq!(rt; read_header(b"queue fixed 3"), Some(header));
     let header = Header {
-        container: Container::Slot(Some(7)),
+        container: Container::SlotMap(Some(7)),
         storage: Storage::Heap(MAX_CAPACITY),
     };
     assert_eq!(rt; read_header(b"slot heap 1000 at 7"), Some(header));
@@ -71,50 +73,50 @@ fn a_line_is_a_command_of_a_queue(rt: HostRuntime) {
     assert_eq!(rt; read_queue_command(b"push  7"), None); // one space before a number
 }
 
-// Shows: ix_run::run::read_table_command
+// Shows: ix_run::run::read_slot_table_command
 #[test]
 fn a_line_is_a_command_of_a_slot_table(rt: HostRuntime) {
     assert_eq!(rt;
-        read_table_command(b"insert_at 2 7"),
-        Some(TableCommand::InsertAt(2, 7))
+        read_slot_table_command(b"insert_at 2 7"),
+        Some(SlotTableCommand::InsertAt(2, 7))
     );
-    assert_eq!(rt; read_table_command(b"insert_at 2"), None);
+    assert_eq!(rt; read_slot_table_command(b"insert_at 2"), None);
 }
 
-// Shows: ix_run::run::read_slot_command
+// Shows: ix_run::run::read_slot_map_command
 #[test]
 fn a_key_is_an_index_and_a_generation_with_a_colon(rt: HostRuntime) {
-    let get = SlotCommand::Get(SlotMapKey::new(2, 1));
-    assert_eq!(rt; read_slot_command(b"get 2:1"), Some(get));
-    assert_eq!(rt; read_slot_command(b"get 2"), None);
+    let get = SlotMapCommand::Get(SlotMapKey::new(2, 1));
+    assert_eq!(rt; read_slot_map_command(b"get 2:1"), Some(get));
+    assert_eq!(rt; read_slot_map_command(b"get 2"), None);
 }
 
-// Shows: ix_run::run::read_flat_command
+// Shows: ix_run::run::read_map_command
 #[test]
 fn a_line_is_a_command_of_a_flat_map(rt: HostRuntime) {
     assert_eq!(rt;
-        read_flat_command(b"insert 80 7"),
-        Some(FlatCommand::Insert(80, 7))
+        read_map_command(b"insert 80 7"),
+        Some(MapCommand::Insert(80, 7))
     );
-    assert_eq!(rt; read_flat_command(b"keys"), None);
+    assert_eq!(rt; read_map_command(b"keys"), None);
 }
 
-// Shows: ix_run::run::read_vec_command
+// Shows: ix_run::run::read_vector_command
 #[test]
 fn the_numbers_of_a_list_lie_in_a_buffer(rt: HostRuntime) {
     let mut numbers = [0; MAX_NUMBERS];
-    match read_vec_command(b"extend 7 8", &mut numbers) {
-        Some(VecCommand::Extend(items)) => assert_eq!(rt; items, [7, 8].as_slice()),
+    match read_vector_command(b"extend 7 8", &mut numbers) {
+        Some(VectorCommand::Extend(items)) => assert_eq!(rt; items, [7, 8].as_slice()),
         _ => assert!(rt; false, "it is an `extend`"),
     }
 }
 
-// Shows: ix_run::run::read_text_command
+// Shows: ix_run::run::read_string_command
 #[test]
 fn the_bytes_of_a_list_lie_in_a_buffer(rt: HostRuntime) {
     let mut bytes = [0; MAX_NUMBERS];
-    match read_text_command(b"append 104 105", &mut bytes) {
-        Some(TextCommand::Append(text)) => assert_eq!(rt; text, b"hi".as_slice()),
+    match read_string_command(b"append 104 105", &mut bytes) {
+        Some(StringCommand::Append(text)) => assert_eq!(rt; text, b"hi".as_slice()),
         _ => assert!(rt; false, "it is an `append`"),
     }
 }

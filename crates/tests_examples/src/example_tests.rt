@@ -17,7 +17,7 @@ use examples::unit_name::{UnitName, is_same_unit};
 use examples::{queues, strings, vectors};
 use ix_atomic::ReaderSeat;
 use ix_cells::{PolymorphicVec, StaticVec, Vector, VectorModificationError};
-use ix_maps::{FlatMapError, SlotMapKey, SlotTableKey};
+use ix_maps::{MapError, SlotMapKey, SlotTableKey};
 use ix_names::{JsonFault, RelocatableOption, SemanticStringError};
 use ix_string::{StaticString, String};
 use serde_json::Value;
@@ -214,7 +214,7 @@ fn names_are_distinct(rt: HostRuntime) {
     assert_eq!(rt; publish(&mut directory, camera, 80), Ok(()));
     assert_eq!(rt;
         publish(&mut directory, camera, 81),
-        Err(FlatMapError::KeyAlreadyExists)
+        Err(MapError::KeyAlreadyExists)
     );
     assert_eq!(rt; published_port(&directory, &camera), Some(80));
     assert!(rt; change_port(&mut directory, &camera, 82));
@@ -225,10 +225,7 @@ fn names_are_distinct(rt: HostRuntime) {
         let name = StaticString::from_bytes(&[number]).expect(&rt, "it fits");
         assert_eq!(rt; publish(&mut directory, name, 1), Ok(()));
     }
-    assert_eq!(rt;
-        publish(&mut directory, radar, 84),
-        Err(FlatMapError::IsFull)
-    );
+    assert_eq!(rt; publish(&mut directory, radar, 84), Err(MapError::IsFull));
 }
 
 #[test]

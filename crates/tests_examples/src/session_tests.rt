@@ -1,6 +1,6 @@
 //! Sessions by name, in a map of either kind.
 use examples::sessions_by_name::{FewSessions, ManySessions, Seen, close, note_heard, open};
-use ix_maps::{BoundedMap, FlatMapError};
+use ix_maps::{BoundedMap, MapError};
 use ix_string::StaticString;
 
 type Name = StaticString<16>;
@@ -12,7 +12,7 @@ fn closed_after_a_visit<M: BoundedMap<Name, Seen>>(
     stranger: Name,
 ) -> Option<Seen> {
     if open(sessions, peer, 1) != Ok(())
-        || open(sessions, peer, 2) != Err(FlatMapError::KeyAlreadyExists)
+        || open(sessions, peer, 2) != Err(MapError::KeyAlreadyExists)
         || !note_heard(sessions, &peer, 5)
         || note_heard(sessions, &stranger, 6)
         || close(sessions, &stranger).is_some()

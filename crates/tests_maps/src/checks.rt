@@ -2,7 +2,7 @@
 ghost use Rattle.ix_tables.specs.Cloning.{AreEqualClones};
 
 use crate::rows::Row;
-use ix_commands::{FlatCommand, Reply, Runs};
+use ix_commands::{MapCommand, Reply, Runs};
 use ix_flatmap::{CallbackProgression, KeyIndex, MetaMap, Pair};
 use ix_slottable::Link;
 use ix_tables::Table;
@@ -60,11 +60,11 @@ pub fn check_example<
         let wanted = InlineText::<80>::of(format_args!("{reply:?}"));
         check_text(findings, &found, wanted.as_str());
         match command {
-            FlatCommand::Get(key) => {
+            MapCommand::Get(key) => {
                 let found = clone_of(&*map, key);
                 findings.expect_same_at(found, Ok(*reply), number, "a clone");
             }
-            FlatCommand::Key(before) => check_listing(findings, &*map, *before),
+            MapCommand::Key(before) => check_listing(findings, &*map, *before),
             _ => {}
         }
     }

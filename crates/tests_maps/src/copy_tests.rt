@@ -124,7 +124,7 @@ fn check_fixed<'a, M: BoundedMap<u64, Noted<'a>> + Clone>(
 }
 
 /// Clones flat maps.
-fn check_flat(findings: &Findings, alloc: Global, heap: &LocalHeap) {
+fn check_map(findings: &Findings, alloc: Global, heap: &LocalHeap) {
     let notes = Notes::new(0);
     let mut fixed = FixedSizeFlatMap::<u64, Noted, 4>::new();
     check_fixed(findings, &mut fixed, &notes);
@@ -169,7 +169,7 @@ fn clones(rt: HostRuntime) -> Result<(), Fail> {
     let findings = Findings::new();
     match LocalHeap::new(rt.alloc(), 4096) {
         Ok(heap) => {
-            check_flat(&findings, rt.alloc(), &heap);
+            check_map(&findings, rt.alloc(), &heap);
             for hash in HASHES {
                 check_hashed(&findings, rt.alloc(), &heap, OneHash { hash });
             }

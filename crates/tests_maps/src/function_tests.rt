@@ -3,10 +3,10 @@ ghost use Rattle.std.specs.Prelude.{◌≡◌};
 
 use crate::checks::check_example;
 use crate::rows::EVERY_CALL;
-use ix_flatmap::FlatMapError::{IsFull, KeyAlreadyExists};
+use ix_flatmap::MapError::{IsFull, KeyAlreadyExists};
 use ix_flatmap::{
-    BoundedMap, CallbackProgression, FixedSizeFlatMap, FlatMap, FlatMapError, KeyIndex, MetaMap,
-    Pair, RelocatableFlatMap, UninitFlatMap,
+    BoundedMap, CallbackProgression, FixedSizeFlatMap, FlatMap, KeyIndex, MapError, MetaMap, Pair,
+    RelocatableFlatMap, UninitFlatMap,
 };
 use ix_hashmap::{
     DefaultHashBuilder, FixedSizeHashMap, HashMap, RelocatableHashMap, UninitHashMap,
@@ -266,7 +266,7 @@ fn errors_and_progressions() -> Result<(), Fail> {
     check_equality(&findings, &KeyAlreadyExists, &IsFull);
     let (go, stop) = (CallbackProgression::Continue, CallbackProgression::Stop);
     check_equality(&findings, &go, &stop);
-    let error: FlatMapError = KeyAlreadyExists;
+    let error: MapError = KeyAlreadyExists;
     findings.expect_same(hash_of(&error), hash_of(&KeyAlreadyExists), "one hash");
     findings.expect(hash_of(&error) != hash_of(&IsFull), "two hashes");
     findings.verdict()

@@ -1,7 +1,7 @@
 //! Maps for which there is not enough memory, at each of the four allocations of a flat map and the six of a hash map: nothing stays
 //! allocated. Where there is memory, none is refused. And how much a making takes: what `memory_size` returns, and that just so
 //! much is enough.
-use ix_flatmap::FlatMapError::IsFull;
+use ix_flatmap::MapError::IsFull;
 use ix_flatmap::{BoundedMap, FlatMap, UninitFlatMap};
 use ix_hashmap::{HashMap, UninitHashMap};
 use ix_tables::RelocatableContainer;
@@ -39,7 +39,7 @@ fn read_with<M: BoundedMap<u64, u64> + Drop, E: Drop, F: Fn() -> usize>(
 }
 
 /// Makes a flat map, as [`read_with`] says. A refused value can be initialised from `ample`.
-fn read_flat<A: Allocator + Copy, F: Fn() -> usize>(
+fn read_map<A: Allocator + Copy, F: Fn() -> usize>(
     findings: &Findings,
     making: Making,
     alloc: A,
@@ -68,7 +68,7 @@ fn read_flat<A: Allocator + Copy, F: Fn() -> usize>(
     }
 }
 
-/// Makes a hash map, as [`read_flat`] makes a flat one.
+/// Makes a hash map, as [`read_map`] makes a flat one.
 fn read_hashed<A: Allocator + Copy, F: Fn() -> usize>(
     findings: &Findings,
     making: Making,
@@ -126,10 +126,10 @@ fn each_making(rt: HostRuntime) -> Result<(), Fail> {
     let alloc = rt.alloc();
     for (making, name) in MAKINGS {
         check_makings(&findings, alloc, FLAT_SIZES, name, |heap: &LocalHeap, n| {
-            read_flat(&findings, *making, heap, alloc, n, true, || heap.used())
+            read_map(&findings, *making, heap, alloc, n, true, || heap.used())
         });
         check_drawn_sizes(&findings, 60, name, |n| {
-            read_flat(&findings, *making, alloc, alloc, n, false, || 0).is_some()
+            read_map(&findings, *making, alloc, alloc, n, false, || 0).is_some()
         });
         check_makings(&findings, alloc, HASH_SIZES, name, |heap: &LocalHeap, n| {
             read_hashed(&findings, *making, heap, alloc, n, || heap.used())
@@ -138,7 +138,7 @@ fn each_making(rt: HostRuntime) -> Result<(), Fail> {
             read_hashed(&findings, *making, alloc, alloc, n, || 0).is_some()
         });
         for past_all in &[usize::MAX, usize::MAX / 16] {
-            let flat = read_flat(&findings, *making, alloc, alloc, *past_all, false, || 0);
+            let flat = read_map(&findings, *making, alloc, alloc, *past_all, false, || 0);
             findings.expect_at(flat.is_none(), *past_all, name);
             let hashed = read_hashed(&findings, *making, alloc, alloc, *past_all, || 0);
             findings.expect_at(hashed.is_none(), *past_all, name);

@@ -4,7 +4,7 @@
 ghost use Rattle.std.specs.Prelude.{◌≤◌};
 
 use crate::noted_key::{AllNotes, NotedKey};
-use ix_commands::FlatCommand::{
+use ix_commands::MapCommand::{
     self, Contains, Empty, Full, Get, Insert, Key as KeyAt, Len, Remove, Set,
 };
 use ix_flatmap::{
@@ -18,7 +18,7 @@ use test_support::{Findings, Noted, made};
 
 /// A command, in which the second number is the name of what is handed in; how many comparisons and clones it makes; the
 /// names of the keys and of the values that it drops; and the name of the value that it returns.
-type Row = (FlatCommand<u64, u64>, u64, u64, (u64, u64), Option<u64>);
+type Row = (MapCommand<u64, u64>, u64, u64, (u64, u64), Option<u64>);
 
 /// A refused pair is dropped at once, and the key of a removed one too.
 const REFUSALS_AND_REMOVALS: &[Row] = &[
@@ -125,7 +125,7 @@ type NotedMap<'a, S, L> = MetaFlatMap<Pair<NotedKey<'a>, Noted<'a>>, S, L>;
 /// Runs the command, and returns the value that it returns, if any.
 fn run<'a, S: Table<Pair<NotedKey<'a>, Noted<'a>>>, L: Table<Link>>(
     map: &mut NotedMap<'a, S, L>,
-    command: FlatCommand<u64, u64>,
+    command: MapCommand<u64, u64>,
     notes: &'a AllNotes,
 ) -> Option<Noted<'a>> {
     match command {
@@ -156,7 +156,7 @@ fn run<'a, S: Table<Pair<NotedKey<'a>, Noted<'a>>>, L: Table<Link>>(
 fn check_reference<'a, S: Table<Pair<NotedKey<'a>, Noted<'a>>>, L: Table<Link>>(
     findings: &Findings,
     map: &NotedMap<'a, S, L>,
-    command: FlatCommand<u64, u64>,
+    command: MapCommand<u64, u64>,
     notes: &'a AllNotes,
     comparisons: u64,
 ) {

@@ -23,7 +23,7 @@ use std::test::Fail;
 use test_support::Findings;
 
 /// Checks the example on `fixed`, and on a flat map of each other kind, which is allocated from `alloc`.
-fn check_flat<
+fn check_map<
     K: Eq + Copy + Debug,
     V: Copy + PartialEq + Debug,
     S: Table<Pair<K, V>>,
@@ -85,7 +85,7 @@ fn check_hash<
     }
 }
 
-/// Does what `check_flat` and `check_hash` do.
+/// Does what `check_map` and `check_hash` do.
 fn check_kinds<
     K: Eq + Hash + Copy + Debug,
     V: Copy + PartialEq + Debug,
@@ -104,7 +104,7 @@ fn check_kinds<
 )
     requires { AreEqualClones V.is_clone }
 {
-    check_flat(findings, alloc, flat, capacity, rows, memory);
+    check_map(findings, alloc, flat, capacity, rows, memory);
     check_hash(findings, alloc, hashed, capacity, rows, memory);
 }
 
@@ -143,7 +143,7 @@ fn check_numbers<A: Allocator + Copy>(findings: &Findings, alloc: A, memory: &st
 fn check_examples<A: Allocator + Copy>(findings: &Findings, alloc: A, memory: &str) {
     check_numbers(findings, alloc, memory);
     let mut caseless = FixedSizeFlatMap::<Caseless, u64, 2>::new();
-    check_flat(findings, alloc, &mut caseless, 2, &case_ignored(), memory);
+    check_map(findings, alloc, &mut caseless, 2, &case_ignored(), memory);
     let mut flat = FixedSizeFlatMap::<Letter, u64, 2>::new();
     let mut hashed = FixedSizeHashMap::<Letter, u64, 2>::new();
     check_kinds(

@@ -1,7 +1,7 @@
 //! Worked examples: commands of an empty map, and the replies to them.
 use crate::caseless::Caseless;
 use crate::keys::{Letter, Port, caseless_of, port_of, text};
-use ix_commands::FlatCommand::{
+use ix_commands::MapCommand::{
     self, Contains, Empty, Full, Get, Insert, Key as KeyAt, Len, Remove, Set,
 };
 use ix_commands::Reply::{self, Bool, Done, Error, Key, Number, Value};
@@ -9,7 +9,7 @@ use ix_commands::ReplyError::{IsFull, KeyAlreadyExists};
 use ix_string::StaticString;
 
 /// A command of a flat map and the reply to it.
-pub type Row<K, V> = (FlatCommand<K, V>, Reply<K, V>);
+pub type Row<K, V> = (MapCommand<K, V>, Reply<K, V>);
 
 /// An example with numbers as keys and as values.
 pub type Example = &'static [Row<u64, u64>];

@@ -1,9 +1,9 @@
 //! A plain slow map, with which tests compare maps.
 ghost use Rattle.std.specs.Prelude.{◌≡◌, ◌<◌, length, is_some, IfOk};
-ghost use Rattle.ix_slottable.specs.SlotState.{slot_new};
+ghost use Rattle.ix_slottable.specs.SlotTableState.{slot_table_new};
 ghost use Rattle.tests_maps.specs.SlowRun.{is_pair_of, slow_place, slow_value, slow_insert, slow_insert_reply, slow_set, slow_remove};
 
-use ix_commands::{FlatCommand, Reply, ReplyError, Runs};
+use ix_commands::{MapCommand, Reply, ReplyError, Runs};
 use std::alloc::{AllocError, Global};
 use test_support::{SlowTable, reply_of_option};
 
@@ -26,7 +26,7 @@ fn is_of(place: &Option<(u64, u64)>, key: u64) -> bool
 impl SlowMap {
     /// Returns an empty map with `capacity` places.
     pub fn new(alloc: Global, capacity: usize) -> Result<SlowMap, AllocError>
-        ensures { IfOk result (λ map. map.pairs ≡ slot_new capacity) }
+        ensures { IfOk result (λ map. map.pairs ≡ slot_table_new capacity) }
     {
         let pairs = SlowTable::new(alloc, capacity)?;
         Ok(SlowMap { pairs })
@@ -138,14 +138,14 @@ pub fn is_divided(key: u64, value: u64, divisor: u64) -> bool {
 
 /// The commands of a map but for `Key`, `Len` and `Empty`, to which the reply is `None`. A map with 512 free places
 /// does nothing.
-impl Runs<FlatCommand<u64, u64>> for SlowMap {
+impl Runs<MapCommand<u64, u64>> for SlowMap {
     ghost use Rattle.std.specs.Prelude.{ℕ};
-    ghost use Rattle.ix_slottable.specs.SlotState.{SlotState};
+    ghost use Rattle.ix_slottable.specs.SlotTableState.{SlotTableState};
     ghost use Rattle.tests_maps.specs.SlowRun.{slow_reply, slow_after};
 
     type Reply = Reply<u64, u64>;
 
-    ghost Model = { SlotState (ℕ × ℕ) };
+    ghost Model = { SlotTableState (ℕ × ℕ) };
 
     ghost model = { λ map. map.pairs };
 
@@ -153,20 +153,20 @@ impl Runs<FlatCommand<u64, u64>> for SlowMap {
 
     ghost after = { slow_after };
 
-    fn run_command(&mut self, command: FlatCommand<u64, u64>) -> Reply<u64, u64> {
+    fn run_command(&mut self, command: MapCommand<u64, u64>) -> Reply<u64, u64> {
         if !self.pairs.has_room() {
             return Reply::None;
         }
         match command {
-            FlatCommand::Insert(key, value) => self.insert(key, value),
-            FlatCommand::Get(key) => reply_of_option(self.get(key)),
-            FlatCommand::Set(key, value) => Reply::Bool(self.overwrite(key, value)),
-            FlatCommand::Remove(key) => reply_of_option(self.remove(key)),
-            FlatCommand::Contains(key) => Reply::Bool(self.place_of(key).is_some()),
-            FlatCommand::Full => Reply::Bool(self.pairs.free_len() == 0),
-            FlatCommand::Key(_) => Reply::None,
-            FlatCommand::Len => Reply::None,
-            FlatCommand::Empty => Reply::None,
+            MapCommand::Insert(key, value) => self.insert(key, value),
+            MapCommand::Get(key) => reply_of_option(self.get(key)),
+            MapCommand::Set(key, value) => Reply::Bool(self.overwrite(key, value)),
+            MapCommand::Remove(key) => reply_of_option(self.remove(key)),
+            MapCommand::Contains(key) => Reply::Bool(self.place_of(key).is_some()),
+            MapCommand::Full => Reply::Bool(self.pairs.free_len() == 0),
+            MapCommand::Key(_) => Reply::None,
+            MapCommand::Len => Reply::None,
+            MapCommand::Empty => Reply::None,
         }
     }
 }

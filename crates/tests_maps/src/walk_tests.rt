@@ -5,7 +5,7 @@ ghost use Rattle.std.specs.Prelude.{◌≤◌};
 use crate::checks::check_listing;
 use crate::hashers::{HASHES, OneHash};
 use crate::slow_map::{SlowMap, is_divided};
-use ix_commands::FlatCommand;
+use ix_commands::MapCommand;
 use ix_flatmap::{FixedSizeFlatMap, FlatMap, KeyIndex, MetaMap, Pair};
 use ix_hashmap::{FixedSizeHashMap, HashMap};
 use ix_slottable::Link;
@@ -18,13 +18,13 @@ use test_support::{Findings, Numbers};
 const COMMANDS: usize = 600;
 
 /// Draws a command that changes a map, with a key below `keys`.
-fn drawn_command(numbers: &mut Numbers, keys: u64) -> FlatCommand<u64, u64> {
+fn drawn_command(numbers: &mut Numbers, keys: u64) -> MapCommand<u64, u64> {
     let key = numbers.next() as u64 % keys.max(1);
     let value = numbers.next() as u64;
     match numbers.next() % 8 {
-        0..4 => FlatCommand::Insert(key, value),
-        4 => FlatCommand::Set(key, value),
-        _ => FlatCommand::Remove(key),
+        0..4 => MapCommand::Insert(key, value),
+        4 => MapCommand::Set(key, value),
+        _ => MapCommand::Remove(key),
     }
 }
 

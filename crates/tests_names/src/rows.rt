@@ -2,7 +2,7 @@
 ghost use Rattle.std.specs.Prelude.{◌<◌};
 
 use ix_commands::Reply::{self, Bool, Done, Key, Value};
-use ix_commands::TextCommand::{
+use ix_commands::StringCommand::{
     self, Append, Empty, Find, Full, Insert, InsertBytes, Pop, Push, Remove, RemoveRange, Rfind,
     StripPrefix, StripSuffix, Truncate,
 };
@@ -14,7 +14,7 @@ use test_support::{Findings, reply_of_key, reply_of_option};
 type Outcome = Result<Reply<usize, u8>, SemanticStringError>;
 
 /// A text, a command, the outcome, and the text that is left.
-type Row<'a> = (&'a str, TextCommand<'a>, Outcome, &'a str);
+type Row<'a> = (&'a str, StringCommand<'a>, Outcome, &'a str);
 
 const DONE: Outcome = Ok(Done);
 
@@ -62,8 +62,8 @@ pub const NAMES: &[Row] = &[
     ("a", RemoveRange(2, 0), DONE, "a"),
     ("abcab", Truncate(5), DONE, "abcab"),
     ("abcab", Truncate(4), DONE, "abca"),
-    ("abca", TextCommand::Drop(b'b'), DONE, "aca"),
-    ("aca", TextCommand::Drop(b'x'), DONE, "aca"),
+    ("abca", StringCommand::Drop(b'b'), DONE, "aca"),
+    ("aca", StringCommand::Drop(b'x'), DONE, "aca"),
     ("aca", StripPrefix(b"ac"), Ok(Bool(true)), "a"),
     ("a", StripPrefix(b""), Ok(Bool(true)), "a"),
     ("a", StripSuffix(b"b"), Ok(Bool(false)), "a"),
@@ -84,7 +84,7 @@ pub const NAMES: &[Row] = &[
     ("a-b", StripPrefix(b"a"), INVALID, "a-b"),
     ("a-b", RemoveRange(0, 1), INVALID, "a-b"),
     ("a-b", RemoveRange(0, 3), INVALID, "a-b"),
-    ("a-b", TextCommand::Drop(b'a'), INVALID, "a-b"),
+    ("a-b", StringCommand::Drop(b'a'), INVALID, "a-b"),
     ("a-b", StripSuffix(b"a-b"), INVALID, "a-b"),
 ];
 
@@ -116,7 +116,7 @@ pub const EVEN_LENGTHS: &[Row] = &[
     ("abcd", StripSuffix(b"d"), INVALID, "abcd"),
     ("abcd", StripSuffix(b"bcd"), INVALID, "abcd"),
     ("abcd", StripSuffix(b"c"), Ok(Bool(false)), "abcd"),
-    ("abcd", TextCommand::Drop(b'b'), INVALID, "abcd"),
+    ("abcd", StringCommand::Drop(b'b'), INVALID, "abcd"),
     ("abcd", InsertBytes(2, b"ef"), DONE, "abefcd"),
     ("abefcd", Push(b'g'), TOO_LONG, "abefcd"),
     ("abefcd", RemoveRange(2, 2), DONE, "abcd"),
@@ -150,7 +150,7 @@ pub const NO_ROOM: &[Row] = &[
     ("", StripPrefix(b""), Ok(Bool(true)), ""),
     ("", StripPrefix(b"a"), Ok(Bool(false)), ""),
     ("", StripSuffix(b"a"), Ok(Bool(false)), ""),
-    ("", TextCommand::Drop(b'a'), DONE, ""),
+    ("", StringCommand::Drop(b'a'), DONE, ""),
     ("", Find(b""), Ok(Key(0)), ""),
     ("", Rfind(b""), Ok(Key(0)), ""),
     ("", Find(b"a"), NONE, ""),
@@ -186,8 +186,8 @@ pub const SINGLE_BYTES: &[Row] = &[
     ("a", StripPrefix(b"a"), INVALID, "a"),
     ("a", StripSuffix(b"a"), INVALID, "a"),
     ("a", StripPrefix(b"ab"), Ok(Bool(false)), "a"),
-    ("a", TextCommand::Drop(b'a'), INVALID, "a"),
-    ("a", TextCommand::Drop(b'b'), DONE, "a"),
+    ("a", StringCommand::Drop(b'a'), INVALID, "a"),
+    ("a", StringCommand::Drop(b'b'), DONE, "a"),
     ("a", Find(b"a"), Ok(Key(0)), "a"),
     ("a", Rfind(b"a"), Ok(Key(0)), "a"),
     ("a", Find(b""), Ok(Key(0)), "a"),
@@ -197,7 +197,7 @@ pub const SINGLE_BYTES: &[Row] = &[
 /// Makes the call that the command names.
 fn run<R: Rules<CAPACITY>, const CAPACITY: usize>(
     string: &mut Semantic<R, CAPACITY>,
-    command: TextCommand,
+    command: StringCommand,
 ) -> Outcome {
     match command {
         Push(byte) => string.push(byte)?,
@@ -210,7 +210,7 @@ fn run<R: Rules<CAPACITY>, const CAPACITY: usize>(
         Truncate(n) => string.truncate(n)?,
         StripPrefix(bytes) => return Ok(Bool(string.strip_prefix(bytes)?)),
         StripSuffix(bytes) => return Ok(Bool(string.strip_suffix(bytes)?)),
-        TextCommand::Drop(one) => string.retain(|byte: u8| byte == one)?,
+        StringCommand::Drop(one) => string.retain(|byte: u8| byte == one)?,
         Find(needle) => return Ok(reply_of_key(string.find(needle))),
         Rfind(needle) => return Ok(reply_of_key(string.rfind(needle))),
         Empty => return Ok(Bool(string.is_empty())),

@@ -1,9 +1,9 @@
 //! Lines of each container that are just a command, and others that just are none.
 use crate::reading_tests::check_reading;
 use ix_run::run::{
-    FlatCommand as Flat, MAX_LINE_LEN, MAX_NUMBERS, QueueCommand as Queue, SlotCommand as Slot,
-    TableCommand as Table, TextCommand, VecCommand, read_flat_command, read_queue_command,
-    read_slot_command, read_table_command, read_text_command, read_vec_command,
+    MAX_LINE_LEN, MAX_NUMBERS, MapCommand as Flat, QueueCommand as Queue, SlotMapCommand as Slot,
+    SlotTableCommand as Table, StringCommand, VectorCommand, read_map_command, read_queue_command,
+    read_slot_map_command, read_slot_table_command, read_string_command, read_vector_command,
 };
 use ix_slotmap::SlotMapKey;
 use std::test::Fail;
@@ -62,7 +62,7 @@ const NO_TABLE_LINES: &str = concat!(
 
 #[test]
 fn table_lines() -> Result<(), Fail> {
-    let read = |text: &[u8]| read_table_command(text);
+    let read = |text: &[u8]| read_slot_table_command(text);
     check_reading(read, TABLE_LINES, NO_TABLE_LINES)
 }
 
@@ -100,7 +100,7 @@ fn slot_lines() -> Result<(), Fail> {
         ("empty", Slot::Empty),
         ("full", Slot::Full),
     ];
-    let read = |text: &[u8]| read_slot_command(text);
+    let read = |text: &[u8]| read_slot_map_command(text);
     check_reading(read, &lines, NO_SLOT_MAP_LINES)
 }
 
@@ -121,38 +121,38 @@ const NO_FLAT_LINES: &str =
 
 #[test]
 fn flat_lines() -> Result<(), Fail> {
-    let read = |text: &[u8]| read_flat_command(text);
+    let read = |text: &[u8]| read_map_command(text);
     check_reading(read, FLAT_LINES, NO_FLAT_LINES)
 }
 
 /// The name of a command and its numbers, with the length of a list in place of the list.
 type Parts = (&'static str, usize, u64);
 
-fn vec_parts(command: VecCommand<'_, u64>) -> Parts {
+fn vec_parts(command: VectorCommand<'_, u64>) -> Parts {
     match command {
-        VecCommand::Push(item) => ("push", 0, item),
-        VecCommand::Insert(index, item) => ("insert", index, item),
-        VecCommand::Extend(items) => ("extend", items.len(), 0),
-        VecCommand::Resize(len, item) => ("resize", len, item),
-        VecCommand::Pop => ("pop", 0, 0),
-        VecCommand::Remove(index) => ("remove", index, 0),
-        VecCommand::At(index) => ("at", index, 0),
-        VecCommand::Set(index, item) => ("set", index, item),
-        VecCommand::Truncate(len) => ("truncate", len, 0),
-        VecCommand::Clear => ("clear", 0, 0),
-        VecCommand::Len => ("len", 0, 0),
-        VecCommand::Capacity => ("capacity", 0, 0),
-        VecCommand::Empty => ("empty", 0, 0),
-        VecCommand::Full => ("full", 0, 0),
+        VectorCommand::Push(item) => ("push", 0, item),
+        VectorCommand::Insert(index, item) => ("insert", index, item),
+        VectorCommand::Extend(items) => ("extend", items.len(), 0),
+        VectorCommand::Resize(len, item) => ("resize", len, item),
+        VectorCommand::Pop => ("pop", 0, 0),
+        VectorCommand::Remove(index) => ("remove", index, 0),
+        VectorCommand::At(index) => ("at", index, 0),
+        VectorCommand::Set(index, item) => ("set", index, item),
+        VectorCommand::Truncate(len) => ("truncate", len, 0),
+        VectorCommand::Clear => ("clear", 0, 0),
+        VectorCommand::Len => ("len", 0, 0),
+        VectorCommand::Capacity => ("capacity", 0, 0),
+        VectorCommand::Empty => ("empty", 0, 0),
+        VectorCommand::Full => ("full", 0, 0),
     }
 }
 
-fn read_vec_parts(line: &[u8]) -> Option<Parts> {
+fn read_vector_parts(line: &[u8]) -> Option<Parts> {
     if line.len() > MAX_LINE_LEN {
         return None;
     }
     let mut numbers = [0; MAX_NUMBERS];
-    Some(vec_parts(read_vec_command(line, &mut numbers)?))
+    Some(vec_parts(read_vector_command(line, &mut numbers)?))
 }
 
 const VEC_LINES: &[(&str, Parts)] = &[
@@ -189,14 +189,18 @@ const NO_VEC_LINES: &str = concat!(
 
 #[test]
 fn vec_lines() -> Result<(), Fail> {
-    check_reading(|text: &[u8]| read_vec_parts(text), VEC_LINES, NO_VEC_LINES)
+    check_reading(
+        |text: &[u8]| read_vector_parts(text),
+        VEC_LINES,
+        NO_VEC_LINES,
+    )
 }
 
 #[test]
 fn vec_lists() -> Result<(), Fail> {
     let findings = Findings::new();
     let mut numbers = [9; MAX_NUMBERS];
-    if let Some(VecCommand::Extend(items)) = read_vec_command(
+    if let Some(VectorCommand::Extend(items)) = read_vector_command(
         b"extend 7 18446744073709551615 0",
         &mut numbers,
     ) {
@@ -207,36 +211,36 @@ fn vec_lists() -> Result<(), Fail> {
     findings.verdict()
 }
 
-fn text_parts(command: TextCommand<'_>) -> Parts {
+fn text_parts(command: StringCommand<'_>) -> Parts {
     match command {
-        TextCommand::Push(byte) => ("push", 0, byte as u64),
-        TextCommand::Append(bytes) => ("append", bytes.len(), 0),
-        TextCommand::Insert(index, byte) => ("insert", index, byte as u64),
-        TextCommand::InsertBytes(index, bytes) => ("insert_bytes", index, bytes.len() as u64),
-        TextCommand::Pop => ("pop", 0, 0),
-        TextCommand::Remove(index) => ("remove", index, 0),
-        TextCommand::RemoveRange(index, count) => ("remove_range", index, count as u64),
-        TextCommand::Find(bytes) => ("find", bytes.len(), 0),
-        TextCommand::Rfind(bytes) => ("rfind", bytes.len(), 0),
-        TextCommand::StripPrefix(bytes) => ("strip_prefix", bytes.len(), 0),
-        TextCommand::StripSuffix(bytes) => ("strip_suffix", bytes.len(), 0),
-        TextCommand::Drop(byte) => ("drop", 0, byte as u64),
-        TextCommand::At(index) => ("at", index, 0),
-        TextCommand::Truncate(len) => ("truncate", len, 0),
-        TextCommand::Clear => ("clear", 0, 0),
-        TextCommand::Len => ("len", 0, 0),
-        TextCommand::Capacity => ("capacity", 0, 0),
-        TextCommand::Empty => ("empty", 0, 0),
-        TextCommand::Full => ("full", 0, 0),
+        StringCommand::Push(byte) => ("push", 0, byte as u64),
+        StringCommand::Append(bytes) => ("append", bytes.len(), 0),
+        StringCommand::Insert(index, byte) => ("insert", index, byte as u64),
+        StringCommand::InsertBytes(index, bytes) => ("insert_bytes", index, bytes.len() as u64),
+        StringCommand::Pop => ("pop", 0, 0),
+        StringCommand::Remove(index) => ("remove", index, 0),
+        StringCommand::RemoveRange(index, count) => ("remove_range", index, count as u64),
+        StringCommand::Find(bytes) => ("find", bytes.len(), 0),
+        StringCommand::Rfind(bytes) => ("rfind", bytes.len(), 0),
+        StringCommand::StripPrefix(bytes) => ("strip_prefix", bytes.len(), 0),
+        StringCommand::StripSuffix(bytes) => ("strip_suffix", bytes.len(), 0),
+        StringCommand::Drop(byte) => ("drop", 0, byte as u64),
+        StringCommand::At(index) => ("at", index, 0),
+        StringCommand::Truncate(len) => ("truncate", len, 0),
+        StringCommand::Clear => ("clear", 0, 0),
+        StringCommand::Len => ("len", 0, 0),
+        StringCommand::Capacity => ("capacity", 0, 0),
+        StringCommand::Empty => ("empty", 0, 0),
+        StringCommand::Full => ("full", 0, 0),
     }
 }
 
-fn read_text_parts(line: &[u8]) -> Option<Parts> {
+fn read_string_parts(line: &[u8]) -> Option<Parts> {
     if line.len() > MAX_LINE_LEN {
         return None;
     }
     let mut bytes = [0; MAX_NUMBERS];
-    Some(text_parts(read_text_command(line, &mut bytes)?))
+    Some(text_parts(read_string_command(line, &mut bytes)?))
 }
 
 const TEXT_LINES: &[(&str, Parts)] = &[
@@ -273,7 +277,7 @@ const NO_TEXT_LINES: &str = concat!(
 
 #[test]
 fn text_lines() -> Result<(), Fail> {
-    let read = |text: &[u8]| read_text_parts(text);
+    let read = |text: &[u8]| read_string_parts(text);
     check_reading(read, TEXT_LINES, NO_TEXT_LINES)
 }
 
@@ -281,7 +285,7 @@ fn text_lines() -> Result<(), Fail> {
 fn text_lists() -> Result<(), Fail> {
     let findings = Findings::new();
     let mut bytes = [9; MAX_NUMBERS];
-    if let Some(TextCommand::InsertBytes(index, bytes)) = read_text_command(
+    if let Some(StringCommand::InsertBytes(index, bytes)) = read_string_command(
         b"insert_bytes 3 255 0",
         &mut bytes,
     ) {
@@ -297,14 +301,14 @@ fn text_lists() -> Result<(), Fail> {
 #[test]
 fn commands_with_slices() -> Result<(), Fail> {
     let findings = Findings::new();
-    let extend = VecCommand::<u64>::Extend(&[1, 2]);
+    let extend = VectorCommand::<u64>::Extend(&[1, 2]);
     check_text(&findings, &extend, "Extend([1, 2])");
-    findings.expect(extend == VecCommand::Extend(&[1, 2]), "equal items");
-    findings.expect(extend != VecCommand::Extend(&[1, 3]), "another item");
-    findings.expect(extend != VecCommand::Pop, "another command");
-    let find = TextCommand::Find(b"ab");
+    findings.expect(extend == VectorCommand::Extend(&[1, 2]), "equal items");
+    findings.expect(extend != VectorCommand::Extend(&[1, 3]), "another item");
+    findings.expect(extend != VectorCommand::Pop, "another command");
+    let find = StringCommand::Find(b"ab");
     check_text(&findings, &find, "Find([97, 98])");
-    findings.expect(find == TextCommand::Find(b"ab"), "equal bytes");
-    findings.expect(find != TextCommand::Rfind(b"ab"), "another command");
+    findings.expect(find == StringCommand::Find(b"ab"), "equal bytes");
+    findings.expect(find != StringCommand::Rfind(b"ab"), "another command");
     findings.verdict()
 }

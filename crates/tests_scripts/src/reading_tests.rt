@@ -1,6 +1,6 @@
 //! Numbers and headers that are just read, and others that just are not.
 use crate::script_tests::check_examples;
-use ix_run::run::Container::{self, Flat, Queue, Slot, Table, Text, Vec};
+use ix_run::run::Container::{self, FlatMap, Queue, SlotMap, SlotTable, String, Vector};
 use ix_run::run::FixedCapacity::{Eight, One, Three, Zero};
 use ix_run::run::Storage::{self, Arena, Fixed, Heap};
 use ix_run::run::{read_header, read_number};
@@ -108,23 +108,26 @@ fn read_header_parts(line: &[u8]) -> Option<(Container, Storage)> {
 const HEADERS: &[(&str, (Container, Storage))] = &[
     ("queue fixed 0", (Queue, Fixed(Zero))),
     ("queue fixed 1", (Queue, Fixed(One))),
-    ("vec fixed 3", (Vec, Fixed(Three))),
-    ("table fixed 8", (Table, Fixed(Eight))),
-    ("flat fixed 3", (Flat, Fixed(Three))),
-    ("text fixed 0", (Text, Fixed(Zero))),
+    ("vec fixed 3", (Vector, Fixed(Three))),
+    ("table fixed 8", (SlotTable, Fixed(Eight))),
+    ("flat fixed 3", (FlatMap, Fixed(Three))),
+    ("text fixed 0", (String, Fixed(Zero))),
     ("queue heap 0", (Queue, Heap(0))),
-    ("vec heap 1000", (Vec, Heap(1000))),
-    ("table heap 2", (Table, Heap(2))),
-    ("flat heap 10", (Flat, Heap(10))),
-    ("text heap 999", (Text, Heap(999))),
+    ("vec heap 1000", (Vector, Heap(1000))),
+    ("table heap 2", (SlotTable, Heap(2))),
+    ("flat heap 10", (FlatMap, Heap(10))),
+    ("text heap 999", (String, Heap(999))),
     ("queue arena 1000", (Queue, Arena(1000))),
-    ("vec arena 0", (Vec, Arena(0))),
-    ("table arena 7", (Table, Arena(7))),
-    ("slot fixed 3", (Slot(None), Fixed(Three))),
-    ("slot heap 2 at 4294967295", (Slot(Some(u32::MAX)), Heap(2))),
-    ("slot arena 1000 at 0", (Slot(Some(0)), Arena(1000))),
-    ("flat arena 1", (Flat, Arena(1))),
-    ("text arena 5", (Text, Arena(5))),
+    ("vec arena 0", (Vector, Arena(0))),
+    ("table arena 7", (SlotTable, Arena(7))),
+    ("slot fixed 3", (SlotMap(None), Fixed(Three))),
+    (
+        "slot heap 2 at 4294967295",
+        (SlotMap(Some(u32::MAX)), Heap(2)),
+    ),
+    ("slot arena 1000 at 0", (SlotMap(Some(0)), Arena(1000))),
+    ("flat arena 1", (FlatMap, Arena(1))),
+    ("text arena 5", (String, Arena(5))),
 ];
 
 #[test]

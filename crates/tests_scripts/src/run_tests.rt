@@ -3,8 +3,9 @@ use ix_flatmap::{FixedSizeFlatMap, FlatMap};
 use ix_queue::{FixedSizeQueue, Queue};
 use ix_run::run::ReplyError::{InsertWouldExceedCapacity, IsFull, KeyAlreadyExists, OutOfBounds};
 use ix_run::run::{
-    FlatCommand, QueueCommand, Reply, Runs, SlotCommand, TableCommand, TextCommand, VecCommand,
-    run_all, run_flat, run_queue, run_slot, run_table, run_text, run_vec,
+    MapCommand, QueueCommand, Reply, Runs, SlotMapCommand, SlotTableCommand, StringCommand,
+    VectorCommand, run_all, run_map, run_queue, run_slot_map, run_slot_table, run_string,
+    run_vector,
 };
 use ix_slotmap::{FixedSizeSlotMap, SlotMapKey};
 use ix_slottable::{FixedSizeSlotTable, SlotTable};
@@ -63,29 +64,29 @@ fn queues(rt: HostRuntime) -> Result<(), Fail> {
 const FULL: Reply<usize, u64> = Reply::Error(InsertWouldExceedCapacity);
 
 /// On a vector of capacity 3.
-const VEC_ROWS: &[(VecCommand<'static, u64>, Reply<usize, u64>)] = &[
-    (VecCommand::Extend(&[1, 2]), Reply::Done),
-    (VecCommand::Insert(9, 7), Reply::Error(OutOfBounds)),
-    (VecCommand::Resize(4, 0), FULL),
-    (VecCommand::Resize(3, 5), Reply::Done),
-    (VecCommand::At(2), Reply::Value(5)),
-    (VecCommand::Push(8), FULL),
-    (VecCommand::Extend(&[8]), FULL),
-    (VecCommand::Full, Reply::Bool(true)),
-    (VecCommand::Truncate(9), Reply::Done),
-    (VecCommand::Remove(0), Reply::Value(1)),
-    (VecCommand::Remove(2), Reply::None),
-    (VecCommand::Set(1, 6), Reply::Bool(true)),
-    (VecCommand::Set(2, 6), Reply::Bool(false)),
-    (VecCommand::Insert(0, 4), Reply::Done),
-    (VecCommand::Len, Reply::Number(3)),
-    (VecCommand::Capacity, Reply::Number(3)),
-    (VecCommand::Pop, Reply::Value(6)),
-    (VecCommand::At(1), Reply::Value(2)),
-    (VecCommand::At(2), Reply::None),
-    (VecCommand::Clear, Reply::Done),
-    (VecCommand::Pop, Reply::None),
-    (VecCommand::Empty, Reply::Bool(true)),
+const VEC_ROWS: &[(VectorCommand<'static, u64>, Reply<usize, u64>)] = &[
+    (VectorCommand::Extend(&[1, 2]), Reply::Done),
+    (VectorCommand::Insert(9, 7), Reply::Error(OutOfBounds)),
+    (VectorCommand::Resize(4, 0), FULL),
+    (VectorCommand::Resize(3, 5), Reply::Done),
+    (VectorCommand::At(2), Reply::Value(5)),
+    (VectorCommand::Push(8), FULL),
+    (VectorCommand::Extend(&[8]), FULL),
+    (VectorCommand::Full, Reply::Bool(true)),
+    (VectorCommand::Truncate(9), Reply::Done),
+    (VectorCommand::Remove(0), Reply::Value(1)),
+    (VectorCommand::Remove(2), Reply::None),
+    (VectorCommand::Set(1, 6), Reply::Bool(true)),
+    (VectorCommand::Set(2, 6), Reply::Bool(false)),
+    (VectorCommand::Insert(0, 4), Reply::Done),
+    (VectorCommand::Len, Reply::Number(3)),
+    (VectorCommand::Capacity, Reply::Number(3)),
+    (VectorCommand::Pop, Reply::Value(6)),
+    (VectorCommand::At(1), Reply::Value(2)),
+    (VectorCommand::At(2), Reply::None),
+    (VectorCommand::Clear, Reply::Done),
+    (VectorCommand::Pop, Reply::None),
+    (VectorCommand::Empty, Reply::Bool(true)),
 ];
 
 #[test]
@@ -103,19 +104,19 @@ fn vectors(rt: HostRuntime) -> Result<(), Fail> {
 }
 
 /// On a slot table of capacity 3.
-const TABLE_ROWS: &[(TableCommand<u64>, Reply<usize, u64>)] = &[
-    (TableCommand::Insert(10), Reply::Key(0)),
-    (TableCommand::Insert(20), Reply::Key(1)),
-    (TableCommand::Remove(0), Reply::Value(10)),
-    (TableCommand::From(0), Reply::Entry(1, 20)),
-    (TableCommand::InsertAt(2, 40), Reply::Bool(true)),
-    (TableCommand::From(2), Reply::Entry(2, 40)),
-    (TableCommand::From(3), Reply::None),
-    (TableCommand::Set(1, 21), Reply::Bool(true)),
-    (TableCommand::Get(1), Reply::Value(21)),
-    (TableCommand::Set(0, 22), Reply::Bool(false)),
-    (TableCommand::Get(0), Reply::None),
-    (TableCommand::Len, Reply::Number(2)),
+const TABLE_ROWS: &[(SlotTableCommand<u64>, Reply<usize, u64>)] = &[
+    (SlotTableCommand::Insert(10), Reply::Key(0)),
+    (SlotTableCommand::Insert(20), Reply::Key(1)),
+    (SlotTableCommand::Remove(0), Reply::Value(10)),
+    (SlotTableCommand::From(0), Reply::Entry(1, 20)),
+    (SlotTableCommand::InsertAt(2, 40), Reply::Bool(true)),
+    (SlotTableCommand::From(2), Reply::Entry(2, 40)),
+    (SlotTableCommand::From(3), Reply::None),
+    (SlotTableCommand::Set(1, 21), Reply::Bool(true)),
+    (SlotTableCommand::Get(1), Reply::Value(21)),
+    (SlotTableCommand::Set(0, 22), Reply::Bool(false)),
+    (SlotTableCommand::Get(0), Reply::None),
+    (SlotTableCommand::Len, Reply::Number(2)),
 ];
 
 #[test]
@@ -130,23 +131,23 @@ fn slot_tables(rt: HostRuntime) -> Result<(), Fail> {
 }
 
 /// On a flat map of capacity 1.
-const FLAT_ROWS: &[(FlatCommand<u64, u64>, Reply<u64, u64>)] = &[
-    (FlatCommand::Insert(1, 2), Reply::Done),
-    (FlatCommand::Insert(1, 3), Reply::Error(KeyAlreadyExists)),
-    (FlatCommand::Insert(2, 4), Reply::Error(IsFull)),
-    (FlatCommand::Get(1), Reply::Value(2)),
-    (FlatCommand::Key(0), Reply::Key(1)),
-    (FlatCommand::Key(1), Reply::None),
-    (FlatCommand::Full, Reply::Bool(true)),
-    (FlatCommand::Set(1, 5), Reply::Bool(true)),
-    (FlatCommand::Set(2, 5), Reply::Bool(false)),
-    (FlatCommand::Contains(1), Reply::Bool(true)),
-    (FlatCommand::Contains(2), Reply::Bool(false)),
-    (FlatCommand::Remove(2), Reply::None),
-    (FlatCommand::Remove(1), Reply::Value(5)),
-    (FlatCommand::Get(1), Reply::None),
-    (FlatCommand::Len, Reply::Number(0)),
-    (FlatCommand::Empty, Reply::Bool(true)),
+const FLAT_ROWS: &[(MapCommand<u64, u64>, Reply<u64, u64>)] = &[
+    (MapCommand::Insert(1, 2), Reply::Done),
+    (MapCommand::Insert(1, 3), Reply::Error(KeyAlreadyExists)),
+    (MapCommand::Insert(2, 4), Reply::Error(IsFull)),
+    (MapCommand::Get(1), Reply::Value(2)),
+    (MapCommand::Key(0), Reply::Key(1)),
+    (MapCommand::Key(1), Reply::None),
+    (MapCommand::Full, Reply::Bool(true)),
+    (MapCommand::Set(1, 5), Reply::Bool(true)),
+    (MapCommand::Set(2, 5), Reply::Bool(false)),
+    (MapCommand::Contains(1), Reply::Bool(true)),
+    (MapCommand::Contains(2), Reply::Bool(false)),
+    (MapCommand::Remove(2), Reply::None),
+    (MapCommand::Remove(1), Reply::Value(5)),
+    (MapCommand::Get(1), Reply::None),
+    (MapCommand::Len, Reply::Number(0)),
+    (MapCommand::Empty, Reply::Bool(true)),
 ];
 
 #[test]
@@ -182,25 +183,30 @@ fn named_runs(rt: HostRuntime) -> Result<(), Fail> {
     let found = run_queue(alloc, &mut FixedSizeQueue::<u64, 1>::new(), &commands);
     let wanted = [Reply::Bool(true), Reply::Value(7)];
     expect_two(&findings, found, wanted, "run_queue");
-    let commands = [VecCommand::Push(7), VecCommand::Pop];
-    let found = run_vec(alloc, &mut StaticVec::<u64, 1>::new(), &commands);
-    expect_two(&findings, found, [Reply::Done, Reply::Value(7)], "run_vec");
-    let commands = [TextCommand::Push(97), TextCommand::Pop];
-    let found = run_text(alloc, &mut StaticString::<1>::new(), &commands);
+    let commands = [VectorCommand::Push(7), VectorCommand::Pop];
+    let found = run_vector(alloc, &mut StaticVec::<u64, 1>::new(), &commands);
+    expect_two(
+        &findings,
+        found,
+        [Reply::Done, Reply::Value(7)],
+        "run_vector",
+    );
+    let commands = [StringCommand::Push(97), StringCommand::Pop];
+    let found = run_string(alloc, &mut StaticString::<1>::new(), &commands);
     let wanted = [Reply::Done, Reply::Value(97)];
-    expect_two(&findings, found, wanted, "run_text");
-    let commands = [TableCommand::Insert(7), TableCommand::Remove(0)];
-    let found = run_table(alloc, &mut FixedSizeSlotTable::<u64, 1>::new(), &commands);
+    expect_two(&findings, found, wanted, "run_string");
+    let commands = [SlotTableCommand::Insert(7), SlotTableCommand::Remove(0)];
+    let found = run_slot_table(alloc, &mut FixedSizeSlotTable::<u64, 1>::new(), &commands);
     let wanted = [Reply::Key(0), Reply::Value(7)];
-    expect_two(&findings, found, wanted, "run_table");
+    expect_two(&findings, found, wanted, "run_slot_table");
     let key = SlotMapKey::new(0, 0);
-    let commands = [SlotCommand::Insert(7), SlotCommand::Remove(key)];
-    let found = run_slot(alloc, &mut FixedSizeSlotMap::<u64, 1>::new(), &commands);
+    let commands = [SlotMapCommand::Insert(7), SlotMapCommand::Remove(key)];
+    let found = run_slot_map(alloc, &mut FixedSizeSlotMap::<u64, 1>::new(), &commands);
     let wanted = [Reply::Key(key), Reply::Value(7)];
-    expect_two(&findings, found, wanted, "run_slot");
-    let commands = [FlatCommand::Insert(1, 7), FlatCommand::Remove(1)];
+    expect_two(&findings, found, wanted, "run_slot_map");
+    let commands = [MapCommand::Insert(1, 7), MapCommand::Remove(1)];
     let mut map = FixedSizeFlatMap::<u64, u64, 1>::new();
-    let found = run_flat(alloc, &mut map, &commands);
-    expect_two(&findings, found, [Reply::Done, Reply::Value(7)], "run_flat");
+    let found = run_map(alloc, &mut map, &commands);
+    expect_two(&findings, found, [Reply::Done, Reply::Value(7)], "run_map");
     findings.verdict()
 }

@@ -1,11 +1,11 @@
 //! Runs of commands on strings: each command, at each kind of string.
 use crate::run_tests::check_run;
 use ix_run::run::ReplyError::{IndexPastEnd, InsertWouldExceedCapacity, InvalidCharacter};
-use ix_run::run::TextCommand::{
+use ix_run::run::StringCommand::{
     Append, At, Capacity, Clear, Drop as DropByte, Empty, Find, Full, Insert, InsertBytes, Len,
     Pop, Push, Remove, RemoveRange, Rfind, StripPrefix, StripSuffix, Truncate,
 };
-use ix_run::run::{Reply, TextCommand};
+use ix_run::run::{Reply, StringCommand};
 use ix_string::{PolymorphicString, StaticString, String, UninitString};
 use ix_tables::RelocatableContainer;
 use std::alloc::Global;
@@ -13,7 +13,7 @@ use std::test::Fail;
 use test_support::{Findings, made};
 
 /// A command, and the reply to it.
-type Row<'a> = (TextCommand<'a>, Reply<usize, u8>);
+type Row<'a> = (StringCommand<'a>, Reply<usize, u8>);
 
 /// What a string without room replies.
 const OF_ZERO: &[Row] = &[

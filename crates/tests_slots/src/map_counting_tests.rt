@@ -4,7 +4,7 @@ use crate::containers::key;
 use crate::map_rows::Row;
 use ix_commands::Reply::{self, Key, Number, Value};
 use ix_commands::Runs;
-use ix_commands::SlotCommand::{self, Get, Insert, InsertAt, Len, Next, Remove};
+use ix_commands::SlotMapCommand::{self, Get, Insert, InsertAt, Len, Next, Remove};
 use ix_slotmap::{MetaSlotMap, SlotMap, SlotMapKey};
 use ix_slottable::Link;
 use ix_tables::{Table, Touches};
@@ -17,7 +17,7 @@ use test_support::{Findings, check_tables, reply_of_key, reply_of_option};
 /// Runs the counted form of a command, if it has one, and returns the reply.
 fn run_counted<S: Table<Option<u64>>, L: Table<Link>, G: Table<u64>>(
     map: &mut MetaSlotMap<Option<u64>, S, L, G>,
-    command: SlotCommand<u64>,
+    command: SlotMapCommand<u64>,
 ) -> Reply<SlotMapKey, u64> {
     let mut touches = Touches::new();
     match command {

@@ -1,14 +1,14 @@
 //! Worked examples: commands of an empty map, and the replies to them.
 use crate::containers::{LAST, key};
 use ix_commands::Reply::{self, Bool, Entry, Key, Number, Value};
-use ix_commands::SlotCommand::{
+use ix_commands::SlotMapCommand::{
     self, Capacity, Contains, Empty, From, Full, Get, Insert, InsertAt, Len, Next, Remove, Retired,
     Set,
 };
 use ix_slotmap::SlotMapKey;
 
 /// A command of a slot map and the reply to it.
-pub type Row<T> = (SlotCommand<T>, Reply<SlotMapKey, T>);
+pub type Row<T> = (SlotMapCommand<T>, Reply<SlotMapKey, T>);
 
 /// The greatest index.
 const GREATEST: usize = 18_446_744_073_709_551_615;

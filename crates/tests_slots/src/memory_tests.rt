@@ -4,7 +4,7 @@ use crate::containers::{LAST, key};
 use crate::memory_tests::Kind::{Map, Table};
 use crate::{map_rows, table_rows};
 use ix_commands::Reply::{Bool, Number};
-use ix_commands::{SlotCommand, TableCommand};
+use ix_commands::{SlotMapCommand, SlotTableCommand};
 use ix_slotmap::{SlotMap, UninitSlotMap};
 use ix_slottable::{SlotTable, UninitSlotTable};
 use ix_tables::RelocatableContainer;
@@ -54,9 +54,9 @@ fn read_table<A: Allocator + Copy, F: Fn() -> usize>(
     requires { F.IsAlwaysCallable read.now }
 {
     let rows: [table_rows::Row<u64>; 3] = [
-        (TableCommand::Capacity, Number(capacity)),
-        (TableCommand::Len, Number(0)),
-        (TableCommand::Full, Bool(capacity == 0)),
+        (SlotTableCommand::Capacity, Number(capacity)),
+        (SlotTableCommand::Len, Number(0)),
+        (SlotTableCommand::Full, Bool(capacity == 0)),
     ];
     match making {
         Making::New => {
@@ -87,10 +87,10 @@ fn read_map<A: Allocator + Copy, F: Fn() -> usize>(
     let (capacity, start) = places;
     let first = (capacity > 0).then_some(key(0, start));
     let rows: [map_rows::Row<u64>; 4] = [
-        (SlotCommand::Capacity, Number(capacity)),
-        (SlotCommand::Len, Number(0)),
-        (SlotCommand::Retired, Number(0)),
-        (SlotCommand::Next, reply_of_key(first)),
+        (SlotMapCommand::Capacity, Number(capacity)),
+        (SlotMapCommand::Len, Number(0)),
+        (SlotMapCommand::Retired, Number(0)),
+        (SlotMapCommand::Next, reply_of_key(first)),
     ];
     match making {
         Making::New => {

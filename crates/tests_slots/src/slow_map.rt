@@ -1,10 +1,10 @@
 //! A plain slow map, with which tests compare slot maps. Its contracts are the definitions of the steps.
 ghost use Rattle.std.specs.Prelude.{◌≡◌, ◌<◌, length, is_some, slice_set, if◌then◌else◌, IfOk};
-ghost use Rattle.ix_slotmap.specs.Generations.{greatest_generation, generation_at, key_at, place_value, map_value, map_new};
-ghost use Rattle.ix_slotmap.specs.SlotMapSteps.{generations_raise, map_set, map_insert, map_remove};
-ghost use Rattle.ix_commands.specs.SlotRun.{map_next, is_free_place, is_replaceable, map_insert_at, map_insert_at_key};
+ghost use Rattle.ix_slotmap.specs.Generations.{greatest_generation, generation_at, key_at, place_value, slot_map_value, slot_map_new};
+ghost use Rattle.ix_slotmap.specs.SlotMapSteps.{generations_raise, slot_map_set, slot_map_insert, slot_map_remove};
+ghost use Rattle.ix_commands.specs.SlotMapRun.{slot_map_next, is_free_place, is_replaceable, slot_map_insert_at, slot_map_insert_at_key};
 
-use ix_commands::{Reply, Runs, SlotCommand};
+use ix_commands::{Reply, Runs, SlotMapCommand};
 use ix_slotmap::SlotMapKey;
 use std::alloc::{AllocError, Global};
 use std::marker::Model;
@@ -44,7 +44,7 @@ fn write(generations: &mut [u32], i: usize, generation: u32)
 impl SlowMap {
     /// Returns an empty map with `capacity` places that start at `generation`.
     pub fn new(alloc: Global, capacity: usize, generation: u32) -> Result<SlowMap, AllocError>
-        ensures { IfOk result (λ map. map ≡ map_new capacity generation) }
+        ensures { IfOk result (λ map. map ≡ slot_map_new capacity generation) }
     {
         let places = SlowTable::new(alloc, capacity)?;
         let generations = vec![in alloc; generation; capacity]?;
@@ -90,7 +90,7 @@ impl SlowMap {
 
     /// Returns the key of the first free place.
     pub fn next_free_key(&self) -> Option<SlotMapKey>
-        ensures { result ≡ map_next self.now }
+        ensures { result ≡ slot_map_next self.now }
     {
         let index = self.places.first_free()?;
         Some(self.key_at(index))
@@ -98,7 +98,7 @@ impl SlowMap {
 
     /// Returns the value of a key.
     pub fn get(&self, key: SlotMapKey) -> Option<u64>
-        ensures { result ≡ map_value self.now key }
+        ensures { result ≡ slot_map_value self.now key }
     {
         if self.generation(key.index()) == key.generation() {
             self.value(key.index())
@@ -119,8 +119,8 @@ impl SlowMap {
 
     /// Inserts `value` in the first free place and returns the key.
     pub fn insert(&mut self, value: u64) -> Option<SlotMapKey>
-        ensures key { result ≡ map_next self.old }
-        ensures map { self.new ≡ map_insert self.old value }
+        ensures key { result ≡ slot_map_next self.old }
+        ensures map { self.new ≡ slot_map_insert self.old value }
     {
         let index = self.places.insert(Some(value))?;
         Some(self.key_at(index))
@@ -142,8 +142,8 @@ impl SlowMap {
 
     /// Inserts `value` in a place and returns the key.
     pub fn insert_at(&mut self, index: usize, value: u64) -> Option<SlotMapKey>
-        ensures key { result ≡ map_insert_at_key self.old index value }
-        ensures map { self.new ≡ map_insert_at self.old index value }
+        ensures key { result ≡ slot_map_insert_at_key self.old index value }
+        ensures map { self.new ≡ slot_map_insert_at self.old index value }
     {
         if self.is_free(index) {
             self.places.fill(index, Some(value));
@@ -159,9 +159,9 @@ impl SlowMap {
 
     /// Overwrites the value of a key and returns `true`, or returns `false` if it is not held.
     pub fn overwrite(&mut self, key: SlotMapKey, value: u64) -> bool
-        ensures value { result ≡ is_some (map_value self.old key) }
+        ensures value { result ≡ is_some (slot_map_value self.old key) }
         ensures map { self.new
-            ≡ if is_some (map_value self.old key) then map_set self.old key value else self.old }
+            ≡ if is_some (slot_map_value self.old key) then slot_map_set self.old key value else self.old }
     {
         if self.get(key).is_none() {
             return false;
@@ -173,8 +173,8 @@ impl SlowMap {
     /// Removes a key and returns its value.
     pub fn remove(&mut self, key: SlotMapKey) -> Option<u64>
         requires { length self.old.slots.free < 512 }
-        ensures value { result ≡ map_value self.old key }
-        ensures map { self.new ≡ map_remove self.old key }
+        ensures value { result ≡ slot_map_value self.old key }
+        ensures map { self.new ≡ slot_map_remove self.old key }
     {
         let value = self.get(key);
         if value.is_none() {
@@ -192,7 +192,7 @@ impl SlowMap {
 
 /// The commands of a slot map but for `From`, `Retired`, `Len` and `Empty`, to which the reply is `None`. A map with 512
 /// free places does nothing.
-impl Runs<SlotCommand<u64>> for SlowMap {
+impl Runs<SlotMapCommand<u64>> for SlowMap {
     ghost use Rattle.std.specs.Prelude.{ℕ};
     ghost use Rattle.ix_slotmap.specs.Generations.{SlotMapState};
     ghost use Rattle.tests_slots.specs.SlowRun.{slow_reply, slow_after};
@@ -207,24 +207,24 @@ impl Runs<SlotCommand<u64>> for SlowMap {
 
     ghost after = { slow_after };
 
-    fn run_command(&mut self, command: SlotCommand<u64>) -> Reply<SlotMapKey, u64> {
+    fn run_command(&mut self, command: SlotMapCommand<u64>) -> Reply<SlotMapKey, u64> {
         if !self.places.has_room() {
             return Reply::None;
         }
         match command {
-            SlotCommand::Insert(value) => reply_of_key(self.insert(value)),
-            SlotCommand::Next => reply_of_key(self.next_free_key()),
-            SlotCommand::InsertAt(index, value) => reply_of_key(self.insert_at(index, value)),
-            SlotCommand::Remove(key) => reply_of_option(self.remove(key)),
-            SlotCommand::Get(key) => reply_of_option(self.get(key)),
-            SlotCommand::Set(key, value) => Reply::Bool(self.overwrite(key, value)),
-            SlotCommand::Contains(key) => Reply::Bool(self.get(key).is_some()),
-            SlotCommand::Capacity => Reply::Number(self.places.capacity()),
-            SlotCommand::Full => Reply::Bool(self.places.free_len() == 0),
-            SlotCommand::From(_) => Reply::None,
-            SlotCommand::Retired => Reply::None,
-            SlotCommand::Len => Reply::None,
-            SlotCommand::Empty => Reply::None,
+            SlotMapCommand::Insert(value) => reply_of_key(self.insert(value)),
+            SlotMapCommand::Next => reply_of_key(self.next_free_key()),
+            SlotMapCommand::InsertAt(index, value) => reply_of_key(self.insert_at(index, value)),
+            SlotMapCommand::Remove(key) => reply_of_option(self.remove(key)),
+            SlotMapCommand::Get(key) => reply_of_option(self.get(key)),
+            SlotMapCommand::Set(key, value) => Reply::Bool(self.overwrite(key, value)),
+            SlotMapCommand::Contains(key) => Reply::Bool(self.get(key).is_some()),
+            SlotMapCommand::Capacity => Reply::Number(self.places.capacity()),
+            SlotMapCommand::Full => Reply::Bool(self.places.free_len() == 0),
+            SlotMapCommand::From(_) => Reply::None,
+            SlotMapCommand::Retired => Reply::None,
+            SlotMapCommand::Len => Reply::None,
+            SlotMapCommand::Empty => Reply::None,
         }
     }
 }

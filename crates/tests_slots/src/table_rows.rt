@@ -1,11 +1,11 @@
 //! Worked examples: commands of an empty map, and the replies to them.
 use ix_commands::Reply::{self, Bool, Key, Number, Value};
-use ix_commands::TableCommand::{
+use ix_commands::SlotTableCommand::{
     self, Capacity, Contains, Empty, Full, Get, Insert, InsertAt, Len, Next, Remove, Set,
 };
 
 /// A command of a slot table and the reply to it.
-pub type Row<T> = (TableCommand<T>, Reply<usize, T>);
+pub type Row<T> = (SlotTableCommand<T>, Reply<usize, T>);
 
 /// On a map with three keys.
 pub const REMOVED_KEY_IS_FIRST: &[Row<char>] = &[

@@ -5,7 +5,7 @@ ghost use Rattle.std.specs.Prelude.{◌≤◌};
 
 use crate::containers::LAST;
 use crate::slow_map::SlowMap;
-use ix_commands::{SlotCommand, TableCommand};
+use ix_commands::{SlotMapCommand, SlotTableCommand};
 use ix_slotmap::{FixedSizeSlotMap, MetaSlotMap, SlotMap, SlotMapKey, UninitSlotMap};
 use ix_slottable::{FixedSizeSlotTable, Link, MetaSlotTable, SlotTable, UninitSlotTable};
 use ix_tables::{RelocatableContainer, Table};
@@ -30,18 +30,18 @@ fn index_of(number: usize, capacity: usize) -> usize {
 }
 
 /// Draws a command of a table with `capacity` keys. Three of five change it.
-fn drawn_table_command(numbers: &mut Numbers, capacity: usize) -> TableCommand<u64> {
+fn drawn_slot_table_command(numbers: &mut Numbers, capacity: usize) -> SlotTableCommand<u64> {
     let key = index_of(numbers.next(), capacity);
     let value = numbers.next() as u64;
     match numbers.next() % 10 {
-        0 | 1 => TableCommand::Insert(value),
-        2 => TableCommand::InsertAt(key, value),
-        3 => TableCommand::Set(key, value),
-        4 | 5 => TableCommand::Remove(key),
-        6 => TableCommand::Next,
-        7 => TableCommand::Full,
-        8 => TableCommand::Contains(key),
-        _ => TableCommand::Get(key),
+        0 | 1 => SlotTableCommand::Insert(value),
+        2 => SlotTableCommand::InsertAt(key, value),
+        3 => SlotTableCommand::Set(key, value),
+        4 | 5 => SlotTableCommand::Remove(key),
+        6 => SlotTableCommand::Next,
+        7 => SlotTableCommand::Full,
+        8 => SlotTableCommand::Contains(key),
+        _ => SlotTableCommand::Get(key),
     }
 }
 
@@ -58,18 +58,22 @@ fn drawn_key(slow: &SlowMap, numbers: &mut Numbers, capacity: usize) -> SlotMapK
 }
 
 /// Draws a command of a map with `capacity` places. Nine of thirteen change a map.
-fn drawn_map_command(slow: &SlowMap, numbers: &mut Numbers, capacity: usize) -> SlotCommand<u64> {
+fn drawn_map_command(
+    slow: &SlowMap,
+    numbers: &mut Numbers,
+    capacity: usize,
+) -> SlotMapCommand<u64> {
     let key = drawn_key(slow, numbers, capacity);
     let value = numbers.next() as u64;
     match numbers.next() % 13 {
-        0 | 1 | 2 => SlotCommand::Insert(value),
-        3 => SlotCommand::InsertAt(key.index(), value),
-        4 => SlotCommand::Set(key, value),
-        5 | 6 | 7 | 8 => SlotCommand::Remove(key),
-        9 => SlotCommand::Next,
-        10 => SlotCommand::Full,
-        11 => SlotCommand::Contains(key),
-        _ => SlotCommand::Get(key),
+        0 | 1 | 2 => SlotMapCommand::Insert(value),
+        3 => SlotMapCommand::InsertAt(key.index(), value),
+        4 => SlotMapCommand::Set(key, value),
+        5 | 6 | 7 | 8 => SlotMapCommand::Remove(key),
+        9 => SlotMapCommand::Next,
+        10 => SlotMapCommand::Full,
+        11 => SlotMapCommand::Contains(key),
+        _ => SlotMapCommand::Get(key),
     }
 }
 
@@ -162,7 +166,7 @@ fn walk_table<S: Table<u64>, L: Table<Link>, E: Drop>(
             &mut numbers,
             COMMANDS,
             "a walk",
-            |_: &SlowTable<u64>, numbers| drawn_table_command(numbers, capacity),
+            |_: &SlowTable<u64>, numbers| drawn_slot_table_command(numbers, capacity),
         );
         check_table(findings, &map, &slow);
     }

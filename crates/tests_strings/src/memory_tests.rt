@@ -1,6 +1,6 @@
 //! Memory that is refused to each call that makes a string: nothing stays allocated. Where there is memory, none is refused.
 use ix_commands::Reply::{self, Number};
-use ix_commands::TextCommand::{self, Capacity, Len};
+use ix_commands::StringCommand::{self, Capacity, Len};
 use ix_string::StringCreationError::{InvalidCharacter, OutOfMemory};
 use ix_string::{
     PolymorphicString, RelocatableString, String, StringCreationError, UninitString,
@@ -42,7 +42,7 @@ const CAPACITIES: &[(usize, u16)] = &[
 ];
 
 /// Commands that read the sizes of a string, and the replies to them.
-fn sizes(capacity: usize, len: usize) -> [(TextCommand<'static>, Reply<usize, u8>); 2] {
+fn sizes(capacity: usize, len: usize) -> [(StringCommand<'static>, Reply<usize, u8>); 2] {
     [(Capacity, Number(capacity)), (Len, Number(len))]
 }
 

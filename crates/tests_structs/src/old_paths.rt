@@ -1,11 +1,11 @@
 //! Paths of 0.10.0, in code and in clauses, to what lies in other crates now.
 ghost use Rattle.std.specs.Prelude.{◌≡◌, ◌↔◌, Err, IsSome, IsOkUnless, nat_eq};
-ghost use Rattle.ix_maps.specs.FlatState.{flat_value};
-ghost use Rattle.ix_maps.specs.declared.flatmap.flat_map_error.FlatMapError.TheVariants.{KeyAlreadyExists};
+ghost use Rattle.ix_maps.specs.MapState.{map_value};
+ghost use Rattle.ix_maps.specs.declared.flatmap.map_error.MapError.TheVariants.{KeyAlreadyExists};
 ghost use Rattle.ix_cells.specs.declared.vector.modification_error.VectorModificationError.TheVariants.{InsertWouldExceedCapacity};
 
 use ix_cells::vector::{StaticVec, Vector, VectorModificationError};
-use ix_maps::flatmap::{self, FixedSizeFlatMap, FlatMapError};
+use ix_maps::flatmap::{self, FixedSizeFlatMap, MapError};
 use ix_maps::{queue, slottable};
 use std::test::Fail;
 use test_support::Findings;
@@ -18,8 +18,8 @@ fn append(vector: &mut StaticVec<u8, 1>, item: u8) -> Result<(), VectorModificat
 }
 
 /// Inserts a key.
-fn insert(map: &mut FixedSizeFlatMap<u8, u8, 2>, key: u8) -> Result<(), FlatMapError>
-    ensures { result ≡ Err KeyAlreadyExists ↔ IsSome (flat_value nat_eq map.old key) }
+fn insert(map: &mut FixedSizeFlatMap<u8, u8, 2>, key: u8) -> Result<(), MapError>
+    ensures { result ≡ Err KeyAlreadyExists ↔ IsSome (map_value nat_eq map.old key) }
 {
     map.insert(key, 1)
 }
@@ -43,7 +43,7 @@ fn errors_of_vectors_and_flat_maps() -> Result<(), Fail> {
     findings.expect_same(insert(&mut map, 7), Ok(()), "a key");
     findings.expect_same(
         insert(&mut map, 7),
-        Err(FlatMapError::KeyAlreadyExists),
+        Err(MapError::KeyAlreadyExists),
         "an equal key",
     );
     findings.verdict()

@@ -1,6 +1,8 @@
 //! The drops and the clones of items: each is dropped once, the last one first, and no call clones more items than it keeps.
 use crate::rows::Way::{self, Clones, Closures, Unchecked};
-use ix_commands::VecCommand::{self, Clear, Extend, Insert, Pop, Push, Remove, Resize, Truncate};
+use ix_commands::VectorCommand::{
+    self, Clear, Extend, Insert, Pop, Push, Remove, Resize, Truncate,
+};
 use ix_vector::VectorModificationError::{
     self, InsertWouldExceedCapacity, OutOfBounds, OutOfMemory,
 };
@@ -15,7 +17,7 @@ type Outcome = Result<Option<u64>, VectorModificationError>;
 
 /// A command, in which a name stands for each item; how many clones it makes, and where one is refused, how many may be made;
 /// the outcome; and the names of the items that are dropped, and of those that are left.
-type Row<'a> = (VecCommand<'a, u64>, u64, Outcome, u64, u64);
+type Row<'a> = (VectorCommand<'a, u64>, u64, Outcome, u64, u64);
 
 /// The names of the items that are cloned.
 const OTHERS: &[u64] = &[1, 2, 3];
@@ -140,7 +142,7 @@ fn extend<'a, V: Vector<Noted<'a>>>(
 fn run<'a, V: Vector<Noted<'a>>>(
     findings: &Findings,
     vector: &mut V,
-    (way, command): (Way, VecCommand<u64>),
+    (way, command): (Way, VectorCommand<u64>),
     notes: &'a Notes,
     others: &[Noted<'a>],
 ) -> Outcome {

@@ -1,7 +1,7 @@
 //! Memory that is refused to each call that makes a vector or a table: nothing stays allocated. Where there is memory, none
 //! is refused.
 use ix_commands::Reply::{self, Number};
-use ix_commands::VecCommand::{self, Capacity, Len};
+use ix_commands::VectorCommand::{self, Capacity, Len};
 use ix_tables::{HeapTable, MAX_FIXED_CAPACITY, RawSlots, RelocatableContainer, Table};
 use ix_vector::VectorModificationError::InsertWouldExceedCapacity;
 use ix_vector::{PolymorphicVec, StaticVec, UninitVec, Vector};
@@ -57,7 +57,7 @@ fn blocks_of(making: Making, numbers: u16, marks: u16) -> u16 {
 }
 
 /// Commands that read the sizes of a vector, and the replies to them.
-fn sizes(capacity: usize, len: usize) -> [(VecCommand<'static, u64>, Reply<usize, u64>); 2] {
+fn sizes(capacity: usize, len: usize) -> [(VectorCommand<'static, u64>, Reply<usize, u64>); 2] {
     [(Capacity, Number(capacity)), (Len, Number(len))]
 }
 

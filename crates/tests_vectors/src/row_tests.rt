@@ -3,7 +3,7 @@ use crate::rows::{FULL, Row, check_kinds, check_made};
 use bumpalo::Bump;
 use ix_commands::Reply::{self, Bool, Done, Error, Number, Value};
 use ix_commands::ReplyError::OutOfBounds;
-use ix_commands::VecCommand::{
+use ix_commands::VectorCommand::{
     At, Capacity, Clear, Empty, Extend, Full, Insert, Len, Pop, Push, Remove, Resize, Set, Truncate,
 };
 use ix_vector::{PolymorphicVec, StaticVec};

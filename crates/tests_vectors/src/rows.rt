@@ -2,8 +2,8 @@
 ghost use Rattle.ix_tables.specs.Cloning.{AreEqualClones};
 
 use crate::rows::Way::{Clones, Closures, Commands, Unchecked};
-use ix_commands::VecCommand::{Extend, Push, Resize};
-use ix_commands::{Reply, ReplyError, Runs, VecCommand};
+use ix_commands::VectorCommand::{Extend, Push, Resize};
+use ix_commands::{Reply, ReplyError, Runs, VectorCommand};
 use ix_vector::{PolymorphicVec, Vector, VectorModificationError};
 use std::alloc::{AllocError, Allocator};
 use std::cell::Cell;
@@ -26,7 +26,7 @@ pub enum Way {
 const WAYS: &[Way] = &[Commands, Clones, Closures, Unchecked];
 
 /// A command, the reply to it, and the items after it.
-pub type Row<'a, T> = (VecCommand<'a, T>, Reply<usize, T>, &'a [T]);
+pub type Row<'a, T> = (VectorCommand<'a, T>, Reply<usize, T>, &'a [T]);
 
 /// Why a full vector refuses an item.
 pub const FULL: ReplyError = ReplyError::InsertWouldExceedCapacity;
@@ -57,7 +57,11 @@ fn copy_of<C: Copy>(command: &C) -> C {
     *command
 }
 
-fn run<T: Copy, V: Vector<T>>(vector: &mut V, way: Way, command: &VecCommand<T>) -> Reply<usize, T>
+fn run<T: Copy, V: Vector<T>>(
+    vector: &mut V,
+    way: Way,
+    command: &VectorCommand<T>,
+) -> Reply<usize, T>
     requires { AreEqualClones T.is_clone }
 {
     let room = vector.capacity() - vector.len();

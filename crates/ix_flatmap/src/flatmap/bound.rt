@@ -1,8 +1,8 @@
 //! The index of flat maps.
 ghost use Rattle.std.specs.Prelude.{◌≡◌, ◌+◌, ◌<◌, ◌≤◌, ⊤, Some};
 ghost use Rattle.std.specs.Result.{IfErr, result_ok};
-ghost use Rattle.ix_slottable.specs.SlotSteps.{SlotInsert};
-ghost use Rattle.ix_flatmap.specs.FlatState.{IsBound};
+ghost use Rattle.ix_slottable.specs.SlotTableSteps.{SlotTableInsert};
+ghost use Rattle.ix_flatmap.specs.MapState.{IsBound};
 ghost use Rattle.ix_flatmap.specs.inner.Bounds.{bound_with, bound_without};
 ghost use Rattle.ix_flatmap.specs.laws.Bounds.{IsBound-clone};
 
@@ -68,7 +68,7 @@ impl<K: Eq + Drop, V: Drop> KeyIndex<K, V> for Bound {
         pair: Pair<K, V>,
     ) -> Result<SlotTableKey, Pair<K, V>>
         requires { IsBound pairs.old self.old.place }
-        ensures step { SlotInsert pairs.old pair pairs.new (result_ok result) }
+        ensures step { SlotTableInsert pairs.old pair pairs.new (result_ok result) }
         ensures returned { IfErr result (λ refused. refused ≡ pair) }
         ensures fits { IsBound pairs.new self.new.place }
     {

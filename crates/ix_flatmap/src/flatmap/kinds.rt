@@ -1,6 +1,6 @@
 //! The kinds of flat maps: stored inline, in memory of an allocator, and made in two steps.
 ghost use Rattle.std.specs.Prelude.{◌≡◌};
-ghost use Rattle.ix_slottable.specs.SlotState.{slot_new};
+ghost use Rattle.ix_slottable.specs.SlotTableState.{slot_table_new};
 
 use crate::flatmap::Bound;
 use crate::map::{HeapMap, InlineMap, MetaMap};
@@ -45,7 +45,7 @@ pub struct FlatMapFamily<K, V> {
 impl<K: Eq + Drop, V: Drop, A: Allocator + Copy> ContainerFamily<A> for FlatMapFamily<K, V> {
     type Container = RelocatableFlatMap<K, V, A>;
 
-    ghost is_empty_with = { λ capacity map. map ≡ slot_new capacity };
+    ghost is_empty_with = { λ capacity map. map ≡ slot_table_new capacity };
 
     /// Creates an empty map with room for `capacity` keys. O(`capacity`), with at most four allocations.
     #[inline]

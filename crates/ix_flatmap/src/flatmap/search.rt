@@ -1,7 +1,7 @@
 //! How a flat map looks for a key.
 ghost use Rattle.std.specs.Prelude.{◌≡◌, ◌+◌, ◌<◌, ◌≤◌, ℕ, length, nat_lt, if◌then◌else◌, IfSome, IsNone, option_map, true};
-ghost use Rattle.ix_slottable.specs.SlotState.{IsHeld};
-ghost use Rattle.ix_flatmap.specs.FlatState.{HasDistinctKeys, flat_entry, IsBound};
+ghost use Rattle.ix_slottable.specs.SlotTableState.{IsHeld};
+ghost use Rattle.ix_flatmap.specs.MapState.{HasDistinctKeys, map_entry, IsBound};
 ghost use Rattle.ix_flatmap.specs.inner.FlatSearch.{is_key_at, HasNoKeyIn, IsFoundIn};
 ghost use Rattle.ix_flatmap.specs.declared.flatmap.search.TheConstants.{BLOCK_LEN, ROW_LEN};
 
@@ -30,7 +30,7 @@ pub(crate) fn find_in_front<'a, K: Eq, V, S: Table<Pair<K, V>>, L: Table<Link>>(
     requires bound { IsBound pairs.now end }
     requires held { (place : ℕ) → place < end → IsHeld pairs.now place }
     ensures { option_map (λ entry. (entry.0, entry.1.now)) result
-        ≡ flat_entry K.eq pairs.now key.now }
+        ≡ map_entry K.eq pairs.now key.now }
 {
     if end < MANY {
         find_by_blocks(pairs, 0, end, key)
@@ -51,7 +51,7 @@ fn find_by_rows<'a, K: Eq, V, S: Table<Pair<K, V>>, L: Table<Link>>(
     requires bound { IsBound pairs.now end }
     requires held { (place : ℕ) → place < end → IsHeld pairs.now place }
     ensures { option_map (λ entry. (entry.0, entry.1.now)) result
-        ≡ flat_entry K.eq pairs.now key.now }
+        ≡ map_entry K.eq pairs.now key.now }
 {
     let rows = end / ROW_LEN;
     for row in 0..rows {
@@ -78,7 +78,7 @@ fn find_by_blocks<'a, K: Eq, V, S: Table<Pair<K, V>>, L: Table<Link>>(
     requires bound { IsBound pairs.now end }
     requires held { (place : ℕ) → place < end → IsHeld pairs.now place }
     ensures { option_map (λ entry. (entry.0, entry.1.now)) result
-        ≡ flat_entry K.eq pairs.now key.now }
+        ≡ map_entry K.eq pairs.now key.now }
 {
     let blocks = end / BLOCK_LEN;
     for block in start / BLOCK_LEN..blocks {
@@ -198,7 +198,7 @@ pub(crate) fn find_from<'a, K: Eq, V, S: Table<Pair<K, V>>, L: Table<Link>>(
     requires none { HasNoKeyIn K.eq pairs.now key.now 0 start }
     requires bound { IsBound pairs.now end }
     ensures { option_map (λ entry. (entry.0, entry.1.now)) result
-        ≡ flat_entry K.eq pairs.now key.now }
+        ≡ map_entry K.eq pairs.now key.now }
 {
     for place in start..end {
         let place = SlotTableKey::new(place);

@@ -1,8 +1,8 @@
 //! Clones of maps.
 ghost use Rattle.std.specs.Prelude.{◌≡◌, length, IsOk, IfOk};
 ghost use Rattle.ix_tables.specs.Cloning.{AreEqualClones};
-ghost use Rattle.ix_slottable.specs.SlotCopies.{SlotIsClone, SlotIsInfallible};
-ghost use Rattle.ix_flatmap.specs.FlatCopies.{PairIsClone, PairIsInfallible};
+ghost use Rattle.ix_slottable.specs.SlotTableCopies.{SlotTableIsClone, SlotTableIsInfallible};
+ghost use Rattle.ix_flatmap.specs.MapCopies.{PairIsClone, PairIsInfallible};
 
 use crate::map::{CopyIn, CopyInline, HeapMap, InlineMap, KeyIndex, MetaMap, Pair, PairIndex};
 use std::alloc::{AllocError, Allocator};
@@ -32,9 +32,9 @@ impl<
     const CAPACITY: usize,
     I: KeyIndex<K, V> + CopyInline<Pair<K, V>, CAPACITY> + Drop,
 > Clone for InlineMap<K, V, CAPACITY, I> {
-    ghost is_clone = { SlotIsClone (PairIsClone K.eq K.is_clone V.is_clone) };
+    ghost is_clone = { SlotTableIsClone (PairIsClone K.eq K.is_clone V.is_clone) };
 
-    ghost is_infallible = { SlotIsInfallible
+    ghost is_infallible = { SlotTableIsInfallible
         (PairIsInfallible K.eq K.is_clone K.is_infallible V.is_infallible) };
 
     /// Creates a map that holds clones of the keys and values in the same places, has the same free places in the same order,

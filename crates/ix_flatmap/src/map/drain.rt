@@ -2,9 +2,9 @@
 ghost use Rattle.std.specs.Prelude.{◌≡◌, length, drop, Some, IfSome};
 ghost use Rattle.std.specs.Iterator.{UpTo, at_most, item_count};
 ghost use Rattle.std.specs.Iterator.SizeHint.{IsWithinCount};
-ghost use Rattle.ix_slottable.specs.SlotState.{held_count, entries_from};
-ghost use Rattle.ix_slottable.specs.SlotSteps.{slot_clear};
-ghost use Rattle.ix_flatmap.specs.FlatState.{flat_items};
+ghost use Rattle.ix_slottable.specs.SlotTableState.{held_count, entries_from};
+ghost use Rattle.ix_slottable.specs.SlotTableSteps.{slot_table_clear};
+ghost use Rattle.ix_flatmap.specs.MapState.{map_items};
 
 use crate::map::{KeyIndex, MetaMap, Pair};
 use ix_slottable::slottable::{Link, SlotTableKey};
@@ -37,14 +37,14 @@ impl<K: Eq + Drop, V: Drop, S: Table<Pair<K, V>>, L: Table<Link>, I: KeyIndex<K,
     I,
 > {
     ghost use Rattle.ix_slottable.specs.Draining.{DrainingKeepsAlong};
-    ghost use Rattle.ix_flatmap.specs.FlatDrain.{drain_items, drain_left, drain_lender};
+    ghost use Rattle.ix_flatmap.specs.MapDrain.{drain_items, drain_left, drain_lender};
 
     /// Returns an iterator that removes all keys, each with its value, in slot order. What is not taken is dropped with it, and
     /// the map is as [`MetaMap::clear`] leaves it then. O(1), and O(capacity) for all of its items together.
     #[inline]
     pub fn drain(&mut self) -> Drain<'_, K, V, S, L, I>
-        ensures items { drain_items result ≡ flat_items self.old }
-        ensures left { drain_left result ≡ slot_clear self.old }
+        ensures items { drain_items result ≡ map_items self.old }
+        ensures left { drain_left result ≡ slot_table_clear self.old }
         // With these two a caller knows what the map is once the iterator is dropped.
         ensures same_reference { drain_lender result ≡ self.entry.ghost_name }
         ensures stays { DrainingKeepsAlong drain_items drain_lender drain_left result }
@@ -59,7 +59,7 @@ impl<K: Eq + Drop, V: Drop, S: Table<Pair<K, V>>, L: Table<Link>, I: KeyIndex<K,
 /// Drops the keys and values that are still to come, the next ones first. The map is empty then. O(capacity).
 impl<K: Eq + Drop, V: Drop, S: Table<Pair<K, V>>, L: Table<Link>, I: KeyIndex<K, V>> Drop
     for Drain<'_, K, V, S, L, I> {
-    ghost use Rattle.ix_flatmap.specs.FlatDrain.{drain_left};
+    ghost use Rattle.ix_flatmap.specs.MapDrain.{drain_left};
 
     fn drop(self)
         ensures { self.exit.0.now ≡ drain_left self.entry }
@@ -74,7 +74,7 @@ impl<K: Eq + Drop, V: Drop, S: Table<Pair<K, V>>, L: Table<Link>, I: KeyIndex<K,
     type Item = (K, V);
 
     ghost use Rattle.ix_slottable.specs.Draining.{DrainingSteps};
-    ghost use Rattle.ix_flatmap.specs.FlatDrain.{drain_items, drain_left, drain_lender};
+    ghost use Rattle.ix_flatmap.specs.MapDrain.{drain_items, drain_left, drain_lender};
 
     ghost next_gives = { DrainingSteps drain_items drain_lender drain_left };
 

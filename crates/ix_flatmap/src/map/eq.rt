@@ -1,7 +1,7 @@
 //! Equality of maps.
-ghost use Rattle.ix_flatmap.specs.FlatState.{flat_items};
-ghost use Rattle.ix_flatmap.specs.FlatCompared.{is_same_item, has_same};
-ghost use Rattle.ix_flatmap.specs.laws.FlatCompared.{same_items_per, same_items_equiv};
+ghost use Rattle.ix_flatmap.specs.MapState.{map_items};
+ghost use Rattle.ix_flatmap.specs.MapCompared.{is_same_item, has_same};
+ghost use Rattle.ix_flatmap.specs.laws.MapCompared.{same_items_per, same_items_equiv};
 
 use crate::bounded_map::has_each_of;
 use crate::map::{KeyIndex, MetaMap, Pair};
@@ -16,7 +16,7 @@ impl<
     L: Table<Link>,
     I: KeyIndex<K, V>,
 > PartialEq for MetaMap<Pair<K, V>, S, L, I> {
-    ghost eq = { λ map other. has_same (is_same_item K.eq V.eq) (flat_items map) (flat_items other) };
+    ghost eq = { λ map other. has_same (is_same_item K.eq V.eq) (map_items map) (map_items other) };
 
     ghost laws = { same_items_per K.eq V.eq K.Eq.laws V.laws };
 

@@ -1,6 +1,6 @@
 //! Values of a map by their keys.
 ghost use Rattle.std.specs.Prelude.{◌≡◌, IsSome, Some};
-ghost use Rattle.ix_flatmap.specs.FlatState.{flat_value};
+ghost use Rattle.ix_flatmap.specs.MapState.{map_value};
 
 use crate::map::{KeyIndex, MetaMap, Pair};
 use ix_slottable::slottable::Link;
@@ -13,9 +13,9 @@ impl<'q, K: Eq + Drop, V: Drop, S: Table<Pair<K, V>>, L: Table<Link>, I: KeyInde
 > for MetaMap<Pair<K, V>, S, L, I> {
     type Output = V;
 
-    ghost can_index = { λ map key. IsSome (flat_value K.eq map key.now) };
+    ghost can_index = { λ map key. IsSome (map_value K.eq map key.now) };
 
-    ghost index_gives = { λ map key value. flat_value K.eq map key.now ≡ Some value };
+    ghost index_gives = { λ map key value. map_value K.eq map key.now ≡ Some value };
 
     #[inline]
     fn index(&self, key: &'q K) -> &V {

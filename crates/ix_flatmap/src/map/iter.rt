@@ -2,7 +2,7 @@
 ghost use Rattle.std.specs.Prelude.{◌≡◌, length, map, Some, IfSome, ⊤};
 ghost use Rattle.std.specs.Iterator.{YieldsFirstBy, UpTo, at_most, item_count};
 ghost use Rattle.std.specs.Iterator.SizeHint.{IsWithinCount};
-ghost use Rattle.ix_flatmap.specs.FlatState.{flat_item};
+ghost use Rattle.ix_flatmap.specs.MapState.{map_item};
 
 use crate::map::{MetaMap, Pair, PairIndex};
 use ix_slottable::slottable::{self, Link};
@@ -21,11 +21,11 @@ pub struct Iter<'a, K, V, S: Table<Pair<K, V>>, L: Table<Link>> {
 
 impl<'a, K, V, S: Table<Pair<K, V>>, L: Table<Link>> Model for Iter<'a, K, V, S, L> {
     ghost use Rattle.std.specs.Prelude.{List, map};
-    ghost use Rattle.ix_flatmap.specs.FlatState.{flat_item};
+    ghost use Rattle.ix_flatmap.specs.MapState.{map_item};
 
     ghost Value = { List (K × V) };
 
-    ghost view = { λ iter. map flat_item iter.pairs };
+    ghost view = { λ iter. map map_item iter.pairs };
 }
 
 impl<'a, K, V, S: Table<Pair<K, V>>, L: Table<Link>> Iter<'a, K, V, S, L> {
@@ -33,7 +33,7 @@ impl<'a, K, V, S: Table<Pair<K, V>>, L: Table<Link>> Iter<'a, K, V, S, L> {
     #[doc(hidden)]
     #[inline]
     pub fn new(pairs: slottable::Iter<'a, Pair<K, V>, S, L>) -> Self
-        ensures { result ≡ map flat_item pairs.entry }
+        ensures { result ≡ map map_item pairs.entry }
     {
         Iter { pairs }
     }
@@ -106,13 +106,13 @@ impl<'a, K: Debug, V: Debug, S: Table<Pair<K, V>>, L: Table<Link>> Debug for Ite
 
 impl<'a, K: Eq, V, S: Table<Pair<K, V>>, L: Table<Link>, I: PairIndex<Pair<K, V>>> IntoIterator
     for &'a MetaMap<Pair<K, V>, S, L, I> {
-    ghost use Rattle.ix_flatmap.specs.FlatState.{flat_items};
+    ghost use Rattle.ix_flatmap.specs.MapState.{map_items};
 
     type Item = (&'a K, &'a V);
 
     type IntoIter = Iter<'a, K, V, S, L>;
 
-    ghost into_iter_gives = { λ map iter. iter ≡ flat_items map.now };
+    ghost into_iter_gives = { λ map iter. iter ≡ map_items map.now };
 
     /// Returns an iterator over the keys in slot order, each with its value. O(1).
     #[inline]

@@ -3,10 +3,10 @@ ghost use Rattle.std.specs.Prelude.{◌≡◌, ℕ, ◌≤◌, length, replicate
 ghost use Rattle.std.specs.Result.{IfErr, result_ok};
 ghost use Rattle.ix_tables.specs.Memory.{no_memory};
 ghost use Rattle.ix_tables.specs.declared.cells.memory_size.MemorySize.{MemorySize};
-ghost use Rattle.ix_slottable.specs.SlotState.{SlotState, IsHeld, value_at, slot_new};
-ghost use Rattle.ix_slottable.specs.SlotSteps.{SlotInsert, SlotRemove, slot_clear};
-ghost use Rattle.ix_slottable.specs.SlotCopies.{SlotIsClone};
-ghost use Rattle.ix_flatmap.specs.FlatState.{HasDistinctKeys, flat_entry, IsBound};
+ghost use Rattle.ix_slottable.specs.SlotTableState.{SlotTableState, IsHeld, value_at, slot_table_new};
+ghost use Rattle.ix_slottable.specs.SlotTableSteps.{SlotTableInsert, SlotTableRemove, slot_table_clear};
+ghost use Rattle.ix_slottable.specs.SlotTableCopies.{SlotTableIsClone};
+ghost use Rattle.ix_flatmap.specs.MapState.{HasDistinctKeys, map_entry, IsBound};
 ghost use Rattle.ix_flatmap.specs.declared.map.pair.Pair.{Pair};
 
 use crate::map::Pair;
@@ -17,7 +17,7 @@ use std::alloc::{AllocError, Allocator};
 /// An index of the pairs of a map.
 pub trait PairIndex<P>: Sized {
     /// The index is of these pairs.
-    ghost Fits: { Self → SlotState P → Type 0 };
+    ghost Fits: { Self → SlotTableState P → Type 0 };
 }
 
 /// An index by which the place of a key is found. [`MetaMap`](crate::map::MetaMap) has the calls of a map over any.
@@ -28,7 +28,7 @@ pub trait KeyIndex<K: Eq + Drop, V: Drop>: PairIndex<Pair<K, V>> {
     type Seat: Copy;
 
     /// A key belongs there.
-    ghost IsSeat: { Self → SlotState (Pair K V) → K → Self.Seat → Type 0 };
+    ghost IsSeat: { Self → SlotTableState (Pair K V) → K → Self.Seat → Type 0 };
 
     /// Returns where `key` belongs.
     fn seat<S: Table<Pair<K, V>>, L: Table<Link>>(
@@ -39,7 +39,7 @@ pub trait KeyIndex<K: Eq + Drop, V: Drop>: PairIndex<Pair<K, V>> {
         requires { Self.PairIndex.Fits self.now pairs.now }
         ensures seat { IsSeat self.now pairs.now key.now result }
         // The equal key, if there is one, belongs there too.
-        ensures equal { IfSome (flat_entry K.eq pairs.now key.now) (λ entry.
+        ensures equal { IfSome (map_entry K.eq pairs.now key.now) (λ entry.
             IsSeat self.now pairs.now entry.1.key result) };
 
     /// Returns the place of the key that equals `key`, which belongs at `seat`, and the pair there.
@@ -53,7 +53,7 @@ pub trait KeyIndex<K: Eq + Drop, V: Drop>: PairIndex<Pair<K, V>> {
         requires distinct { HasDistinctKeys K.eq pairs.now }
         requires seat { IsSeat self.now pairs.now key.now seat }
         ensures { option_map (λ entry. (entry.0, entry.1.now)) result
-            ≡ flat_entry K.eq pairs.now key.now };
+            ≡ map_entry K.eq pairs.now key.now };
 
     /// Inserts `pair`, whose key belongs at `seat` and none of the pairs has, at the first free place. Returns `pair` as the error
     /// if no place is free.
@@ -65,8 +65,8 @@ pub trait KeyIndex<K: Eq + Drop, V: Drop>: PairIndex<Pair<K, V>> {
     ) -> Result<SlotTableKey, Pair<K, V>>
         requires fits { Self.PairIndex.Fits self.old pairs.old }
         requires seat { IsSeat self.old pairs.old pair.key seat }
-        requires absent { flat_entry K.eq pairs.old pair.key ≡ None }
-        ensures step { SlotInsert pairs.old pair pairs.new (result_ok result) }
+        requires absent { map_entry K.eq pairs.old pair.key ≡ None }
+        ensures step { SlotTableInsert pairs.old pair pairs.new (result_ok result) }
         ensures returned { IfErr result (λ refused. refused ≡ pair) }
         ensures fits { Self.PairIndex.Fits self.new pairs.new };
 
@@ -81,7 +81,7 @@ pub trait KeyIndex<K: Eq + Drop, V: Drop>: PairIndex<Pair<K, V>> {
         requires held { IsHeld pairs.old place }
         requires seat { (pair : Pair K V) → value_at pairs.old place ≡ Some pair
             → IsSeat self.old pairs.old pair.key seat }
-        ensures step { SlotRemove pairs.old place pairs.new (Some result) }
+        ensures step { SlotTableRemove pairs.old place pairs.new (Some result) }
         ensures fits { Self.PairIndex.Fits self.new pairs.new };
 
     /// Removes all pairs and drops them, in slot order.
@@ -90,7 +90,7 @@ pub trait KeyIndex<K: Eq + Drop, V: Drop>: PairIndex<Pair<K, V>> {
         pairs: &mut MetaSlotTable<Pair<K, V>, S, L>,
     )
         requires { Self.PairIndex.Fits self.old pairs.old }
-        ensures pairs { pairs.new ≡ slot_clear pairs.old }
+        ensures pairs { pairs.new ≡ slot_table_clear pairs.old }
         ensures values { pairs.new.values ≡ replicate (length pairs.old.values) None }
         ensures fits { Self.PairIndex.Fits self.new pairs.new };
 
@@ -113,7 +113,7 @@ pub trait KeyIndex<K: Eq + Drop, V: Drop>: PairIndex<Pair<K, V>> {
         requires fits { Self.PairIndex.Fits self.now pairs.now }
         requires distinct { HasDistinctKeys K.eq pairs.now }
         requires seat { IsSeat self.now pairs.now key.now seat }
-        ensures { result ≡ option_map (λ entry. entry.0) (flat_entry K.eq pairs.now key.now) }
+        ensures { result ≡ option_map (λ entry. entry.0) (map_entry K.eq pairs.now key.now) }
     {
         match self.find(pairs, seat, key) {
             Some((place, _)) => Some(place),
@@ -122,8 +122,8 @@ pub trait KeyIndex<K: Eq + Drop, V: Drop>: PairIndex<Pair<K, V>> {
     }
 
     /// An index of pairs is one of others whose keys are equal to theirs, at the same places.
-    ghost Fits_equal_keys: { (index : Self) (pairs others : SlotState (Pair K V))
-        → SlotIsClone (λ pair other. K.eq other.key pair.key ≡ true) pairs others
+    ghost Fits_equal_keys: { (index : Self) (pairs others : SlotTableState (Pair K V))
+        → SlotTableIsClone (λ pair other. K.eq other.key pair.key ≡ true) pairs others
         → Self.PairIndex.Fits index pairs → Self.PairIndex.Fits index others };
 }
 
@@ -134,14 +134,14 @@ pub trait InlineIndex<P, const CAPACITY: usize>: PairIndex<P> {
 
     /// Makes the index of no pairs. O(`CAPACITY`).
     fn new_inline(setup: Self::Setup) -> Self
-        ensures { Self.PairIndex.Fits result (slot_new CAPACITY) };
+        ensures { Self.PairIndex.Fits result (slot_table_new CAPACITY) };
 }
 
 /// An index that is stored inline and can be copied.
 pub trait CopyInline<P, const CAPACITY: usize>: PairIndex<P> {
     /// Makes an index of the same pairs. O(`CAPACITY`).
     fn copy_inline(&self) -> Self
-        ensures { (pairs : SlotState P) → Self.PairIndex.Fits self.now pairs → Self.PairIndex.Fits result pairs };
+        ensures { (pairs : SlotTableState P) → Self.PairIndex.Fits self.now pairs → Self.PairIndex.Fits result pairs };
 }
 
 /// An index whose memory is allocated from `A` when it is made.
@@ -166,7 +166,7 @@ pub trait HeapIndex<P, A: Allocator + Copy>: PairIndex<P> {
     ///
     /// Returns `AllocError` if an allocation fails; nothing stays allocated then, and `setup` is dropped.
     fn new_in(alloc: A, capacity: usize, setup: Self::Setup) -> Result<Self, AllocError>
-        ensures value { IfOk result (λ index. Self.PairIndex.Fits index (slot_new capacity)) }
+        ensures value { IfOk result (λ index. Self.PairIndex.Fits index (slot_table_new capacity)) }
         ensures memory { capacity ≡ 0 → IsOk result };
 }
 
@@ -179,8 +179,8 @@ pub trait CopyIn<P, D: Allocator + Copy>: PairIndex<P> {
     ///
     /// Returns `AllocError` if an allocation fails; nothing stays allocated then.
     fn copy_in(&self, alloc: D) -> Result<Self::Made, AllocError>
-        ensures value { IfOk result (λ made. (pairs : SlotState P)
+        ensures value { IfOk result (λ made. (pairs : SlotTableState P)
             → Self.PairIndex.Fits self.now pairs → Self.Made.PairIndex.Fits made pairs) }
-        ensures memory { (pairs : SlotState P) → Self.PairIndex.Fits self.now pairs
+        ensures memory { (pairs : SlotTableState P) → Self.PairIndex.Fits self.now pairs
             → length pairs.values ≡ 0 → IsOk result };
 }

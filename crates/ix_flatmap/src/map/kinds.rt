@@ -3,7 +3,7 @@ ghost use Rattle.std.specs.Prelude.{◌≡◌, ℕ, ◌≤◌, IfOk, IsOk};
 ghost use Rattle.std.specs.Mem.{type_size};
 ghost use Rattle.ix_tables.specs.Memory.{no_memory};
 ghost use Rattle.ix_slottable.specs.Memory.{slot_table_memory};
-ghost use Rattle.ix_slottable.specs.SlotState.{slot_new};
+ghost use Rattle.ix_slottable.specs.SlotTableState.{slot_table_new};
 
 use crate::map::{HeapIndex, InlineIndex, MetaMap, Pair};
 use ix_slottable::slottable::{FixedSizeSlotTable, Link, SlotTable};
@@ -36,14 +36,14 @@ impl<K: Eq + Drop, V: Drop, const CAPACITY: usize, I: InlineIndex<Pair<K, V>, CA
     where
         I::Setup: Default,
         requires { CAPACITY ≤ MAX_FIXED_CAPACITY }
-        ensures { result ≡ slot_new CAPACITY }
+        ensures { result ≡ slot_table_new CAPACITY }
     {
         InlineMap::inline(I::Setup::default())
     }
 
     /// Creates an empty map, whose index is made of `setup`.
     fn inline(setup: I::Setup) -> Self
-        ensures { result ≡ slot_new CAPACITY }
+        ensures { result ≡ slot_table_new CAPACITY }
     {
         MetaMap {
             pairs: FixedSizeSlotTable::default(),
@@ -66,7 +66,7 @@ where
     /// O(`CAPACITY`). `CAPACITY` is at most [`MAX_FIXED_CAPACITY`].
     pub fn with_hasher(hasher: I::Setup) -> Self
         requires { CAPACITY ≤ MAX_FIXED_CAPACITY }
-        ensures { result ≡ slot_new CAPACITY }
+        ensures { result ≡ slot_table_new CAPACITY }
     {
         InlineMap::inline(hasher)
     }
@@ -78,7 +78,7 @@ impl<K: Eq + Drop, V: Drop, const CAPACITY: usize, I: InlineIndex<Pair<K, V>, CA
 where
     I::Setup: Default,
 {
-    ghost is_default = { λ map. map ≡ slot_new CAPACITY };
+    ghost is_default = { λ map. map ≡ slot_table_new CAPACITY };
 
     fn default() -> Self {
         InlineMap::inline(I::Setup::default())
@@ -111,7 +111,7 @@ impl<K: Eq + Drop, V: Drop, A: Allocator + Copy, I: HeapIndex<Pair<K, V>, A>> He
     pub fn new(alloc: A, capacity: usize) -> Result<Self, AllocError>
     where
         I::Setup: Default + Drop,
-        ensures value { IfOk result (λ map. map ≡ slot_new capacity) }
+        ensures value { IfOk result (λ map. map ≡ slot_table_new capacity) }
         ensures memory { capacity ≡ 0 → IsOk result }
     {
         HeapMap::made_of(alloc, capacity, I::Setup::default())
@@ -121,7 +121,7 @@ impl<K: Eq + Drop, V: Drop, A: Allocator + Copy, I: HeapIndex<Pair<K, V>, A>> He
     fn made_of(alloc: A, capacity: usize, setup: I::Setup) -> Result<Self, AllocError>
     where
         I::Setup: Drop,
-        ensures value { IfOk result (λ map. map ≡ slot_new capacity) }
+        ensures value { IfOk result (λ map. map ≡ slot_table_new capacity) }
         ensures memory { capacity ≡ 0 → IsOk result }
     {
         let pairs = SlotTable::new(alloc, capacity)?;
@@ -148,7 +148,7 @@ where
     /// O(`capacity`), with at most six allocations. Returns `AllocError` if one fails, and if the pairs would take more
     /// than `isize::MAX` bytes; nothing stays allocated then, and `hasher` is dropped. A capacity of 0 needs no memory.
     pub fn with_hasher(alloc: A, capacity: usize, hasher: I::Setup) -> Result<Self, AllocError>
-        ensures value { IfOk result (λ map. map ≡ slot_new capacity) }
+        ensures value { IfOk result (λ map. map ≡ slot_table_new capacity) }
         ensures memory { capacity ≡ 0 → IsOk result }
     {
         HeapMap::made_of(alloc, capacity, hasher)

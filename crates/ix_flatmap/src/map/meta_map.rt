@@ -4,13 +4,13 @@ ghost use Rattle.std.specs.Borrow.{sem, Lends, LendsIf};
 ghost use Rattle.std.specs.Option.{option_copied_mut};
 ghost use Rattle.std.specs.Map.{keys_of, lookup};
 ghost use Rattle.ix_tables.specs.Cloning.{AreEqualClones};
-ghost use Rattle.ix_slottable.specs.SlotState.{IsWellFormed, IsHeld, value_at, held_count};
-ghost use Rattle.ix_slottable.specs.SlotSteps.{slot_clear};
-ghost use Rattle.ix_flatmap.specs.FlatState.{HasDistinctKeys, flat_entry, flat_value, flat_keys, flat_values, flat_item, flat_items};
-ghost use Rattle.ix_flatmap.specs.FlatSteps.{flat_insert_result, flat_insert, pair_set, flat_set, flat_remove, ListsUntilStop};
+ghost use Rattle.ix_slottable.specs.SlotTableState.{IsWellFormed, IsHeld, value_at, held_count};
+ghost use Rattle.ix_slottable.specs.SlotTableSteps.{slot_table_clear};
+ghost use Rattle.ix_flatmap.specs.MapState.{HasDistinctKeys, map_entry, map_value, map_keys, map_values, map_item, map_items};
+ghost use Rattle.ix_flatmap.specs.MapSteps.{map_insert_result, map_insert, pair_set, map_set, map_remove, ListsUntilStop};
 
 use crate::map::{
-    CallbackProgression, FlatMapError, Iter, KeyIndex, Keyed, Keys, Pair, PairIndex, Values,
+    CallbackProgression, Iter, KeyIndex, Keyed, Keys, MapError, Pair, PairIndex, Values,
 };
 use ix_slottable::slottable::{Link, MetaSlotTable, SlotTableKey};
 use ix_tables::Table;
@@ -36,12 +36,12 @@ pub struct MetaMap<P: Keyed, S: Table<P>, L: Table<Link>, I: PairIndex<P>> {
 }
 
 impl<P: Keyed, S: Table<P>, L: Table<Link>, I: PairIndex<P>> Model for MetaMap<P, S, L, I> {
-    ghost use Rattle.ix_slottable.specs.SlotState.{SlotState, slot_state_code};
-    ghost use Rattle.ix_flatmap.specs.FlatState.{AreDistinctBy};
+    ghost use Rattle.ix_slottable.specs.SlotTableState.{SlotTableState, slot_table_state_code};
+    ghost use Rattle.ix_flatmap.specs.MapState.{AreDistinctBy};
 
-    ghost Value = { SlotState P };
+    ghost Value = { SlotTableState P };
 
-    ghost coded = { slot_state_code P.code };
+    ghost coded = { slot_table_state_code P.code };
 
     ghost view = { λ map. map.pairs };
 
@@ -59,15 +59,15 @@ impl<K: Eq + Drop, V: Drop, S: Table<Pair<K, V>>, L: Table<Link>, I: KeyIndex<K,
 
     /// Inserts `key` with `value`.
     ///
-    /// Returns [`FlatMapError::KeyAlreadyExists`] if the map has an equal key, and otherwise [`FlatMapError::IsFull`] if
+    /// Returns [`MapError::KeyAlreadyExists`] if the map has an equal key, and otherwise [`MapError::IsFull`] if
     /// it is full. `key` and `value` are dropped then.
-    pub fn insert(&mut self, key: K, value: V) -> Result<(), FlatMapError>
-        ensures value { result ≡ flat_insert_result K.eq self.old key }
-        ensures map { self.new ≡ flat_insert K.eq self.old key value }
-        ensures holds { IsOk result → flat_value K.eq self.new key ≡ Some value }
+    pub fn insert(&mut self, key: K, value: V) -> Result<(), MapError>
+        ensures value { result ≡ map_insert_result K.eq self.old key }
+        ensures map { self.new ≡ map_insert K.eq self.old key value }
+        ensures holds { IsOk result → map_value K.eq self.new key ≡ Some value }
         ensures refused { OnErr result (self.new ≡ self.old) }
         ensures kept { (other : K) → K.eq other key ≡ false
-            → flat_value K.eq self.new other ≡ flat_value K.eq self.old other }
+            → map_value K.eq self.new other ≡ map_value K.eq self.old other }
         ensures distinct { HasDistinctKeys K.eq self.new }
     {
         match self.try_insert(key, value) {
@@ -84,8 +84,8 @@ impl<K: Eq + Drop, V: Drop, S: Table<Pair<K, V>>, L: Table<Link>, I: KeyIndex<K,
     where
         V: Clone,
         requires clones { AreEqualClones V.is_clone }
-        ensures value { IfOk result (λ value. value ≡ flat_value K.eq self.now key.now) }
-        ensures memory { IfSome (flat_value K.eq self.now key.now) V.is_infallible → IsOk result }
+        ensures value { IfOk result (λ value. value ≡ map_value K.eq self.now key.now) }
+        ensures memory { IfSome (map_value K.eq self.now key.now) V.is_infallible → IsOk result }
     {
         match self.get_ref(key) {
             Some(value) => Ok(Some(value.clone()?)),
@@ -96,7 +96,7 @@ impl<K: Eq + Drop, V: Drop, S: Table<Pair<K, V>>, L: Table<Link>, I: KeyIndex<K,
     /// Returns a reference to the value of `key`, or `None` if the map has no equal key.
     #[inline]
     pub fn get_ref(&self, key: &K) -> Option<&V>
-        ensures value { option_copied result ≡ flat_value K.eq self.now key.now }
+        ensures value { option_copied result ≡ map_value K.eq self.now key.now }
         // The key's value is that of the one pair whose key equals it.
         ensures found { (place : ℕ) (pair : Pair K V) → value_at self.now place ≡ Some pair
             → K.eq pair.key key.now ≡ true → option_copied result ≡ Some pair.value }
@@ -113,7 +113,7 @@ impl<K: Eq + Drop, V: Drop, S: Table<Pair<K, V>>, L: Table<Link>, I: KeyIndex<K,
     #[inline]
     pub fn get_key_value(&self, key: &K) -> Option<(&K, &V)>
         ensures { option_map (λ item. (item.0.now, item.1.now)) result
-            ≡ option_map (λ entry. flat_item entry) (flat_entry K.eq self.now key.now) }
+            ≡ option_map (λ entry. map_item entry) (map_entry K.eq self.now key.now) }
     {
         match self.find(key) {
             Some((_, pair)) => Some((&pair.key, &pair.value)),
@@ -126,14 +126,14 @@ impl<K: Eq + Drop, V: Drop, S: Table<Pair<K, V>>, L: Table<Link>, I: KeyIndex<K,
     pub fn get_mut_ref(&mut self, key: &K) -> Option<&mut V>
         ensures* writes_back { sem 𝓛
             (LendsIf (the_row (pair.the_row K.row V.row) S.row L.row I.row ⟦<Pair<K, V> as Keyed>⟧ S.Table L.Table I.PairIndex)
-            V.row self.entry result (flat_set K.eq self.old key.now) self.old) }
-        ensures value { option_copied_mut result ≡ flat_value K.eq self.old key.now }
+            V.row self.entry result (map_set K.eq self.old key.now) self.old) }
+        ensures value { option_copied_mut result ≡ map_value K.eq self.old key.now }
         // Whatever value is written, the key has it, and any other key keeps its own.
-        ensures holds { (written : V) → IsSome (flat_value K.eq self.old key.now)
-            → flat_value K.eq (flat_set K.eq self.old key.now written) key.now ≡ Some written }
+        ensures holds { (written : V) → IsSome (map_value K.eq self.old key.now)
+            → map_value K.eq (map_set K.eq self.old key.now written) key.now ≡ Some written }
         ensures kept { (written : V) (other : K) → K.eq other key.now ≡ false
-            → flat_value K.eq (flat_set K.eq self.old key.now written) other
-            ≡ flat_value K.eq self.old other }
+            → map_value K.eq (map_set K.eq self.old key.now written) other
+            ≡ map_value K.eq self.old other }
     {
         let seat = self.index.seat(&self.pairs, key);
         match self.index.place(&self.pairs, seat, key) {
@@ -144,12 +144,12 @@ impl<K: Eq + Drop, V: Drop, S: Table<Pair<K, V>>, L: Table<Link>, I: KeyIndex<K,
 
     /// Removes `key` and returns its value, or `None` if the map has no equal key. The next new key takes its place.
     pub fn remove(&mut self, key: &K) -> Option<V>
-        ensures value { result ≡ flat_value K.eq self.old key.now }
-        ensures map { self.new ≡ flat_remove K.eq self.old key.now }
-        ensures gone { flat_value K.eq self.new key.now ≡ None }
+        ensures value { result ≡ map_value K.eq self.old key.now }
+        ensures map { self.new ≡ map_remove K.eq self.old key.now }
+        ensures gone { map_value K.eq self.new key.now ≡ None }
         ensures refused { IsNone result → self.new ≡ self.old }
         ensures kept { (other : K) → K.eq other key.now ≡ false
-            → flat_value K.eq self.new other ≡ flat_value K.eq self.old other }
+            → map_value K.eq self.new other ≡ map_value K.eq self.old other }
         ensures distinct { HasDistinctKeys K.eq self.new }
     {
         let (_, value) = self.remove_entry(key)?;
@@ -159,12 +159,12 @@ impl<K: Eq + Drop, V: Drop, S: Table<Pair<K, V>>, L: Table<Link>, I: KeyIndex<K,
     /// Removes `key` and returns the equal key of the map with its value, or `None` if the map has none. The next new key takes
     /// its place.
     pub fn remove_entry(&mut self, key: &K) -> Option<(K, V)>
-        ensures value { result ≡ option_map (λ entry. flat_item entry) (flat_entry K.eq self.old key.now) }
-        ensures map { self.new ≡ flat_remove K.eq self.old key.now }
-        ensures gone { flat_value K.eq self.new key.now ≡ None }
+        ensures value { result ≡ option_map (λ entry. map_item entry) (map_entry K.eq self.old key.now) }
+        ensures map { self.new ≡ map_remove K.eq self.old key.now }
+        ensures gone { map_value K.eq self.new key.now ≡ None }
         ensures refused { IsNone result → self.new ≡ self.old }
         ensures kept { (other : K) → K.eq other key.now ≡ false
-            → flat_value K.eq self.new other ≡ flat_value K.eq self.old other }
+            → map_value K.eq self.new other ≡ map_value K.eq self.old other }
         ensures distinct { HasDistinctKeys K.eq self.new }
     {
         let seat = self.index.seat(&self.pairs, key);
@@ -178,7 +178,7 @@ impl<K: Eq + Drop, V: Drop, S: Table<Pair<K, V>>, L: Table<Link>, I: KeyIndex<K,
     /// The free places are in the order that [`MetaMap::remove`] of each key in slot order leaves, so that the next new key
     /// takes the place of the last one.
     pub fn clear(&mut self)
-        ensures map { self.new ≡ slot_clear self.old }
+        ensures map { self.new ≡ slot_table_clear self.old }
         ensures values { self.new.values ≡ replicate (length self.old.values) None }
     {
         self.index.clear(&mut self.pairs);
@@ -212,7 +212,7 @@ impl<K: Eq + Drop, V: Drop, S: Table<Pair<K, V>>, L: Table<Link>, I: KeyIndex<K,
     /// Returns `true` if the map has an equal key.
     #[inline]
     pub fn contains(&self, key: &K) -> bool
-        ensures { IsTrue result ↔ IsSome (flat_value K.eq self.now key.now) }
+        ensures { IsTrue result ↔ IsSome (map_value K.eq self.now key.now) }
     {
         self.find(key).is_some()
     }
@@ -232,7 +232,7 @@ impl<K: Eq + Drop, V: Drop, S: Table<Pair<K, V>>, L: Table<Link>, I: KeyIndex<K,
     /// Calls `callback` with each key in slot order, until it returns [`CallbackProgression::Stop`].
     pub fn list_keys<F: FnMut(&K) -> CallbackProgression>(&self, mut callback: F)
         requires { F.IsAlwaysCallable callback }
-        ensures { (last : F) × ListsUntilStop F.FnMut callback (flat_keys self.now) last }
+        ensures { (last : F) × ListsUntilStop F.FnMut callback (map_keys self.now) last }
     {
         self.list_with(&mut callback);
     }
@@ -240,7 +240,7 @@ impl<K: Eq + Drop, V: Drop, S: Table<Pair<K, V>>, L: Table<Link>, I: KeyIndex<K,
     /// Returns an iterator over the keys in slot order. O(1), and O(capacity) for all of its items together.
     #[inline]
     pub fn keys(&self) -> Keys<'_, K, V, S, L>
-        ensures { result ≡ flat_keys self.now }
+        ensures { result ≡ map_keys self.now }
     {
         Keys::new(self.pairs.iter())
     }
@@ -248,7 +248,7 @@ impl<K: Eq + Drop, V: Drop, S: Table<Pair<K, V>>, L: Table<Link>, I: KeyIndex<K,
     /// Returns an iterator over the values in slot order of their keys. O(1), and O(capacity) for all of its items together.
     #[inline]
     pub fn values(&self) -> Values<'_, K, V, S, L>
-        ensures { result ≡ flat_values self.now }
+        ensures { result ≡ map_values self.now }
     {
         Values::new(self.pairs.iter())
     }
@@ -257,18 +257,18 @@ impl<K: Eq + Drop, V: Drop, S: Table<Pair<K, V>>, L: Table<Link>, I: KeyIndex<K,
     /// together.
     #[inline]
     pub fn iter(&self) -> Iter<'_, K, V, S, L>
-        ensures items { result ≡ flat_items self.now }
-        ensures keys { keys_of result ≡ flat_keys self.now }
+        ensures items { result ≡ map_items self.now }
+        ensures keys { keys_of result ≡ map_keys self.now }
         // A key comes with its value exactly if the map has an equal one.
         ensures exactly { (key : K)
-            → lookup (λ other. K.eq other key) result ≡ flat_value K.eq self.now key }
+            → lookup (λ other. K.eq other key) result ≡ map_value K.eq self.now key }
     {
         Iter::new(self.pairs.iter())
     }
 
     /// Returns the key that [`MetaMap::list_keys`] lists after `n` others, or `None` if there are at most `n` keys.
     pub fn nth_key(&self, n: usize) -> Option<&K>
-        ensures { option_copied result ≡ slice_get (flat_keys self.now) n }
+        ensures { option_copied result ≡ slice_get (map_keys self.now) n }
     {
         self.keys().nth(n)
     }
@@ -277,7 +277,7 @@ impl<K: Eq + Drop, V: Drop, S: Table<Pair<K, V>>, L: Table<Link>, I: KeyIndex<K,
     #[inline]
     fn list_with<F: FnMut(&K) -> CallbackProgression>(&self, callback: &mut F)
         requires { F.IsAlwaysCallable callback.old }
-        ensures { ListsUntilStop F.FnMut callback.old (flat_keys self.now) callback.new }
+        ensures { ListsUntilStop F.FnMut callback.old (map_keys self.now) callback.new }
     {
         for key in self.keys() {
             match callback(key) {
@@ -291,7 +291,7 @@ impl<K: Eq + Drop, V: Drop, S: Table<Pair<K, V>>, L: Table<Link>, I: KeyIndex<K,
     #[inline(always)]
     fn find(&self, key: &K) -> Option<(SlotTableKey, &Pair<K, V>)>
         ensures value { option_map (λ entry. (entry.0, entry.1.now)) result
-            ≡ flat_entry K.eq self.now key.now }
+            ≡ map_entry K.eq self.now key.now }
         ensures distinct { HasDistinctKeys K.eq self.now }
     {
         let seat = self.index.seat(&self.pairs, key);

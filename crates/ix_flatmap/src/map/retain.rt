@@ -2,12 +2,12 @@
 ghost use Rattle.std.specs.Prelude.{◌≡◌, ◌↔◌, ◌+◌, ◌<◌, ◌≤◌, length, drop, IsTrue, IsSome, Some};
 ghost use Rattle.std.specs.Borrow.{MutBor};
 ghost use Rattle.std.specs.List.{FoldsTo};
-ghost use Rattle.ix_slottable.specs.SlotState.{value_at, IsHeld, entries_from};
-ghost use Rattle.ix_slottable.specs.SlotSteps.{slot_set, SlotRemove};
-ghost use Rattle.ix_slottable.specs.SlotCalls.{CalledOn, IsCallableOnEach, ChangesItem, RetainsItem};
-ghost use Rattle.ix_flatmap.specs.FlatState.{HasDistinctKeys, flat_value, flat_keys, flat_items, IsBound};
-ghost use Rattle.ix_flatmap.specs.FlatSteps.{flat_set, flat_remove};
-ghost use Rattle.ix_flatmap.specs.FlatCalls.{CallAtKey, TakesKey};
+ghost use Rattle.ix_slottable.specs.SlotTableState.{value_at, IsHeld, entries_from};
+ghost use Rattle.ix_slottable.specs.SlotTableSteps.{slot_table_set, SlotTableRemove};
+ghost use Rattle.ix_slottable.specs.SlotTableCalls.{CalledOn, IsCallableOnEach, ChangesItem, RetainsItem};
+ghost use Rattle.ix_flatmap.specs.MapState.{HasDistinctKeys, map_value, map_keys, map_items, IsBound};
+ghost use Rattle.ix_flatmap.specs.MapSteps.{map_set, map_remove};
+ghost use Rattle.ix_flatmap.specs.MapCalls.{CallAtKey, TakesKey};
 ghost use Rattle.ix_flatmap.specs.declared.map.pair.Pair.{Pair};
 
 use crate::map::{KeyIndex, MetaMap, Pair};
@@ -22,10 +22,10 @@ impl<K: Eq + Drop, V: Drop, S: Table<Pair<K, V>>, L: Table<Link>, I: KeyIndex<K,
 > {
     /// Calls `f` with each key in slot order and a mutable reference to its value. O(capacity), with one call for each key.
     pub fn for_each_mut<F: FnMut(&K, &mut V)>(&mut self, mut f: F)
-        requires { IsCallableOnEach (CallAtKey F.step) (TakesKey F.pre) f (flat_items self.old) }
-        ensures calls { (last : F) × FoldsTo (ChangesItem (flat_set K.eq) (CallAtKey F.step))
-            (f, self.old) (flat_items self.old) (last, self.new) }
-        ensures keys { flat_keys self.new ≡ flat_keys self.old }
+        requires { IsCallableOnEach (CallAtKey F.step) (TakesKey F.pre) f (map_items self.old) }
+        ensures calls { (last : F) × FoldsTo (ChangesItem (map_set K.eq) (CallAtKey F.step))
+            (f, self.old) (map_items self.old) (last, self.new) }
+        ensures keys { map_keys self.new ≡ map_keys self.old }
         ensures free { self.new.free ≡ self.old.free }
         ensures distinct { HasDistinctKeys K.eq self.new }
         ensures capacity { length self.new.values ≡ length self.old.values }
@@ -43,12 +43,12 @@ impl<K: Eq + Drop, V: Drop, S: Table<Pair<K, V>>, L: Table<Link>, I: KeyIndex<K,
     /// `false`, as [`MetaMap::remove`] does, and drops the key and its value, right after the call. O(capacity), with one
     /// call for each key.
     pub fn retain<F: FnMut(&K, &mut V) -> bool>(&mut self, mut f: F)
-        requires { IsCallableOnEach (CallAtKey F.step) (TakesKey F.pre) f (flat_items self.old) }
-        ensures calls { (last : F) × FoldsTo (RetainsItem (flat_set K.eq) (flat_remove K.eq) (CallAtKey F.step))
-            (f, self.old) (flat_items self.old) (last, self.new) }
+        requires { IsCallableOnEach (CallAtKey F.step) (TakesKey F.pre) f (map_items self.old) }
+        ensures calls { (last : F) × FoldsTo (RetainsItem (map_set K.eq) (map_remove K.eq) (CallAtKey F.step))
+            (f, self.old) (map_items self.old) (last, self.new) }
         // A key that the map has was there before.
-        ensures keys { (key : K) → IsSome (flat_value K.eq self.new key)
-            → IsSome (flat_value K.eq self.old key) }
+        ensures keys { (key : K) → IsSome (map_value K.eq self.new key)
+            → IsSome (map_value K.eq self.old key) }
         ensures distinct { HasDistinctKeys K.eq self.new }
         ensures capacity { length self.new.values ≡ length self.old.values }
     {
@@ -102,7 +102,7 @@ impl<K: Eq + Drop, V: Drop, S: Table<Pair<K, V>>, L: Table<Link>, I: KeyIndex<K,
             → shown.now ≡ pair.value → TakesKey F.pre f.old pair.key shown }
         ensures called { (pair : Pair K V) → value_at self.old place ≡ Some pair
             → (left : V) × CalledOn (CallAtKey F.step) f.old pair.key pair.value result left f.new
-            × (self.new ≡ slot_set self.old place (record pair { value = left })) }
+            × (self.new ≡ slot_table_set self.old place (record pair { value = left })) }
         ensures distinct { HasDistinctKeys K.eq self.new }
     {
         let pair = self.pairs.get_unchecked_mut(place);
@@ -113,7 +113,7 @@ impl<K: Eq + Drop, V: Drop, S: Table<Pair<K, V>>, L: Table<Link>, I: KeyIndex<K,
     #[inline]
     pub(crate) fn remove_at(&mut self, place: SlotTableKey) -> Pair<K, V>
         requires { IsHeld self.old place }
-        ensures step { SlotRemove self.old place self.new (Some result) }
+        ensures step { SlotTableRemove self.old place self.new (Some result) }
         ensures distinct { HasDistinctKeys K.eq self.new }
     {
         let pair = self.pairs.get_unchecked(place);

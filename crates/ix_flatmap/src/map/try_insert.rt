@@ -3,10 +3,10 @@ ghost use Rattle.std.specs.Prelude.{◌≡◌, ◌≢◌, ◌↔◌, [], Some, N
 ghost use Rattle.std.specs.Borrow.{sem, LendsIfOk};
 ghost use Rattle.std.specs.Option.{UnwrapsOrElse};
 ghost use Rattle.std.specs.Result.{IfErr};
-ghost use Rattle.ix_flatmap.specs.FlatState.{HasDistinctKeys, flat_value};
-ghost use Rattle.ix_flatmap.specs.FlatSteps.{flat_insert_result, flat_insert, flat_replace};
+ghost use Rattle.ix_flatmap.specs.MapState.{HasDistinctKeys, map_value};
+ghost use Rattle.ix_flatmap.specs.MapSteps.{map_insert_result, map_insert, map_replace};
 
-use crate::map::{FlatMapError, KeyIndex, Keyed, MetaMap, Pair};
+use crate::map::{KeyIndex, Keyed, MapError, MetaMap, Pair};
 use ix_slottable::slottable::Link;
 use ix_tables::Table;
 use std::mem;
@@ -22,31 +22,31 @@ impl<K: Eq + Drop, V: Drop, S: Table<Pair<K, V>>, L: Table<Link>, I: KeyIndex<K,
 
     /// Inserts `key` with `value`. What is refused is handed back.
     ///
-    /// Returns [`FlatMapError::KeyAlreadyExists`] if the map has an equal key, and otherwise [`FlatMapError::IsFull`] if
+    /// Returns [`MapError::KeyAlreadyExists`] if the map has an equal key, and otherwise [`MapError::IsFull`] if
     /// it is full, with `key` and `value`.
     #[inline]
-    pub fn try_insert(&mut self, key: K, value: V) -> Result<(), (FlatMapError, K, V)>
-        ensures inserted { IsOk result ↔ IsOk (flat_insert_result K.eq self.old key) }
+    pub fn try_insert(&mut self, key: K, value: V) -> Result<(), (MapError, K, V)>
+        ensures inserted { IsOk result ↔ IsOk (map_insert_result K.eq self.old key) }
         ensures error { IfErr result (λ refused.
-            IfErr (flat_insert_result K.eq self.old key) (λ error. refused.0 ≡ error)) }
+            IfErr (map_insert_result K.eq self.old key) (λ error. refused.0 ≡ error)) }
         ensures returned { IfErr result (λ refused. (refused.1 ≡ key) × (refused.2 ≡ value)) }
-        ensures map { self.new ≡ flat_insert K.eq self.old key value }
-        ensures holds { IsOk result → flat_value K.eq self.new key ≡ Some value }
+        ensures map { self.new ≡ map_insert K.eq self.old key value }
+        ensures holds { IsOk result → map_value K.eq self.new key ≡ Some value }
         ensures refused { OnErr result (self.new ≡ self.old) }
         ensures kept { (other : K) → K.eq other key ≡ false
-            → flat_value K.eq self.new other ≡ flat_value K.eq self.old other }
+            → map_value K.eq self.new other ≡ map_value K.eq self.old other }
         ensures distinct { HasDistinctKeys K.eq self.new }
     {
         let seat = self.index.seat(&self.pairs, &key);
         if self.index.place(&self.pairs, seat, &key).is_some() {
-            return Err((FlatMapError::KeyAlreadyExists, key, value));
+            return Err((MapError::KeyAlreadyExists, key, value));
         }
         match self
             .index
             .insert(&mut self.pairs, seat, Pair { key, value })
         {
             Ok(_) => Ok(()),
-            Err(pair) => Err((FlatMapError::IsFull, pair.key, pair.value)),
+            Err(pair) => Err((MapError::IsFull, pair.key, pair.value)),
         }
     }
 
@@ -55,14 +55,14 @@ impl<K: Eq + Drop, V: Drop, S: Table<Pair<K, V>>, L: Table<Link>, I: KeyIndex<K,
     ///
     /// Returns `key` and `value` as the error if the map is full and has no equal key.
     pub fn replace(&mut self, key: K, value: V) -> Result<Option<V>, (K, V)>
-        ensures value { IfOk result (λ old. old ≡ flat_value K.eq self.old key) }
-        ensures full { IsErr result ↔ ((flat_value K.eq self.old key ≡ None) × (self.old.free ≡ [])) }
+        ensures value { IfOk result (λ old. old ≡ map_value K.eq self.old key) }
+        ensures full { IsErr result ↔ ((map_value K.eq self.old key ≡ None) × (self.old.free ≡ [])) }
         ensures returned { IfErr result (λ refused. refused ≡ (key, value)) }
-        ensures map { self.new ≡ flat_replace K.eq self.old key value }
-        ensures holds { IsOk result → flat_value K.eq self.new key ≡ Some value }
+        ensures map { self.new ≡ map_replace K.eq self.old key value }
+        ensures holds { IsOk result → map_value K.eq self.new key ≡ Some value }
         ensures refused { OnErr result (self.new ≡ self.old) }
         ensures kept { (other : K) → K.eq other key ≡ false
-            → flat_value K.eq self.new other ≡ flat_value K.eq self.old other }
+            → map_value K.eq self.new other ≡ map_value K.eq self.old other }
     {
         let seat = self.index.seat(&self.pairs, &key);
         if let Some(place) = self.index.place(&self.pairs, seat, &key) {
@@ -82,19 +82,19 @@ impl<K: Eq + Drop, V: Drop, S: Table<Pair<K, V>>, L: Table<Link>, I: KeyIndex<K,
     ///
     /// Returns `key` as the error if the map is full and has no equal key. `f` is not called then.
     pub fn get_or_insert_with<F: FnOnce() -> V>(&mut self, key: K, f: F) -> Result<&mut V, K>
-        requires { flat_value K.eq self.old key ≡ None → self.old.free ≢ [] → F.pre f }
+        requires { map_value K.eq self.old key ≡ None → self.old.free ≢ [] → F.pre f }
         ensures* writes_back { sem 𝓛
             (LendsIfOk (the_row (pair.the_row K.row V.row) S.row L.row I.row ⟦<Pair<K, V> as Keyed>⟧ S.Table L.Table I.PairIndex)
-            V.row self.entry result (flat_replace K.eq self.old key) self.old) }
-        ensures value { IfOk result (λ value. UnwrapsOrElse (flat_value K.eq self.old key) (F.post f) value.now) }
-        ensures full { IsErr result ↔ ((flat_value K.eq self.old key ≡ None) × (self.old.free ≡ [])) }
+            V.row self.entry result (map_replace K.eq self.old key) self.old) }
+        ensures value { IfOk result (λ value. UnwrapsOrElse (map_value K.eq self.old key) (F.post f) value.now) }
+        ensures full { IsErr result ↔ ((map_value K.eq self.old key ≡ None) × (self.old.free ≡ [])) }
         ensures returned { IfErr result (λ refused. refused ≡ key) }
         // Whatever value is written, the key has it, and any other key keeps its own.
         ensures holds { (written : V) → IsOk result
-            → flat_value K.eq (flat_replace K.eq self.old key written) key ≡ Some written }
+            → map_value K.eq (map_replace K.eq self.old key written) key ≡ Some written }
         ensures kept { (written : V) (other : K) → K.eq other key ≡ false
-            → flat_value K.eq (flat_replace K.eq self.old key written) other
-            ≡ flat_value K.eq self.old other }
+            → map_value K.eq (map_replace K.eq self.old key written) other
+            ≡ map_value K.eq self.old other }
     {
         let seat = self.index.seat(&self.pairs, &key);
         if let Some(place) = self.index.place(&self.pairs, seat, &key) {

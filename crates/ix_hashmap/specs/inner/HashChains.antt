@@ -2,7 +2,7 @@
 -- this.
 use Rattle.std.specs.Prelude.{◌≡◌, ◌≢◌, ◌↔◌, ℕ, zero, suc, ◌*◌, ◌/◌, ◌%◌, ◌^◌, ◌<◌, ◌≤◌, List, [], ◌∷◌, ◌++◌, length, nat_eq, nat_lt, count_by, if◌then◌else◌, Option, Some, option_map, slice_index_or, slice_set, Bool, true}
 use Rattle.std.specs.List.{fold}
-use Rattle.ix_slottable.specs.SlotState.{SlotState, value_at, IsHeld}
+use Rattle.ix_slottable.specs.SlotTableState.{SlotTableState, value_at, IsHeld}
 use Rattle.ix_flatmap.specs.inner.FlatSearch.{is_key_at}
 use Rattle.ix_slottable.specs.inner.FullTables.{items_in}
 use Rattle.ix_hashmap.specs.declared.hashmap.chain_link.ChainLink.{ChainLink}
@@ -118,7 +118,7 @@ pub record IsUnlinked (links : List ChainLink) (bucket place : ℕ) (new : List 
   pub heads : (other : ℕ) → other ≢ bucket → head_at new other ≡ head_at links other
   pub nexts : (other : ℕ) → count_by (nat_eq other) (chain_at links bucket) ≡ 0 → next_at new other ≡ next_at links other
 
-module _ {T : Type 0} (hash : T → ℕ) (s : SlotState T) (links : List ChainLink) where
+module _ {T : Type 0} (hash : T → ℕ) (s : SlotTableState T) (links : List ChainLink) where
   -- the chain of a bucket has exactly the places of its values
   pub record HasChain (bucket : ℕ) : Type 0 where
     pub chain : IsChainFrom links (head_at links bucket)
@@ -137,7 +137,7 @@ pub record IsBucket (hash : ℕ) (links : List ChainLink) (number first : ℕ) :
   pub starts : first ≡ head_at links number
 
 -- on the chain that begins at `first` each place has a pair, and if a place has the key, it is there
-pub record LeadsToKey {K V : Type 0} (eq : K → K → Bool) (s : SlotState (Pair K V)) (links : List ChainLink) (key : K) (first : ℕ) : Type 0 where
+pub record LeadsToKey {K V : Type 0} (eq : K → K → Bool) (s : SlotTableState (Pair K V)) (links : List ChainLink) (key : K) (first : ℕ) : Type 0 where
   pub chain : IsChainFrom links first
   pub held : (place : ℕ) → IsOnChain links first place → IsHeld s place
   pub has : (place : ℕ) → is_key_at eq s key place ≡ true → IsOnChain links first place

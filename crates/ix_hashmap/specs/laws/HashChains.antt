@@ -1,14 +1,14 @@
 -- The chains of pairs are those of others with equal keys at the same places.
 use Rattle.std.specs.Prelude.{◌≡◌, ℕ, List, length, Option, Some, None, option_map, refl}
 use Rattle.std.proofs.Common.{sym, ap, ◌∙◌}
-use Rattle.ix_slottable.specs.SlotState.{SlotState, value_at}
-use Rattle.ix_slottable.specs.SlotCopies.{IsCloneAt, SlotIsClone}
+use Rattle.ix_slottable.specs.SlotTableState.{SlotTableState, value_at}
+use Rattle.ix_slottable.specs.SlotTableCopies.{IsCloneAt, SlotTableIsClone}
 use Rattle.ix_hashmap.specs.declared.hashmap.chain_link.ChainLink.{ChainLink}
 use Rattle.ix_hashmap.specs.inner.HashChains.{bucket_of, IsHashed}
 
 module _ {T : Type 0} (hash : T → ℕ) where
   -- values with the buckets of others at their places have the chains of those
-  pub IsHashed-same : (s t : SlotState T) (links : List ChainLink) → length t.values ≡ length s.values
+  pub IsHashed-same : (s t : SlotTableState T) (links : List ChainLink) → length t.values ≡ length s.values
       → ((place : ℕ) → option_map (λ value. bucket_of (hash value) (length links)) (value_at t place) ≡ option_map (λ value. bucket_of (hash value) (length links)) (value_at s place))
       → IsHashed hash s links → IsHashed hash t links
   IsHashed-same s t links as_many same hashed = record {
@@ -24,7 +24,7 @@ module _ {T : Type 0} (hash : T → ℕ) where
   }
 
   -- clones with the hashes of their values have the chains of those
-  pub IsHashed-clone : (is_clone : T → T → Type 0) (s copy : SlotState T) (links : List ChainLink) → ((x y : T) → is_clone x y → hash y ≡ hash x) → SlotIsClone is_clone s copy → IsHashed hash s links → IsHashed hash copy links
+  pub IsHashed-clone : (is_clone : T → T → Type 0) (s copy : SlotTableState T) (links : List ChainLink) → ((x y : T) → is_clone x y → hash y ≡ hash x) → SlotTableIsClone is_clone s copy → IsHashed hash s links → IsHashed hash copy links
   IsHashed-clone is_clone s copy links alike is hashed =
       IsHashed-same s copy links is.capacity (λ place. same (value_at s place) (value_at copy place) (is.values place)) hashed
     where

@@ -4,7 +4,7 @@ ghost use Rattle.std.proofs.Common.{ap};
 ghost use Rattle.std.specs.Mem.{type_size};
 ghost use Rattle.ix_tables.specs.Memory.{memory_plus, table_memory};
 ghost use Rattle.std.specs.Result.{IfErr, result_ok};
-ghost use Rattle.ix_slottable.specs.SlotSteps.{SlotInsert};
+ghost use Rattle.ix_slottable.specs.SlotTableSteps.{SlotTableInsert};
 ghost use Rattle.ix_hashmap.specs.inner.HashChains.{hash_of, IsHashed, IsBucket};
 ghost use Rattle.ix_hashmap.specs.laws.HashChains.{IsHashed-clone};
 
@@ -90,7 +90,7 @@ impl<K: Eq + Hash + Drop, V: Drop, C: Table<ChainLink>, B: BuildHasher> KeyIndex
     ) -> Result<SlotTableKey, Pair<K, V>>
         requires fits { ⟦<Buckets<C, B> as PairIndex<Pair<K, V>>>⟧.Fits self.old pairs.old }
         requires seat { ⟦<Buckets<C, B> as KeyIndex<K, V>>⟧.IsSeat self.old pairs.old pair.key seat }
-        ensures step { SlotInsert pairs.old pair pairs.new (result_ok result) }
+        ensures step { SlotTableInsert pairs.old pair pairs.new (result_ok result) }
         ensures returned { IfErr result (λ refused. refused ≡ pair) }
         ensures fits { ⟦<Buckets<C, B> as PairIndex<Pair<K, V>>>⟧.Fits self.new pairs.new }
     {

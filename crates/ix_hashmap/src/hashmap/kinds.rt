@@ -2,7 +2,7 @@
 ghost use Rattle.std.specs.Prelude.{◌≡◌};
 ghost use Rattle.std.specs.Mem.{type_size};
 ghost use Rattle.ix_slottable.specs.Memory.{hash_map_memory};
-ghost use Rattle.ix_slottable.specs.SlotState.{slot_new};
+ghost use Rattle.ix_slottable.specs.SlotTableState.{slot_table_new};
 ghost use Rattle.ix_flatmap.specs.contracts.map.pair.Pair as pair;
 ghost use Rattle.ix_slottable.specs.contracts.slottable.link.Link as link;
 ghost use Rattle.ix_hashmap.specs.contracts.hashmap.chain_link.ChainLink as chain_link;
@@ -79,7 +79,7 @@ impl<
 > ContainerFamily<A> for HashMapFamily<K, V, B> {
     type Container = RelocatableHashMap<K, V, A, B>;
 
-    ghost is_empty_with = { λ capacity map. map ≡ slot_new capacity };
+    ghost is_empty_with = { λ capacity map. map ≡ slot_table_new capacity };
 
     /// Creates an empty map with room for `capacity` keys. O(`capacity`), with at most six allocations.
     #[inline]

@@ -1,6 +1,6 @@
 //! How a hash map looks for a key.
 ghost use Rattle.std.specs.Prelude.{◌≡◌, option_map};
-ghost use Rattle.ix_flatmap.specs.FlatState.{HasDistinctKeys, flat_entry};
+ghost use Rattle.ix_flatmap.specs.MapState.{HasDistinctKeys, map_entry};
 ghost use Rattle.ix_hashmap.specs.inner.HashChains.{LeadsToKey};
 
 use crate::hashmap::ChainLink;
@@ -22,7 +22,7 @@ pub(crate) fn find_from<'a, K: Eq, V, S: Table<Pair<K, V>>, L: Table<Link>, C: T
     requires leads { LeadsToKey K.eq pairs.now chains.now key.now first }
     requires distinct { HasDistinctKeys K.eq pairs.now }
     ensures { option_map (λ entry. (entry.0, entry.1.now)) result
-        ≡ flat_entry K.eq pairs.now key.now }
+        ≡ map_entry K.eq pairs.now key.now }
 {
     let mut place = first;
     while place != NO_PLACE {

@@ -4,7 +4,7 @@ ghost use Rattle.std.specs.Cmp.Lexicographic.{pointwise};
 ghost use Rattle.std.specs.List.{AllByRecursion};
 ghost use Rattle.std.specs.Result.{IsOkAnd, result_map_both};
 ghost use Rattle.serde_json.specs.View.{view, members_view};
-ghost use Rattle.ix_flatmap.specs.FlatState.{HasDistinctKeys, flat_items};
+ghost use Rattle.ix_flatmap.specs.MapState.{HasDistinctKeys, map_items};
 ghost use Rattle.ix_json.specs.JsonTree.{bytes_read, object_tree, members_read, new_key, map_with};
 ghost use Rattle.ix_json.specs.inner.Objects.{IsItemReadBack};
 ghost use Rattle.ix_json.specs.declared.json.json_fault.JsonFault.TheVariants.{OutOfMemory};
@@ -26,12 +26,12 @@ fn map_to_value<
     I: KeyIndex<StaticString<N>, V>,
     const N: usize,
 >(map: &MetaMap<Pair<StaticString<N>, V>, S, L, I>, alloc: Global) -> Result<Value, JsonFault>
-    ensures value { IfOk result (λ value. view value ≡ object_tree V.tree (flat_items map.now)) }
+    ensures value { IfOk result (λ value. view value ≡ object_tree V.tree (map_items map.now)) }
     ensures read_back { IsOk result
-        → AllByRecursion (IsItemReadBack N V.tree V.read) (flat_items map.now) }
+        → AllByRecursion (IsItemReadBack N V.tree V.read) (map_items map.now) }
     ensures distinct { HasDistinctKeys (pointwise ◌==◌) map.now }
     ensures fault { IfErr result (λ fault. fault ≡ OutOfMemory) }
-    ensures memory { flat_items map.now ≡ [] → IsOk result }
+    ensures memory { map_items map.now ≡ [] → IsOk result }
 {
     // Names the number of keys, by which the check knows that no two of them are equal.
     let _len = map.len();
@@ -117,18 +117,18 @@ impl<
 where
     I::Setup: Default,
 {
-    ghost use Rattle.ix_slottable.specs.SlotState.{slot_new};
+    ghost use Rattle.ix_slottable.specs.SlotTableState.{slot_table_new};
     ghost use Rattle.ix_json.specs.JsonTree.{object_filled, by_key, HasSameEntries};
 
-    ghost tree = { λ map. object_tree V.tree (flat_items map) };
+    ghost tree = { λ map. object_tree V.tree (map_items map) };
 
-    ghost read = { object_filled N V.read (slot_new CAPACITY) };
+    ghost read = { object_filled N V.read (slot_table_new CAPACITY) };
 
-    ghost is_read_back = { λ map. map_with (slot_new CAPACITY) (by_key (flat_items map)) ≡ map };
+    ghost is_read_back = { λ map. map_with (slot_table_new CAPACITY) (by_key (map_items map)) ≡ map };
 
     ghost keeps = { λ map again. length map.values ≡ CAPACITY → IsOkAnd again (HasSameEntries map) };
 
-    ghost is_infallible = { λ map. flat_items map ≡ [] };
+    ghost is_infallible = { λ map. map_items map ≡ [] };
 
     fn to_value(&self, alloc: Global) -> Result<Value, JsonFault> {
         map_to_value(self, alloc)
@@ -161,19 +161,19 @@ where
 /// all are tried before the first is inserted.
 impl<V: JsonItem + Drop, A: Allocator, I: KeyIndex<StaticString<N>, V>, const N: usize> JsonFill
     for HeapMap<StaticString<N>, V, A, I> {
-    ghost use Rattle.ix_slottable.specs.SlotState.{slot_new};
+    ghost use Rattle.ix_slottable.specs.SlotTableState.{slot_table_new};
     ghost use Rattle.ix_json.specs.JsonTree.{object_filled, by_key, map_without, HasSameEntries};
 
-    ghost tree = { λ map. object_tree V.tree (flat_items map) };
+    ghost tree = { λ map. object_tree V.tree (map_items map) };
 
     ghost filled = { object_filled N V.read };
 
-    ghost emptied = { λ map. map_without map (by_key (flat_items map)) };
+    ghost emptied = { λ map. map_without map (by_key (map_items map)) };
 
-    ghost keeps = { λ map filled_with. (capacity : ℕ) → length (flat_items map) ≤ capacity
-        → IsOkAnd (filled_with (slot_new capacity)) (HasSameEntries map) };
+    ghost keeps = { λ map filled_with. (capacity : ℕ) → length (map_items map) ≤ capacity
+        → IsOkAnd (filled_with (slot_table_new capacity)) (HasSameEntries map) };
 
-    ghost is_infallible = { λ map. flat_items map ≡ [] };
+    ghost is_infallible = { λ map. map_items map ≡ [] };
 
     fn to_value(&self, alloc: Global) -> Result<Value, JsonFault> {
         map_to_value(self, alloc)

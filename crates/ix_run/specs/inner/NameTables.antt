@@ -9,25 +9,25 @@ use Rattle.ix_run.specs.declared.run.grammar.name_table.Takes.{Takes}
 use Rattle.ix_run.specs.declared.run.grammar.name_table.Takes.TheVariants.{Nothing, Number, TwoNumbers, Numbers, Byte, NumberAndByte, Bytes, NumberAndBytes}
 use Rattle.ix_commands.specs.declared.command.QueueCommand.{QueueCommand}
 use Rattle.ix_commands.specs.declared.command.QueueCommand.TheVariants as queue
-use Rattle.ix_commands.specs.declared.command.VecCommand.{VecCommand}
-use Rattle.ix_commands.specs.declared.command.VecCommand.TheVariants as vec
-use Rattle.ix_commands.specs.declared.command.TextCommand.{TextCommand}
-use Rattle.ix_commands.specs.declared.command.TextCommand.TheVariants as text
-use Rattle.ix_run.specs.declared.run.grammar.readers.vector.VecName.{VecName}
-use Rattle.ix_run.specs.declared.run.grammar.readers.vector.VecName.TheVariants as vec_name
-use Rattle.ix_run.specs.declared.run.grammar.readers.string.TextName.{TextName}
-use Rattle.ix_run.specs.declared.run.grammar.readers.string.TextName.TheVariants as text_name
-use Rattle.ix_commands.specs.declared.command.TableCommand.{TableCommand}
-use Rattle.ix_commands.specs.declared.command.TableCommand.TheVariants as table
+use Rattle.ix_commands.specs.declared.command.VectorCommand.{VectorCommand}
+use Rattle.ix_commands.specs.declared.command.VectorCommand.TheVariants as vec
+use Rattle.ix_commands.specs.declared.command.StringCommand.{StringCommand}
+use Rattle.ix_commands.specs.declared.command.StringCommand.TheVariants as text
+use Rattle.ix_run.specs.declared.run.grammar.readers.vector.VectorName.{VectorName}
+use Rattle.ix_run.specs.declared.run.grammar.readers.vector.VectorName.TheVariants as vector_name
+use Rattle.ix_run.specs.declared.run.grammar.readers.string.StringName.{StringName}
+use Rattle.ix_run.specs.declared.run.grammar.readers.string.StringName.TheVariants as string_name
+use Rattle.ix_commands.specs.declared.command.SlotTableCommand.{SlotTableCommand}
+use Rattle.ix_commands.specs.declared.command.SlotTableCommand.TheVariants as table
 use Rattle.ix_slotmap.specs.Generations.{SlotKey}
 use Rattle.ix_run.specs.declared.run.grammar.readers.slotmap.PlainName.{PlainName}
 use Rattle.ix_run.specs.declared.run.grammar.readers.slotmap.PlainName.TheVariants as plain_name
 use Rattle.ix_run.specs.declared.run.grammar.readers.slotmap.KeyName.{KeyName}
 use Rattle.ix_run.specs.declared.run.grammar.readers.slotmap.KeyName.TheVariants as key_name
-use Rattle.ix_commands.specs.declared.command.SlotCommand.{SlotCommand}
-use Rattle.ix_commands.specs.declared.command.SlotCommand.TheVariants as slot
-use Rattle.ix_commands.specs.declared.command.FlatCommand.{FlatCommand}
-use Rattle.ix_commands.specs.declared.command.FlatCommand.TheVariants as flat
+use Rattle.ix_commands.specs.declared.command.SlotMapCommand.{SlotMapCommand}
+use Rattle.ix_commands.specs.declared.command.SlotMapCommand.TheVariants as slot
+use Rattle.ix_commands.specs.declared.command.MapCommand.{MapCommand}
+use Rattle.ix_commands.specs.declared.command.MapCommand.TheVariants as flat
 
 module _ {V : Type 0} where
   -- the names, each with the value beside it
@@ -94,80 +94,80 @@ queue_with (queue.At old) n = queue.At n
 queue_with other n = other
 
 -- a slot table's command, with these numbers
-abbrev pub table_with : TableCommand ℕ → ℕ → ℕ → TableCommand ℕ
-table_with (table.Insert old) n m = table.Insert n
-table_with (table.InsertAt key old) n m = table.InsertAt n m
-table_with (table.Remove old) n m = table.Remove n
-table_with (table.Get old) n m = table.Get n
-table_with (table.Set key old) n m = table.Set n m
-table_with (table.Contains old) n m = table.Contains n
-table_with (table.From old) n m = table.From n
-table_with other n m = other
+abbrev pub slot_table_with : SlotTableCommand ℕ → ℕ → ℕ → SlotTableCommand ℕ
+slot_table_with (table.Insert old) n m = table.Insert n
+slot_table_with (table.InsertAt key old) n m = table.InsertAt n m
+slot_table_with (table.Remove old) n m = table.Remove n
+slot_table_with (table.Get old) n m = table.Get n
+slot_table_with (table.Set key old) n m = table.Set n m
+slot_table_with (table.Contains old) n m = table.Contains n
+slot_table_with (table.From old) n m = table.From n
+slot_table_with other n m = other
 
 -- the command of a slot map with this name, of these numbers
-abbrev pub slot_named : PlainName → ℕ → ℕ → SlotCommand ℕ
-slot_named plain_name.Insert n m = slot.Insert n
-slot_named plain_name.Next n m = slot.Next
-slot_named plain_name.InsertAt n m = slot.InsertAt n m
-slot_named plain_name.From n m = slot.From n
-slot_named plain_name.Retired n m = slot.Retired
-slot_named plain_name.Len n m = slot.Len
-slot_named plain_name.Capacity n m = slot.Capacity
-slot_named plain_name.Empty n m = slot.Empty
-slot_named plain_name.Full n m = slot.Full
+abbrev pub slot_map_named : PlainName → ℕ → ℕ → SlotMapCommand ℕ
+slot_map_named plain_name.Insert n m = slot.Insert n
+slot_map_named plain_name.Next n m = slot.Next
+slot_map_named plain_name.InsertAt n m = slot.InsertAt n m
+slot_map_named plain_name.From n m = slot.From n
+slot_map_named plain_name.Retired n m = slot.Retired
+slot_map_named plain_name.Len n m = slot.Len
+slot_map_named plain_name.Capacity n m = slot.Capacity
+slot_map_named plain_name.Empty n m = slot.Empty
+slot_map_named plain_name.Full n m = slot.Full
 
 -- the command of a slot map with this name, of this key and this number
-abbrev pub slot_key_named : KeyName → SlotKey → ℕ → SlotCommand ℕ
+abbrev pub slot_key_named : KeyName → SlotKey → ℕ → SlotMapCommand ℕ
 slot_key_named key_name.Remove key n = slot.Remove key
 slot_key_named key_name.Get key n = slot.Get key
 slot_key_named key_name.Set key n = slot.Set key n
 slot_key_named key_name.Contains key n = slot.Contains key
 
 -- a flat map's command, with these numbers
-abbrev pub flat_with : FlatCommand ℕ ℕ → ℕ → ℕ → FlatCommand ℕ ℕ
-flat_with (flat.Insert key old) n m = flat.Insert n m
-flat_with (flat.Get old) n m = flat.Get n
-flat_with (flat.Set key old) n m = flat.Set n m
-flat_with (flat.Remove old) n m = flat.Remove n
-flat_with (flat.Contains old) n m = flat.Contains n
-flat_with (flat.Key old) n m = flat.Key n
-flat_with other n m = other
+abbrev pub map_with : MapCommand ℕ ℕ → ℕ → ℕ → MapCommand ℕ ℕ
+map_with (flat.Insert key old) n m = flat.Insert n m
+map_with (flat.Get old) n m = flat.Get n
+map_with (flat.Set key old) n m = flat.Set n m
+map_with (flat.Remove old) n m = flat.Remove n
+map_with (flat.Contains old) n m = flat.Contains n
+map_with (flat.Key old) n m = flat.Key n
+map_with other n m = other
 
 -- the command of a vector with this name, of these numbers or this list
-abbrev pub vec_named : VecName → ℕ → ℕ → List ℕ → VecCommand ℕ
-vec_named vec_name.Push n m items = vec.Push n
-vec_named vec_name.Insert n m items = vec.Insert n m
-vec_named vec_name.Extend n m items = vec.Extend (slice_of items)
-vec_named vec_name.Resize n m items = vec.Resize n m
-vec_named vec_name.Pop n m items = vec.Pop
-vec_named vec_name.Remove n m items = vec.Remove n
-vec_named vec_name.At n m items = vec.At n
-vec_named vec_name.Set n m items = vec.Set n m
-vec_named vec_name.Truncate n m items = vec.Truncate n
-vec_named vec_name.Clear n m items = vec.Clear
-vec_named vec_name.Len n m items = vec.Len
-vec_named vec_name.Capacity n m items = vec.Capacity
-vec_named vec_name.Empty n m items = vec.Empty
-vec_named vec_name.Full n m items = vec.Full
+abbrev pub vector_named : VectorName → ℕ → ℕ → List ℕ → VectorCommand ℕ
+vector_named vector_name.Push n m items = vec.Push n
+vector_named vector_name.Insert n m items = vec.Insert n m
+vector_named vector_name.Extend n m items = vec.Extend (slice_of items)
+vector_named vector_name.Resize n m items = vec.Resize n m
+vector_named vector_name.Pop n m items = vec.Pop
+vector_named vector_name.Remove n m items = vec.Remove n
+vector_named vector_name.At n m items = vec.At n
+vector_named vector_name.Set n m items = vec.Set n m
+vector_named vector_name.Truncate n m items = vec.Truncate n
+vector_named vector_name.Clear n m items = vec.Clear
+vector_named vector_name.Len n m items = vec.Len
+vector_named vector_name.Capacity n m items = vec.Capacity
+vector_named vector_name.Empty n m items = vec.Empty
+vector_named vector_name.Full n m items = vec.Full
 
 -- the command of a string with this name, of these numbers or these bytes
-abbrev pub text_named : TextName → ℕ → ℕ → ℕ → List ℕ → TextCommand
-text_named text_name.Push n m byte bytes = text.Push byte
-text_named text_name.Append n m byte bytes = text.Append (slice_of bytes)
-text_named text_name.Insert n m byte bytes = text.Insert n byte
-text_named text_name.InsertBytes n m byte bytes = text.InsertBytes n (slice_of bytes)
-text_named text_name.Pop n m byte bytes = text.Pop
-text_named text_name.Remove n m byte bytes = text.Remove n
-text_named text_name.RemoveRange n m byte bytes = text.RemoveRange n m
-text_named text_name.Find n m byte bytes = text.Find (slice_of bytes)
-text_named text_name.Rfind n m byte bytes = text.Rfind (slice_of bytes)
-text_named text_name.StripPrefix n m byte bytes = text.StripPrefix (slice_of bytes)
-text_named text_name.StripSuffix n m byte bytes = text.StripSuffix (slice_of bytes)
-text_named text_name.Drop n m byte bytes = text.Drop byte
-text_named text_name.At n m byte bytes = text.At n
-text_named text_name.Truncate n m byte bytes = text.Truncate n
-text_named text_name.Clear n m byte bytes = text.Clear
-text_named text_name.Len n m byte bytes = text.Len
-text_named text_name.Capacity n m byte bytes = text.Capacity
-text_named text_name.Empty n m byte bytes = text.Empty
-text_named text_name.Full n m byte bytes = text.Full
+abbrev pub string_named : StringName → ℕ → ℕ → ℕ → List ℕ → StringCommand
+string_named string_name.Push n m byte bytes = text.Push byte
+string_named string_name.Append n m byte bytes = text.Append (slice_of bytes)
+string_named string_name.Insert n m byte bytes = text.Insert n byte
+string_named string_name.InsertBytes n m byte bytes = text.InsertBytes n (slice_of bytes)
+string_named string_name.Pop n m byte bytes = text.Pop
+string_named string_name.Remove n m byte bytes = text.Remove n
+string_named string_name.RemoveRange n m byte bytes = text.RemoveRange n m
+string_named string_name.Find n m byte bytes = text.Find (slice_of bytes)
+string_named string_name.Rfind n m byte bytes = text.Rfind (slice_of bytes)
+string_named string_name.StripPrefix n m byte bytes = text.StripPrefix (slice_of bytes)
+string_named string_name.StripSuffix n m byte bytes = text.StripSuffix (slice_of bytes)
+string_named string_name.Drop n m byte bytes = text.Drop byte
+string_named string_name.At n m byte bytes = text.At n
+string_named string_name.Truncate n m byte bytes = text.Truncate n
+string_named string_name.Clear n m byte bytes = text.Clear
+string_named string_name.Len n m byte bytes = text.Len
+string_named string_name.Capacity n m byte bytes = text.Capacity
+string_named string_name.Empty n m byte bytes = text.Empty
+string_named string_name.Full n m byte bytes = text.Full

@@ -8,7 +8,7 @@ mod words;
 
 pub use header::{Container, FixedCapacity, Header, Storage, read_header};
 pub use readers::{
-    read_flat_command, read_queue_command, read_slot_command, read_table_command,
-    read_text_command, read_vec_command,
+    read_map_command, read_queue_command, read_slot_map_command, read_slot_table_command,
+    read_string_command, read_vector_command,
 };
 pub use reading::read_number;

@@ -1,21 +1,21 @@
 //! What the definitions of scripts mean, in their users' words. These functions do nothing: their contracts are the laws.
 ghost use Rattle.std.specs.Prelude.{ℕ, ◌≡◌, ◌≢◌, ◌<◌, ◌^◌, ◌++◌, ◌∷◌, ◌⊎◌, List, [], Option, Some, None, All, Contains, decimal, nat_eq};
 ghost use Rattle.ix_tables.specs.Bounded.{Bounded, bounded_new};
-ghost use Rattle.ix_slottable.specs.SlotState.{slot_new};
-ghost use Rattle.ix_slotmap.specs.Generations.{SlotKey, map_new};
+ghost use Rattle.ix_slottable.specs.SlotTableState.{slot_table_new};
+ghost use Rattle.ix_slotmap.specs.Generations.{SlotKey, slot_map_new};
 ghost use Rattle.ix_commands.specs.QueueRun.{queue_reply, queue_after};
-ghost use Rattle.ix_commands.specs.VecRun.{vec_reply, vec_after};
-ghost use Rattle.ix_commands.specs.TableRun.{table_reply, table_after};
-ghost use Rattle.ix_commands.specs.SlotRun.{slot_reply, slot_after};
-ghost use Rattle.ix_commands.specs.FlatRun.{flat_reply, flat_after};
-ghost use Rattle.ix_commands.specs.TextRun.{text_reply, text_after};
+ghost use Rattle.ix_commands.specs.VectorRun.{vector_reply, vector_after};
+ghost use Rattle.ix_commands.specs.SlotTableRun.{slot_table_reply, slot_table_after};
+ghost use Rattle.ix_commands.specs.SlotMapRun.{slot_map_reply, slot_map_after};
+ghost use Rattle.ix_commands.specs.MapRun.{map_reply, map_after};
+ghost use Rattle.ix_commands.specs.StringRun.{string_reply, string_after};
 ghost use Rattle.ix_commands.specs.declared.reply.Reply.{Reply};
-ghost use Rattle.ix_run.specs.Forms.{queue_forms, vec_forms, table_forms, slot_forms, slot_key_forms, slot_command_of, flat_forms, text_forms};
+ghost use Rattle.ix_run.specs.Forms.{queue_forms, vector_forms, slot_table_forms, slot_map_forms, slot_key_forms, slot_map_command_of, map_forms, string_forms};
 ghost use Rattle.ix_run.specs.Headers.{capacity_of, first_generation};
 ghost use Rattle.ix_run.specs.Laws.{HasU64s, HasU64sAnd, IsSlotKey, IsRun, IsRunBy, IsU64};
 ghost use Rattle.ix_run.specs.Lines.{IsOneLine, with_line_feed, text_of_lines, lines_of};
-ghost use Rattle.ix_run.specs.ReplyTexts.{reply_text, slot_reply_text, items_text, entry_text, key_entry_text};
-ghost use Rattle.ix_run.specs.Script.{text_shown};
+ghost use Rattle.ix_run.specs.ReplyTexts.{reply_text, slot_map_reply_text, items_text, entry_text, key_entry_text};
+ghost use Rattle.ix_run.specs.Script.{string_shown};
 ghost use Rattle.ix_run.specs.Words.{Form, KeyForm, HasNames, words_text, command_of, key_words_text, key_command_of};
 ghost use Rattle.ix_run.specs.declared.run.grammar.header.Container.TheVariants as container;
 ghost use Rattle.ix_run.specs.declared.run.grammar.header.Storage.{Storage};
@@ -40,9 +40,9 @@ pub fn reply_law()
     ensures entries { (entries : List (ℕ × ℕ))
         → All (λ entry. IsU64 entry.0 × IsU64 entry.1) entries
         → IsOneLine (items_text entry_text entries) }
-    ensures text { (text : Bounded ℕ) → IsOneLine (text_shown text) }
-    ensures slot_reply { (reply : Reply SlotKey ℕ) → HasU64sAnd IsSlotKey reply
-        → IsOneLine (slot_reply_text reply) }
+    ensures text { (text : Bounded ℕ) → IsOneLine (string_shown text) }
+    ensures slot_map_reply { (reply : Reply SlotKey ℕ) → HasU64sAnd IsSlotKey reply
+        → IsOneLine (slot_map_reply_text reply) }
     ensures key_entries { (entries : List (SlotKey × ℕ))
         → All (λ entry. IsSlotKey entry.0 × IsU64 entry.1) entries
         → IsOneLine (items_text key_entry_text entries) }
@@ -55,21 +55,21 @@ pub fn script_law()
         → IsRun queue_forms queue_reply queue_after container.Queue storage
         (bounded_new (capacity_of storage)) }
     ensures vec { (storage : Storage)
-        → IsRun vec_forms vec_reply vec_after container.Vec storage
+        → IsRun vector_forms vector_reply vector_after container.Vector storage
         (bounded_new (capacity_of storage)) }
     ensures table { (storage : Storage)
-        → IsRun table_forms table_reply table_after container.Table storage
-        (slot_new (capacity_of storage)) }
+        → IsRun slot_table_forms slot_table_reply slot_table_after container.SlotTable storage
+        (slot_table_new (capacity_of storage)) }
     ensures flat { (storage : Storage)
-        → IsRun flat_forms (flat_reply nat_eq) (flat_after nat_eq) container.Flat storage
-        (slot_new (capacity_of storage)) }
+        → IsRun map_forms (map_reply nat_eq) (map_after nat_eq) container.FlatMap storage
+        (slot_table_new (capacity_of storage)) }
     ensures text { (storage : Storage)
-        → IsRun text_forms text_reply text_after container.Text storage
+        → IsRun string_forms string_reply string_after container.String storage
         (bounded_new (capacity_of storage)) }
     ensures slot { (storage : Storage) (start : Option ℕ)
-        → IsRunBy slot_command_of slot_reply_text slot_reply slot_after
-        (container.Slot start) storage
-        (map_new (capacity_of storage) (first_generation start)) }
+        → IsRunBy slot_map_command_of slot_map_reply_text slot_map_reply slot_map_after
+        (container.SlotMap start) storage
+        (slot_map_new (capacity_of storage) (first_generation start)) }
 {}
 
 /// A line spells at most one command. By any table of forms, the commands of lines are the texts of a name and numbers; and
@@ -84,9 +84,9 @@ pub fn spelling_law<C>()
         → Contains forms form
         → All (λ n. n < 2 ^ 64) numbers
         → command_of forms (words_text form.0 numbers) ≡ form.1 numbers }
-    ensures names { HasNames queue_forms × HasNames vec_forms × HasNames table_forms
-        × HasNames flat_forms
-        × HasNames text_forms }
+    ensures names { HasNames queue_forms × HasNames vector_forms × HasNames slot_table_forms
+        × HasNames map_forms
+        × HasNames string_forms }
     ensures key_text { (forms : List (KeyForm C)) (line : List ℕ) (command : C)
         → key_command_of forms line ≡ Some command
         → (form : KeyForm C) × (key : SlotKey) × (numbers : List ℕ) × Contains forms form
@@ -100,5 +100,5 @@ pub fn spelling_law<C>()
     ensures either { (forms : List (Form C)) (key_forms : List (KeyForm C)) (line : List ℕ)
         (command : C)
         → command_of forms line ≡ Some command → key_command_of key_forms line ≡ None }
-    ensures slot_names { HasNames slot_forms × HasNames slot_key_forms }
+    ensures slot_map_names { HasNames slot_map_forms × HasNames slot_key_forms }
 {}

@@ -1,7 +1,7 @@
 -- How a slot map keeps its generations: in the word of each place, which also says whether a value is there. No clause of a
 -- public call cites this.
 use Rattle.std.specs.Prelude.{◌≡◌, ℕ, ◌+◌, ◌*◌, ◌/◌, ◌<◌, ◌≤◌, List, length, map, nat_eq, if◌then◌else◌, Option, Bool, is_some, count_by, slice_index_or}
-use Rattle.ix_slottable.specs.SlotState.{SlotState, value_at}
+use Rattle.ix_slottable.specs.SlotTableState.{SlotTableState, value_at}
 use Rattle.ix_slotmap.specs.Generations.{greatest_generation}
 use Rattle.ix_slottable.specs.inner.FullTables.{items_in}
 
@@ -34,7 +34,7 @@ module _ {C : Type 0} (is_retired : Option C → Bool) where
   IsWordOf content word = (generation : ℕ) × ((generation ≤ greatest_generation) × (word ≡ place_word content generation))
 
   -- each place has a word, and so many are retired
-  pub record HasWords (slots : SlotState C) (words : List ℕ) (retired : ℕ) : Type 0 where
+  pub record HasWords (slots : SlotTableState C) (words : List ℕ) (retired : ℕ) : Type 0 where
     pub lengths : length words ≡ length slots.values
     pub each : (place : ℕ) → place < length slots.values → IsWordOf (value_at slots place) (word_at words place)
     pub counted : retired ≡ count_by is_retired slots.values

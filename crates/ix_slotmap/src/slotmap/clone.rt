@@ -1,16 +1,16 @@
 //! Clones of slot maps.
 ghost use Rattle.std.specs.Prelude.{◌≡◌, length, IsOk, IfOk};
 ghost use Rattle.ix_tables.specs.Cloning.{AreEqualClones};
-ghost use Rattle.ix_slotmap.specs.SlotMapCopies.{MapIsClone, MapIsInfallible};
+ghost use Rattle.ix_slotmap.specs.SlotMapCopies.{SlotMapIsClone, SlotMapIsInfallible};
 
 use crate::slotmap::{FixedSizeSlotMap, MetaSlotMap, SlotMap, WordTable};
 use ix_tables::{HeapTable, InlineTable};
 use std::alloc::{AllocError, Allocator};
 
 impl<T: Clone, const CAPACITY: usize> Clone for FixedSizeSlotMap<T, CAPACITY> {
-    ghost is_clone = { MapIsClone T.is_clone };
+    ghost is_clone = { SlotMapIsClone T.is_clone };
 
-    ghost is_infallible = { MapIsInfallible T.is_infallible };
+    ghost is_infallible = { SlotMapIsInfallible T.is_infallible };
 
     /// Creates a map that holds clones of the values in the same places, with the same keys, generations and free places.
     /// O(`CAPACITY`).

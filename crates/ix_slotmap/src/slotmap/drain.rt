@@ -2,9 +2,9 @@
 ghost use Rattle.std.specs.Prelude.{◌≡◌, length, drop, Some, IfSome};
 ghost use Rattle.std.specs.Iterator.{UpTo, at_most, item_count};
 ghost use Rattle.std.specs.Iterator.SizeHint.{IsWithinCount};
-ghost use Rattle.ix_slottable.specs.SlotState.{entries_from};
-ghost use Rattle.ix_slotmap.specs.Generations.{map_len, held_entries, map_entries};
-ghost use Rattle.ix_slotmap.specs.SlotMapSteps.{map_clear};
+ghost use Rattle.ix_slottable.specs.SlotTableState.{entries_from};
+ghost use Rattle.ix_slotmap.specs.Generations.{slot_map_len, held_entries, slot_map_entries};
+ghost use Rattle.ix_slotmap.specs.SlotMapSteps.{slot_map_clear};
 
 use crate::slotmap::{MetaSlotMap, SlotMapKey};
 use ix_slottable::slottable::Link;
@@ -21,12 +21,12 @@ pub struct Drain<'a, T, S: Table<Option<T>>, L: Table<Link>, G: Table<u64>> {
     map: &'a mut MetaSlotMap<Option<T>, S, L, G>,
     /// No place before this one has a value.
     index: usize,
-    ghost counted: { map_len map.now ≡ length (held_entries map.now (entries_from index (drop index map.now.slots.values))) },
+    ghost counted: { slot_map_len map.now ≡ length (held_entries map.now (entries_from index (drop index map.now.slots.values))) },
 }
 
 impl<T, S: Table<Option<T>>, L: Table<Link>, G: Table<u64>> MetaSlotMap<Option<T>, S, L, G> {
     ghost use Rattle.ix_slottable.specs.Draining.{DrainingKeepsAlong};
-    ghost use Rattle.ix_slotmap.specs.MapDrain.{drain_items, drain_left, drain_lender};
+    ghost use Rattle.ix_slotmap.specs.SlotMapDrain.{drain_items, drain_left, drain_lender};
 
     /// Returns an iterator that removes all held keys, each with its value, in rising order of the indexes. What is not taken is
     /// dropped with it, and the map is as [`MetaSlotMap::clear`] leaves it then. O(1), and O(capacity) for all of its items
@@ -35,8 +35,8 @@ impl<T, S: Table<Option<T>>, L: Table<Link>, G: Table<u64>> MetaSlotMap<Option<T
     pub fn drain(&mut self) -> Drain<'_, T, S, L, G>
     where
         T: Drop,
-        ensures items { drain_items result ≡ map_entries self.old }
-        ensures left { drain_left result ≡ map_clear self.old }
+        ensures items { drain_items result ≡ slot_map_entries self.old }
+        ensures left { drain_left result ≡ slot_map_clear self.old }
         // With these two a caller knows what the map is once the iterator is dropped.
         ensures same_reference { drain_lender result ≡ self.entry.ghost_name }
         ensures stays { DrainingKeepsAlong drain_items drain_lender drain_left result }
@@ -52,7 +52,7 @@ impl<T, S: Table<Option<T>>, L: Table<Link>, G: Table<u64>> MetaSlotMap<Option<T
 
 /// Drops the values that are still to come, that of the least index first. No key is held then. O(capacity).
 impl<T: Drop, S: Table<Option<T>>, L: Table<Link>, G: Table<u64>> Drop for Drain<'_, T, S, L, G> {
-    ghost use Rattle.ix_slotmap.specs.MapDrain.{drain_left};
+    ghost use Rattle.ix_slotmap.specs.SlotMapDrain.{drain_left};
 
     fn drop(self)
         ensures { self.exit.0.now ≡ drain_left self.entry }
@@ -67,7 +67,7 @@ impl<T: Drop, S: Table<Option<T>>, L: Table<Link>, G: Table<u64>> Iterator
     type Item = (SlotMapKey, T);
 
     ghost use Rattle.ix_slottable.specs.Draining.{DrainingSteps};
-    ghost use Rattle.ix_slotmap.specs.MapDrain.{drain_items, drain_left, drain_lender};
+    ghost use Rattle.ix_slotmap.specs.SlotMapDrain.{drain_items, drain_left, drain_lender};
 
     ghost next_gives = { DrainingSteps drain_items drain_lender drain_left };
 

@@ -3,7 +3,7 @@ ghost use Rattle.std.specs.Prelude.{nat_eq, ◌&&◌};
 ghost use Rattle.std.specs.Cmp.{and_per, on_per, on_equiv, partial_equiv_from_equiv};
 ghost use Rattle.std.proofs.lemmas.Cmp.{and_equiv, nat_eq_equiv};
 ghost use Rattle.std.specs.Cmp.Lexicographic.{pointwise, lists_per, lists_equiv};
-ghost use Rattle.ix_slotmap.specs.Generations.{map_entries};
+ghost use Rattle.ix_slotmap.specs.Generations.{slot_map_entries};
 
 use crate::slotmap::MetaSlotMap;
 use ix_slottable::slottable::Link;
@@ -15,9 +15,9 @@ impl<T: PartialEq, S: Table<Option<T>>, L: Table<Link>, G: Table<u64>> PartialEq
     for MetaSlotMap<Option<T>, S, L, G> {
     ghost eq = { λ map other. pointwise
         (λ p q. (nat_eq p.0.index q.0.index && nat_eq p.0.generation q.0.generation) && T.eq p.1 q.1)
-        (map_entries map) (map_entries other) };
+        (slot_map_entries map) (slot_map_entries other) };
 
-    ghost laws = { on_per map_entries (lists_per (and_per
+    ghost laws = { on_per slot_map_entries (lists_per (and_per
         (and_per (on_per (λ p. p.0.index) (partial_equiv_from_equiv nat_eq_equiv))
         (on_per (λ p. p.0.generation) (partial_equiv_from_equiv nat_eq_equiv)))
         (on_per (λ p. p.1) T.laws))) };
@@ -44,7 +44,7 @@ impl<T: PartialEq, S: Table<Option<T>>, L: Table<Link>, G: Table<u64>> PartialEq
 
 impl<T: Eq, S: Table<Option<T>>, L: Table<Link>, G: Table<u64>> Eq
     for MetaSlotMap<Option<T>, S, L, G> {
-    ghost laws = { on_equiv map_entries (lists_equiv (and_equiv
+    ghost laws = { on_equiv slot_map_entries (lists_equiv (and_equiv
         (and_equiv (on_equiv (λ p. p.0.index) nat_eq_equiv)
         (on_equiv (λ p. p.0.generation) nat_eq_equiv))
         (on_equiv (λ p. p.1) T.Eq.laws))) };

@@ -1,6 +1,6 @@
 //! Values of a slot map by their keys.
 ghost use Rattle.std.specs.Prelude.{◌≡◌, IsSome, Some};
-ghost use Rattle.ix_slotmap.specs.Generations.{map_value};
+ghost use Rattle.ix_slotmap.specs.Generations.{slot_map_value};
 
 use crate::slotmap::{MetaSlotMap, SlotMapKey};
 use ix_slottable::slottable::Link;
@@ -12,9 +12,9 @@ impl<T, S: Table<Option<T>>, L: Table<Link>, G: Table<u64>> Index<SlotMapKey>
     for MetaSlotMap<Option<T>, S, L, G> {
     type Output = T;
 
-    ghost can_index = { λ map key. IsSome (map_value map key) };
+    ghost can_index = { λ map key. IsSome (slot_map_value map key) };
 
-    ghost index_gives = { λ map key value. map_value map key ≡ Some value };
+    ghost index_gives = { λ map key value. slot_map_value map key ≡ Some value };
 
     #[inline]
     fn index(&self, key: SlotMapKey) -> &T {

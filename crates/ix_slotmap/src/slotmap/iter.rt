@@ -2,7 +2,7 @@
 ghost use Rattle.std.specs.Prelude.{◌≡◌, length, Some, IfSome, ⊤};
 ghost use Rattle.std.specs.Iterator.{YieldsFirstBy, UpTo, at_most, item_count};
 ghost use Rattle.std.specs.Iterator.SizeHint.{IsWithinCount};
-ghost use Rattle.ix_slotmap.specs.Generations.{map_entries};
+ghost use Rattle.ix_slotmap.specs.Generations.{slot_map_entries};
 
 use crate::slotmap::{MetaSlotMap, SlotMapKey};
 use ix_slottable::slottable::Link;
@@ -27,7 +27,7 @@ pub struct Iter<'a, T, S: Table<Option<T>>, L: Table<Link>, G: Table<u64>> {
 
 impl<'a, T, S: Table<Option<T>>, L: Table<Link>, G: Table<u64>> Model for Iter<'a, T, S, L, G> {
     ghost use Rattle.std.specs.Prelude.{◌≡◌, List, length, drop};
-    ghost use Rattle.ix_slottable.specs.SlotState.{entries_from};
+    ghost use Rattle.ix_slottable.specs.SlotTableState.{entries_from};
     ghost use Rattle.ix_slotmap.specs.Generations.{SlotKey, held_entries};
 
     ghost Value = { List (SlotKey × T) };
@@ -43,7 +43,7 @@ impl<'a, T, S: Table<Option<T>>, L: Table<Link>, G: Table<u64>> Iter<'a, T, S, L
     /// Returns an iterator over all held keys. O(1).
     #[inline]
     pub(crate) fn new(map: &'a MetaSlotMap<Option<T>, S, L, G>) -> Self
-        ensures { result ≡ map_entries map.now }
+        ensures { result ≡ slot_map_entries map.now }
     {
         Iter {
             map,
@@ -140,7 +140,7 @@ impl<'a, T, S: Table<Option<T>>, L: Table<Link>, G: Table<u64>> IntoIterator
 
     type IntoIter = Iter<'a, T, S, L, G>;
 
-    ghost into_iter_gives = { λ map iter. iter ≡ map_entries map.now };
+    ghost into_iter_gives = { λ map iter. iter ≡ slot_map_entries map.now };
 
     /// Returns an iterator over the held keys in rising order of their indexes, each with its value. O(1).
     #[inline]

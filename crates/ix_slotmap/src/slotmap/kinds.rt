@@ -4,8 +4,8 @@ ghost use Rattle.std.specs.Borrow.{u64};
 ghost use Rattle.std.specs.Mem.{type_size};
 ghost use Rattle.ix_tables.specs.Memory.{no_memory};
 ghost use Rattle.ix_slottable.specs.Memory.{slot_map_memory};
-ghost use Rattle.ix_slotmap.specs.Generations.{map_new};
-ghost use Rattle.ix_slottable.specs.SlotState.{slot_new};
+ghost use Rattle.ix_slotmap.specs.Generations.{slot_map_new};
+ghost use Rattle.ix_slottable.specs.SlotTableState.{slot_table_new};
 
 use crate::slotmap::{MetaSlotMap, WordTable};
 use ix_slottable::slottable::{FixedSizeSlotTable, Link, SlotTable};
@@ -32,7 +32,7 @@ impl<T: Drop, const CAPACITY: usize> FixedSizeSlotMap<T, CAPACITY> {
     /// O(`CAPACITY`). `CAPACITY` is at most [`MAX_FIXED_CAPACITY`].
     pub fn new() -> Self
         requires { CAPACITY ≤ MAX_FIXED_CAPACITY }
-        ensures { result ≡ map_new CAPACITY 0 }
+        ensures { result ≡ slot_map_new CAPACITY 0 }
     {
         Self::starting_at(0)
     }
@@ -42,7 +42,7 @@ impl<T: Drop, const CAPACITY: usize> FixedSizeSlotMap<T, CAPACITY> {
     /// O(`CAPACITY`). `CAPACITY` is at most [`MAX_FIXED_CAPACITY`].
     pub fn starting_at(generation: u32) -> Self
         requires { CAPACITY ≤ MAX_FIXED_CAPACITY }
-        ensures { result ≡ map_new CAPACITY generation }
+        ensures { result ≡ slot_map_new CAPACITY generation }
     {
         MetaSlotMap {
             slots: FixedSizeSlotTable::new(),
@@ -54,7 +54,7 @@ impl<T: Drop, const CAPACITY: usize> FixedSizeSlotMap<T, CAPACITY> {
 
 /// Creates an empty map, whose places have generation 0. O(`CAPACITY`).
 impl<T: Drop, const CAPACITY: usize> Default for FixedSizeSlotMap<T, CAPACITY> {
-    ghost is_default = { λ map. map ≡ map_new CAPACITY 0 };
+    ghost is_default = { λ map. map ≡ slot_map_new CAPACITY 0 };
 
     fn default() -> Self {
         MetaSlotMap {
@@ -100,7 +100,7 @@ impl<T: Drop, A: Allocator + Copy> SlotMap<T, A> {
     /// O(`capacity`), with at most six allocations. Returns `AllocError` if one fails, and if the values would take more
     /// than `isize::MAX` bytes; nothing stays allocated then. A capacity of 0 needs no memory.
     pub fn new(alloc: A, capacity: usize) -> Result<Self, AllocError>
-        ensures value { IfOk result (λ map. map ≡ map_new capacity 0) }
+        ensures value { IfOk result (λ map. map ≡ slot_map_new capacity 0) }
         ensures memory { capacity ≡ 0 → IsOk result }
     {
         Self::starting_at(alloc, capacity, 0)
@@ -111,7 +111,7 @@ impl<T: Drop, A: Allocator + Copy> SlotMap<T, A> {
     /// O(`capacity`), with at most six allocations. Returns `AllocError` if one fails, and if the values would take more
     /// than `isize::MAX` bytes; nothing stays allocated then. A capacity of 0 needs no memory.
     pub fn starting_at(alloc: A, capacity: usize, generation: u32) -> Result<Self, AllocError>
-        ensures value { IfOk result (λ map. map ≡ map_new capacity generation) }
+        ensures value { IfOk result (λ map. map ≡ slot_map_new capacity generation) }
         ensures memory { capacity ≡ 0 → IsOk result }
     {
         let slots = SlotTable::new(alloc, capacity)?;
@@ -191,7 +191,7 @@ impl<T: Drop, A: Allocator + Copy> RelocatableContainer<A> for UninitSlotMap<T> 
 
     ghost capacity_of = { λ uninit. uninit.capacity };
 
-    ghost is_empty_with = { λ capacity map. map.slots ≡ slot_new capacity };
+    ghost is_empty_with = { λ capacity map. map.slots ≡ slot_table_new capacity };
 
     #[inline]
     fn new_uninit(capacity: usize) -> Self
@@ -205,7 +205,7 @@ impl<T: Drop, A: Allocator + Copy> RelocatableContainer<A> for UninitSlotMap<T> 
     /// O(capacity), with at most six allocations. Returns `self` in an [`InitError`] if one fails, and if the values would
     /// take more than `isize::MAX` bytes; nothing stays allocated then. A capacity of 0 needs no memory.
     fn init(self, alloc: A) -> Result<RelocatableSlotMap<T, A>, InitError<Self>>
-        ensures value { IfOk result (λ map. map ≡ map_new self.capacity self.generation) }
+        ensures value { IfOk result (λ map. map ≡ slot_map_new self.capacity self.generation) }
         ensures refused { IfErr result (λ error. error ≡ self) }
         ensures memory { self.capacity ≡ 0 → IsOk result }
     {

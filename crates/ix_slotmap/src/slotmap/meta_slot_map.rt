@@ -4,10 +4,10 @@ ghost use Rattle.std.specs.Borrow.{sem, Lends, LendsIf};
 ghost use Rattle.std.specs.Map.{lookup};
 ghost use Rattle.std.specs.Option.{option_copied_mut};
 ghost use Rattle.std.specs.contracts.option.Option as option;
-ghost use Rattle.ix_slottable.specs.SlotState.{IsFree, entries_from};
-ghost use Rattle.ix_slottable.specs.SlotSteps.{SlotInsert};
-ghost use Rattle.ix_slotmap.specs.Generations.{SlotKey, SlotMapState, greatest_generation, generation_at, key_at, slot_key_eq, place_value, map_value, IsRetired, IsDead, retired_count, map_len, held_entries, map_entries, IsMapFormed, DeadAreNotHeld, KeysRise, ListsExactly};
-ghost use Rattle.ix_slotmap.specs.SlotMapSteps.{map_set, map_set_at, map_fill, map_replace, map_vacate, map_retire, MapInsert, MapInsertAt, MapRemove};
+ghost use Rattle.ix_slottable.specs.SlotTableState.{IsFree, entries_from};
+ghost use Rattle.ix_slottable.specs.SlotTableSteps.{SlotTableInsert};
+ghost use Rattle.ix_slotmap.specs.Generations.{SlotKey, SlotMapState, greatest_generation, generation_at, key_at, slot_key_eq, place_value, slot_map_value, IsRetired, IsDead, retired_count, slot_map_len, held_entries, slot_map_entries, IsSlotMapFormed, DeadAreNotHeld, KeysRise, ListsExactly};
+ghost use Rattle.ix_slotmap.specs.SlotMapSteps.{slot_map_set, slot_map_set_at, slot_map_fill, slot_map_replace, slot_map_vacate, slot_map_retire, SlotMapInsert, SlotMapInsertAt, SlotMapRemove};
 
 use crate::slotmap::{Content, Iter, RETIRED, SlotMapKey, WordTable};
 use ix_slottable::slottable::{Link, MetaSlotTable, SlotTableKey};
@@ -75,11 +75,11 @@ impl<T, S: Table<Option<T>>, L: Table<Link>, G: Table<u64>> MetaSlotMap<Option<T
     /// Returns the number of values, which is that of the held keys.
     #[inline]
     pub fn len(&self) -> usize
-        ensures value { result ≡ map_len self.now }
-        ensures rest { map_len self.now + retired_count self.now + length self.now.slots.free
+        ensures value { result ≡ slot_map_len self.now }
+        ensures rest { slot_map_len self.now + retired_count self.now + length self.now.slots.free
             ≡ length self.now.slots.values }
         // These hold of every map, whatever calls were made.
-        ensures formed { IsMapFormed self.now }
+        ensures formed { IsSlotMapFormed self.now }
     {
         self.slots.len() - self.retired
     }
@@ -87,7 +87,7 @@ impl<T, S: Table<Option<T>>, L: Table<Link>, G: Table<u64>> MetaSlotMap<Option<T
     /// Returns `true` if no key is held.
     #[inline]
     pub fn is_empty(&self) -> bool
-        ensures value { IsTrue result ↔ (map_len self.now ≡ 0) }
+        ensures value { IsTrue result ↔ (slot_map_len self.now ≡ 0) }
     {
         self.len() == 0
     }
@@ -115,7 +115,7 @@ impl<T, S: Table<Option<T>>, L: Table<Link>, G: Table<u64>> MetaSlotMap<Option<T
     /// Returns `true` if `key` is held.
     #[inline]
     pub fn contains(&self, key: SlotMapKey) -> bool
-        ensures value { IsTrue result ↔ IsSome (map_value self.now key) }
+        ensures value { IsTrue result ↔ IsSome (slot_map_value self.now key) }
         ensures dead { IsDead self.now key → result ≡ false }
     {
         self.is_held(key, &mut Touches::new())
@@ -124,7 +124,7 @@ impl<T, S: Table<Option<T>>, L: Table<Link>, G: Table<u64>> MetaSlotMap<Option<T
     /// Returns the value of `key`, or `None` if `key` is not held.
     #[inline]
     pub fn get(&self, key: SlotMapKey) -> Option<&T>
-        ensures value { option_copied result ≡ map_value self.now key }
+        ensures value { option_copied result ≡ slot_map_value self.now key }
         ensures dead { IsDead self.now key → IsNone result }
     {
         if !self.is_held(key, &mut Touches::new()) {
@@ -138,15 +138,15 @@ impl<T, S: Table<Option<T>>, L: Table<Link>, G: Table<u64>> MetaSlotMap<Option<T
     pub fn get_mut(&mut self, key: SlotMapKey) -> Option<&mut T>
         ensures* writes_back { sem 𝓛
             (LendsIf (the_row (option.the_row T.row) S.row L.row G.row ⟦<Option<T> as Content>⟧ S.Table L.Table G.Table)
-            T.row self.entry result (map_set self.old key) self.old) }
-        ensures value { option_copied_mut result ≡ map_value self.old key }
+            T.row self.entry result (slot_map_set self.old key) self.old) }
+        ensures value { option_copied_mut result ≡ slot_map_value self.old key }
         // Whatever value is written, the key has it, any other key keeps its own, and a dead key stays dead.
-        ensures holds { (written : T) → IsSome (map_value self.old key)
-            → map_value (map_set self.old key written) key ≡ Some written }
-        ensures kept { (written : T) (other : SlotKey) → IsSome (map_value self.old key)
-            → other ≢ key → map_value (map_set self.old key written) other ≡ map_value self.old other }
-        ensures dead { (written : T) (other : SlotKey) → IsSome (map_value self.old key)
-            → IsDead self.old other → IsDead (map_set self.old key written) other }
+        ensures holds { (written : T) → IsSome (slot_map_value self.old key)
+            → slot_map_value (slot_map_set self.old key written) key ≡ Some written }
+        ensures kept { (written : T) (other : SlotKey) → IsSome (slot_map_value self.old key)
+            → other ≢ key → slot_map_value (slot_map_set self.old key written) other ≡ slot_map_value self.old other }
+        ensures dead { (written : T) (other : SlotKey) → IsSome (slot_map_value self.old key)
+            → IsDead self.old other → IsDead (slot_map_set self.old key written) other }
         ensures not_held { IsDead self.old key → IsNone result }
     {
         if self.contains(key) {
@@ -160,7 +160,7 @@ impl<T, S: Table<Option<T>>, L: Table<Link>, G: Table<u64>> MetaSlotMap<Option<T
     /// for all of its items together.
     #[inline]
     pub fn iter(&self) -> Iter<'_, T, S, L, G>
-        ensures entries { result ≡ map_entries self.now }
+        ensures entries { result ≡ slot_map_entries self.now }
         ensures rising { KeysRise result }
         ensures exactly { ListsExactly result self.now }
         ensures dead { (key : SlotKey) → IsDead self.now key
@@ -175,7 +175,7 @@ impl<T, S: Table<Option<T>>, L: Table<Link>, G: Table<u64>> MetaSlotMap<Option<T
     pub fn insert(&mut self, value: T) -> Option<SlotMapKey>
     where
         T: Drop,
-        ensures { MapInsert self.old value self.new result }
+        ensures { SlotMapInsert self.old value self.new result }
     {
         self.insert_counted(value, &mut Touches::new())
     }
@@ -189,7 +189,7 @@ impl<T, S: Table<Option<T>>, L: Table<Link>, G: Table<u64>> MetaSlotMap<Option<T
     pub fn insert_at(&mut self, index: usize, value: T) -> Option<SlotMapKey>
     where
         T: Drop,
-        ensures { MapInsertAt self.old index value self.new result }
+        ensures { SlotMapInsertAt self.old index value self.new result }
     {
         self.insert_at_counted(index, value, &mut Touches::new())
     }
@@ -200,7 +200,7 @@ impl<T, S: Table<Option<T>>, L: Table<Link>, G: Table<u64>> MetaSlotMap<Option<T
     /// generation `u32::MAX` is retired.
     #[inline]
     pub fn remove(&mut self, key: SlotMapKey) -> Option<T>
-        ensures { MapRemove self.old key self.new result }
+        ensures { SlotMapRemove self.old key self.new result }
     {
         self.remove_counted(key, &mut Touches::new())
     }
@@ -210,7 +210,7 @@ impl<T, S: Table<Option<T>>, L: Table<Link>, G: Table<u64>> MetaSlotMap<Option<T
     pub fn insert_counted(&mut self, value: T, touches: &mut Touches) -> Option<SlotMapKey>
     where
         T: Drop,
-        ensures step { MapInsert self.old value self.new result }
+        ensures step { SlotMapInsert self.old value self.new result }
         ensures touches { touches.new ≤ touches.old + 20 }
         ensures rises { touches.old ≤ touches.new }
     {
@@ -228,7 +228,7 @@ impl<T, S: Table<Option<T>>, L: Table<Link>, G: Table<u64>> MetaSlotMap<Option<T
     ) -> Option<SlotMapKey>
     where
         T: Drop,
-        ensures step { MapInsertAt self.old index value self.new result }
+        ensures step { SlotMapInsertAt self.old index value self.new result }
         ensures touches { touches.new ≤ touches.old + 20 }
         ensures rises { touches.old ≤ touches.new }
     {
@@ -239,7 +239,7 @@ impl<T, S: Table<Option<T>>, L: Table<Link>, G: Table<u64>> MetaSlotMap<Option<T
     /// Does what [`MetaSlotMap::remove`] does, and raises `touches` by at most 20, whatever the capacity.
     #[inline]
     pub fn remove_counted(&mut self, key: SlotMapKey, touches: &mut Touches) -> Option<T>
-        ensures step { MapRemove self.old key self.new result }
+        ensures step { SlotMapRemove self.old key self.new result }
         ensures touches { touches.new ≤ touches.old + 20 }
         ensures rises { touches.old ≤ touches.new }
     {
@@ -277,7 +277,7 @@ impl<T, S: Table<Option<T>>, L: Table<Link>, G: Table<u64>> MetaSlotMap<Option<T
     /// Returns `true` if `key` is held.
     #[inline]
     fn is_held(&self, key: SlotMapKey, touches: &mut Touches) -> bool
-        ensures value { IsTrue result ↔ IsSome (map_value self.now key) }
+        ensures value { IsTrue result ↔ IsSome (slot_map_value self.now key) }
         ensures touches { touches.new ≤ touches.old + 1 }
         ensures rises { touches.old ≤ touches.new }
     {
@@ -343,7 +343,7 @@ impl<T, S: Table<Option<T>>, L: Table<Link>, G: Table<u64>> MetaSlotMap<Option<T
     fn fill_first(&mut self, value: T, touches: &mut Touches) -> Option<(SlotTableKey, u32)>
     where
         T: Drop,
-        ensures slots { SlotInsert self.old.slots (Some value) self.new.slots
+        ensures slots { SlotTableInsert self.old.slots (Some value) self.new.slots
             (option_map (λ both. both.0) result) }
         ensures generation { IfSome result (λ both. both.1 ≡ generation_at self.old both.0) }
         ensures generations { self.new.generations ≡ self.old.generations }
@@ -360,7 +360,7 @@ impl<T, S: Table<Option<T>>, L: Table<Link>, G: Table<u64>> MetaSlotMap<Option<T
     pub(crate) fn fill(&mut self, index: usize, value: T, touches: &mut Touches) -> u32
         requires { IsFree self.old.slots index }
         ensures generation { result ≡ generation_at self.old index }
-        ensures map { self.new ≡ map_fill self.old index value }
+        ensures map { self.new ≡ slot_map_fill self.old index value }
         ensures touches { touches.new ≤ touches.old + 11 }
         ensures rises { touches.old ≤ touches.new }
     {
@@ -376,7 +376,7 @@ impl<T, S: Table<Option<T>>, L: Table<Link>, G: Table<u64>> MetaSlotMap<Option<T
         requires held { IsSome (place_value self.old index) }
         requires generation { generation_at self.old index < greatest_generation }
         ensures value { result ≡ place_value self.old index }
-        ensures map { self.new ≡ map_vacate self.old index }
+        ensures map { self.new ≡ slot_map_vacate self.old index }
         ensures raised { generation_at self.new index ≡ generation_at self.old index + 1 }
         ensures touches { touches.new ≤ touches.old + 7 }
         ensures rises { touches.old ≤ touches.new }
@@ -393,7 +393,7 @@ impl<T, S: Table<Option<T>>, L: Table<Link>, G: Table<u64>> MetaSlotMap<Option<T
         requires held { IsSome (place_value self.old index) }
         requires generation { generation_at self.old index ≡ greatest_generation }
         ensures value { result ≡ place_value self.old index }
-        ensures map { self.new ≡ map_retire self.old index }
+        ensures map { self.new ≡ slot_map_retire self.old index }
         ensures touches { touches.new ≡ touches.old + 4 }
     {
         // Each place is retired once, so that their number fits.
@@ -411,7 +411,7 @@ impl<T, S: Table<Option<T>>, L: Table<Link>, G: Table<u64>> MetaSlotMap<Option<T
         requires { IsSome (place_value self.old index) }
         ensures* writes_back { sem 𝓛
             (Lends (the_row (option.the_row T.row) S.row L.row G.row ⟦<Option<T> as Content>⟧ S.Table L.Table G.Table)
-            T.row self.entry result (map_set_at self.old index)) }
+            T.row self.entry result (slot_map_set_at self.old index)) }
         ensures value { place_value self.old index ≡ Some result.now }
     {
         item_mut(self.slots.get_unchecked_mut(SlotTableKey::new(index)))

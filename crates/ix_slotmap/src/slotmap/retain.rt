@@ -2,10 +2,10 @@
 ghost use Rattle.std.specs.Prelude.{◌≡◌, ◌≢◌, ◌<◌, ◌↔◌, ◌⊎◌, ℕ, length, map, None, IsSome};
 ghost use Rattle.std.specs.List.{FoldsTo};
 ghost use Rattle.std.specs.Map.{keys_of};
-ghost use Rattle.ix_slottable.specs.SlotState.{value_at};
-ghost use Rattle.ix_slotmap.specs.Generations.{SlotKey, generation_at, key_at, place_value, map_value, IsDead, map_entries};
-ghost use Rattle.ix_slotmap.specs.SlotMapSteps.{map_set, map_remove, map_clear, MapRemove};
-ghost use Rattle.ix_slottable.specs.SlotCalls.{IsCallableOnEach, ChangesItem, RetainsItem};
+ghost use Rattle.ix_slottable.specs.SlotTableState.{value_at};
+ghost use Rattle.ix_slotmap.specs.Generations.{SlotKey, generation_at, key_at, place_value, slot_map_value, IsDead, slot_map_entries};
+ghost use Rattle.ix_slotmap.specs.SlotMapSteps.{slot_map_set, slot_map_remove, slot_map_clear, SlotMapRemove};
+ghost use Rattle.ix_slottable.specs.SlotTableCalls.{IsCallableOnEach, ChangesItem, RetainsItem};
 
 use crate::slotmap::{Keys, MetaSlotMap, SlotMapKey, Values};
 use ix_slottable::slottable::Link;
@@ -19,9 +19,9 @@ impl<T, S: Table<Option<T>>, L: Table<Link>, G: Table<u64>> MetaSlotMap<Option<T
     pub fn clear(&mut self)
     where
         T: Drop,
-        ensures map { self.new ≡ map_clear self.old }
-        ensures empty { (key : SlotKey) → map_value self.new key ≡ None }
-        ensures killed { (key : SlotKey) → IsSome (map_value self.old key) → IsDead self.new key }
+        ensures map { self.new ≡ slot_map_clear self.old }
+        ensures empty { (key : SlotKey) → slot_map_value self.new key ≡ None }
+        ensures killed { (key : SlotKey) → IsSome (slot_map_value self.old key) → IsDead self.new key }
         ensures dead { (key : SlotKey) → IsDead self.old key → IsDead self.new key }
         ensures capacity { length self.new.slots.values ≡ length self.old.slots.values }
     {
@@ -34,7 +34,7 @@ impl<T, S: Table<Option<T>>, L: Table<Link>, G: Table<u64>> MetaSlotMap<Option<T
     /// together.
     #[inline]
     pub fn keys(&self) -> Keys<'_, T, S, L, G>
-        ensures { result ≡ keys_of (map_entries self.now) }
+        ensures { result ≡ keys_of (slot_map_entries self.now) }
     {
         Keys::new(self.iter())
     }
@@ -43,7 +43,7 @@ impl<T, S: Table<Option<T>>, L: Table<Link>, G: Table<u64>> MetaSlotMap<Option<T
     /// items together.
     #[inline]
     pub fn values(&self) -> Values<'_, T, S, L, G>
-        ensures { result ≡ map (λ item. item.1) (map_entries self.now) }
+        ensures { result ≡ map (λ item. item.1) (slot_map_entries self.now) }
     {
         Values::new(self.iter())
     }
@@ -51,11 +51,11 @@ impl<T, S: Table<Option<T>>, L: Table<Link>, G: Table<u64>> MetaSlotMap<Option<T
     /// Calls `f` with each held key in rising order of the indexes and a mutable reference to its value. O(capacity), with one
     /// call for each value.
     pub fn for_each_mut<F: FnMut(SlotMapKey, &mut T)>(&mut self, mut f: F)
-        requires { IsCallableOnEach F.step F.pre f (map_entries self.old) }
-        ensures calls { (last : F) × FoldsTo (ChangesItem map_set F.step)
-            (f, self.old) (map_entries self.old) (last, self.new) }
+        requires { IsCallableOnEach F.step F.pre f (slot_map_entries self.old) }
+        ensures calls { (last : F) × FoldsTo (ChangesItem slot_map_set F.step)
+            (f, self.old) (slot_map_entries self.old) (last, self.new) }
         ensures keys { (key : SlotKey) →
-            IsSome (map_value self.new key) ↔ IsSome (map_value self.old key) }
+            IsSome (slot_map_value self.new key) ↔ IsSome (slot_map_value self.old key) }
         ensures free { self.new.slots.free ≡ self.old.slots.free }
         ensures generations { self.new.generations ≡ self.old.generations }
         ensures dead { (key : SlotKey) → IsDead self.old key → IsDead self.new key }
@@ -76,12 +76,12 @@ impl<T, S: Table<Option<T>>, L: Table<Link>, G: Table<u64>> MetaSlotMap<Option<T
     pub fn retain<F: FnMut(SlotMapKey, &mut T) -> bool>(&mut self, mut f: F)
     where
         T: Drop,
-        requires { IsCallableOnEach F.step F.pre f (map_entries self.old) }
-        ensures calls { (last : F) × FoldsTo (RetainsItem map_set map_remove F.step)
-            (f, self.old) (map_entries self.old) (last, self.new) }
+        requires { IsCallableOnEach F.step F.pre f (slot_map_entries self.old) }
+        ensures calls { (last : F) × FoldsTo (RetainsItem slot_map_set slot_map_remove F.step)
+            (f, self.old) (slot_map_entries self.old) (last, self.new) }
         // A key that was held still is, or it is dead.
-        ensures removed { (key : SlotKey) → IsSome (map_value self.old key)
-            → IsSome (map_value self.new key) ⊎ IsDead self.new key }
+        ensures removed { (key : SlotKey) → IsSome (slot_map_value self.old key)
+            → IsSome (slot_map_value self.new key) ⊎ IsDead self.new key }
         ensures dead { (key : SlotKey) → IsDead self.old key → IsDead self.new key }
         ensures capacity { length self.new.slots.values ≡ length self.old.slots.values }
     {
@@ -100,7 +100,7 @@ impl<T, S: Table<Option<T>>, L: Table<Link>, G: Table<u64>> MetaSlotMap<Option<T
     #[inline]
     pub(crate) fn remove_at(&mut self, index: usize) -> Option<T>
         requires { index < length self.old.slots.values }
-        ensures step { MapRemove self.old (key_at self.old index) self.new result }
+        ensures step { SlotMapRemove self.old (key_at self.old index) self.new result }
         ensures value { result ≡ place_value self.old index }
         ensures gone { place_value self.new index ≡ None }
     {

@@ -2,7 +2,7 @@
 ghost use Rattle.std.specs.Prelude.{◌≡◌, ◌+◌, ◌<◌, ◌≤◌, IfOk, IsSome, option_map};
 ghost use Rattle.std.specs.Result.{IfErr, result_ok};
 ghost use Rattle.ix_slotmap.specs.Generations.{greatest_generation, generation_at, place_value};
-ghost use Rattle.ix_slotmap.specs.SlotMapSteps.{map_replace, MapInsert, MapInsertAt};
+ghost use Rattle.ix_slotmap.specs.SlotMapSteps.{slot_map_replace, SlotMapInsert, SlotMapInsertAt};
 
 use crate::slotmap::{MetaSlotMap, SlotMapKey};
 use ix_slottable::slottable::{Link, SlotTableKey};
@@ -15,7 +15,7 @@ impl<T, S: Table<Option<T>>, L: Table<Link>, G: Table<u64>> MetaSlotMap<Option<T
     /// Returns `value` as the error if no place is free.
     #[inline]
     pub fn try_insert(&mut self, value: T) -> Result<SlotMapKey, T>
-        ensures step { MapInsert self.old value self.new (result_ok result) }
+        ensures step { SlotMapInsert self.old value self.new (result_ok result) }
         ensures returned { IfErr result (λ refused. refused ≡ value) }
     {
         let Some(place) = self.slots.next_free_key() else {
@@ -33,7 +33,7 @@ impl<T, S: Table<Option<T>>, L: Table<Link>, G: Table<u64>> MetaSlotMap<Option<T
     /// nothing.
     #[inline]
     pub fn try_insert_at(&mut self, index: usize, value: T) -> Result<(SlotMapKey, Option<T>), T>
-        ensures step { MapInsertAt self.old index value self.new
+        ensures step { SlotMapInsertAt self.old index value self.new
             (option_map (λ both. both.0) (result_ok result)) }
         ensures replaced { IfOk result (λ both. both.1 ≡ place_value self.old index) }
         ensures returned { IfErr result (λ refused. refused ≡ value) }
@@ -49,7 +49,7 @@ impl<T, S: Table<Option<T>>, L: Table<Link>, G: Table<u64>> MetaSlotMap<Option<T
         value: T,
         touches: &mut Touches,
     ) -> Result<(SlotMapKey, Option<T>), T>
-        ensures step { MapInsertAt self.old index value self.new
+        ensures step { SlotMapInsertAt self.old index value self.new
             (option_map (λ both. both.0) (result_ok result)) }
         ensures replaced { IfOk result (λ both. both.1 ≡ place_value self.old index) }
         ensures returned { IfErr result (λ refused. refused ≡ value) }
@@ -78,7 +78,7 @@ impl<T, S: Table<Option<T>>, L: Table<Link>, G: Table<u64>> MetaSlotMap<Option<T
         requires generation { generation_at self.old index < greatest_generation }
         ensures generation { result.0 ≡ generation_at self.old index + 1 }
         ensures value { result.1 ≡ place_value self.old index }
-        ensures map { self.new ≡ map_replace self.old index value }
+        ensures map { self.new ≡ slot_map_replace self.old index value }
         ensures raised { generation_at self.new index ≡ generation_at self.old index + 1 }
         ensures touches { touches.new ≡ touches.old + 4 }
     {

@@ -2,7 +2,7 @@
 use Rattle.std.specs.Prelude.{◌≡◌, ◌≢◌, ℕ, zero, suc, ◌+◌, ◌-◌, ◌<◌, ◌≤◌, List, [], ◌∷◌, ◌++◌, length, nat_eq, count_by, if◌then◌else◌, Option, Some, None, IsSome, option_map, unwrap_or, ◌⊎◌, slice_set}
 use Rattle.ix_tables.specs.Places.{place_at, IsHeldAt}
 use Rattle.ix_slottable.specs.declared.slottable.link.Link.{Link}
-use Rattle.ix_slottable.specs.SlotState.{SlotState, held_count, IsWellFormed}
+use Rattle.ix_slottable.specs.SlotTableState.{SlotTableState, held_count, IsWellFormed}
 
 -- the number for no key: no table has so many places
 abbrev pub no_key : ℕ
@@ -84,11 +84,11 @@ IsRisingList capacity links =
 
 module _ {T : Type 0} where
   -- what contracts see of the two tables and the first free key
-  abbrev pub slots_of : List (Option T) → List (Option Link) → ℕ → SlotState T
+  abbrev pub slots_of : List (Option T) → List (Option Link) → ℕ → SlotTableState T
   slots_of values links first = record { values = values; free = links_keys_from (length links) links first }
 
   -- if the key is in the free list, this is its link: free, between the key before it and the one after it
-  abbrev pub IsLinkOf : Link → SlotState T → ℕ → Type 0
+  abbrev pub IsLinkOf : Link → SlotTableState T → ℕ → Type 0
   IsLinkOf link s key =
       (before after : List ℕ) → s.free ≡ before ++ key ∷ after → link ≡ free_link (last_or no_key before) (first_or after no_key)
 
@@ -103,7 +103,7 @@ module _ {T : Type 0} where
     pub each : (key : ℕ) → key < length links → MatchesLink (place_at values key) key (place_at links key)
 
   -- the links are the free list in its order, and every other key has the link of a held one
-  pub record Represents (s : SlotState T) (links : List (Option Link)) (first len : ℕ) : Type 0 where
+  pub record Represents (s : SlotTableState T) (links : List (Option Link)) (first len : ℕ) : Type 0 where
     pub lengths : length links ≡ length s.values
     pub below : length s.values ≤ no_key
     pub chain : IsChain links no_key s.free no_key

@@ -1,8 +1,8 @@
 //! Clones of slot tables.
 ghost use Rattle.std.specs.Prelude.{◌≡◌, ◌↔◌, ℕ, length, replicate, None, IsOk, IfOk, OnOk};
 ghost use Rattle.ix_tables.specs.Cloning.{AreEqualClones};
-ghost use Rattle.ix_slottable.specs.SlotState.{value_at, IsHeld};
-ghost use Rattle.ix_slottable.specs.SlotCopies.{IsCloneAt, SlotIsClone, SlotIsInfallible};
+ghost use Rattle.ix_slottable.specs.SlotTableState.{value_at, IsHeld};
+ghost use Rattle.ix_slottable.specs.SlotTableCopies.{IsCloneAt, SlotTableIsClone, SlotTableIsInfallible};
 
 use crate::slottable::free_list::copy_links;
 use crate::slottable::{FixedSizeSlotTable, Link, MetaSlotTable, SlotTable, SlotTableKey};
@@ -19,8 +19,8 @@ impl<T, S: Table<T>, L: Table<Link>> MetaSlotTable<T, S, L> {
     where
         T: Clone,
         requires { self.old.values ≡ replicate (length other.now.values) None }
-        ensures clones { OnOk result (SlotIsClone T.is_clone other.now self.new) }
-        ensures memory { SlotIsInfallible T.is_infallible other.now → IsOk result }
+        ensures clones { OnOk result (SlotTableIsClone T.is_clone other.now self.new) }
+        ensures memory { SlotTableIsInfallible T.is_infallible other.now → IsOk result }
     {
         self.put_clones(other)?;
         self.copy_free_keys(other);
@@ -38,7 +38,7 @@ impl<T, S: Table<T>, L: Table<Link>> MetaSlotTable<T, S, L> {
         ensures capacity { length self.new.values ≡ length other.now.values }
         ensures values { OnOk result
             ((key : ℕ) → IsCloneAt T.is_clone (value_at other.now key) (value_at self.new key)) }
-        ensures memory { SlotIsInfallible T.is_infallible other.now → IsOk result }
+        ensures memory { SlotTableIsInfallible T.is_infallible other.now → IsOk result }
     {
         for number in 0..other.capacity() {
             let key = SlotTableKey::new(number);
@@ -77,9 +77,9 @@ impl<T: Drop, const CAPACITY: usize> FixedSizeSlotTable<T, CAPACITY> {
 }
 
 impl<T: Clone, const CAPACITY: usize> Clone for FixedSizeSlotTable<T, CAPACITY> {
-    ghost is_clone = { SlotIsClone T.is_clone };
+    ghost is_clone = { SlotTableIsClone T.is_clone };
 
-    ghost is_infallible = { SlotIsInfallible T.is_infallible };
+    ghost is_infallible = { SlotTableIsInfallible T.is_infallible };
 
     /// Creates a table that holds clones of the values at the same keys, and has the same free keys in the same order.
     /// O(`CAPACITY`).

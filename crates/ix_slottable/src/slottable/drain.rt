@@ -2,8 +2,8 @@
 ghost use Rattle.std.specs.Prelude.{◌≡◌, length, drop, Some, IfSome};
 ghost use Rattle.std.specs.Iterator.{UpTo, at_most, item_count};
 ghost use Rattle.std.specs.Iterator.SizeHint.{IsWithinCount};
-ghost use Rattle.ix_slottable.specs.SlotState.{held_count, entries, entries_from};
-ghost use Rattle.ix_slottable.specs.SlotSteps.{slot_clear};
+ghost use Rattle.ix_slottable.specs.SlotTableState.{held_count, entries, entries_from};
+ghost use Rattle.ix_slottable.specs.SlotTableSteps.{slot_table_clear};
 
 use crate::slottable::{Link, MetaSlotTable, SlotTableKey};
 use ix_tables::Table;
@@ -24,7 +24,7 @@ pub struct Drain<'a, T, S: Table<T>, L: Table<Link>> {
 
 impl<T, S: Table<T>, L: Table<Link>> MetaSlotTable<T, S, L> {
     ghost use Rattle.ix_slottable.specs.Draining.{DrainingKeepsAlong};
-    ghost use Rattle.ix_slottable.specs.SlotDrain.{drain_items, drain_left, drain_lender};
+    ghost use Rattle.ix_slottable.specs.SlotTableDrain.{drain_items, drain_left, drain_lender};
 
     /// Returns an iterator that removes all values, each with its key, in rising order of the keys. What is not taken is
     /// dropped with it, and the table is as [`MetaSlotTable::clear`] leaves it then. O(1), and O(capacity) for all of its items
@@ -34,7 +34,7 @@ impl<T, S: Table<T>, L: Table<Link>> MetaSlotTable<T, S, L> {
     where
         T: Drop,
         ensures items { drain_items result ≡ entries self.old }
-        ensures left { drain_left result ≡ slot_clear self.old }
+        ensures left { drain_left result ≡ slot_table_clear self.old }
         // With these two a caller knows what the map is once the iterator is dropped.
         ensures same_reference { drain_lender result ≡ self.entry.ghost_name }
         ensures stays { DrainingKeepsAlong drain_items drain_lender drain_left result }
@@ -45,7 +45,7 @@ impl<T, S: Table<T>, L: Table<Link>> MetaSlotTable<T, S, L> {
 
 /// Drops the values that are still to come, that of the least key first. The table is empty then. O(capacity).
 impl<T: Drop, S: Table<T>, L: Table<Link>> Drop for Drain<'_, T, S, L> {
-    ghost use Rattle.ix_slottable.specs.SlotDrain.{drain_left};
+    ghost use Rattle.ix_slottable.specs.SlotTableDrain.{drain_left};
 
     fn drop(self)
         ensures { self.exit.0.now ≡ drain_left self.entry }
@@ -59,7 +59,7 @@ impl<T: Drop, S: Table<T>, L: Table<Link>> Iterator for Drain<'_, T, S, L> {
     type Item = (SlotTableKey, T);
 
     ghost use Rattle.ix_slottable.specs.Draining.{DrainingSteps};
-    ghost use Rattle.ix_slottable.specs.SlotDrain.{drain_items, drain_left, drain_lender};
+    ghost use Rattle.ix_slottable.specs.SlotTableDrain.{drain_items, drain_left, drain_lender};
 
     ghost next_gives = { DrainingSteps drain_items drain_lender drain_left };
 

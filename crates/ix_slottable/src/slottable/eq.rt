@@ -3,7 +3,7 @@ ghost use Rattle.std.specs.Prelude.{nat_eq, ◌&&◌};
 ghost use Rattle.std.specs.Cmp.{and_per, on_per, on_equiv, partial_equiv_from_equiv};
 ghost use Rattle.std.proofs.lemmas.Cmp.{and_equiv, nat_eq_equiv};
 ghost use Rattle.std.specs.Cmp.Lexicographic.{pointwise, lists_per, lists_equiv};
-ghost use Rattle.ix_slottable.specs.SlotState.{entries};
+ghost use Rattle.ix_slottable.specs.SlotTableState.{entries};
 
 use crate::slottable::{Link, MetaSlotTable};
 use ix_tables::Table;

@@ -1,6 +1,6 @@
 //! Values of a slot table by their keys.
 ghost use Rattle.std.specs.Prelude.{◌≡◌, Some};
-ghost use Rattle.ix_slottable.specs.SlotState.{IsHeld, value_at};
+ghost use Rattle.ix_slottable.specs.SlotTableState.{IsHeld, value_at};
 
 use crate::slottable::{Link, MetaSlotTable, SlotTableKey};
 use ix_tables::Table;

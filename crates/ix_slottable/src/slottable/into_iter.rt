@@ -2,7 +2,7 @@
 ghost use Rattle.std.specs.Prelude.{◌≡◌, length, Some, IfSome};
 ghost use Rattle.std.specs.Iterator.{YieldsFirst, UpTo, at_most, item_count};
 ghost use Rattle.std.specs.Iterator.SizeHint.{IsWithinCount};
-ghost use Rattle.ix_slottable.specs.SlotState.{entries};
+ghost use Rattle.ix_slottable.specs.SlotTableState.{entries};
 
 use crate::slottable::{Link, MetaSlotTable, SlotTableKey};
 use ix_tables::Table;
@@ -24,7 +24,7 @@ pub struct IntoIter<T, S: Table<T>, L: Table<Link>> {
 
 impl<T, S: Table<T>, L: Table<Link>> Model for IntoIter<T, S, L> {
     ghost use Rattle.std.specs.Prelude.{◌≡◌, ℕ, List, length, drop};
-    ghost use Rattle.ix_slottable.specs.SlotState.{held_count, entries_from};
+    ghost use Rattle.ix_slottable.specs.SlotTableState.{held_count, entries_from};
 
     ghost Value = { List (ℕ × T) };
 

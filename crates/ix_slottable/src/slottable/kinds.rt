@@ -3,7 +3,7 @@ ghost use Rattle.std.specs.Prelude.{◌≡◌, ℕ, ◌≤◌, IfOk, IsOk};
 ghost use Rattle.std.specs.Mem.{type_size};
 ghost use Rattle.ix_tables.specs.Memory.{no_memory};
 ghost use Rattle.ix_slottable.specs.Memory.{slot_table_memory};
-ghost use Rattle.ix_slottable.specs.SlotState.{slot_new};
+ghost use Rattle.ix_slottable.specs.SlotTableState.{slot_table_new};
 
 use crate::slottable::{Link, MetaSlotTable};
 use ix_tables::{
@@ -27,7 +27,7 @@ impl<T: Drop, const CAPACITY: usize> FixedSizeSlotTable<T, CAPACITY> {
     /// O(`CAPACITY`). `CAPACITY` is at most [`MAX_FIXED_CAPACITY`].
     pub fn new() -> Self
         requires { CAPACITY ≤ MAX_FIXED_CAPACITY }
-        ensures { result ≡ slot_new CAPACITY }
+        ensures { result ≡ slot_table_new CAPACITY }
     {
         MetaSlotTable::from_tables(InlineTable::new(), InlineTable::new())
     }
@@ -35,7 +35,7 @@ impl<T: Drop, const CAPACITY: usize> FixedSizeSlotTable<T, CAPACITY> {
 
 /// Creates an empty table. O(`CAPACITY`).
 impl<T: Drop, const CAPACITY: usize> Default for FixedSizeSlotTable<T, CAPACITY> {
-    ghost is_default = { λ map. map ≡ slot_new CAPACITY };
+    ghost is_default = { λ map. map ≡ slot_table_new CAPACITY };
 
     fn default() -> Self {
         MetaSlotTable::from_tables(InlineTable::default(), InlineTable::default())
@@ -71,7 +71,7 @@ impl<T: Drop, A: Allocator + Copy> SlotTable<T, A> {
     /// O(`capacity`), with at most four allocations. Returns `AllocError` if one fails, and if the values would take more
     /// than `isize::MAX` bytes; nothing stays allocated then. A capacity of 0 needs no memory.
     pub fn new(alloc: A, capacity: usize) -> Result<Self, AllocError>
-        ensures value { IfOk result (λ map. map ≡ slot_new capacity) }
+        ensures value { IfOk result (λ map. map ≡ slot_table_new capacity) }
         ensures memory { capacity ≡ 0 → IsOk result }
     {
         let values = HeapTable::new(alloc, capacity)?;
@@ -115,7 +115,7 @@ pub struct SlotTableFamily<T> {
 impl<T: Drop, A: Allocator + Copy> ContainerFamily<A> for SlotTableFamily<T> {
     type Container = RelocatableSlotTable<T, A>;
 
-    ghost is_empty_with = { λ capacity map. map ≡ slot_new capacity };
+    ghost is_empty_with = { λ capacity map. map ≡ slot_table_new capacity };
 
     /// Creates an empty table with `capacity` keys. O(`capacity`), with at most four allocations.
     #[inline]

@@ -5,8 +5,8 @@ ghost use Rattle.std.specs.Map.{keys_of, lookup};
 ghost use Rattle.std.specs.Borrow.{sem, Lends, LendsIf};
 ghost use Rattle.std.specs.Option.{option_copied_mut};
 ghost use Rattle.ix_tables.specs.Places.{IsVacant};
-ghost use Rattle.ix_slottable.specs.SlotState.{value_at, IsHeld, IsKey, IsFree, IsWellFormed, slot_new, held_count, entries, entries_from};
-ghost use Rattle.ix_slottable.specs.SlotSteps.{slot_set, slot_fill, slot_insert, SlotInsert, SlotInsertAt, SlotRemove};
+ghost use Rattle.ix_slottable.specs.SlotTableState.{value_at, IsHeld, IsKey, IsFree, IsWellFormed, slot_table_new, held_count, entries, entries_from};
+ghost use Rattle.ix_slottable.specs.SlotTableSteps.{slot_table_set, slot_table_fill, slot_table_insert, SlotTableInsert, SlotTableInsertAt, SlotTableRemove};
 ghost use Rattle.ix_slottable.specs.inner.FreeList.{no_key, IsLinkOf, MatchesLinks};
 
 use crate::slottable::free_list::{
@@ -39,12 +39,12 @@ pub struct MetaSlotTable<T, S: Table<T>, L: Table<Link>> {
 }
 
 impl<T, S: Table<T>, L: Table<Link>> Model for MetaSlotTable<T, S, L> {
-    ghost use Rattle.ix_slottable.specs.SlotState.{SlotState, slot_state_code};
+    ghost use Rattle.ix_slottable.specs.SlotTableState.{SlotTableState, slot_table_state_code};
     ghost use Rattle.ix_slottable.specs.inner.FreeList.{slots_of, Represents};
 
-    ghost Value = { SlotState T };
+    ghost Value = { SlotTableState T };
 
-    ghost coded = { slot_state_code T.code };
+    ghost coded = { slot_table_state_code T.code };
 
     ghost view = { λ map. slots_of (S.places map.values) (L.places map.links) map.first };
 
@@ -62,7 +62,7 @@ impl<T, S: Table<T>, L: Table<Link>> MetaSlotTable<T, S, L> {
     pub fn from_tables(values: S, links: L) -> Self
         requires values { IsVacant (S.places values) }
         requires links { L.places links ≡ replicate (length (S.places values)) None }
-        ensures { result ≡ slot_new (length (S.places values)) }
+        ensures { result ≡ slot_table_new (length (S.places values)) }
     {
         let values = Counted::new(values);
         let mut links = Counted::new(links);
@@ -155,13 +155,13 @@ impl<T, S: Table<T>, L: Table<Link>> MetaSlotTable<T, S, L> {
     #[inline]
     pub fn get_mut(&mut self, key: SlotTableKey) -> Option<&mut T>
         ensures* writes_back { sem 𝓛 (LendsIf (the_row T.row S.row L.row S.Table L.Table)
-            T.row self.entry result (slot_set self.old key) self.old) }
+            T.row self.entry result (slot_table_set self.old key) self.old) }
         ensures value { option_copied_mut result ≡ value_at self.old key }
         // Whatever value is written, the key has it, and any other key keeps its own.
         ensures holds { (written : T) → IsHeld self.old key
-            → value_at (slot_set self.old key written) key ≡ Some written }
+            → value_at (slot_table_set self.old key written) key ≡ Some written }
         ensures kept { (written : T) (other : ℕ) → other ≢ key
-            → value_at (slot_set self.old key written) other ≡ value_at self.old other }
+            → value_at (slot_table_set self.old key written) other ≡ value_at self.old other }
     {
         self.get_mut_counted(key, &mut Touches::new())
     }
@@ -171,7 +171,7 @@ impl<T, S: Table<T>, L: Table<Link>> MetaSlotTable<T, S, L> {
     pub fn get_unchecked_mut(&mut self, key: SlotTableKey) -> &mut T
         requires { IsHeld self.old key }
         ensures* writes_back { sem 𝓛 (Lends (the_row T.row S.row L.row S.Table L.Table)
-            T.row self.entry result (slot_set self.old key)) }
+            T.row self.entry result (slot_table_set self.old key)) }
         ensures value { value_at self.old key ≡ Some result.now }
     {
         self.get_unchecked_mut_counted(key, &mut Touches::new())
@@ -194,7 +194,7 @@ impl<T, S: Table<T>, L: Table<Link>> MetaSlotTable<T, S, L> {
     pub fn insert(&mut self, value: T) -> Option<SlotTableKey>
     where
         T: Drop,
-        ensures { SlotInsert self.old value self.new result }
+        ensures { SlotTableInsert self.old value self.new result }
     {
         self.insert_counted(value, &mut Touches::new())
     }
@@ -205,7 +205,7 @@ impl<T, S: Table<T>, L: Table<Link>> MetaSlotTable<T, S, L> {
     pub fn insert_at(&mut self, key: SlotTableKey, value: T) -> bool
     where
         T: Drop,
-        ensures { SlotInsertAt self.old key value self.new result }
+        ensures { SlotTableInsertAt self.old key value self.new result }
     {
         self.insert_at_counted(key, value, &mut Touches::new())
     }
@@ -214,7 +214,7 @@ impl<T, S: Table<T>, L: Table<Link>> MetaSlotTable<T, S, L> {
     #[inline]
     pub fn insert_at_unchecked(&mut self, key: SlotTableKey, value: T)
         requires { IsFree self.old key }
-        ensures { SlotInsertAt self.old key value self.new true }
+        ensures { SlotTableInsertAt self.old key value self.new true }
     {
         self.insert_at_unchecked_counted(key, value, &mut Touches::new())
     }
@@ -223,7 +223,7 @@ impl<T, S: Table<T>, L: Table<Link>> MetaSlotTable<T, S, L> {
     /// first free key.
     #[inline]
     pub fn remove(&mut self, key: SlotTableKey) -> Option<T>
-        ensures { SlotRemove self.old key self.new result }
+        ensures { SlotTableRemove self.old key self.new result }
     {
         self.remove_counted(key, &mut Touches::new())
     }
@@ -232,7 +232,7 @@ impl<T, S: Table<T>, L: Table<Link>> MetaSlotTable<T, S, L> {
     #[inline]
     pub fn remove_unchecked(&mut self, key: SlotTableKey) -> T
         requires { IsHeld self.old key }
-        ensures { SlotRemove self.old key self.new (Some result) }
+        ensures { SlotTableRemove self.old key self.new (Some result) }
     {
         self.remove_unchecked_counted(key, &mut Touches::new())
     }
@@ -270,12 +270,12 @@ impl<T, S: Table<T>, L: Table<Link>> MetaSlotTable<T, S, L> {
     #[inline]
     pub fn get_mut_counted(&mut self, key: SlotTableKey, touches: &mut Touches) -> Option<&mut T>
         ensures* writes_back { sem 𝓛 (LendsIf (the_row T.row S.row L.row S.Table L.Table)
-            T.row self.entry result (slot_set self.old key) self.old) }
+            T.row self.entry result (slot_table_set self.old key) self.old) }
         ensures value { option_copied_mut result ≡ value_at self.old key }
         ensures holds { (written : T) → IsHeld self.old key
-            → value_at (slot_set self.old key written) key ≡ Some written }
+            → value_at (slot_table_set self.old key written) key ≡ Some written }
         ensures kept { (written : T) (other : ℕ) → other ≢ key
-            → value_at (slot_set self.old key written) other ≡ value_at self.old other }
+            → value_at (slot_table_set self.old key written) other ≡ value_at self.old other }
         ensures touches { touches.new ≤ touches.old + 4 }
         ensures rises { touches.old ≤ touches.new }
     {
@@ -291,7 +291,7 @@ impl<T, S: Table<T>, L: Table<Link>> MetaSlotTable<T, S, L> {
     pub fn get_unchecked_mut_counted(&mut self, key: SlotTableKey, touches: &mut Touches) -> &mut T
         requires { IsHeld self.old key }
         ensures* writes_back { sem 𝓛 (Lends (the_row T.row S.row L.row S.Table L.Table)
-            T.row self.entry result (slot_set self.old key)) }
+            T.row self.entry result (slot_table_set self.old key)) }
         ensures value { value_at self.old key ≡ Some result.now }
         ensures touches { touches.new ≡ touches.old + 2 }
     {
@@ -303,7 +303,7 @@ impl<T, S: Table<T>, L: Table<Link>> MetaSlotTable<T, S, L> {
     pub fn insert_counted(&mut self, value: T, touches: &mut Touches) -> Option<SlotTableKey>
     where
         T: Drop,
-        ensures step { SlotInsert self.old value self.new result }
+        ensures step { SlotTableInsert self.old value self.new result }
         ensures touches { touches.new ≤ touches.old + 16 }
         ensures rises { touches.old ≤ touches.new }
     {
@@ -320,7 +320,7 @@ impl<T, S: Table<T>, L: Table<Link>> MetaSlotTable<T, S, L> {
     pub fn insert_at_counted(&mut self, key: SlotTableKey, value: T, touches: &mut Touches) -> bool
     where
         T: Drop,
-        ensures step { SlotInsertAt self.old key value self.new result }
+        ensures step { SlotTableInsertAt self.old key value self.new result }
         ensures touches { touches.new ≤ touches.old + 16 }
         ensures rises { touches.old ≤ touches.new }
     {
@@ -346,7 +346,7 @@ impl<T, S: Table<T>, L: Table<Link>> MetaSlotTable<T, S, L> {
         touches: &mut Touches,
     )
         requires { IsFree self.old key }
-        ensures step { SlotInsertAt self.old key value self.new true }
+        ensures step { SlotTableInsertAt self.old key value self.new true }
         ensures touches { touches.new ≤ touches.old + 9 }
         ensures rises { touches.old ≤ touches.new }
     {
@@ -357,7 +357,7 @@ impl<T, S: Table<T>, L: Table<Link>> MetaSlotTable<T, S, L> {
     /// Does what [`MetaSlotTable::remove`] does, and raises `touches` by at most 16, whatever the capacity.
     #[inline]
     pub fn remove_counted(&mut self, key: SlotTableKey, touches: &mut Touches) -> Option<T>
-        ensures step { SlotRemove self.old key self.new result }
+        ensures step { SlotTableRemove self.old key self.new result }
         ensures touches { touches.new ≤ touches.old + 16 }
         ensures rises { touches.old ≤ touches.new }
     {
@@ -372,7 +372,7 @@ impl<T, S: Table<T>, L: Table<Link>> MetaSlotTable<T, S, L> {
     #[inline]
     pub fn remove_unchecked_counted(&mut self, key: SlotTableKey, touches: &mut Touches) -> T
         requires { IsHeld self.old key }
-        ensures step { SlotRemove self.old key self.new (Some result) }
+        ensures step { SlotTableRemove self.old key self.new (Some result) }
         ensures touches { touches.new ≤ touches.old + 5 }
         ensures rises { touches.old ≤ touches.new }
     {

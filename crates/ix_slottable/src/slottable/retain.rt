@@ -2,9 +2,9 @@
 ghost use Rattle.std.specs.Prelude.{◌≡◌, ◌↔◌, ℕ, length, map, replicate, None};
 ghost use Rattle.std.specs.List.{FoldsTo};
 ghost use Rattle.std.specs.Map.{keys_of};
-ghost use Rattle.ix_slottable.specs.SlotState.{IsHeld, entries};
-ghost use Rattle.ix_slottable.specs.SlotSteps.{slot_set, slot_remove, slot_clear};
-ghost use Rattle.ix_slottable.specs.SlotCalls.{IsCallableOnEach, ChangesItem, RetainsItem};
+ghost use Rattle.ix_slottable.specs.SlotTableState.{IsHeld, entries};
+ghost use Rattle.ix_slottable.specs.SlotTableSteps.{slot_table_set, slot_table_remove, slot_table_clear};
+ghost use Rattle.ix_slottable.specs.SlotTableCalls.{IsCallableOnEach, ChangesItem, RetainsItem};
 
 use crate::slottable::{Keys, Link, MetaSlotTable, SlotTableKey, Values};
 use ix_tables::Table;
@@ -17,7 +17,7 @@ impl<T, S: Table<T>, L: Table<Link>> MetaSlotTable<T, S, L> {
     pub fn clear(&mut self)
     where
         T: Drop,
-        ensures map { self.new ≡ slot_clear self.old }
+        ensures map { self.new ≡ slot_table_clear self.old }
         ensures values { self.new.values ≡ replicate (length self.old.values) None }
     {
         for key in 0..self.capacity() {
@@ -45,7 +45,7 @@ impl<T, S: Table<T>, L: Table<Link>> MetaSlotTable<T, S, L> {
     /// value.
     pub fn for_each_mut<F: FnMut(SlotTableKey, &mut T)>(&mut self, mut f: F)
         requires { IsCallableOnEach F.step F.pre f (entries self.old) }
-        ensures calls { (last : F) × FoldsTo (ChangesItem slot_set F.step)
+        ensures calls { (last : F) × FoldsTo (ChangesItem slot_table_set F.step)
             (f, self.old) (entries self.old) (last, self.new) }
         ensures keys { (key : ℕ) → IsHeld self.new key ↔ IsHeld self.old key }
         ensures free { self.new.free ≡ self.old.free }
@@ -66,7 +66,7 @@ impl<T, S: Table<T>, L: Table<Link>> MetaSlotTable<T, S, L> {
     where
         T: Drop,
         requires { IsCallableOnEach F.step F.pre f (entries self.old) }
-        ensures calls { (last : F) × FoldsTo (RetainsItem slot_set slot_remove F.step)
+        ensures calls { (last : F) × FoldsTo (RetainsItem slot_table_set slot_table_remove F.step)
             (f, self.old) (entries self.old) (last, self.new) }
         ensures capacity { length self.new.values ≡ length self.old.values }
     {

@@ -1,7 +1,7 @@
 //! The keys of slot tables.
 ghost use Rattle.std.specs.Prelude.{◌≡◌, ◌≤◌, length, Some, None};
 ghost use Rattle.std.specs.Fmt.{decimal};
-ghost use Rattle.ix_slottable.specs.SlotState.{value_at};
+ghost use Rattle.ix_slottable.specs.SlotTableState.{value_at};
 
 use crate::slottable::{Link, MetaSlotTable};
 use ix_tables::Table;

@@ -1,7 +1,7 @@
 //! The steps of which the calls of a slot table are made.
 ghost use Rattle.std.specs.Prelude.{◌≡◌, ◌≢◌, ◌+◌, ◌<◌, ◌≤◌, [], length, drop, true, false};
-ghost use Rattle.ix_slottable.specs.SlotState.{IsHeld, IsKey, IsFree, entries_from};
-ghost use Rattle.ix_slottable.specs.SlotSteps.{slot_fill, slot_insert};
+ghost use Rattle.ix_slottable.specs.SlotTableState.{IsHeld, IsKey, IsFree, entries_from};
+ghost use Rattle.ix_slottable.specs.SlotTableSteps.{slot_table_fill, slot_table_insert};
 ghost use Rattle.ix_slottable.specs.inner.FreeList.{IsLinkOf};
 
 use crate::slottable::free_list::{first_after_remove, remove, remove_first};
@@ -61,7 +61,7 @@ impl<T, S: Table<T>, L: Table<Link>> MetaSlotTable<T, S, L> {
     pub(crate) fn fill(&mut self, key: usize, link: Link, value: T, touches: &mut Touches)
         requires free { IsFree self.old key }
         requires link { IsLinkOf link self.old key }
-        ensures map { self.new ≡ slot_fill self.old key value }
+        ensures map { self.new ≡ slot_table_fill self.old key value }
         ensures touches { touches.new ≤ touches.old + 8 }
         ensures rises { touches.old ≤ touches.new }
     {
@@ -76,7 +76,7 @@ impl<T, S: Table<T>, L: Table<Link>> MetaSlotTable<T, S, L> {
     #[inline]
     pub(crate) fn fill_first(&mut self, value: T, touches: &mut Touches)
         requires { self.old.free ≢ [] }
-        ensures map { self.new ≡ slot_insert self.old value }
+        ensures map { self.new ≡ slot_table_insert self.old value }
         ensures touches { touches.new ≤ touches.old + 8 }
         ensures rises { touches.old ≤ touches.new }
     {
@@ -94,7 +94,7 @@ impl<T, S: Table<T>, L: Table<Link>> MetaSlotTable<T, S, L> {
     where
         T: Drop,
         requires { IsHeld self.old key }
-        ensures map { self.new ≡ slot_fill self.old key value }
+        ensures map { self.new ≡ slot_table_fill self.old key value }
         ensures touches { touches.new ≡ touches.old + 2 }
     {
         *self.values.get_mut(key, touches) = value;

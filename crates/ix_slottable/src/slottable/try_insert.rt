@@ -1,8 +1,8 @@
 //! The calls of a slot table that insert a value and hand back what they don't keep.
 ghost use Rattle.std.specs.Prelude.{◌≡◌, ◌+◌, IfOk, Some};
 ghost use Rattle.std.specs.Result.{IfErr, is_ok, result_ok};
-ghost use Rattle.ix_slottable.specs.SlotState.{value_at, IsHeld};
-ghost use Rattle.ix_slottable.specs.SlotSteps.{slot_fill, SlotInsert, SlotInsertAt};
+ghost use Rattle.ix_slottable.specs.SlotTableState.{value_at, IsHeld};
+ghost use Rattle.ix_slottable.specs.SlotTableSteps.{slot_table_fill, SlotTableInsert, SlotTableInsertAt};
 
 use crate::slottable::link::NO_KEY;
 use crate::slottable::{Link, MetaSlotTable, SlotTableKey};
@@ -15,7 +15,7 @@ impl<T, S: Table<T>, L: Table<Link>> MetaSlotTable<T, S, L> {
     /// Returns `value` as the error if the table is full.
     #[inline]
     pub fn try_insert(&mut self, value: T) -> Result<SlotTableKey, T>
-        ensures step { SlotInsert self.old value self.new (result_ok result) }
+        ensures step { SlotTableInsert self.old value self.new (result_ok result) }
         ensures returned { IfErr result (λ refused. refused ≡ value) }
     {
         if self.first == NO_KEY {
@@ -30,7 +30,7 @@ impl<T, S: Table<T>, L: Table<Link>> MetaSlotTable<T, S, L> {
     /// error if `key` is out of range. Drops nothing.
     #[inline]
     pub fn try_insert_at(&mut self, key: SlotTableKey, value: T) -> Result<Option<T>, T>
-        ensures step { SlotInsertAt self.old key value self.new (is_ok result) }
+        ensures step { SlotTableInsertAt self.old key value self.new (is_ok result) }
         ensures replaced { IfOk result (λ replaced. replaced ≡ value_at self.old key) }
         ensures returned { IfErr result (λ refused. refused ≡ value) }
     {
@@ -53,7 +53,7 @@ impl<T, S: Table<T>, L: Table<Link>> MetaSlotTable<T, S, L> {
     fn exchange(&mut self, key: usize, value: T, touches: &mut Touches) -> T
         requires { IsHeld self.old key }
         ensures value { value_at self.old key ≡ Some result }
-        ensures map { self.new ≡ slot_fill self.old key value }
+        ensures map { self.new ≡ slot_table_fill self.old key value }
         ensures touches { touches.new ≡ touches.old + 2 }
     {
         mem::replace(self.values.get_mut(key, touches), value)

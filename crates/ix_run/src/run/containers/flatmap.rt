@@ -3,7 +3,7 @@ use crate::run::containers::making::{MakesIn, MakesInline, Named};
 use crate::run::containers::served::Served;
 use crate::run::devices::ReplyWriter;
 use crate::run::replies::append_items;
-use crate::run::{Reply, Runs, ScriptFault, read_flat_command};
+use crate::run::{Reply, Runs, ScriptFault, read_map_command};
 use bumpalo::Bump;
 use ix_flatmap::{FixedSizeFlatMap, FlatMap, MetaFlatMap, Pair, RelocatableFlatMap, UninitFlatMap};
 use ix_slottable::Link;
@@ -13,27 +13,27 @@ use std::io::Write;
 
 impl<S: Table<Pair<u64, u64>>, L: Table<Link>> Served for MetaFlatMap<Pair<u64, u64>, S, L> {
     ghost use Rattle.std.specs.Prelude.{ℕ, nat_eq};
-    ghost use Rattle.ix_slottable.specs.SlotState.{SlotState};
+    ghost use Rattle.ix_slottable.specs.SlotTableState.{SlotTableState};
     ghost use Rattle.ix_flatmap.specs.declared.flatmap.Pair.{Pair};
-    ghost use Rattle.ix_commands.specs.FlatRun.{flat_reply, flat_after};
-    ghost use Rattle.ix_run.specs.Forms.{flat_forms};
-    ghost use Rattle.ix_run.specs.Script.{spelled_reply, spelled_after, flat_shown};
+    ghost use Rattle.ix_commands.specs.MapRun.{map_reply, map_after};
+    ghost use Rattle.ix_run.specs.Forms.{map_forms};
+    ghost use Rattle.ix_run.specs.Script.{spelled_reply, spelled_after, map_shown};
 
     type Key = u64;
 
-    ghost Model = { SlotState (Pair ℕ ℕ) };
+    ghost Model = { SlotTableState (Pair ℕ ℕ) };
 
     ghost model = { λ map. map };
 
-    ghost reply = { spelled_reply flat_forms (flat_reply nat_eq) };
+    ghost reply = { spelled_reply map_forms (map_reply nat_eq) };
 
-    ghost after = { spelled_after flat_forms (flat_after nat_eq) };
+    ghost after = { spelled_after map_forms (map_after nat_eq) };
 
-    ghost shown = { flat_shown };
+    ghost shown = { map_shown };
 
     #[inline]
     fn run_line(&mut self, line: &[u8]) -> Option<Reply<u64, u64>> {
-        let command = read_flat_command(line)?;
+        let command = read_map_command(line)?;
         Some(self.run_command(command))
     }
 
@@ -49,7 +49,7 @@ pub(crate) struct FlatMaps;
 impl Named for FlatMaps {
     ghost use Rattle.ix_run.specs.declared.run.grammar.header.Container.TheVariants as container;
 
-    ghost container = { λ maker. container.Flat };
+    ghost container = { λ maker. container.FlatMap };
 }
 
 impl<const N: usize> MakesInline<N> for FlatMaps {

@@ -133,9 +133,9 @@ fn serve_header_in<'a, R: Read, W: Write>(
     let storage = header.storage;
     match header.container {
         Container::Queue => serve_storage(arena, alloc, Queues, storage, lines, replies),
-        Container::Vec => serve_storage(arena, alloc, Vectors, storage, lines, replies),
-        Container::Table => serve_storage(arena, alloc, SlotTables, storage, lines, replies),
-        Container::Slot(start) => serve_storage(
+        Container::Vector => serve_storage(arena, alloc, Vectors, storage, lines, replies),
+        Container::SlotTable => serve_storage(arena, alloc, SlotTables, storage, lines, replies),
+        Container::SlotMap(start) => serve_storage(
             arena,
             alloc,
             SlotMaps { start },
@@ -143,8 +143,8 @@ fn serve_header_in<'a, R: Read, W: Write>(
             lines,
             replies,
         ),
-        Container::Flat => serve_storage(arena, alloc, FlatMaps, storage, lines, replies),
-        Container::Text => serve_storage(arena, alloc, Strings, storage, lines, replies),
+        Container::FlatMap => serve_storage(arena, alloc, FlatMaps, storage, lines, replies),
+        Container::String => serve_storage(arena, alloc, Strings, storage, lines, replies),
     }
 }
 

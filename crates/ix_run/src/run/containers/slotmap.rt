@@ -7,7 +7,7 @@ use crate::run::containers::making::{MakesIn, MakesInline, Named};
 use crate::run::containers::served::Served;
 use crate::run::devices::{ReplyBuffer, ReplyWriter};
 use crate::run::replies::{ListedItem, ReplyKey, append_items};
-use crate::run::{Reply, Runs, ScriptFault, read_slot_command};
+use crate::run::{Reply, Runs, ScriptFault, read_slot_map_command};
 use bumpalo::Bump;
 use ix_slotmap::{
     FixedSizeSlotMap, MetaSlotMap, RelocatableSlotMap, SlotMap, SlotMapKey, UninitSlotMap,
@@ -33,7 +33,7 @@ impl<S: Table<Option<u64>>, L: Table<Link>, G: Table<u64>> Served
     for MetaSlotMap<Option<u64>, S, L, G> {
     ghost use Rattle.std.specs.Prelude.{ℕ};
     ghost use Rattle.ix_slotmap.specs.Generations.{SlotMapState};
-    ghost use Rattle.ix_run.specs.Script.{slot_line_reply, slot_line_after, slot_shown};
+    ghost use Rattle.ix_run.specs.Script.{slot_map_line_reply, slot_map_line_after, slot_map_shown};
 
     type Key = SlotMapKey;
 
@@ -41,15 +41,15 @@ impl<S: Table<Option<u64>>, L: Table<Link>, G: Table<u64>> Served
 
     ghost model = { λ map. map };
 
-    ghost reply = { slot_line_reply };
+    ghost reply = { slot_map_line_reply };
 
-    ghost after = { slot_line_after };
+    ghost after = { slot_map_line_after };
 
-    ghost shown = { slot_shown };
+    ghost shown = { slot_map_shown };
 
     #[inline]
     fn run_line(&mut self, line: &[u8]) -> Option<Reply<SlotMapKey, u64>> {
-        let command = read_slot_command(line)?;
+        let command = read_slot_map_command(line)?;
         Some(self.run_command(command))
     }
 
@@ -76,7 +76,7 @@ impl SlotMaps {
 impl Named for SlotMaps {
     ghost use Rattle.ix_run.specs.declared.run.grammar.header.Container.TheVariants as container;
 
-    ghost container = { λ maker. container.Slot maker.start };
+    ghost container = { λ maker. container.SlotMap maker.start };
 }
 
 impl<const N: usize> MakesInline<N> for SlotMaps {

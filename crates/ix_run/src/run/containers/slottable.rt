@@ -5,7 +5,7 @@ use crate::run::containers::making::{MakesIn, MakesInline, Named};
 use crate::run::containers::served::Served;
 use crate::run::devices::{ReplyBuffer, ReplyWriter};
 use crate::run::replies::{ListedItem, append_items};
-use crate::run::{Reply, Runs, ScriptFault, read_table_command};
+use crate::run::{Reply, Runs, ScriptFault, read_slot_table_command};
 use bumpalo::Bump;
 use ix_slottable::{
     FixedSizeSlotTable, Link, MetaSlotTable, RelocatableSlotTable, SlotTable, SlotTableKey,
@@ -29,26 +29,26 @@ impl<'a> ListedItem for (SlotTableKey, &'a u64) {
 
 impl<S: Table<u64>, L: Table<Link>> Served for MetaSlotTable<u64, S, L> {
     ghost use Rattle.std.specs.Prelude.{ℕ};
-    ghost use Rattle.ix_slottable.specs.SlotState.{SlotState};
-    ghost use Rattle.ix_commands.specs.TableRun.{table_reply, table_after};
-    ghost use Rattle.ix_run.specs.Forms.{table_forms};
-    ghost use Rattle.ix_run.specs.Script.{spelled_reply, spelled_after, table_shown};
+    ghost use Rattle.ix_slottable.specs.SlotTableState.{SlotTableState};
+    ghost use Rattle.ix_commands.specs.SlotTableRun.{slot_table_reply, slot_table_after};
+    ghost use Rattle.ix_run.specs.Forms.{slot_table_forms};
+    ghost use Rattle.ix_run.specs.Script.{spelled_reply, spelled_after, slot_table_shown};
 
     type Key = usize;
 
-    ghost Model = { SlotState ℕ };
+    ghost Model = { SlotTableState ℕ };
 
     ghost model = { λ map. map };
 
-    ghost reply = { spelled_reply table_forms table_reply };
+    ghost reply = { spelled_reply slot_table_forms slot_table_reply };
 
-    ghost after = { spelled_after table_forms table_after };
+    ghost after = { spelled_after slot_table_forms slot_table_after };
 
-    ghost shown = { table_shown };
+    ghost shown = { slot_table_shown };
 
     #[inline]
     fn run_line(&mut self, line: &[u8]) -> Option<Reply<usize, u64>> {
-        let command = read_table_command(line)?;
+        let command = read_slot_table_command(line)?;
         Some(self.run_command(command))
     }
 
@@ -64,7 +64,7 @@ pub(crate) struct SlotTables;
 impl Named for SlotTables {
     ghost use Rattle.ix_run.specs.declared.run.grammar.header.Container.TheVariants as container;
 
-    ghost container = { λ maker. container.Table };
+    ghost container = { λ maker. container.SlotTable };
 }
 
 impl<const N: usize> MakesInline<N> for SlotTables {

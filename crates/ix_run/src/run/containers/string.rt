@@ -6,7 +6,7 @@ ghost use Rattle.ix_run.specs.inner.Writing.{WriteResult, WriterAppendsPart};
 use crate::run::containers::making::{MakesIn, MakesInline, Named};
 use crate::run::containers::served::Served;
 use crate::run::devices::{MAX_NUMBERS, ReplyBuffer, ReplyPart, ReplyWriter};
-use crate::run::{Reply, Runs, ScriptFault, read_text_command};
+use crate::run::{Reply, Runs, ScriptFault, read_string_command};
 use bumpalo::Bump;
 use ix_string::{
     PolymorphicString, RelocatableString, StaticString, String, UninitString, escape_byte,
@@ -111,9 +111,9 @@ fn append_quoted<W: Write>(
 impl<S: String> Served for StringLines<S> {
     ghost use Rattle.std.specs.Prelude.{ℕ};
     ghost use Rattle.ix_tables.specs.Bounded.{Bounded};
-    ghost use Rattle.ix_commands.specs.TextRun.{text_reply, text_after};
-    ghost use Rattle.ix_run.specs.Forms.{text_forms};
-    ghost use Rattle.ix_run.specs.Script.{spelled_reply, spelled_after, text_shown};
+    ghost use Rattle.ix_commands.specs.StringRun.{string_reply, string_after};
+    ghost use Rattle.ix_run.specs.Forms.{string_forms};
+    ghost use Rattle.ix_run.specs.Script.{spelled_reply, spelled_after, string_shown};
 
     type Key = usize;
 
@@ -121,15 +121,15 @@ impl<S: String> Served for StringLines<S> {
 
     ghost model = { λ lines. S.bounded lines.string };
 
-    ghost reply = { spelled_reply text_forms text_reply };
+    ghost reply = { spelled_reply string_forms string_reply };
 
-    ghost after = { spelled_after text_forms text_after };
+    ghost after = { spelled_after string_forms string_after };
 
-    ghost shown = { text_shown };
+    ghost shown = { string_shown };
 
     #[inline]
     fn run_line(&mut self, line: &[u8]) -> Option<Reply<usize, u64>> {
-        let command = read_text_command(line, &mut self.bytes)?;
+        let command = read_string_command(line, &mut self.bytes)?;
         Some(with_u64_value(self.string.run_command(command)))
     }
 
@@ -145,7 +145,7 @@ pub(crate) struct Strings;
 impl Named for Strings {
     ghost use Rattle.ix_run.specs.declared.run.grammar.header.Container.TheVariants as container;
 
-    ghost container = { λ maker. container.Text };
+    ghost container = { λ maker. container.String };
 }
 
 impl<const N: usize> MakesInline<N> for Strings {

@@ -5,7 +5,7 @@ use crate::run::containers::making::{MakesIn, MakesInline, Named};
 use crate::run::containers::served::Served;
 use crate::run::devices::{MAX_NUMBERS, ReplyWriter};
 use crate::run::replies::append_items;
-use crate::run::{Reply, Runs, ScriptFault, read_vec_command};
+use crate::run::{Reply, Runs, ScriptFault, read_vector_command};
 use bumpalo::Bump;
 use ix_tables::RelocatableContainer;
 use ix_vector::{PolymorphicVec, RelocatableVec, StaticVec, UninitVec, Vector};
@@ -14,27 +14,27 @@ use std::io::Write;
 
 /// A vector, and room for the numbers of a line.
 #[derive(Drop)]
-pub(crate) struct VecLines<V: Vector<u64>> {
+pub(crate) struct VectorLines<V: Vector<u64>> {
     vector: V,
     numbers: [u64; MAX_NUMBERS],
 }
 
-impl<V: Vector<u64>> VecLines<V> {
-    pub(crate) fn new(vector: V) -> VecLines<V>
+impl<V: Vector<u64>> VectorLines<V> {
+    pub(crate) fn new(vector: V) -> VectorLines<V>
         ensures { V.bounded result.vector ≡ V.bounded vector }
     {
-        VecLines {
+        VectorLines {
             vector,
             numbers: [0; MAX_NUMBERS],
         }
     }
 }
 
-impl<V: Vector<u64>> Served for VecLines<V> {
+impl<V: Vector<u64>> Served for VectorLines<V> {
     ghost use Rattle.std.specs.Prelude.{ℕ};
     ghost use Rattle.ix_tables.specs.Bounded.{Bounded};
-    ghost use Rattle.ix_commands.specs.VecRun.{vec_reply, vec_after};
-    ghost use Rattle.ix_run.specs.Forms.{vec_forms};
+    ghost use Rattle.ix_commands.specs.VectorRun.{vector_reply, vector_after};
+    ghost use Rattle.ix_run.specs.Forms.{vector_forms};
     ghost use Rattle.ix_run.specs.Script.{spelled_reply, spelled_after, list_shown};
 
     type Key = usize;
@@ -43,15 +43,15 @@ impl<V: Vector<u64>> Served for VecLines<V> {
 
     ghost model = { λ lines. V.bounded lines.vector };
 
-    ghost reply = { spelled_reply vec_forms vec_reply };
+    ghost reply = { spelled_reply vector_forms vector_reply };
 
-    ghost after = { spelled_after vec_forms vec_after };
+    ghost after = { spelled_after vector_forms vector_after };
 
     ghost shown = { list_shown };
 
     #[inline]
     fn run_line(&mut self, line: &[u8]) -> Option<Reply<usize, u64>> {
-        let command = read_vec_command(line, &mut self.numbers)?;
+        let command = read_vector_command(line, &mut self.numbers)?;
         Some(self.vector.run_command(command))
     }
 
@@ -67,33 +67,33 @@ pub(crate) struct Vectors;
 impl Named for Vectors {
     ghost use Rattle.ix_run.specs.declared.run.grammar.header.Container.TheVariants as container;
 
-    ghost container = { λ maker. container.Vec };
+    ghost container = { λ maker. container.Vector };
 }
 
 impl<const N: usize> MakesInline<N> for Vectors {
-    type Inline = VecLines<StaticVec<u64, N>>;
+    type Inline = VectorLines<StaticVec<u64, N>>;
 
-    fn inline(self) -> VecLines<StaticVec<u64, N>> {
-        VecLines::new(StaticVec::new())
+    fn inline(self) -> VectorLines<StaticVec<u64, N>> {
+        VectorLines::new(StaticVec::new())
     }
 }
 
 impl MakesIn<Global> for Vectors {
-    type Made = VecLines<PolymorphicVec<u64>>;
+    type Made = VectorLines<PolymorphicVec<u64>>;
 
-    fn make(self, alloc: Global, capacity: usize) -> Option<VecLines<PolymorphicVec<u64>>> {
-        Some(VecLines::new(PolymorphicVec::new(alloc, capacity).ok()?))
+    fn make(self, alloc: Global, capacity: usize) -> Option<VectorLines<PolymorphicVec<u64>>> {
+        Some(VectorLines::new(PolymorphicVec::new(alloc, capacity).ok()?))
     }
 }
 
 impl<'a> MakesIn<&'a Bump<Global>> for Vectors {
-    type Made = VecLines<RelocatableVec<u64, &'a Bump<Global>>>;
+    type Made = VectorLines<RelocatableVec<u64, &'a Bump<Global>>>;
 
     fn make(
         self,
         arena: &'a Bump<Global>,
         capacity: usize,
-    ) -> Option<VecLines<RelocatableVec<u64, &'a Bump<Global>>>> {
-        Some(VecLines::new(UninitVec::new_uninit(capacity).init(arena).ok()?))
+    ) -> Option<VectorLines<RelocatableVec<u64, &'a Bump<Global>>>> {
+        Some(VectorLines::new(UninitVec::new_uninit(capacity).init(arena).ok()?))
     }
 }

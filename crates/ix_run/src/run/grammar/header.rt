@@ -18,16 +18,16 @@ pub enum Container {
     /// `queue`: a queue of numbers.
     Queue,
     /// `vec`: a vector of numbers.
-    Vec,
+    Vector,
     /// `table`: a slot table of numbers.
-    Table,
+    SlotTable,
     /// `slot`: a slot map of numbers. The number is the generation of its places at first, if the header ends by `at G`.
     /// It is 0 if the header does not.
-    Slot(Option<u32>),
+    SlotMap(Option<u32>),
     /// `flat`: a flat map from numbers to numbers.
-    Flat,
+    FlatMap,
     /// `text`: a string.
-    Text,
+    String,
 }
 
 /// A capacity that a header may name for a fixed kind.
@@ -94,19 +94,19 @@ fn container_named(name: &[u8]) -> Option<Container>
         return Some(Container::Queue);
     }
     if is_word(name, b"vec") {
-        return Some(Container::Vec);
+        return Some(Container::Vector);
     }
     if is_word(name, b"table") {
-        return Some(Container::Table);
+        return Some(Container::SlotTable);
     }
     if is_word(name, b"slot") {
-        return Some(Container::Slot(None));
+        return Some(Container::SlotMap(None));
     }
     if is_word(name, b"flat") {
-        return Some(Container::Flat);
+        return Some(Container::FlatMap);
     }
     if is_word(name, b"text") {
-        return Some(Container::Text);
+        return Some(Container::String);
     }
     None
 }
@@ -138,16 +138,19 @@ fn started(container: Container, rest: Option<&[u8]>) -> Option<Container>
     };
     let (word, rest) = split_word(rest);
     match container {
-        Container::Slot(_) => starting_at(word, rest),
-        Container::Queue | Container::Vec | Container::Table | Container::Flat | Container::Text =>
-            { None }
+        Container::SlotMap(_) => starting_at(word, rest),
+        Container::Queue
+        | Container::Vector
+        | Container::SlotTable
+        | Container::FlatMap
+        | Container::String => { None }
     }
 }
 
 /// Returns a slot map with the generation of its places at first, if the words say it.
 fn starting_at(word: &[u8], rest: Option<&[u8]>) -> Option<Container>
     ensures { (start : Option ℕ) → result
-        ≡ container_with_start (container.Slot start) (word.now ∷ words_after (option_copied rest.entry)) }
+        ≡ container_with_start (container.SlotMap start) (word.now ∷ words_after (option_copied rest.entry)) }
 {
     if !is_word(word, b"at") {
         return None;
@@ -156,7 +159,7 @@ fn starting_at(word: &[u8], rest: Option<&[u8]>) -> Option<Container>
     if generation > u32::MAX as u64 {
         return None;
     }
-    Some(Container::Slot(Some(generation as u32)))
+    Some(Container::SlotMap(Some(generation as u32)))
 }
 
 fn fixed_capacity_of(number: u64) -> Option<FixedCapacity>

@@ -7,9 +7,9 @@ mod slottable;
 mod string;
 mod vector;
 
-pub use flatmap::read_flat_command;
+pub use flatmap::read_map_command;
 pub use queue::read_queue_command;
-pub use slotmap::read_slot_command;
-pub use slottable::read_table_command;
-pub use string::read_text_command;
-pub use vector::read_vec_command;
+pub use slotmap::read_slot_map_command;
+pub use slottable::read_slot_table_command;
+pub use string::read_string_command;
+pub use vector::read_vector_command;

@@ -1,6 +1,6 @@
 use Rattle.std.proofs.Common.{◌≡◌, ◌+◌, ◌*◌, subst, sym, ap, ◌∙◌, arith}
 use Rattle.ix_flatmap.specs.inner.FlatSearch.{is_key_at, HasNoKeyIn}
-use Rattle.ix_flatmap.proofs.FlatEntries.{flat_entry-is_key_at, HasNoKeyIn-more}
+use Rattle.ix_flatmap.proofs.MapEntries.{map_entry-is_key_at, HasNoKeyIn-more}
 use Rattle.ix_flatmap.proofs.flatmap.search.find_by_blocks.Goals as goal
 
 pub returns-then-index-lt-BLOCK_LEN : goal.returns-then-index-lt-BLOCK_LEN
@@ -12,7 +12,7 @@ returns-then-index-lt-BLOCK_LEN g c =
     let distinct = c.requires.distinct in
     let at = c.get_unchecked.ensures in
     let equal = ap (is_key_at eq map key) c.new-place.ensures ∙ c.index_in_block-index.ensures.1 c.if-index-lt-BLOCK_LEN.true in
-    sym (flat_entry-is_key_at eq g.met.K.Eq.laws map key place c.get_unchecked.result.now distinct at equal)
+    sym (map_entry-is_key_at eq g.met.K.Eq.laws map key place c.get_unchecked.result.now distinct at equal)
 
 pub loop-block-preserved : goal.loop-block-preserved
 loop-block-preserved g c =

@@ -1,10 +1,10 @@
 use Rattle.std.proofs.Common.{◌≡◌, drop}
 use Rattle.std.specs.List.{find}
-use Rattle.ix_slottable.specs.SlotState.{entries_from}
-use Rattle.ix_flatmap.specs.FlatState.{flat_entry}
+use Rattle.ix_slottable.specs.SlotTableState.{entries_from}
+use Rattle.ix_flatmap.specs.MapState.{map_entry}
 use Rattle.ix_flatmap.proofs.flatmap.search.find_from.Given as goal
 
 -- what is found from this place on is what is found in all
 abbrev pub invariant-loop-place : goal.invariant-loop-place
 invariant-loop-place g l =
-    find (λ entry. g.K.PartialEq.eq entry.1.key l.key) (entries_from l.place (drop l.place l.pairs.values)) ≡ flat_entry g.K.PartialEq.eq l.pairs l.key
+    find (λ entry. g.K.PartialEq.eq entry.1.key l.key) (entries_from l.place (drop l.place l.pairs.values)) ≡ map_entry g.K.PartialEq.eq l.pairs l.key

@@ -1,5 +1,5 @@
 use Rattle.std.proofs.Common.{◌+◌, arith}
-use Rattle.ix_flatmap.proofs.FlatEntries.{HasNoKeyIn-both}
+use Rattle.ix_flatmap.proofs.MapEntries.{HasNoKeyIn-both}
 use Rattle.ix_flatmap.proofs.flatmap.search.index_in_row.Goals as goal
 
 pub returns-then-min-eq-BLOCK_LEN-clause-absent : goal.returns-then-min-eq-BLOCK_LEN-clause-absent

@@ -1,7 +1,7 @@
 use Rattle.std.proofs.Common.{ℕ, ◌<◌, length, sym, ap, ◌∙◌, subst}
-use Rattle.ix_slottable.specs.SlotState.{value_at, IsHeld}
+use Rattle.ix_slottable.specs.SlotTableState.{value_at, IsHeld}
 use Rattle.ix_hashmap.specs.inner.HashChains.{chain_from, LeadsToKey}
-use Rattle.ix_flatmap.proofs.FlatEntries.{flat_entry-IsEntry}
+use Rattle.ix_flatmap.proofs.MapEntries.{map_entry-IsEntry}
 use Rattle.ix_hashmap.proofs.HashChains.{on_chain-first}
 use Rattle.ix_hashmap.proofs.HashSteps.{LeadsToKey-held, LeadsToKey-next, LeadsToKey-shorter, LeadsToKey-end}
 use Rattle.ix_hashmap.proofs.hashmap.search.find_from.Goals as goal
@@ -13,7 +13,7 @@ get_unchecked-pair-requires g c =
 
 pub returns-then-eq : goal.returns-then-eq
 returns-then-eq g c =
-    sym (flat_entry-IsEntry g.K.PartialEq.eq g.met.K.Eq.laws c.args.pairs.now c.args.key.now c.new-number.result c.get_unchecked-pair.result.now c.requires.distinct
+    sym (map_entry-IsEntry g.K.PartialEq.eq g.met.K.Eq.laws c.args.pairs.now c.args.key.now c.new-number.result c.get_unchecked-pair.result.now c.requires.distinct
     (record { at = c.get_unchecked-pair.ensures; equal = sym c.eq.ensures ∙ c.if-eq.true }))
 
 pub next-place-requires : goal.next-place-requires

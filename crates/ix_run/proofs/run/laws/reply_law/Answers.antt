@@ -1,7 +1,7 @@
 use Rattle.ix_run.specs.Laws.{IsSlotKey, IsU64}
 use Rattle.ix_run.specs.ReplyTexts.{entry_text, key_entry_text}
 use Rattle.ix_run.proofs.Laws.{Lacks-decimal}
-use Rattle.ix_run.proofs.ReplyLines.{IsOneLine-reply_text, IsOneLine-slot_reply_text, IsOneLine-items_text, Lacks-entry_text, Lacks-key_entry_text, IsOneLine-text_shown}
+use Rattle.ix_run.proofs.ReplyLines.{IsOneLine-reply_text, IsOneLine-slot_map_reply_text, IsOneLine-items_text, Lacks-entry_text, Lacks-key_entry_text, IsOneLine-string_shown}
 use Rattle.ix_run.proofs.run.laws.reply_law.Goals as goal
 use Rattle.std.specs.Prelude.{decimal}
 
@@ -15,10 +15,10 @@ pub returns-clause-entries : goal.returns-clause-entries
 returns-clause-entries c = IsOneLine-items_text entry_text (λ entry. IsU64 entry.0 × IsU64 entry.1) Lacks-entry_text
 
 pub returns-clause-text : goal.returns-clause-text
-returns-clause-text c = IsOneLine-text_shown
+returns-clause-text c = IsOneLine-string_shown
 
-pub returns-clause-slot_reply : goal.returns-clause-slot_reply
-returns-clause-slot_reply c = IsOneLine-slot_reply_text
+pub returns-clause-slot_map_reply : goal.returns-clause-slot_map_reply
+returns-clause-slot_map_reply c = IsOneLine-slot_map_reply_text
 
 pub returns-clause-key_entries : goal.returns-clause-key_entries
 returns-clause-key_entries c = IsOneLine-items_text key_entry_text (λ entry. IsSlotKey entry.0 × IsU64 entry.1) Lacks-key_entry_text

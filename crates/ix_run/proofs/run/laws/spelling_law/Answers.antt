@@ -22,6 +22,6 @@ returns-clause-key_each g c = key_command_of-key_words_text
 pub returns-clause-either : goal.returns-clause-either
 returns-clause-either g c = command_of-either
 
-pub returns-clause-slot_names : goal.returns-clause-slot_names
+pub returns-clause-slot_map_names : goal.returns-clause-slot_map_names
 unfolding IsDistinct
-returns-clause-slot_names g c = search rules
+returns-clause-slot_map_names g c = search rules

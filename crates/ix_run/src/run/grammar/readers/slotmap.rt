@@ -2,10 +2,10 @@
 ghost use Rattle.std.specs.Prelude.{◌≡◌, None, MatchOption, bytes_eq, option_copied};
 ghost use Rattle.std.specs.Map.{lookup};
 ghost use Rattle.ix_run.specs.Words.{command_of, key_command_of};
-ghost use Rattle.ix_run.specs.Forms.{slot_forms, slot_key_forms, slot_command_of};
-ghost use Rattle.ix_run.specs.inner.NameTables.{constant_rows, first_word, IsNamed, slot_named, slot_key_named};
+ghost use Rattle.ix_run.specs.Forms.{slot_map_forms, slot_key_forms, slot_map_command_of};
+ghost use Rattle.ix_run.specs.inner.NameTables.{constant_rows, first_word, IsNamed, slot_map_named, slot_key_named};
 
-use crate::run::SlotCommand;
+use crate::run::SlotMapCommand;
 use crate::run::grammar::name_table::{Takes, read_by_table, read_numbers, split_name};
 use crate::run::grammar::words::{key_in, split_word};
 use ix_slotmap::SlotMapKey;
@@ -58,8 +58,8 @@ const KEY_NAMES: [(&[u8], (Takes, KeyName)); 4] = [
 /// before each, as the commands say; or `None` for any other line. A key is an index and a generation with a colon between.
 /// O(length).
 #[inline]
-pub fn read_slot_command(line: &[u8]) -> Option<SlotCommand<u64>>
-    ensures value { result ≡ slot_command_of line.now }
+pub fn read_slot_map_command(line: &[u8]) -> Option<SlotMapCommand<u64>>
+    ensures value { result ≡ slot_map_command_of line.now }
 {
     match read_plain_command(line) {
         Some(command) => Some(command),
@@ -69,8 +69,8 @@ pub fn read_slot_command(line: &[u8]) -> Option<SlotCommand<u64>>
 
 /// Returns the command without a key that `line` spells.
 #[inline]
-fn read_plain_command(line: &[u8]) -> Option<SlotCommand<u64>>
-    ensures { result ≡ command_of slot_forms line.now }
+fn read_plain_command(line: &[u8]) -> Option<SlotMapCommand<u64>>
+    ensures { result ≡ command_of slot_map_forms line.now }
 {
     let (name, (first, second)) = read_by_table(&PLAIN_NAMES, line)?;
     Some(plain_named(name, first, second))
@@ -78,24 +78,24 @@ fn read_plain_command(line: &[u8]) -> Option<SlotCommand<u64>>
 
 /// Returns the command with this name, of these numbers.
 #[inline]
-fn plain_named(name: PlainName, first: u64, second: u64) -> SlotCommand<u64>
-    ensures { result ≡ slot_named name first second }
+fn plain_named(name: PlainName, first: u64, second: u64) -> SlotMapCommand<u64>
+    ensures { result ≡ slot_map_named name first second }
 {
     match name {
-        PlainName::Insert => SlotCommand::Insert(first),
-        PlainName::Next => SlotCommand::Next,
-        PlainName::InsertAt => SlotCommand::InsertAt(first as usize, second),
-        PlainName::From => SlotCommand::From(first as usize),
-        PlainName::Retired => SlotCommand::Retired,
-        PlainName::Len => SlotCommand::Len,
-        PlainName::Capacity => SlotCommand::Capacity,
-        PlainName::Empty => SlotCommand::Empty,
-        PlainName::Full => SlotCommand::Full,
+        PlainName::Insert => SlotMapCommand::Insert(first),
+        PlainName::Next => SlotMapCommand::Next,
+        PlainName::InsertAt => SlotMapCommand::InsertAt(first as usize, second),
+        PlainName::From => SlotMapCommand::From(first as usize),
+        PlainName::Retired => SlotMapCommand::Retired,
+        PlainName::Len => SlotMapCommand::Len,
+        PlainName::Capacity => SlotMapCommand::Capacity,
+        PlainName::Empty => SlotMapCommand::Empty,
+        PlainName::Full => SlotMapCommand::Full,
     }
 }
 
 /// Returns the command with a key that `line` spells.
-fn read_key_command(line: &[u8]) -> Option<SlotCommand<u64>>
+fn read_key_command(line: &[u8]) -> Option<SlotMapCommand<u64>>
     ensures { result ≡ key_command_of slot_key_forms line.now }
 {
     let ((takes, name), rest) = split_key_form(line)?;
@@ -117,13 +117,13 @@ fn split_key_form<'a>(line: &'a [u8]) -> Option<((Takes, KeyName), Option<&'a [u
 }
 
 /// Returns the command with this name, of this key and this number.
-fn key_named(name: KeyName, key: SlotMapKey, value: u64) -> SlotCommand<u64>
+fn key_named(name: KeyName, key: SlotMapKey, value: u64) -> SlotMapCommand<u64>
     ensures { result ≡ slot_key_named name key value }
 {
     match name {
-        KeyName::Remove => SlotCommand::Remove(key),
-        KeyName::Get => SlotCommand::Get(key),
-        KeyName::Set => SlotCommand::Set(key, value),
-        KeyName::Contains => SlotCommand::Contains(key),
+        KeyName::Remove => SlotMapCommand::Remove(key),
+        KeyName::Get => SlotMapCommand::Get(key),
+        KeyName::Set => SlotMapCommand::Set(key, value),
+        KeyName::Contains => SlotMapCommand::Contains(key),
     }
 }

@@ -2,18 +2,18 @@
 ghost use Rattle.std.specs.Prelude.{◌≡◌, ◌≤◌, ◌++◌, None, MatchOption, length, bytes_eq, option_copied, option_map};
 ghost use Rattle.std.specs.Map.{lookup};
 ghost use Rattle.ix_run.specs.Words.{command_of};
-ghost use Rattle.ix_run.specs.Forms.{vec_forms, vec_plain};
-ghost use Rattle.ix_run.specs.inner.NameTables.{constant_rows, first_word, IsNamed, vec_named};
+ghost use Rattle.ix_run.specs.Forms.{vector_forms, vector_plain};
+ghost use Rattle.ix_run.specs.inner.NameTables.{constant_rows, first_word, IsNamed, vector_named};
 ghost use Rattle.ix_run.specs.declared.run.grammar.readers.vector.TheConstants.{NAMES, OTHER_NAMES};
 ghost use Rattle.ix_run.specs.declared.run.devices.limits.TheConstants.{MAX_LINE_LEN};
 
 use crate::run::devices::MAX_NUMBERS;
 use crate::run::grammar::name_table::{Takes, read_items, split_name};
-use crate::run::{MAX_LINE_LEN, VecCommand};
+use crate::run::{MAX_LINE_LEN, VectorCommand};
 
 /// The name of a command.
 #[derive(Clone, Copy)]
-enum VecName {
+enum VectorName {
     Push,
     Insert,
     Extend,
@@ -31,36 +31,36 @@ enum VecName {
 }
 
 /// The names of the first commands, and what each takes. There are two tables, since the compiler unrolls short ones alone.
-const NAMES: [(&[u8], (Takes, VecName)); 7] = [
-    (b"push", (Takes::Number, VecName::Push)),
-    (b"insert", (Takes::TwoNumbers, VecName::Insert)),
-    (b"extend", (Takes::Numbers, VecName::Extend)),
-    (b"resize", (Takes::TwoNumbers, VecName::Resize)),
-    (b"pop", (Takes::Nothing, VecName::Pop)),
-    (b"remove", (Takes::Number, VecName::Remove)),
-    (b"at", (Takes::Number, VecName::At)),
+const NAMES: [(&[u8], (Takes, VectorName)); 7] = [
+    (b"push", (Takes::Number, VectorName::Push)),
+    (b"insert", (Takes::TwoNumbers, VectorName::Insert)),
+    (b"extend", (Takes::Numbers, VectorName::Extend)),
+    (b"resize", (Takes::TwoNumbers, VectorName::Resize)),
+    (b"pop", (Takes::Nothing, VectorName::Pop)),
+    (b"remove", (Takes::Number, VectorName::Remove)),
+    (b"at", (Takes::Number, VectorName::At)),
 ];
 
 /// The names of the other commands, and what each takes.
-const OTHER_NAMES: [(&[u8], (Takes, VecName)); 7] = [
-    (b"set", (Takes::TwoNumbers, VecName::Set)),
-    (b"truncate", (Takes::Number, VecName::Truncate)),
-    (b"clear", (Takes::Nothing, VecName::Clear)),
-    (b"len", (Takes::Nothing, VecName::Len)),
-    (b"capacity", (Takes::Nothing, VecName::Capacity)),
-    (b"empty", (Takes::Nothing, VecName::Empty)),
-    (b"full", (Takes::Nothing, VecName::Full)),
+const OTHER_NAMES: [(&[u8], (Takes, VectorName)); 7] = [
+    (b"set", (Takes::TwoNumbers, VectorName::Set)),
+    (b"truncate", (Takes::Number, VectorName::Truncate)),
+    (b"clear", (Takes::Nothing, VectorName::Clear)),
+    (b"len", (Takes::Nothing, VectorName::Len)),
+    (b"capacity", (Takes::Nothing, VectorName::Capacity)),
+    (b"empty", (Takes::Nothing, VectorName::Empty)),
+    (b"full", (Takes::Nothing, VectorName::Full)),
 ];
 
 /// Returns the command of a vector that `line` spells: the name and the numbers, with one space before each number, as
 /// the commands say; or `None` for any other line. The numbers of a list are put in `numbers`. O(length).
-pub fn read_vec_command<'a>(
+pub fn read_vector_command<'a>(
     line: &[u8],
     numbers: &'a mut [u64; MAX_NUMBERS],
-) -> Option<VecCommand<'a, u64>>
+) -> Option<VectorCommand<'a, u64>>
     requires within { length line.now ≤ MAX_LINE_LEN }
     // The items of a list are the ones in the buffer, whatever their address.
-    ensures value { option_map vec_plain result ≡ command_of vec_forms line.now }
+    ensures value { option_map vector_plain result ≡ command_of vector_forms line.now }
 {
     let ((takes, name), rest) = split_form(line)?;
     let (first, second, items) = read_items(takes, rest, numbers)?;
@@ -69,7 +69,7 @@ pub fn read_vec_command<'a>(
 
 /// Returns what the command that `line` names takes, which command it is, and what stands behind the space after its name.
 #[inline(always)]
-fn split_form<'a>(line: &'a [u8]) -> Option<((Takes, VecName), Option<&'a [u8]>)>
+fn split_form<'a>(line: &'a [u8]) -> Option<((Takes, VectorName), Option<&'a [u8]>)>
     ensures { MatchOption result
         (lookup (bytes_eq (first_word line.now)) (constant_rows NAMES ++ constant_rows OTHER_NAMES)
         ≡ None)
@@ -84,27 +84,27 @@ fn split_form<'a>(line: &'a [u8]) -> Option<((Takes, VecName), Option<&'a [u8]>)
 
 /// Returns the command with this name, of these numbers or this list.
 fn command_named<'a>(
-    name: VecName,
+    name: VectorName,
     first: u64,
     second: u64,
     items: &'a [u64],
-) -> VecCommand<'a, u64>
-    ensures { vec_plain result ≡ vec_named name first second items.now }
+) -> VectorCommand<'a, u64>
+    ensures { vector_plain result ≡ vector_named name first second items.now }
 {
     match name {
-        VecName::Push => VecCommand::Push(first),
-        VecName::Insert => VecCommand::Insert(first as usize, second),
-        VecName::Extend => VecCommand::Extend(items),
-        VecName::Resize => VecCommand::Resize(first as usize, second),
-        VecName::Pop => VecCommand::Pop,
-        VecName::Remove => VecCommand::Remove(first as usize),
-        VecName::At => VecCommand::At(first as usize),
-        VecName::Set => VecCommand::Set(first as usize, second),
-        VecName::Truncate => VecCommand::Truncate(first as usize),
-        VecName::Clear => VecCommand::Clear,
-        VecName::Len => VecCommand::Len,
-        VecName::Capacity => VecCommand::Capacity,
-        VecName::Empty => VecCommand::Empty,
-        VecName::Full => VecCommand::Full,
+        VectorName::Push => VectorCommand::Push(first),
+        VectorName::Insert => VectorCommand::Insert(first as usize, second),
+        VectorName::Extend => VectorCommand::Extend(items),
+        VectorName::Resize => VectorCommand::Resize(first as usize, second),
+        VectorName::Pop => VectorCommand::Pop,
+        VectorName::Remove => VectorCommand::Remove(first as usize),
+        VectorName::At => VectorCommand::At(first as usize),
+        VectorName::Set => VectorCommand::Set(first as usize, second),
+        VectorName::Truncate => VectorCommand::Truncate(first as usize),
+        VectorName::Clear => VectorCommand::Clear,
+        VectorName::Len => VectorCommand::Len,
+        VectorName::Capacity => VectorCommand::Capacity,
+        VectorName::Empty => VectorCommand::Empty,
+        VectorName::Full => VectorCommand::Full,
     }
 }

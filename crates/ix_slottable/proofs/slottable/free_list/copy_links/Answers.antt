@@ -1,5 +1,5 @@
 use Rattle.std.proofs.Common.{arith}
-use Rattle.ix_slottable.proofs.SlotCopies.{places_same}
+use Rattle.ix_slottable.proofs.SlotTableCopies.{places_same}
 use Rattle.ix_slottable.proofs.slottable.free_list.copy_links.Goals as goal
 
 pub returns : goal.returns

@@ -1,5 +1,5 @@
 use Rattle.std.proofs.Common.{sym, ap, ◌∙◌, subst, arith}
-use Rattle.ix_flatmap.specs.FlatState.{IsBound}
+use Rattle.ix_flatmap.specs.MapState.{IsBound}
 use Rattle.ix_flatmap.specs.inner.Bounds.{bound_with}
 use Rattle.ix_flatmap.proofs.FlatBounds.{IsBound-inserted}
 use Rattle.ix_flatmap.proofs.flatmap.bound.BoundKeyIndex.insert.Goals as goal

@@ -1,6 +1,6 @@
 use Rattle.std.proofs.Common.{sym, subst}
-use Rattle.ix_flatmap.specs.FlatState.{HasDistinctKeys}
-use Rattle.ix_flatmap.proofs.FlatCopies.{AreEqualClones-pair}
+use Rattle.ix_flatmap.specs.MapState.{HasDistinctKeys}
+use Rattle.ix_flatmap.proofs.MapCopies.{AreEqualClones-pair}
 use Rattle.ix_flatmap.proofs.map.clone.HeapMap+K+V+A+I.try_clone_in.Goals as goal
 
 pub try_clone_in-requires : goal.try_clone_in-requires

@@ -1,7 +1,7 @@
 use Rattle.std.proofs.Common.{sym, subst}
-use Rattle.ix_slottable.specs.SlotCopies.{SlotIsInfallible}
-use Rattle.ix_flatmap.specs.FlatCopies.{PairIsInfallible}
-use Rattle.ix_flatmap.proofs.FlatCopies.{HasDistinctKeys-clone, equal_keys-clone}
+use Rattle.ix_slottable.specs.SlotTableCopies.{SlotTableIsInfallible}
+use Rattle.ix_flatmap.specs.MapCopies.{PairIsInfallible}
+use Rattle.ix_flatmap.proofs.MapCopies.{HasDistinctKeys-clone, equal_keys-clone}
 use Rattle.ix_flatmap.proofs.map.clone.InlineMapClone.clone.Goals as goal
 
 pub invariant_of-result : goal.invariant_of-result
@@ -14,5 +14,5 @@ invariant_of-result g c = (
 pub returns-in-Err : goal.returns-in-Err
 returns-in-Err g c = record {
   cases = λ all. c.in-Err.ensures.cases
-      (subst (SlotIsInfallible (PairIsInfallible g.K.PartialEq.eq g.K.Clone.is_clone g.K.Clone.is_infallible g.V.Clone.is_infallible)) (sym c.self.view_is) all);
+      (subst (SlotTableIsInfallible (PairIsInfallible g.K.PartialEq.eq g.K.Clone.is_clone g.K.Clone.is_infallible g.V.Clone.is_infallible)) (sym c.self.view_is) all);
 }

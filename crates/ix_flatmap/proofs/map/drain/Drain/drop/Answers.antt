@@ -1,4 +1,4 @@
-use Rattle.ix_slottable.proofs.SlotDrains.{counted-vacant}
+use Rattle.ix_slottable.proofs.SlotTableDrains.{counted-vacant}
 use Rattle.ix_flatmap.proofs.map.drain.Drain.drop.Goals as goal
 
 pub invariant_of-self : goal.invariant_of-self

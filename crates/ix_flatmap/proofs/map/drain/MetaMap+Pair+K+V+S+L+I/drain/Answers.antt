@@ -1,4 +1,4 @@
-use Rattle.ix_flatmap.specs.FlatDrain.{drain_items, drain_left, drain_lender}
+use Rattle.ix_flatmap.specs.MapDrain.{drain_items, drain_left, drain_lender}
 use Rattle.ix_slottable.proofs.Entries.{count_by-is_some}
 use Rattle.ix_slottable.proofs.Draining.{Draining-keeps_along}
 use Rattle.ix_flatmap.proofs.map.drain.MetaMap+Pair+K+V+S+L+I.drain.Goals as goal

@@ -1,6 +1,6 @@
 use Rattle.std.proofs.Common.{rules, of_calls, List, sym, subst, refl}
-use Rattle.ix_flatmap.specs.FlatSteps.{ListsUntilStop}
-use Rattle.ix_flatmap.proofs.FlatCalls.{ListsUntilStop-continue, ListsUntilStop-stop}
+use Rattle.ix_flatmap.specs.MapSteps.{ListsUntilStop}
+use Rattle.ix_flatmap.proofs.MapCalls.{ListsUntilStop-continue, ListsUntilStop-stop}
 use Rattle.ix_flatmap.proofs.map.meta_map.MetaMap+Pair+K+V+S+L+I.list_with.Goals as goal
 
 pub loop-key-preserved : goal.loop-key-preserved

@@ -1,6 +1,6 @@
 use Rattle.std.proofs.Common.{arith}
 use Rattle.std.proofs.lemmas.Grind.{common_steps}
-use Rattle.ix_flatmap.proofs.FlatCopies.{equal_keys-set}
+use Rattle.ix_flatmap.proofs.MapCopies.{equal_keys-set}
 use Rattle.ix_flatmap.proofs.map.meta_map.MetaMap+Pair+K+V+S+L+I.value_mut.Goals as goal
 
 pub invariant_of-self-lent : goal.invariant_of-self-lent

@@ -1,7 +1,7 @@
 use Rattle.std.proofs.Common.{refl}
-use Rattle.ix_flatmap.proofs.FlatCalls.{called_at_place}
-use Rattle.ix_flatmap.proofs.FlatCopies.{equal_keys-set}
-use Rattle.ix_flatmap.proofs.FlatSteps.{HasDistinctKeys-set}
+use Rattle.ix_flatmap.proofs.MapCalls.{called_at_place}
+use Rattle.ix_flatmap.proofs.MapCopies.{equal_keys-set}
+use Rattle.ix_flatmap.proofs.MapSteps.{HasDistinctKeys-set}
 use Rattle.ix_flatmap.proofs.map.retain.MetaMap+Pair+K+V+S+L+I.call_at.Goals as goal
 
 pub returns-clause-called : goal.returns-clause-called

@@ -1,5 +1,5 @@
 use Rattle.std.proofs.Common.{◌≡◌, Some, sym, ◌∙◌, subst}
-use Rattle.ix_flatmap.proofs.FlatSteps.{HasDistinctKeys-vacated}
+use Rattle.ix_flatmap.proofs.MapSteps.{HasDistinctKeys-vacated}
 use Rattle.ix_flatmap.proofs.map.retain.MetaMap+Pair+K+V+S+L+I.remove_at.Goals as goal
 
 pub remove-requires-clause-seat : goal.remove-requires-clause-seat

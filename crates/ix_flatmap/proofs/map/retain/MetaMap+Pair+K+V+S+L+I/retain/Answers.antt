@@ -2,15 +2,15 @@ use Rattle.std.proofs.Common.{◌≡◌, ◌+◌, refl, sym, ap, ◌∙◌, subs
 use Rattle.std.proofs.lemmas.Bool.{iff_false}
 use Rattle.ix_tables.proofs.Places.{held_item, none_of_not_some}
 use Rattle.std.specs.Prelude.{if◌then◌else◌, Bool}
-use Rattle.ix_slottable.specs.SlotState.{SlotState, value_at}
-use Rattle.ix_slottable.specs.SlotSteps.{slot_set, slot_remove}
-use Rattle.ix_flatmap.specs.FlatState.{HasDistinctKeys}
+use Rattle.ix_slottable.specs.SlotTableState.{SlotTableState, value_at}
+use Rattle.ix_slottable.specs.SlotTableSteps.{slot_table_set, slot_table_remove}
+use Rattle.ix_flatmap.specs.MapState.{HasDistinctKeys}
 use Rattle.ix_flatmap.specs.declared.map.pair.Pair.{Pair}
-use Rattle.ix_slottable.specs.SlotCalls.{RetainsItem}
-use Rattle.ix_flatmap.specs.FlatSteps.{flat_set, flat_remove}
-use Rattle.ix_flatmap.specs.FlatCalls.{CallAtKey, TakesKey}
-use Rattle.ix_slottable.proofs.SlotCalls.{slot_remove-slot_set, Settles-retained, Visited, Visited-free, Visited-held}
-use Rattle.ix_flatmap.proofs.FlatCalls.{AtPlace, SameKeys-set, KeysWere, KeysWere-same, KeysWere-vacated, KeysWere-both, IsSome-flat_value, flat_retained, Visited-bounded, Visited-takes}
+use Rattle.ix_slottable.specs.SlotTableCalls.{RetainsItem}
+use Rattle.ix_flatmap.specs.MapSteps.{map_set, map_remove}
+use Rattle.ix_flatmap.specs.MapCalls.{CallAtKey, TakesKey}
+use Rattle.ix_slottable.proofs.SlotTableCalls.{slot_table_remove-slot_table_set, Settles-retained, Visited, Visited-free, Visited-held}
+use Rattle.ix_flatmap.proofs.MapCalls.{AtPlace, SameKeys-set, KeysWere, KeysWere-same, KeysWere-vacated, KeysWere-both, IsSome-map_value, map_retained, Visited-bounded, Visited-takes}
 use Rattle.ix_flatmap.proofs.map.retain.MetaMap+Pair+K+V+S+L+I.retain.Goals.{then-not-call_at, else-not-call_at}
 use Rattle.ix_flatmap.proofs.map.retain.MetaMap+Pair+K+V+S+L+I.retain.Goals as goal
 
@@ -27,7 +27,7 @@ loop-number-preserved-then-not-has_pair g c =
     let below = c.loop-number-test.true in
     let within = c.bound-number-end.ensures.bound.within in
     record {
-      visited = Visited-free (AtPlace (RetainsItem (flat_set g.K.PartialEq.eq) (flat_remove g.K.PartialEq.eq) (CallAtKey (goal.F-step g)))) _ _ c.loop-number.number _ _ at.visited (omega (arith, below, within))
+      visited = Visited-free (AtPlace (RetainsItem (map_set g.K.PartialEq.eq) (map_remove g.K.PartialEq.eq) (CallAtKey (goal.F-step g)))) _ _ c.loop-number.number _ _ at.visited (omega (arith, below, within))
           (ap (value_at c.loop-number.self) (sym c.new-place.ensures) ∙ none_of_not_some _ (iff_false c.has_pair.ensures.value c.if-not-has_pair.true));
       keys = at.keys;
       distinct = at.distinct;
@@ -35,8 +35,8 @@ loop-number-preserved-then-not-has_pair g c =
 
 pub call_at-requires-clause-callable : goal.call_at-requires-clause-callable
 call_at-requires-clause-callable g c pair shown at is =
-    Visited-takes (RetainsItem (flat_set g.K.PartialEq.eq) (flat_remove g.K.PartialEq.eq) (CallAtKey (goal.F-step g))) _ _ (CallAtKey (goal.F-step g)) (TakesKey (goal.F-pre g)) c.new-place.result _ _ pair shown (λ p q x step. (step.0, step.1, step.2)) c.requires
-    (subst (λ n. Visited (AtPlace (RetainsItem (flat_set g.K.PartialEq.eq) (flat_remove g.K.PartialEq.eq) (CallAtKey (goal.F-step g)))) c.args.f c.args.self.now n c.loop-number.f c.loop-number.self) (sym c.new-place.ensures) c.loop-number.invariant.visited) at is
+    Visited-takes (RetainsItem (map_set g.K.PartialEq.eq) (map_remove g.K.PartialEq.eq) (CallAtKey (goal.F-step g))) _ _ (CallAtKey (goal.F-step g)) (TakesKey (goal.F-pre g)) c.new-place.result _ _ pair shown (λ p q x step. (step.0, step.1, step.2)) c.requires
+    (subst (λ n. Visited (AtPlace (RetainsItem (map_set g.K.PartialEq.eq) (map_remove g.K.PartialEq.eq) (CallAtKey (goal.F-step g)))) c.args.f c.args.self.now n c.loop-number.f c.loop-number.self) (sym c.new-place.ensures) c.loop-number.invariant.visited) at is
 
 pub loop-number-preserved : goal.loop-number-preserved
 loop-number-preserved g c =
@@ -52,11 +52,11 @@ loop-number-preserved g c =
     let left = call.0 in
     let pair_left : Pair g.row.K.Denot g.row.V.Denot = record { key = pair.key; value = left } in
     let written = KeysWere-same now called (SameKeys-set now called place pair left at call.2) in
-    let kept : Bool → SlotState (Pair g.row.K.Denot g.row.V.Denot) = λ keep. if keep then slot_set now place pair_left else slot_remove now place in
+    let kept : Bool → SlotTableState (Pair g.row.K.Denot g.row.V.Denot) = λ keep. if keep then slot_table_set now place pair_left else slot_table_remove now place in
     let settled : (settled_map ≡ kept c.call_at.result) × KeysWere now settled_map × HasDistinctKeys eq settled_map =
     elim c.if-not-call_at.branch [
       | then-not-call_at w ↦ (
-        w.self-is ∙ w.remove_at.ensures.step.map ∙ ap (λ (s : SlotState (Pair g.row.K.Denot g.row.V.Denot)). slot_remove s place) call.2 ∙ slot_remove-slot_set now place pair pair_left at ∙ sym (ap kept w.if-not-call_at.true),
+        w.self-is ∙ w.remove_at.ensures.step.map ∙ ap (λ (s : SlotTableState (Pair g.row.K.Denot g.row.V.Denot)). slot_table_remove s place) call.2 ∙ slot_table_remove-slot_table_set now place pair pair_left at ∙ sym (ap kept w.if-not-call_at.true),
         subst (λ m. KeysWere now m) (sym w.self-is) (KeysWere-both now called w.remove_at.new.self written (KeysWere-vacated called w.remove_at.new.self place w.remove_at.result w.remove_at.ensures.step)),
         subst (λ m. HasDistinctKeys eq m) (sym w.self-is) w.remove_at.ensures.distinct,
       )
@@ -66,11 +66,11 @@ loop-number-preserved g c =
         subst (λ m. HasDistinctKeys eq m) (sym w.self-is) c.call_at.ensures.distinct,
       )
     ] in
-    let before = subst (λ n. Visited (AtPlace (RetainsItem (flat_set eq) (flat_remove eq) (CallAtKey (goal.F-step g)))) c.args.f c.args.self.now n c.loop-number.f now) (sym c.new-place.ensures) c.loop-number.invariant.visited in
+    let before = subst (λ n. Visited (AtPlace (RetainsItem (map_set eq) (map_remove eq) (CallAtKey (goal.F-step g)))) c.args.f c.args.self.now n c.loop-number.f now) (sym c.new-place.ensures) c.loop-number.invariant.visited in
     record {
-      visited = subst (λ n. Visited (AtPlace (RetainsItem (flat_set eq) (flat_remove eq) (CallAtKey (goal.F-step g)))) c.args.f c.args.self.now (n + 1) c.call_at.new.f settled_map) c.new-place.ensures
-          (Visited-held (AtPlace (RetainsItem (flat_set eq) (flat_remove eq) (CallAtKey (goal.F-step g)))) _ _ place _ _ now settled_map pair before at
-          (c.call_at.result, left, call.1, settled.0 ∙ flat_retained eq g.met.K.Eq.laws now c.loop-number.invariant.distinct place pair at left c.call_at.result)
+      visited = subst (λ n. Visited (AtPlace (RetainsItem (map_set eq) (map_remove eq) (CallAtKey (goal.F-step g)))) c.args.f c.args.self.now (n + 1) c.call_at.new.f settled_map) c.new-place.ensures
+          (Visited-held (AtPlace (RetainsItem (map_set eq) (map_remove eq) (CallAtKey (goal.F-step g)))) _ _ place _ _ now settled_map pair before at
+          (c.call_at.result, left, call.1, settled.0 ∙ map_retained eq g.met.K.Eq.laws now c.loop-number.invariant.distinct place pair at left c.call_at.result)
           (Settles-retained now place pair_left c.call_at.result settled_map settled.0));
       keys = KeysWere-both c.args.self.now now settled_map c.loop-number.invariant.keys settled.1;
       distinct = settled.2;
@@ -80,10 +80,10 @@ pub returns-clause-calls : goal.returns-clause-calls
 returns-clause-calls g c =
     let done = c.loop-number-test.false in (
       c.loop-number.f,
-      Visited-bounded (RetainsItem (flat_set g.K.PartialEq.eq) (flat_remove g.K.PartialEq.eq) (CallAtKey (goal.F-step g))) _ _ c.loop-number.number _ _ c.loop-number.invariant.visited
+      Visited-bounded (RetainsItem (map_set g.K.PartialEq.eq) (map_remove g.K.PartialEq.eq) (CallAtKey (goal.F-step g))) _ _ c.loop-number.number _ _ c.loop-number.invariant.visited
           (λ place past. c.bound-number-end.ensures.bound.beyond place (omega (arith, done, past))),
     )
 
 pub returns-clause-keys : goal.returns-clause-keys
 returns-clause-keys g c =
-    IsSome-flat_value g.K.PartialEq.eq g.met.K.Eq.laws c.args.self.now c.loop-number.self c.bound-number-end.ensures.distinct c.loop-number.invariant.keys
+    IsSome-map_value g.K.PartialEq.eq g.met.K.Eq.laws c.args.self.now c.loop-number.self c.bound-number-end.ensures.distinct c.loop-number.invariant.keys

@@ -1,18 +1,18 @@
 use Rattle.std.proofs.Common.{◌≡◌, Some, None, IsSome, inl, refl, sym, ap, ◌∙◌, subst}
 use Rattle.std.specs.Prelude.{option_map, slice_get}
 use Rattle.std.specs.Option.{UnwrapsOrElse}
-use Rattle.ix_slottable.specs.SlotState.{IsFree}
-use Rattle.ix_flatmap.specs.FlatState.{HasDistinctKeys, flat_entry, flat_value}
-use Rattle.ix_flatmap.specs.FlatSteps.{flat_insert}
-use Rattle.ix_flatmap.proofs.FlatEntries.{flat_entry-place, flat_entry-without_place}
-use Rattle.ix_flatmap.proofs.FlatSteps.{flat_insert-fresh, HasDistinctKeys-inserted, flat_value-inserted, flat_value-inserted_other, flat_replace-found, pair_set-found, value_at-new, flat_replace-new, flat_value-flat_set, flat_value-flat_set_other, flat_value-replace_new, flat_value-replace_new_other}
+use Rattle.ix_slottable.specs.SlotTableState.{IsFree}
+use Rattle.ix_flatmap.specs.MapState.{HasDistinctKeys, map_entry, map_value}
+use Rattle.ix_flatmap.specs.MapSteps.{map_insert}
+use Rattle.ix_flatmap.proofs.MapEntries.{map_entry-place, map_entry-without_place}
+use Rattle.ix_flatmap.proofs.MapSteps.{map_insert-fresh, HasDistinctKeys-inserted, map_value-inserted, map_value-inserted_other, map_replace-found, pair_set-found, value_at-new, map_replace-new, map_value-map_set, map_value-map_set_other, map_value-replace_new, map_value-replace_new_other}
 use Rattle.ix_flatmap.proofs.map.try_insert.MetaMap+Pair+K+V+S+L+I.get_or_insert_with.Goals as goal
 
 pub value_mut-requires : goal.value_mut-requires
 value_mut-requires g c =
     let eq = g.K.PartialEq.eq in
-    let has = subst (λ s. Some c.in-Some.place ≡ option_map (λ e. e.0) (flat_entry eq s c.args.key)) c.self.view_is c.in-Some.ensures in
-    subst IsSome (sym (flat_entry-place eq c.args.self.now c.args.key c.in-Some.place has).2.at) refl
+    let has = subst (λ s. Some c.in-Some.place ≡ option_map (λ e. e.0) (map_entry eq s c.args.key)) c.self.view_is c.in-Some.ensures in
+    subst IsSome (sym (map_entry-place eq c.args.self.now c.args.key c.in-Some.place has).2.at) refl
 
 pub returns-in-Some : goal.returns-in-Some
 returns-in-Some g c =
@@ -21,30 +21,30 @@ returns-in-Some g c =
     let s = c.args.self.now in
     let key = c.args.key in
     let place = c.in-Some.place in
-    let at = subst (λ s. Some place ≡ option_map (λ e. e.0) (flat_entry eq s key)) c.self.view_is c.in-Some.ensures in
-    let entry = flat_entry-place eq s key place at in
+    let at = subst (λ s. Some place ≡ option_map (λ e. e.0) (map_entry eq s key)) c.self.view_is c.in-Some.ensures in
+    let entry = map_entry-place eq s key place at in
     let found = entry.1 in
-    let has : flat_value eq s key ≡ Some entry.0.value = ap (option_map (λ e. e.1.value)) found in
+    let has : map_value eq s key ≡ Some entry.0.value = ap (option_map (λ e. e.1.value)) found in
     let shown : Some entry.0.value ≡ Some c.value_mut.result.now = sym (ap (option_map (λ pair. pair.value)) entry.2.at) ∙ c.value_mut.ensures.value in
     let is : c.value_mut.result.now ≡ entry.0.value = cc in
     let distinct = subst (HasDistinctKeys eq) c.self.view_is c.self.invariant.0 in (
-      λ i. inl (c.value_mut.result.ghost_name, λ written. (pair_set-found eq laws s key (place, entry.0) found written ∙ sym (flat_replace-found eq laws s key (place, entry.0) found written)) i),
+      λ i. inl (c.value_mut.result.ghost_name, λ written. (pair_set-found eq laws s key (place, entry.0) found written ∙ sym (map_replace-found eq laws s key (place, entry.0) found written)) i),
       record {
         writes_back = tt;
         value = subst (λ o. UnwrapsOrElse o (goal.F-post g c.args.f) c.value_mut.result.now) (sym has) is;
         full = (λ err. absurd (cc), λ both. absurd (let no : Some entry.0.value ≡ None = sym has ∙ both.0 in cc));
         returned = tt;
-        holds = λ written ok. ap (λ t. flat_value eq t key) (flat_replace-found eq laws s key (place, entry.0) found written) ∙ flat_value-flat_set eq laws s key written distinct (subst IsSome (sym has) refl);
-        kept = λ written other differs. ap (λ t. flat_value eq t other) (flat_replace-found eq laws s key (place, entry.0) found written) ∙ flat_value-flat_set_other eq laws s key written distinct other differs;
+        holds = λ written ok. ap (λ t. map_value eq t key) (map_replace-found eq laws s key (place, entry.0) found written) ∙ map_value-map_set eq laws s key written distinct (subst IsSome (sym has) refl);
+        kept = λ written other differs. ap (λ t. map_value eq t other) (map_replace-found eq laws s key (place, entry.0) found written) ∙ map_value-map_set_other eq laws s key written distinct other differs;
       },
     )
 
 pub insert-requires-clause-absent : goal.insert-requires-clause-absent
-insert-requires-clause-absent g c = flat_entry-without_place g.K.PartialEq.eq c.self.inside.pairs c.args.key c.in_default.ensures
+insert-requires-clause-absent g c = map_entry-without_place g.K.PartialEq.eq c.self.inside.pairs c.args.key c.in_default.ensures
 
 pub invariant_of-self : goal.invariant_of-self
 invariant_of-self g c =
-    let fresh = flat_entry-without_place g.K.PartialEq.eq c.self.inside.pairs c.args.key c.in_default.ensures in (
+    let fresh = map_entry-without_place g.K.PartialEq.eq c.self.inside.pairs c.args.key c.in_default.ensures in (
       HasDistinctKeys-inserted g.K.PartialEq.eq g.met.K.Eq.laws c.self.inside.pairs _ _ _ c.insert.ensures.step c.self.invariant.0 fresh,
       c.insert.ensures.fits,
     )
@@ -61,26 +61,26 @@ returns g c =
     let place = c.in-Some-next_free_key.place in
     let step = c.insert.ensures.step in
     let was_first = c.in-Some-next_free_key.ensures.value in
-    let fresh = flat_entry-without_place eq inside key c.in_default.ensures in
-    let none = subst (λ t. flat_entry eq t key ≡ None) c.self.view_is fresh in
-    let absent : flat_value eq s key ≡ None = ap (option_map (λ e. e.1.value)) none in
+    let fresh = map_entry-without_place eq inside key c.in_default.ensures in
+    let none = subst (λ t. map_entry eq t key ≡ None) c.self.view_is fresh in
+    let absent : map_value eq s key ≡ None = ap (option_map (λ e. e.1.value)) none in
     let first = sym (subst (λ t. Some place ≡ slice_get t.free 0) c.self.view_is was_first) in
     let free = subst (λ t. IsFree t place) c.self.view_is c.in-Some-next_free_key.ensures.free in
-    let inserted : new ≡ flat_insert eq s key value =
-    step.map ∙ sym (flat_insert-fresh eq inside key value fresh) ∙ ap (λ t. flat_insert eq t key value) c.self.view_is in
+    let inserted : new ≡ map_insert eq s key value =
+    step.map ∙ sym (map_insert-fresh eq inside key value fresh) ∙ ap (λ t. map_insert eq t key value) c.self.view_is in
     let distinct = HasDistinctKeys-inserted eq laws inside new _ _ step c.self.invariant.0 fresh in
-    let holds = flat_value-inserted eq laws inside new _ _ step c.self.invariant.0 fresh (subst IsSome (was_first ∙ sym step.key) refl) in
+    let holds = map_value-inserted eq laws inside new _ _ step c.self.invariant.0 fresh (subst IsSome (was_first ∙ sym step.key) refl) in
     let shown : Some value ≡ Some c.value_mut-in-Ok.result.now =
     sym (ap (option_map (λ pair. pair.value)) (value_at-new eq laws s key new place value none first free inserted)) ∙ c.value_mut-in-Ok.ensures.value in
     let is : value ≡ c.value_mut-in-Ok.result.now = cc in (
-      λ i. inl (c.value_mut-in-Ok.result.ghost_name, λ written. flat_replace-new eq laws s key new place value none first free inserted written i),
+      λ i. inl (c.value_mut-in-Ok.result.ghost_name, λ written. map_replace-new eq laws s key new place value none first free inserted written i),
       record {
         writes_back = tt;
         value = subst (λ o. UnwrapsOrElse o (goal.F-post g c.args.f) c.value_mut-in-Ok.result.now) (sym absent) (subst (goal.F-post g c.args.f) is c.f.ensures);
         full = (λ err. absurd (cc), λ both. absurd (let no : Some place ≡ None = sym first ∙ ap (λ keys. slice_get keys 0) both.1 in cc));
         returned = tt;
-        holds = λ written ok. flat_value-replace_new eq laws s key new place value none first free inserted distinct written (subst IsSome (sym holds) refl);
-        kept = λ written other differs. flat_value-replace_new_other eq laws s key new place value none first free inserted distinct written other differs
-            ∙ (flat_value-inserted_other eq laws inside new _ _ step c.self.invariant.0 fresh other differs ∙ ap (λ t. flat_value eq t other) c.self.view_is);
+        holds = λ written ok. map_value-replace_new eq laws s key new place value none first free inserted distinct written (subst IsSome (sym holds) refl);
+        kept = λ written other differs. map_value-replace_new_other eq laws s key new place value none first free inserted distinct written other differs
+            ∙ (map_value-inserted_other eq laws inside new _ _ step c.self.invariant.0 fresh other differs ∙ ap (λ t. map_value eq t other) c.self.view_is);
       },
     )

@@ -1,6 +1,6 @@
 use Rattle.std.proofs.Common.{ℕ, sym, subst, arith}
 use Rattle.ix_tables.proofs.Places.{held_item, place_at_within}
-use Rattle.ix_slottable.specs.SlotState.{value_at}
+use Rattle.ix_slottable.specs.SlotTableState.{value_at}
 use Rattle.ix_hashmap.specs.inner.HashChains.{head_at, IsOnChain, IsUnlinked}
 use Rattle.ix_hashmap.proofs.HashSteps.{on_chain-held, IsHashed-removed}
 use Rattle.ix_hashmap.proofs.hashmap.buckets.BucketsKeyIndex.remove.Goals as goal

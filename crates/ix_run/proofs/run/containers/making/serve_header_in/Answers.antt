@@ -3,17 +3,17 @@ use Rattle.ix_run.proofs.run.containers.making.serve_header_in.Goals as goal
 pub returns-in-Queue : goal.returns-in-Queue
 returns-in-Queue g c = rw c.in-Queue.is c.serve_storage.ensures
 
-pub returns-in-Vec : goal.returns-in-Vec
-returns-in-Vec g c = rw c.in-Vec.is c.serve_storage-in-Vec.ensures
+pub returns-in-Vector : goal.returns-in-Vector
+returns-in-Vector g c = rw c.in-Vector.is c.serve_storage-in-Vector.ensures
 
-pub returns-in-Table : goal.returns-in-Table
-returns-in-Table g c = rw c.in-Table.is c.serve_storage-in-Table.ensures
+pub returns-in-SlotTable : goal.returns-in-SlotTable
+returns-in-SlotTable g c = rw c.in-SlotTable.is c.serve_storage-in-SlotTable.ensures
 
-pub returns-in-Slot : goal.returns-in-Slot
-returns-in-Slot g c = rw c.in-Slot.is c.serve_storage-in-Slot.ensures
+pub returns-in-SlotMap : goal.returns-in-SlotMap
+returns-in-SlotMap g c = rw c.in-SlotMap.is c.serve_storage-in-SlotMap.ensures
 
-pub returns-in-Flat : goal.returns-in-Flat
-returns-in-Flat g c = rw c.in-Flat.is c.serve_storage-in-Flat.ensures
+pub returns-in-FlatMap : goal.returns-in-FlatMap
+returns-in-FlatMap g c = rw c.in-FlatMap.is c.serve_storage-in-FlatMap.ensures
 
-pub returns-in-Text : goal.returns-in-Text
-returns-in-Text g c = rw c.in-Text.is c.serve_storage-in-Text.ensures
+pub returns-in-String : goal.returns-in-String
+returns-in-String g c = rw c.in-String.is c.serve_storage-in-String.ensures

@@ -1,4 +1,4 @@
-use Rattle.ix_slotmap.proofs.MapDrains.{counted-cleared}
+use Rattle.ix_slotmap.proofs.SlotMapDrains.{counted-cleared}
 use Rattle.ix_slotmap.proofs.slotmap.drain.Drain.drop.Goals as goal
 
 pub invariant_of-self : goal.invariant_of-self

@@ -1,8 +1,8 @@
 use Rattle.std.proofs.Common.{◌+◌, ◌∷◌, drop, refl, sym, ap, ◌∙◌}
-use Rattle.ix_slottable.specs.SlotState.{entries_from}
+use Rattle.ix_slottable.specs.SlotTableState.{entries_from}
 use Rattle.ix_slotmap.specs.Generations.{held_entries}
-use Rattle.ix_slotmap.proofs.MapEntries.{count_by-held}
-use Rattle.ix_slotmap.proofs.MapDrains.{next_key, map_clear-next, counted-next}
+use Rattle.ix_slotmap.proofs.SlotMapEntries.{count_by-held}
+use Rattle.ix_slotmap.proofs.SlotMapDrains.{next_key, slot_map_clear-next, counted-next}
 use Rattle.ix_slotmap.proofs.slotmap.drain.DrainIterator.next.Goals as goal
 
 pub invariant_of-self-2 : goal.invariant_of-self-2
@@ -24,5 +24,5 @@ returns-clause-steps g c =
     let removed = c.in-Some.ensures in
     let rest = held_entries new (entries_from (number + 1) (drop (number + 1) new.slots.values)) in (
       next_key s new drain.index number value c.held_from-index.ensures.entries removed.value removed.step ∙ ap (λ key. (key, value) ∷ rest) (sym c.key_of-key.ensures.value),
-      (refl, map_clear-next s new drain.index number value c.held_from-index.ensures.entries removed.value removed.step drain.counted removed.gone),
+      (refl, slot_map_clear-next s new drain.index number value c.held_from-index.ensures.entries removed.value removed.step drain.counted removed.gone),
     )

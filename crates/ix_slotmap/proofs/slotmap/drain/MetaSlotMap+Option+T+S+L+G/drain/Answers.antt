@@ -1,6 +1,6 @@
-use Rattle.ix_slotmap.specs.MapDrain.{drain_items, drain_left, drain_lender}
+use Rattle.ix_slotmap.specs.SlotMapDrain.{drain_items, drain_left, drain_lender}
 use Rattle.ix_slottable.proofs.Draining.{Draining-keeps_along}
-use Rattle.ix_slotmap.proofs.MapEntries.{count_by-held}
+use Rattle.ix_slotmap.proofs.SlotMapEntries.{count_by-held}
 use Rattle.ix_slotmap.proofs.slotmap.drain.MetaSlotMap+Option+T+S+L+G.drain.Goals as goal
 
 pub invariant_of-result : goal.invariant_of-result

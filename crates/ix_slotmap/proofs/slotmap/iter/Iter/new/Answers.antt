@@ -1,5 +1,5 @@
 use Rattle.std.proofs.Common.{◌∙◌}
-use Rattle.ix_slotmap.proofs.MapEntries.{count_by-held}
+use Rattle.ix_slotmap.proofs.SlotMapEntries.{count_by-held}
 use Rattle.ix_slotmap.proofs.slotmap.iter.Iter.new.Goals as goal
 
 pub invariant_of-result : goal.invariant_of-result

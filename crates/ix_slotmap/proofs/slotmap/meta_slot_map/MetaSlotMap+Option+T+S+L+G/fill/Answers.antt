@@ -1,5 +1,5 @@
 use Rattle.std.proofs.Common.{◌≡◌, ◌/◌, sym, subst, ap, ◌∙◌, arith}
-use Rattle.ix_slottable.specs.SlotState.{IsFree}
+use Rattle.ix_slottable.specs.SlotTableState.{IsFree}
 use Rattle.ix_slotmap.specs.Generations.{SlotMapState, generation_at}
 use Rattle.ix_slotmap.proofs.Words.{word_within, free_word, state_of, fills}
 use Rattle.ix_slotmap.proofs.slotmap.meta_slot_map.MetaSlotMap+Option+T+S+L+G.fill.Goals as goal

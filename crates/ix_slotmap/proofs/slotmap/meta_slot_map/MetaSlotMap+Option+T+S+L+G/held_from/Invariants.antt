@@ -1,5 +1,5 @@
 use Rattle.std.proofs.Common.{◌≡◌, ◌-◌, length, drop}
-use Rattle.ix_slottable.specs.SlotState.{entries_from}
+use Rattle.ix_slottable.specs.SlotTableState.{entries_from}
 use Rattle.ix_slotmap.specs.Generations.{held_entries}
 use Rattle.ix_slotmap.proofs.slotmap.meta_slot_map.MetaSlotMap+Option+T+S+L+G.held_from.Given as goal
 

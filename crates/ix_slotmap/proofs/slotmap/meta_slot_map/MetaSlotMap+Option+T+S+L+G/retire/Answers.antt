@@ -1,5 +1,5 @@
 use Rattle.std.proofs.Common.{ap, length, sym, subst, IsSome, arith}
-use Rattle.ix_slottable.specs.SlotSteps.{slot_set}
+use Rattle.ix_slottable.specs.SlotTableSteps.{slot_table_set}
 use Rattle.ix_slotmap.specs.Generations.{SlotMapState, place_value}
 use Rattle.ix_slotmap.proofs.Words.{retires, room_to_retire}
 use Rattle.ix_slotmap.proofs.slotmap.meta_slot_map.MetaSlotMap+Option+T+S+L+G.retire.Goals as goal
@@ -12,7 +12,7 @@ overflow_add-self g c =
     let fits = c.capacity-capacity.type_inv in omega (arith, room, capacity, same, fits)
 
 pub invariant_of-self : goal.invariant_of-self
-invariant_of-self g c = (retires c.self.inside.slots c.self.inside.words c.self.inside.retired c.self.invariant c.args.self.now c.self.view_is c.args.index c.new-place.result c.new-place.ensures _ _ c.requires.held c.requires.generation (ap (slot_set c.self.inside.slots c.new-place.result) c.take-content.ensures.after) c.raise.ensures.table).0
+invariant_of-self g c = (retires c.self.inside.slots c.self.inside.words c.self.inside.retired c.self.invariant c.args.self.now c.self.view_is c.args.index c.new-place.result c.new-place.ensures _ _ c.requires.held c.requires.generation (ap (slot_table_set c.self.inside.slots c.new-place.result) c.take-content.ensures.after) c.raise.ensures.table).0
 
 pub returns-clause-map : goal.returns-clause-map
-returns-clause-map g c = (retires c.self.inside.slots c.self.inside.words c.self.inside.retired c.self.invariant c.args.self.now c.self.view_is c.args.index c.new-place.result c.new-place.ensures _ _ c.requires.held c.requires.generation (ap (slot_set c.self.inside.slots c.new-place.result) c.take-content.ensures.after) c.raise.ensures.table).1
+returns-clause-map g c = (retires c.self.inside.slots c.self.inside.words c.self.inside.retired c.self.invariant c.args.self.now c.self.view_is c.args.index c.new-place.result c.new-place.ensures _ _ c.requires.held c.requires.generation (ap (slot_table_set c.self.inside.slots c.new-place.result) c.take-content.ensures.after) c.raise.ensures.table).1

@@ -2,18 +2,18 @@ use Rattle.std.proofs.Common.{inl, inr, IsSome, sym, ap, ◌∙◌, subst, arith
 use Rattle.std.specs.Option.{option_flatten}
 use Rattle.std.proofs.lemmas.Bool.{cases_eq}
 use Rattle.ix_slotmap.specs.Generations.{SlotKey, SlotMapState, place_value, key_at, IsDead}
-use Rattle.ix_slotmap.specs.SlotMapSteps.{map_remove_at}
-use Rattle.ix_slottable.proofs.SlotCalls.{fold-range_with_len}
-use Rattle.ix_slotmap.proofs.SlotMapCalls.{SettlesPlace-map_remove_at, held_key}
+use Rattle.ix_slotmap.specs.SlotMapSteps.{slot_map_remove_at}
+use Rattle.ix_slottable.proofs.SlotTableCalls.{fold-range_with_len}
+use Rattle.ix_slotmap.proofs.SlotMapCalls.{SettlesPlace-slot_map_remove_at, held_key}
 use Rattle.ix_slotmap.proofs.slotmap.retain.MetaSlotMap+Option+T+S+L+G.clear.Goals as goal
 
 pub loop-place-preserved : goal.loop-place-preserved
 loop-place-preserved g c =
     let at = c.loop-place.invariant in
     let step = c.remove_at.ensures.step in
-    let settles = SettlesPlace-map_remove_at c.loop-place.self c.loop-place.place c.remove_at.new.self step.map in
+    let settles = SettlesPlace-slot_map_remove_at c.loop-place.self c.loop-place.place c.remove_at.new.self step.map in
     record {
-      map = step.map ∙ ap (λ (s : SlotMapState g.row.T.Denot). map_remove_at s c.loop-place.place) at.map ∙ sym (fold-range_with_len map_remove_at c.args.self.now c.loop-place.place);
+      map = step.map ∙ ap (λ (s : SlotMapState g.row.T.Denot). slot_map_remove_at s c.loop-place.place) at.map ∙ sym (fold-range_with_len slot_map_remove_at c.args.self.now c.loop-place.place);
       capacity = settles.capacity ∙ at.capacity;
       removed = λ other below. elim (cases_eq other c.loop-place.place) [
         | inl here ↦ ap (place_value c.remove_at.new.self) here ∙ c.remove_at.ensures.gone

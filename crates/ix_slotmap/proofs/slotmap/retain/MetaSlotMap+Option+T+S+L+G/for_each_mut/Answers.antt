@@ -1,10 +1,10 @@
 use Rattle.std.proofs.Common.{refl, subst, arith}
 use Rattle.std.proofs.lemmas.Bool.{iff_false}
-use Rattle.ix_slotmap.specs.SlotMapSteps.{map_set}
-use Rattle.ix_slottable.specs.SlotCalls.{CalledOn, ChangesItem}
+use Rattle.ix_slotmap.specs.SlotMapSteps.{slot_map_set}
+use Rattle.ix_slottable.specs.SlotTableCalls.{CalledOn, ChangesItem}
 use Rattle.ix_tables.proofs.Places.{none_of_not_some}
-use Rattle.ix_slottable.proofs.SlotCalls.{CalledOn-from_step}
-use Rattle.ix_slotmap.proofs.SlotMapCalls.{held-map_set_at, IsDead-map_set_at, SettlesPlace-map_set_at, VisitedPlaces-without, VisitedPlaces-with, VisitedPlaces-callable}
+use Rattle.ix_slottable.proofs.SlotTableCalls.{CalledOn-from_step}
+use Rattle.ix_slotmap.proofs.SlotMapCalls.{held-slot_map_set_at, IsDead-slot_map_set_at, SettlesPlace-slot_map_set_at, VisitedPlaces-without, VisitedPlaces-with, VisitedPlaces-callable}
 use Rattle.ix_slotmap.proofs.slotmap.retain.MetaSlotMap+Option+T+S+L+G.for_each_mut.Goals as goal
 
 pub loop-index-preserved-then-not-has_value : goal.loop-index-preserved-then-not-has_value
@@ -13,7 +13,7 @@ loop-index-preserved-then-not-has_value g c =
     let below = c.loop-index-test.true in
     let all = c.capacity-index-end.ensures.value in
     record {
-      visited = VisitedPlaces-without (ChangesItem map_set (goal.F-step g)) _ _ c.loop-index.index _ _ at.visited (omega (arith, below, all))
+      visited = VisitedPlaces-without (ChangesItem slot_map_set (goal.F-step g)) _ _ c.loop-index.index _ _ at.visited (omega (arith, below, all))
           (none_of_not_some _ (iff_false c.has_value.ensures.value c.if-not-has_value.true));
       keys = at.keys;
       free = at.free;
@@ -23,7 +23,7 @@ loop-index-preserved-then-not-has_value g c =
 
 pub f-requires : goal.f-requires
 f-requires g c =
-    VisitedPlaces-callable (ChangesItem map_set (goal.F-step g)) _ _ (goal.F-step g) (goal.F-pre g) c.loop-index.index _ _ _ _ (λ p q x step. (tt, step.0, step.1)) c.requires
+    VisitedPlaces-callable (ChangesItem slot_map_set (goal.F-step g)) _ _ (goal.F-step g) (goal.F-pre g) c.loop-index.index _ _ _ _ (λ p q x step. (tt, step.0, step.1)) c.requires
     c.loop-index.invariant.visited c.key_of-key.ensures.value c.value_mut.ensures.value
 
 pub loop-index-preserved : goal.loop-index-preserved
@@ -33,12 +33,12 @@ loop-index-preserved g c =
     let left = c.f.new.arg3 in
     let called = subst (λ key. CalledOn (goal.F-step g) c.loop-index.f key value tt left c.f.new.self) c.key_of-key.ensures.value
     (CalledOn-from_step (goal.F-step g) _ _ c.value_mut.result _ _ c.f.new.self c.f.ensures) in
-    let same = held-map_set_at c.loop-index.self c.loop-index.index value left c.value_mut.ensures.value in
+    let same = held-slot_map_set_at c.loop-index.self c.loop-index.index value left c.value_mut.ensures.value in
     record {
-      visited = VisitedPlaces-with (ChangesItem map_set (goal.F-step g)) _ _ c.loop-index.index _ _ _ _ value at.visited c.value_mut.ensures.value (left, called, refl)
-          (SettlesPlace-map_set_at _ _ left _ refl);
+      visited = VisitedPlaces-with (ChangesItem slot_map_set (goal.F-step g)) _ _ c.loop-index.index _ _ _ _ value at.visited c.value_mut.ensures.value (left, called, refl)
+          (SettlesPlace-slot_map_set_at _ _ left _ refl);
       keys = λ key. (λ held. (at.keys key).0 ((same key).0 held), λ held. (same key).1 ((at.keys key).1 held));
       free = at.free;
       generations = at.generations;
-      dead = λ key dead. IsDead-map_set_at c.loop-index.self c.loop-index.index value left c.value_mut.ensures.value key (at.dead key dead);
+      dead = λ key dead. IsDead-slot_map_set_at c.loop-index.self c.loop-index.index value left c.value_mut.ensures.value key (at.dead key dead);
     }

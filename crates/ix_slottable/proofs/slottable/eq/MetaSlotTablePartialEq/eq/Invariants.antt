@@ -1,7 +1,7 @@
 use Rattle.std.proofs.Common.{nat_eq, ◌≡◌}
 use Rattle.std.specs.Prelude.{◌&&◌}
 use Rattle.std.specs.Cmp.Lexicographic.{pointwise}
-use Rattle.ix_slottable.specs.SlotState.{entries}
+use Rattle.ix_slottable.specs.SlotTableState.{entries}
 use Rattle.ix_slottable.proofs.slottable.eq.MetaSlotTablePartialEq.eq.Given as goal
 
 -- the maps are equal if what is left of them is

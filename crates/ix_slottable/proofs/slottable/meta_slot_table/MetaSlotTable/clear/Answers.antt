@@ -1,19 +1,19 @@
 use Rattle.std.proofs.Common.{length, inl, inr, None, sym, ap, ◌∙◌, arith}
 use Rattle.std.specs.Prelude.{replicate}
 use Rattle.std.proofs.lemmas.Bool.{cases_eq}
-use Rattle.ix_slottable.specs.SlotState.{SlotState, value_at}
-use Rattle.ix_slottable.specs.SlotSteps.{slot_remove}
+use Rattle.ix_slottable.specs.SlotTableState.{SlotTableState, value_at}
+use Rattle.ix_slottable.specs.SlotTableSteps.{slot_table_remove}
 use Rattle.ix_slottable.proofs.SlotTables.{IsVacant-from_places}
-use Rattle.ix_slottable.proofs.SlotCalls.{fold-range_with_len, length-slot_remove}
+use Rattle.ix_slottable.proofs.SlotTableCalls.{fold-range_with_len, length-slot_table_remove}
 use Rattle.ix_slottable.proofs.slottable.meta_slot_table.MetaSlotTable.clear.Goals as goal
 
 pub loop-key-preserved : goal.loop-key-preserved
 loop-key-preserved g c =
     let at = c.loop-key.invariant in
     record {
-      map = c.remove.ensures.map ∙ ap (slot_remove c.loop-key.self) c.new.ensures ∙ ap (λ (s : SlotState g.row.T.Denot). slot_remove s c.loop-key.key) at.map
-          ∙ sym (fold-range_with_len slot_remove c.args.self.now c.loop-key.key);
-      capacity = ap (λ (s : SlotState g.row.T.Denot). length s.values) c.remove.ensures.map ∙ length-slot_remove c.loop-key.self c.new.result ∙ at.capacity;
+      map = c.remove.ensures.map ∙ ap (slot_table_remove c.loop-key.self) c.new.ensures ∙ ap (λ (s : SlotTableState g.row.T.Denot). slot_table_remove s c.loop-key.key) at.map
+          ∙ sym (fold-range_with_len slot_table_remove c.args.self.now c.loop-key.key);
+      capacity = ap (λ (s : SlotTableState g.row.T.Denot). length s.values) c.remove.ensures.map ∙ length-slot_table_remove c.loop-key.self c.new.result ∙ at.capacity;
       removed = λ other below. elim (cases_eq other c.new.result) [
         | inl here ↦ ap (value_at c.remove.new.self) here ∙ c.remove.ensures.gone
         | inr there ↦ c.remove.ensures.kept other there ∙ at.removed other (let is = c.new.ensures in omega arith)

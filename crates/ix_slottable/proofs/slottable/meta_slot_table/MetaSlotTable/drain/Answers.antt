@@ -1,4 +1,4 @@
-use Rattle.ix_slottable.specs.SlotDrain.{drain_items, drain_left, drain_lender}
+use Rattle.ix_slottable.specs.SlotTableDrain.{drain_items, drain_left, drain_lender}
 use Rattle.ix_slottable.proofs.Entries.{count_by-is_some}
 use Rattle.ix_slottable.proofs.Draining.{Draining-keeps_along}
 use Rattle.ix_slottable.proofs.slottable.meta_slot_table.MetaSlotTable.drain.Goals as goal

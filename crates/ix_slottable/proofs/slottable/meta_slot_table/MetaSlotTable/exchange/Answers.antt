@@ -1,11 +1,11 @@
 use Rattle.std.proofs.Common.{ap, set, Some, ◌∙◌}
-use Rattle.ix_slottable.proofs.SlotSteps.{Shows-slot_set}
+use Rattle.ix_slottable.proofs.SlotTableSteps.{Shows-slot_table_set}
 use Rattle.ix_slottable.proofs.slottable.meta_slot_table.MetaSlotTable.exchange.Goals as goal
 
 pub invariant_of-self : goal.invariant_of-self
 invariant_of-self g c =
-    (Shows-slot_set _ _ _ _ _ _ c.args.key c.args.value (record { sound = c.self.invariant; is = c.self.view_is }) c.requires (g.met.S.Table.places_with_item c.self.inside.values c.args.key c.replace.new.dest ∙ ap (λ value. set (g.S.Table.places c.self.inside.values) c.args.key (Some value)) c.replace.ensures.after)).sound
+    (Shows-slot_table_set _ _ _ _ _ _ c.args.key c.args.value (record { sound = c.self.invariant; is = c.self.view_is }) c.requires (g.met.S.Table.places_with_item c.self.inside.values c.args.key c.replace.new.dest ∙ ap (λ value. set (g.S.Table.places c.self.inside.values) c.args.key (Some value)) c.replace.ensures.after)).sound
 
 pub returns-clause-map : goal.returns-clause-map
 returns-clause-map g c =
-    (Shows-slot_set _ _ _ _ _ _ c.args.key c.args.value (record { sound = c.self.invariant; is = c.self.view_is }) c.requires (g.met.S.Table.places_with_item c.self.inside.values c.args.key c.replace.new.dest ∙ ap (λ value. set (g.S.Table.places c.self.inside.values) c.args.key (Some value)) c.replace.ensures.after)).is
+    (Shows-slot_table_set _ _ _ _ _ _ c.args.key c.args.value (record { sound = c.self.invariant; is = c.self.view_is }) c.requires (g.met.S.Table.places_with_item c.self.inside.values c.args.key c.replace.new.dest ∙ ap (λ value. set (g.S.Table.places c.self.inside.values) c.args.key (Some value)) c.replace.ensures.after)).is

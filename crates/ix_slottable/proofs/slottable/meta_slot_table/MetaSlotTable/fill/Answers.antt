@@ -1,7 +1,7 @@
 use Rattle.std.proofs.Common.{subst}
 use Rattle.ix_slottable.specs.inner.FreeList.{IsLinkWithin}
 use Rattle.ix_slottable.proofs.SlotTables.{IsLinkTable-shown, key_within, IsLinkWithin-shown, place_at-free, IsEmptyAt-free}
-use Rattle.ix_slottable.proofs.SlotSteps.{Shows-slot_fill}
+use Rattle.ix_slottable.proofs.SlotTableSteps.{Shows-slot_table_fill}
 use Rattle.ix_slottable.proofs.slottable.meta_slot_table.MetaSlotTable.fill.Goals as goal
 
 pub remove-requires-clause-links : goal.remove-requires-clause-links
@@ -21,9 +21,9 @@ put-requires g c = IsEmptyAt-free _ _ _ _ _ c.args.key (record { sound = c.self.
 pub invariant_of-self : goal.invariant_of-self
 invariant_of-self g c =
     let at = place_at-free _ _ _ _ _ c.args.key (record { sound = c.self.invariant; is = c.self.view_is }) c.args.link c.requires.free c.requires.link in
-    (Shows-slot_fill _ _ _ _ _ _ _ _ c.args.key c.args.value c.args.link (record { sound = c.self.invariant; is = c.self.view_is }) c.requires.free at c.remove.ensures.links c.first_after_remove-self-inside.ensures c.put.ensures.places).sound
+    (Shows-slot_table_fill _ _ _ _ _ _ _ _ c.args.key c.args.value c.args.link (record { sound = c.self.invariant; is = c.self.view_is }) c.requires.free at c.remove.ensures.links c.first_after_remove-self-inside.ensures c.put.ensures.places).sound
 
 pub returns-clause-map : goal.returns-clause-map
 returns-clause-map g c =
     let at = place_at-free _ _ _ _ _ c.args.key (record { sound = c.self.invariant; is = c.self.view_is }) c.args.link c.requires.free c.requires.link in
-    (Shows-slot_fill _ _ _ _ _ _ _ _ c.args.key c.args.value c.args.link (record { sound = c.self.invariant; is = c.self.view_is }) c.requires.free at c.remove.ensures.links c.first_after_remove-self-inside.ensures c.put.ensures.places).is
+    (Shows-slot_table_fill _ _ _ _ _ _ _ _ c.args.key c.args.value c.args.link (record { sound = c.self.invariant; is = c.self.view_is }) c.requires.free at c.remove.ensures.links c.first_after_remove-self-inside.ensures c.put.ensures.places).is

@@ -1,7 +1,7 @@
 use Rattle.std.proofs.Common.{length, None, sym, ap, ◌∙◌, arith}
 use Rattle.std.specs.Prelude.{replicate}
-use Rattle.ix_slottable.specs.SlotState.{slot_new}
-use Rattle.ix_slottable.proofs.SlotSteps.{Shows-slot_new}
+use Rattle.ix_slottable.specs.SlotTableState.{slot_table_new}
+use Rattle.ix_slottable.proofs.SlotTableSteps.{Shows-slot_table_new}
 use Rattle.ix_slottable.proofs.slottable.meta_slot_table.MetaSlotTable.from_tables.Goals as goal
 
 pub invariant_of-result : goal.invariant_of-result
@@ -9,12 +9,12 @@ invariant_of-result g c =
     let same = ap g.S.Table.places c.new-values.ensures in
     let len = c.len.ensures ∙ ap length same in
     let bound = c.len.type_inv in
-    (Shows-slot_new _ _ _ _ (same ∙ c.requires.values ∙ ap (λ n. replicate n None) (sym len)) c.link_all-first.ensures.links c.link_all-first.ensures.first (omega arith)).sound
+    (Shows-slot_table_new _ _ _ _ (same ∙ c.requires.values ∙ ap (λ n. replicate n None) (sym len)) c.link_all-first.ensures.links c.link_all-first.ensures.first (omega arith)).sound
 
 pub returns : goal.returns
 returns g c =
     let same = ap g.S.Table.places c.new-values.ensures in
     let len = c.len.ensures ∙ ap length same in
     let bound = c.len.type_inv in
-    (Shows-slot_new _ _ _ _ (same ∙ c.requires.values ∙ ap (λ n. replicate n None) (sym len)) c.link_all-first.ensures.links c.link_all-first.ensures.first (omega arith)).is
-    ∙ ap slot_new len
+    (Shows-slot_table_new _ _ _ _ (same ∙ c.requires.values ∙ ap (λ n. replicate n None) (sym len)) c.link_all-first.ensures.links c.link_all-first.ensures.first (omega arith)).is
+    ∙ ap slot_table_new len

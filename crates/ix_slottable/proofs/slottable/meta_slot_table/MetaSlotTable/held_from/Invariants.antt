@@ -1,5 +1,5 @@
 use Rattle.std.proofs.Common.{◌≡◌, ◌-◌, length, drop}
-use Rattle.ix_slottable.specs.SlotState.{entries_from}
+use Rattle.ix_slottable.specs.SlotTableState.{entries_from}
 use Rattle.ix_slottable.proofs.slottable.meta_slot_table.MetaSlotTable.held_from.Given as goal
 
 -- only free keys were passed

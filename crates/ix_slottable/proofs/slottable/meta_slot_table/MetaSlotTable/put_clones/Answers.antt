@@ -1,6 +1,6 @@
 use Rattle.std.proofs.Common.{◌+◌, sym, ap, ◌∙◌, subst, arith}
-use Rattle.ix_slottable.specs.SlotState.{value_at}
-use Rattle.ix_slottable.proofs.SlotCopies.{CopiesBelow, CopiesBelow-none, CopiesBelow-free, CopiesBelow-held, CopiesBelow-all}
+use Rattle.ix_slottable.specs.SlotTableState.{value_at}
+use Rattle.ix_slottable.proofs.SlotTableCopies.{CopiesBelow, CopiesBelow-none, CopiesBelow-free, CopiesBelow-held, CopiesBelow-all}
 use Rattle.ix_slottable.proofs.slottable.meta_slot_table.MetaSlotTable.put_clones.Goals as goal
 
 pub loop-number-init : goal.loop-number-init

@@ -1,4 +1,4 @@
-use Rattle.ix_slottable.proofs.SlotCopies.{CopiesBelow}
+use Rattle.ix_slottable.proofs.SlotTableCopies.{CopiesBelow}
 use Rattle.ix_slottable.proofs.slottable.meta_slot_table.MetaSlotTable.put_clones.Given as goal
 
 abbrev pub invariant-loop-number : goal.invariant-loop-number

@@ -1,10 +1,10 @@
-use Rattle.ix_slottable.proofs.SlotSteps.{Shows-slot_set}
+use Rattle.ix_slottable.proofs.SlotTableSteps.{Shows-slot_table_set}
 use Rattle.ix_slottable.proofs.slottable.meta_slot_table.MetaSlotTable.replace.Goals as goal
 
 pub invariant_of-self : goal.invariant_of-self
 invariant_of-self g c =
-    (Shows-slot_set _ _ _ _ _ _ c.args.key c.args.value (record { sound = c.self.invariant; is = c.self.view_is }) c.requires (g.met.S.Table.places_with_item c.self.inside.values c.args.key c.args.value)).sound
+    (Shows-slot_table_set _ _ _ _ _ _ c.args.key c.args.value (record { sound = c.self.invariant; is = c.self.view_is }) c.requires (g.met.S.Table.places_with_item c.self.inside.values c.args.key c.args.value)).sound
 
 pub returns-clause-map : goal.returns-clause-map
 returns-clause-map g c =
-    (Shows-slot_set _ _ _ _ _ _ c.args.key c.args.value (record { sound = c.self.invariant; is = c.self.view_is }) c.requires (g.met.S.Table.places_with_item c.self.inside.values c.args.key c.args.value)).is
+    (Shows-slot_table_set _ _ _ _ _ _ c.args.key c.args.value (record { sound = c.self.invariant; is = c.self.view_is }) c.requires (g.met.S.Table.places_with_item c.self.inside.values c.args.key c.args.value)).is

@@ -4,7 +4,7 @@ use Rattle.std.specs.Option.{option_and_then}
 use Rattle.std.specs.Prelude.{bytes_eq}
 use Rattle.std.specs.Map.{lookup}
 use Rattle.ix_slotmap.specs.Generations.{SlotKey}
-use Rattle.ix_commands.specs.declared.command.SlotCommand.{SlotCommand}
+use Rattle.ix_commands.specs.declared.command.SlotMapCommand.{SlotMapCommand}
 use Rattle.ix_run.specs.Words.{is_space, numbers_in, key_of, key_and_numbers, key_command_of}
 use Rattle.ix_run.specs.Forms.{slot_key_forms}
 use Rattle.ix_run.specs.inner.NameTables.{constant_rows, first_word, numbers_taken, slot_key_named}
@@ -16,7 +16,7 @@ use Rattle.ix_run.proofs.Words.{other_words, first_word_split}
 use Rattle.ix_run.proofs.NameTables.{taken_made, key_made, key_line}
 use Rattle.ix_run.proofs.run.grammar.readers.slotmap.read_key_command.Goals as goal
 
-abbrev make : Takes × KeyName → SlotKey → List ℕ → Option (SlotCommand ℕ)
+abbrev make : Takes × KeyName → SlotKey → List ℕ → Option (SlotMapCommand ℕ)
 make v key = numbers_taken v.0 (λ n m. slot_key_named v.1 key n)
 
 -- what is made of a key, and of the numbers that were read after it

@@ -1,0 +1,31 @@
+//! The error of inserting into a flat map.
+ghost use Rattle.std.specs.Prelude.{Some};
+
+use std::error::Error;
+use std::fmt;
+
+/// The error of inserting into a flat map. The map is unchanged when it is returned.
+///
+/// This is `MapError` of iceoryx2-bb-container.
+#[derive(Clone, Copy, PartialEq, Eq, Hash, Debug)]
+pub enum MapError {
+    /// The map has an equal key.
+    KeyAlreadyExists,
+    /// There is no room for another key.
+    IsFull,
+}
+
+impl fmt::Display for MapError {
+    ghost use Rattle.ix_flatmap.specs.MapSteps.{map_error_text};
+
+    ghost output = { λ error. Some (map_error_text error) };
+
+    fn fmt<W: fmt::Write>(&self, f: &mut fmt::Formatter<W>) -> fmt::Result {
+        f.write_str(match self {
+            MapError::KeyAlreadyExists => "FlatMapError::KeyAlreadyExists",
+            MapError::IsFull => "FlatMapError::IsFull",
+        })
+    }
+}
+
+impl Error for MapError {}
