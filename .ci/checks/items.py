@@ -201,9 +201,9 @@ def title_of(module):
 
 
 def exported_names(text, with_hidden=False):
-    """Returns the names that a module passes on from private modules, without hidden ones or with them."""
+    """Returns the names, the new one of `a as b`, that a module passes on from private modules, without hidden ones or with them."""
     lists = [names or name for hidden, _, names, name in REEXPORT.findall(text) if with_hidden or not hidden]
-    return {name.strip() for names in lists for name in names.split(",") if name.strip()}
+    return {name.rpartition(" as ")[2].strip() for names in lists for name in names.split(",") if name.strip()}
 
 
 def named_modules(text, with_hidden):

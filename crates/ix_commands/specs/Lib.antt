@@ -1,8 +1,13 @@
+pub mod FlatRun
 pub mod MapRun
 pub mod QueueRun
 pub mod Replies
 pub mod Run
 pub mod SlotMapRun
+pub mod SlotRun
 pub mod SlotTableRun
 pub mod StringRun
+pub mod TableRun
+pub mod TextRun
+pub mod VecRun
 pub mod VectorRun

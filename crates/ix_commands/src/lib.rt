@@ -15,13 +15,15 @@ mod string;
 mod vector;
 
 pub use command::{
-    MapCommand, QueueCommand, SlotMapCommand, SlotTableCommand, StringCommand, VectorCommand,
+    MapCommand, MapCommand as FlatCommand, QueueCommand, SlotMapCommand,
+    SlotMapCommand as SlotCommand, SlotTableCommand, SlotTableCommand as TableCommand,
+    StringCommand, StringCommand as TextCommand, VectorCommand, VectorCommand as VecCommand,
 };
-pub use map::run_map;
+pub use map::{run_map, run_map as run_flat};
 pub use queue::run_queue;
 pub use reply::{Reply, ReplyError};
 pub use runs::{Runs, run_all};
-pub use slotmap::{dead_law, run_slot_map};
-pub use slottable::run_slot_table;
-pub use string::run_string;
-pub use vector::run_vector;
+pub use slotmap::{dead_law, run_slot_map, run_slot_map as run_slot};
+pub use slottable::{run_slot_table, run_slot_table as run_table};
+pub use string::{run_string, run_string as run_text};
+pub use vector::{run_vector, run_vector as run_vec};

@@ -7,7 +7,9 @@ mod bound;
 mod kinds;
 mod search;
 
-pub use crate::map::{CallbackProgression, Drain, Iter, Keyed, Keys, MapError, Pair, Values};
+pub use crate::map::{
+    CallbackProgression, Drain, Iter, Keyed, Keys, MapError, MapError as FlatMapError, Pair, Values,
+};
 pub use bound::Bound;
 pub use kinds::{
     FixedSizeFlatMap, FlatMap, FlatMapFamily, MetaFlatMap, RelocatableFlatMap, UninitFlatMap,

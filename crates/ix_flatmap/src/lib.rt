@@ -10,7 +10,8 @@ pub mod map;
 
 pub use bounded_map::BoundedMap;
 pub use flatmap::{
-    Bound, FixedSizeFlatMap, FlatMap, FlatMapFamily, MetaFlatMap, RelocatableFlatMap, UninitFlatMap,
+    Bound, FixedSizeFlatMap, FlatMap, FlatMapError, FlatMapFamily, MetaFlatMap, RelocatableFlatMap,
+    UninitFlatMap,
 };
 pub use map::{
     CallbackProgression, CopyIn, CopyInline, HeapIndex, HeapMap, InlineIndex, InlineMap, KeyIndex,

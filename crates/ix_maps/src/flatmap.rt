@@ -11,8 +11,8 @@ pub mod drain {
 }
 
 #[doc(hidden)]
-pub mod map_error {
-    pub use ix_flatmap::flatmap::MapError;
+pub mod flat_map_error {
+    pub use ix_flatmap::flatmap::FlatMapError;
 }
 
 #[doc(hidden)]
@@ -48,6 +48,6 @@ pub mod values {
 }
 
 pub use ix_flatmap::flatmap::{
-    Bound, CallbackProgression, Drain, FixedSizeFlatMap, FlatMap, FlatMapFamily, Iter, Keyed, Keys,
-    MapError, MetaFlatMap, Pair, RelocatableFlatMap, UninitFlatMap, Values,
+    Bound, CallbackProgression, Drain, FixedSizeFlatMap, FlatMap, FlatMapError, FlatMapFamily,
+    Iter, Keyed, Keys, MapError, MetaFlatMap, Pair, RelocatableFlatMap, UninitFlatMap, Values,
 };

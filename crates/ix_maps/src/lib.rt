@@ -12,8 +12,9 @@ pub mod slottable;
 
 pub use ix_flatmap::{
     Bound, BoundedMap, CallbackProgression, CopyIn, CopyInline, FixedSizeFlatMap, FlatMap,
-    FlatMapFamily, HeapIndex, HeapMap, InlineIndex, InlineMap, KeyIndex, Keyed, Keys, MapError,
-    MetaFlatMap, MetaMap, Pair, PairIndex, RelocatableFlatMap, UninitFlatMap, bounded_map, map,
+    FlatMapError, FlatMapFamily, HeapIndex, HeapMap, InlineIndex, InlineMap, KeyIndex, Keyed, Keys,
+    MapError, MetaFlatMap, MetaMap, Pair, PairIndex, RelocatableFlatMap, UninitFlatMap,
+    bounded_map, map,
 };
 pub use ix_hashmap::{
     Buckets, ChainLink, DefaultHashBuilder, FixedSizeHashMap, HashMap, HashMapFamily, Hashed,

@@ -1,12 +1,12 @@
-//! The error of inserting into a flat map.
+//! The error of inserting into a map.
 ghost use Rattle.std.specs.Prelude.{Some};
 
 use std::error::Error;
 use std::fmt;
 
-/// The error of inserting into a flat map. The map is unchanged when it is returned.
+/// The error of inserting into a map. The map is unchanged when it is returned.
 ///
-/// This is `MapError` of iceoryx2-bb-container.
+/// This is `FlatMapError` of iceoryx2-bb-container, and has that name too.
 #[derive(Clone, Copy, PartialEq, Eq, Hash, Debug)]
 pub enum MapError {
     /// The map has an equal key.
