@@ -2,8 +2,8 @@
 
 A contract bounds the counter that a call is passed, but can't keep the call from a counter of its own. So here no function of
 their modules but those of `WALKS` has a loop, or calls anything but the others and what `CALLS` lists; none that is passed a
-counter makes one; and a plain call is its counted form and nothing else. `SCANS` has wrong bodies by which the check itself is
-tried.
+counter makes one, or calls what makes one without passing its own; and a plain call is its counted form and nothing else.
+`SCANS` has wrong bodies by which the check itself is tried, and `DETOURS` those of functions that are passed a counter.
 """
 
 import re
@@ -21,10 +21,10 @@ WALKS = {
     "free_list": ("link_all", "copy_links"),
     "into_iter": ("next",),
     "iter": ("next", "fmt"),
-    "keys": ("fmt",),
+    "keys": ("next", "fmt"),
     "meta_slot_table": ("from_tables", "drop_all", "drop", "fmt"),
     "steps": ("held_from",),
-    "values": ("fmt",),
+    "values": ("next", "fmt"),
     "retain": ("clear", "for_each_mut", "retain"),
     "meta_slot_map": ("held_from", "fmt"),
     "word_table": ("new", "copy_of", "drop"),
@@ -33,6 +33,7 @@ WALKS = {
 # Calls of a single step: those of counted tables, of new values, of a value's part, and of std.
 CALLS = {"item", "item_mut", ".put", ".take", ".get", ".get_mut", ".len", ".inline_len", ".as_ref", ".is_some", ".ok", "Touches::new", "SlotTableKey::new", "SlotMapKey::new",
          "Link::held", "Iter::new", "Keys::new", "Values::new", "P::of", "mem::replace", "write!", "Some", "Ok", "Err"}
+COUNTER = "touches: &mut Touches"
 FUNCTION = re.compile(r"( *)(?:pub(?:\(crate\))? )?fn (\w+)")
 LOOP = re.compile(r"\b(?:for|while|loop)\b")
 CALL = re.compile(r"(\.|(?:\w+::)*)\b(\w+!?)(?:::<[^>]*>)?\s*\(")
@@ -41,10 +42,14 @@ SCANS = (
     "for place in 0..self.capacity() { let _ = self.key_of(place, &mut Touches::new()); }",
     "let mut place = 0; while self.is_free(place, &mut Touches::new()) { place += 1; }",
     "let _ = self.iter().count();",
+    "let _ = self.iter().next();",
+    "let _ = self.keys().next();",
+    "let _ = self.values().next();",
     "let _ = (0..self.capacity()).all(|place| self.contains(SlotTableKey::new(place)));",
     "let _ = self.held_from(0);",
     "drop_all(&mut self.values, &mut self.links);",
 )
+DETOURS = ("let _ = self.contains(key);", "let _ = self.get(key).is_some();", "let _ = &self[key];")
 
 
 class Function:
@@ -71,35 +76,66 @@ def functions(path, text):
             yield Function(path, lines, first, *match.groups())
 
 
-def faults(all_functions):
-    """Yields what is wrong, a line each."""
-    checked = [it for it in all_functions if not it.is_walk()]
-    steps = CALLS | {it.called for it in checked}
-    counted = {(it.path, it.name) for it in checked}
-    for it in checked:
+def uncounted_calls(body):
+    """Returns the names of the methods that a body calls without passing its counter."""
+    names = set()
+    for call in re.finditer(r"\.(\w+)\(", body):
+        depth, end = 1, call.end()
+        while depth and end < len(body):
+            depth += {"(": 1, ")": -1}.get(body[end], 0)
+            end += 1
+        if "touches" not in body[call.end() : end]:
+            names.add(call.group(1))
+    return names
+
+
+def makers(all_functions):
+    """Returns the names of the methods that make a counter of their own, by themselves or by what they call."""
+    plain = [it for it in all_functions if COUNTER not in it.head and it.file != "index"]
+    found = {it.name for it in plain if "Touches::new" in it.body}
+    while more := {it.name for it in plain if found & uncounted_calls(it.body)} - found:
+        found |= more
+    return found
+
+
+class Judge:
+    """What the functions are judged by: the calls of one step, the counted forms, and what makes a counter of its own."""
+
+    def __init__(self, all_functions):
+        self.checked = [it for it in all_functions if not it.is_walk()]
+        self.steps = CALLS | {it.called for it in self.checked}
+        self.counted = {(it.path, it.name) for it in self.checked}
+        self.makers = makers(all_functions)
+
+    def faults(self, it):
+        """Yields what is wrong with a function, a line each."""
         calls = {before + name for before, name in CALL.findall(it.body) if name not in KEYWORDS}
-        unknown = sorted(calls - steps)
+        unknown = sorted(calls - self.steps)
         if LOOP.search(it.body) or it.is_recursive:
             yield f"{it.place} has a loop"
         if unknown:
             yield f"{it.place} calls {', '.join(unknown)}"
-        if "touches: &mut Touches" in it.head and "Touches::new" in it.body:
-            yield f"{it.place} makes a counter"
-        if (it.path, f"{it.name}_counted") in counted and not re.match(rf"self\.{it.name}_counted\([^;{{}}]*&mut Touches::new\(\)\) }}$", it.body):
+        if COUNTER in it.head:
+            detours = sorted(self.makers & uncounted_calls(it.body))
+            if "Touches::new" in it.body:
+                yield f"{it.place} makes a counter"
+            if detours or "self[" in it.body:
+                yield f"{it.place} goes round its counter by {', '.join(detours) or 'an index'}"
+        if (it.path, f"{it.name}_counted") in self.counted and not re.match(rf"self\.{it.name}_counted\([^;{{}}]*&mut Touches::new\(\)\) }}$", it.body):
             yield f"{it.place} is not its counted form alone"
 
 
-def missed(texts):
+def missed(texts, judge):
     """Yields each function and each wrong first line of it that is let through, if a call of a container makes it."""
     for path, text in texts.items():
         lines = text.splitlines()
-        for it in functions(path, text):
+        for number, it in enumerate(functions(path, text)):
             if it.is_walk() or "self" not in it.head:
                 continue
-            for scan in SCANS:
+            for scan in SCANS + (DETOURS if COUNTER in it.head else ()):
                 at = it.first + (lines[it.first].strip() == "{")
-                wrong = {**texts, path: "\n".join([*lines[:at], scan, *lines[at:]])}
-                if not any(it.place in fault for fault in faults([f for p, t in wrong.items() for f in functions(p, t)])):
+                wrong = list(functions(path, "\n".join([*lines[:at], scan, *lines[at:]])))[number]
+                if not any(judge.faults(wrong)):
                     yield f"{it.place}: nothing is said of `{scan}`"
 
 
@@ -107,4 +143,5 @@ def check():
     """Returns what is wrong."""
     texts = {path: text_of(path) for files in FILES.values() for path in files}
     empty = [f"there is no file {pattern} of {crate}" for (crate, pattern), files in FILES.items() if not files]
-    return [*empty, *faults([it for path, text in texts.items() for it in functions(path, text)]), *missed(texts)]
+    judge = Judge([it for path, text in texts.items() for it in functions(path, text)])
+    return [*empty, *(fault for it in judge.checked for fault in judge.faults(it)), *missed(texts, judge)]

@@ -1,5 +1,5 @@
 //! The counted forms of calls return what the plain forms return, at capacity 1,000, and calls of either form take as long on a
-//! map of 100,000 places as on one of 16.
+//! map of 100,000 places as on one of 16, whether the first half of the places is held or the last one alone.
 use crate::containers::key;
 use crate::map_rows::Row;
 use ix_commands::Reply::{self, Key, Number, Value};
@@ -35,6 +35,19 @@ fn half_full(alloc: Global, capacity: usize) -> Result<SlotMap<u64>, AllocError>
     let mut map = SlotMap::new(alloc, capacity)?;
     for value in 0..capacity as u64 / 2 {
         let _ = map.insert(value);
+    }
+    Ok(map)
+}
+
+/// Returns a map of this capacity, of whose places the last alone holds a value, and those before it are used next, so that a
+/// call that looks for a held place from the front goes through all.
+fn last_alone(alloc: Global, capacity: usize) -> Result<SlotMap<u64>, AllocError> {
+    let mut map = SlotMap::new(alloc, capacity)?;
+    for _ in 0..capacity {
+        let _ = map.insert(0);
+    }
+    for index in 0..capacity.saturating_sub(1) {
+        let _ = map.remove(key(index, 0));
     }
     Ok(map)
 }
@@ -98,7 +111,8 @@ fn takes_out(map: &mut SlotMap<u64>, key: Option<SlotMapKey>, value: u64) -> boo
     }
 }
 
-/// Makes each call, on held, free and dead keys, and leaves a half full map as full as it was. Returns whether all went well.
+/// Makes each call, on held, free and dead keys, and leaves the map as full as it was. The place before the last one is free.
+/// Returns whether all went well.
 fn make_calls(map: &mut SlotMap<u64>) -> bool {
     let Some(key) = map.insert(1) else {
         return false;
@@ -108,7 +122,7 @@ fn make_calls(map: &mut SlotMap<u64>) -> bool {
     let replaced = map.insert_at(key.index(), 2);
     let is_dead = map.remove(key).is_none();
     let is_removed = takes_out(map, replaced, 2);
-    let last = map.insert_at(map.capacity().saturating_sub(1), 3);
+    let last = map.insert_at(map.capacity().saturating_sub(2), 3);
     is_next && is_held && is_dead && is_removed && takes_out(map, last, 3)
 }
 
@@ -134,7 +148,7 @@ fn make_counted_calls(map: &mut SlotMap<u64>) -> bool {
     let replaced = map.insert_at_counted(key.index(), 2, &mut touches);
     let is_dead = map.remove_counted(key, &mut touches).is_none();
     let is_removed = takes_out_counted(map, replaced, 2, &mut touches);
-    let index = map.capacity().saturating_sub(1);
+    let index = map.capacity().saturating_sub(2);
     let last = map.insert_at_counted(index, 3, &mut touches);
     is_dead && is_removed && takes_out_counted(map, last, 3, &mut touches)
 }
@@ -144,9 +158,13 @@ fn least_time(
     findings: &Findings,
     rt: &HostRuntime,
     capacity: usize,
-    is_counted: bool,
+    (is_half_full, is_counted): (bool, bool),
 ) -> std::io::Result<Duration> {
-    let mut map = half_full(rt.alloc(), capacity)?;
+    let mut map = if is_half_full {
+        half_full(rt.alloc(), capacity)?
+    } else {
+        last_alone(rt.alloc(), capacity)?
+    };
     let mut least = Duration::MAX;
     for _ in 0..5 {
         let start = rt.thread_cpu_time()?;
@@ -167,9 +185,9 @@ fn least_time(
 #[test]
 fn times(rt: HostRuntime) -> Result<(), Fail> {
     let findings = Findings::new();
-    for is_counted in [false, true] {
-        let few = least_time(&findings, &rt, 16, is_counted);
-        let many = least_time(&findings, &rt, 100_000, is_counted);
+    for way in [(true, false), (true, true), (false, false), (false, true)] {
+        let few = least_time(&findings, &rt, 16, way);
+        let many = least_time(&findings, &rt, 100_000, way);
         if let (Ok(few), Ok(many)) = (few, many) {
             findings.expect(
                 many.as_nanos() / 100 <= few.as_nanos(),

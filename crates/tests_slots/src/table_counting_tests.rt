@@ -98,15 +98,15 @@ fn counting_map(
     Ok(MetaSlotTable::from_tables(values, links))
 }
 
-/// Returns a map with 1,000 keys, of which those less than `held` have their own numbers as values. The tally is 0.
+/// Returns a map with 1,000 keys, of which those from `start` to before `end` have their own numbers as values. The tally is 0.
 fn map_with_values(
     alloc: Global,
-    held: u64,
+    (start, end): (u64, u64),
     calls: &Cell<u64>,
 ) -> Result<CountingMap<'_>, AllocError> {
     let mut map = counting_map(alloc, 1000, calls)?;
-    for n in 0..held {
-        let _ = map.insert(n);
+    for n in start..end {
+        map.insert_at(SlotTableKey::new(n as usize), n);
     }
     calls.set(0);
     Ok(map)
@@ -165,33 +165,42 @@ fn counted(map: &mut CountingMap, call: &Call) -> Outcome {
     }
 }
 
-/// The number of held keys, and the key that `insert` returns.
-const INSERTS: &[(u64, usize)] = &[(0, 0), (1, 1), (500, 500), (999, 999)];
+/// The first held key and the end of the held ones, and the key that `insert` returns.
+const INSERTS: &[((u64, u64), usize)] = &[
+    ((0, 0), 0),
+    ((0, 1), 1),
+    ((0, 500), 500),
+    ((0, 999), 999),
+    ((999, 1000), 0),
+];
 
-/// The number of held keys, a key in range, and its value.
-const KEYS: &[(u64, usize, Option<u64>)] = &[
-    (500, 250, Some(250)),
-    (500, 0, Some(0)),
-    (500, 499, Some(499)),
-    (500, 500, None),
-    (500, 501, None),
-    (500, 750, None),
-    (500, 999, None),
-    (0, 0, None),
-    (0, 999, None),
-    (1000, 0, Some(0)),
-    (1000, 999, Some(999)),
+/// The first held key and the end of the held ones, a key in range, and its value.
+const KEYS: &[((u64, u64), usize, Option<u64>)] = &[
+    ((0, 500), 250, Some(250)),
+    ((0, 500), 0, Some(0)),
+    ((0, 500), 499, Some(499)),
+    ((0, 500), 500, None),
+    ((0, 500), 501, None),
+    ((0, 500), 750, None),
+    ((0, 500), 999, None),
+    ((0, 0), 0, None),
+    ((0, 0), 999, None),
+    ((0, 1000), 0, Some(0)),
+    ((0, 1000), 999, Some(999)),
+    ((999, 1000), 0, None),
+    ((999, 1000), 998, None),
+    ((999, 1000), 999, Some(999)),
 ];
 
 /// Keys that are out of range.
 const OUT_OF_RANGE: &[usize] = &[1000, 1001, usize::MAX];
 
-/// Makes the plain and the counted form of a call, each on a fresh map of which the first `held` keys have values. Each
-/// returns `wanted` and calls the tables `least` to `most` times, both equally often.
+/// Makes the plain and the counted form of a call, each on a fresh map whose keys from `held.0` to before `held.1` have values.
+/// Each returns `wanted` and calls the tables `least` to `most` times, both equally often.
 fn check_call(
     findings: &Findings,
     alloc: Global,
-    held: u64,
+    held: (u64, u64),
     call: &Call,
     (least, most, wanted): (u64, u64, &Outcome),
 ) {
@@ -218,20 +227,26 @@ fn calls_of_the_first_free_key(rt: HostRuntime) -> Result<(), Fail> {
         check_call(&findings, rt.alloc(), *held, &Insert, (1, 16, &wanted));
         check_call(&findings, rt.alloc(), *held, &NextFreeKey, (0, 0, &wanted));
     }
-    check_call(&findings, rt.alloc(), 1000, &Insert, (0, 16, &Key(None)));
     check_call(
         &findings,
         rt.alloc(),
-        1000,
+        (0, 1000),
+        &Insert,
+        (0, 16, &Key(None)),
+    );
+    check_call(
+        &findings,
+        rt.alloc(),
+        (0, 1000),
         &NextFreeKey,
         (0, 0, &Key(None)),
     );
     findings.verdict()
 }
 
-/// Makes each call with a key, whose value is `value`, on a map of which the first `held` keys have values. A key in range is
-/// looked up in the tables.
-fn check_key(findings: &Findings, alloc: Global, held: u64, key: usize, value: Option<u64>) {
+/// Makes each call with a key, whose value is `value`, on a map whose keys from `held.0` to before `held.1` have values. A key in
+/// range is looked up in the tables.
+fn check_key(findings: &Findings, alloc: Global, held: (u64, u64), key: usize, value: Option<u64>) {
     let is_held = Truth(value.is_some());
     let value = Value(value);
     let is_in_range = key < 1000;
@@ -261,7 +276,7 @@ fn calls_on_a_key(rt: HostRuntime) -> Result<(), Fail> {
 fn calls_out_of_range(rt: HostRuntime) -> Result<(), Fail> {
     let findings = Findings::new();
     for key in OUT_OF_RANGE {
-        for held in &[0, 500, 1000] {
+        for held in &[(0, 0), (0, 500), (0, 1000), (999, 1000)] {
             check_key(&findings, rt.alloc(), *held, *key, None);
         }
     }
@@ -286,7 +301,7 @@ fn check_unchecked(findings: &Findings, map: &mut CountingMap, calls: &Cell<u64>
 #[test]
 fn calls_with_conditions(rt: HostRuntime) -> Result<(), Fail> {
     let findings = Findings::new();
-    for held in &[0, 500, 999] {
+    for held in &[(0, 0), (0, 500), (0, 999), (999, 1000)] {
         let calls = Cell::new(0);
         match map_with_values(rt.alloc(), *held, &calls) {
             Ok(mut map) => check_unchecked(&findings, &mut map, &calls),
