@@ -17,15 +17,6 @@ use std::marker::PhantomData;
 pub type FixedSizeQueue<T, const CAPACITY: usize> = MetaQueue<T, InlineTable<T, CAPACITY>>;
 
 impl<T: Drop, const CAPACITY: usize> FixedSizeQueue<T, CAPACITY> {
-    /// Returns the capacity, which is that of the type.
-    #[inline]
-    pub(crate) fn fixed_capacity(&self) -> usize
-        ensures value { result ≡ CAPACITY }
-        ensures capacity { self.now.capacity ≡ CAPACITY }
-    {
-        self.table.len()
-    }
-
     /// Creates an empty queue.
     ///
     /// O(`CAPACITY`). `CAPACITY` is at most [`MAX_FIXED_CAPACITY`].

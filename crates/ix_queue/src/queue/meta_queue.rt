@@ -93,7 +93,9 @@ impl<T, S: Table<T>> MetaQueue<T, S> {
     /// Returns the maximum number of items.
     #[inline]
     pub fn capacity(&self) -> usize
-        ensures { result ≡ self.now.capacity }
+        ensures value { result ≡ self.now.capacity }
+        // Of an inline queue: the capacity is that of its type.
+        ensures known { S.IsLen self.now.capacity }
     {
         self.table.len()
     }
@@ -103,7 +105,10 @@ impl<T, S: Table<T>> MetaQueue<T, S> {
     pub fn len(&self) -> usize
         ensures value { result ≡ length self.now.items }
         ensures within { IsWithin self.now }
+        ensures known { S.IsLen self.now.capacity }
     {
+        // Names the capacity, for what is known of it.
+        let _capacity = self.table.len();
         self.len
     }
 

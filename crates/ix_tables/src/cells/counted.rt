@@ -134,7 +134,8 @@ impl<S> Counted<S> {
     pub fn len<T>(&self) -> usize
     where
         S: Table<T>,
-        ensures { result ≡ length (S.places self.now) }
+        ensures value { result ≡ length (S.places self.now) }
+        ensures known { S.IsLen (length (S.places self.now)) }
     {
         self.table.len()
     }

@@ -70,9 +70,12 @@ impl<T: Drop, const CAP: usize> Table<T> for InlineTable<T, CAP> {
 
     ghost places_with_item = { λ table i x. refl };
 
+    ghost IsLen = { λ len. len ≡ CAP };
+
     #[inline]
     fn len(&self) -> usize
         ensures value { result ≡ length self.now }
+        ensures known { length self.now ≡ CAP }
         ensures constant { result ≡ CAP }
     {
         let _places = &self.places;

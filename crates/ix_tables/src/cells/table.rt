@@ -20,9 +20,13 @@ pub trait Table<T>: Sized {
     /// The table with another item in a held place.
     ghost with_item: { Self → ℕ → T → Self };
 
+    /// What is known of the number of places of every such table: of an inline one its capacity, of others nothing.
+    ghost IsLen: { ℕ → Type 0 } = { λ _. Unit {0} };
+
     /// Returns the number of places.
     fn len(&self) -> usize
-        ensures { result ≡ length (places self.now) };
+        ensures value { result ≡ length (places self.now) }
+        ensures known { IsLen (length (places self.now)) };
 
     /// Puts `item` into the empty place `i`.
     fn put(&mut self, i: usize, item: T)

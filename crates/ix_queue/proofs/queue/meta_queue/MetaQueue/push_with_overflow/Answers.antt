@@ -8,8 +8,8 @@ take-front-requires g c =
 
 pub invariant_of-self : goal.invariant_of-self
 invariant_of-self g c =
-    (Shows-queue_overflow _ _ _ _ _ _ _ _ _ (record { sound = c.self.invariant; is = c.self.view_is }) c.if-self-capacity.false c.if-capacity-eq0.false c.len-capacity.ensures c.take-front.ensures.places c.put.ensures c.next_after-self-inside.ensures).sound
+    (Shows-queue_overflow _ _ _ _ _ _ _ _ _ (record { sound = c.self.invariant; is = c.self.view_is }) c.if-self-capacity.false c.if-capacity-eq0.false c.len-capacity.ensures.value c.take-front.ensures.places c.put.ensures c.next_after-self-inside.ensures).sound
 
 pub returns-clause-queue : goal.returns-clause-queue
 returns-clause-queue g c =
-    (Shows-queue_overflow _ _ _ _ _ _ _ _ _ (record { sound = c.self.invariant; is = c.self.view_is }) c.if-self-capacity.false c.if-capacity-eq0.false c.len-capacity.ensures c.take-front.ensures.places c.put.ensures c.next_after-self-inside.ensures).is
+    (Shows-queue_overflow _ _ _ _ _ _ _ _ _ (record { sound = c.self.invariant; is = c.self.view_is }) c.if-self-capacity.false c.if-capacity-eq0.false c.len-capacity.ensures.value c.take-front.ensures.places c.put.ensures c.next_after-self-inside.ensures).is
