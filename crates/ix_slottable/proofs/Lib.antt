@@ -1,4 +1,5 @@
 pub mod Chains
+pub mod Counts
 pub mod Draining
 pub mod Entries
 pub mod FreeKeys

@@ -45,7 +45,7 @@ module _ {T : Type 0} where
       go true = length-set s.values key None
       go false = refl
 
-  value_at-slot_table_remove_other : (s : SlotTableState T) (key other : ℕ) → other ≢ key → value_at (slot_table_remove s key) other ≡ value_at s other
+  pub value_at-slot_table_remove_other : (s : SlotTableState T) (key other : ℕ) → other ≢ key → value_at (slot_table_remove s key) other ≡ value_at s other
   value_at-slot_table_remove_other s key other apart = go (is_some (value_at s key))
     where
       go : (b : Bool) → value_at (if b then slot_table_vacate s key else s) other ≡ value_at s other

@@ -11,10 +11,11 @@ use Rattle.std.proofs.lemmas.List.Folds.{sum_by-replicate}
 use Rattle.std.proofs.lemmas.List.FromFn.{length-range_with_len}
 use Rattle.ix_tables.specs.Places.{place_at}
 use Rattle.ix_slottable.specs.declared.slottable.link.Link.{Link}
-use Rattle.ix_slottable.specs.SlotTableState.{SlotTableState, value_at, IsHeld, IsFree, slot_table_new}
+use Rattle.ix_slottable.specs.SlotTableState.{SlotTableState, value_at, IsHeld, IsFree, held_count, slot_table_new}
 use Rattle.ix_slottable.specs.SlotTableSteps.{slot_table_fill, slot_table_vacate, slot_table_insert, SlotTableInsert, SlotTableInsertAt, SlotTableRemove}
 use Rattle.ix_slottable.specs.inner.FreeList.{no_key, held_link, free_link, first_or, last_or, IsChain, IsKeyOrNone, IsLinkWithin, links_set_next, links_set_previous, links_remove, links_remove_first, links_insert_first, first_after_remove, IsRisingList, Represents}
 use Rattle.ix_slottable.proofs.Entries.{one_if_held}
+use Rattle.ix_slottable.proofs.Counts.{count_by-set_more, count_by-set_same, count_by-set_less, held_count-slot_table_fill, free-slot_table_fill}
 use Rattle.ix_slottable.proofs.FreeKeys.{key_count, key_count-cons, hit, hit_same, hit_other, key_count-append, keys_without-absent, apart_from_last_or, apart_from_first_or, key_count-range_past, key_count-range_within}
 use Rattle.ix_tables.proofs.Places.{held_item, held_within, place_at_within}
 use Rattle.ix_slottable.proofs.Chains.{IsChain-append, IsChain-set_other, IsChain-links_set_next, IsChain-links_set_previous}
@@ -35,21 +36,6 @@ links_remove-first links key next fits =
     ap (λ ls. links_set_previous ls next no_key) (set_past (set links key (Some (held_link key))) no_key _ (let same = length-set links key (Some (held_link key)) in omega arith))
 
 module _ {T : Type 0} where
-  count_by-set_more : (values : List (Option T)) (key : ℕ) (value : T) → key < length values → place_at values key ≡ None → count_by is_some (set values key (Some value)) ≡ count_by is_some values + 1
-  count_by-set_more values key value below empty =
-      let all = sum_by-set one_if_held values key (Some value) None below in
-      let was : one_if_held (place_at values key) ≡ 0 = ap one_if_held empty in omega arith
-
-  count_by-set_same : (values : List (Option T)) (key : ℕ) (old value : T) → key < length values → place_at values key ≡ Some old → count_by is_some (set values key (Some value)) ≡ count_by is_some values
-  count_by-set_same values key old value below at =
-      let all = sum_by-set one_if_held values key (Some value) None below in
-      let was : one_if_held (place_at values key) ≡ 1 = ap one_if_held at in omega arith
-
-  count_by-set_less : (values : List (Option T)) (key : ℕ) (old : T) → key < length values → place_at values key ≡ Some old → count_by is_some (set values key None) + 1 ≡ count_by is_some values
-  count_by-set_less values key old below at =
-      let all = sum_by-set one_if_held values key None None below in
-      let was : one_if_held (place_at values key) ≡ 1 = ap one_if_held at in omega arith
-
   module _ (s : SlotTableState T) (links : List (Option Link)) (first len : ℕ) (r : Represents s links first len) where
     -- a free key gets a value
     Represents-slot_table_fill : (key : ℕ) (value : T) (link : Link) → 0 < key_count key s.free → place_at links key ≡ Some link → Represents (slot_table_fill s key value) (links_remove links key link) (first_after_remove first link) (len + 1)
@@ -259,6 +245,8 @@ module _ {T : Type 0} where
         full = ((λ _. empty), (λ _. refl));
         refused = λ _. refl;
         kept = λ _ _. refl;
+        count = λ some. absurd (let no : false ≡ true = some in cc);
+        room = λ some. absurd (let no : false ≡ true = some in cc);
       }
 
   -- a map with a free key inserts
@@ -279,6 +267,8 @@ module _ {T : Type 0} where
         kept = λ key held.
             ap (λ t. value_at t key) filled
             ∙ get_or-set_other s.values first key (Some x) None (λ e. absurd (let absent = key_count-held s links first len known key held in let occurs = ap (λ k. key_count k s.free) e in let all = front.occurs in omega arith));
+        count = λ _. ap held_count filled ∙ held_count-slot_table_fill s first x is_free;
+        room = λ _. ap (λ (t : SlotTableState T). length t.free + 1) filled ∙ free-slot_table_fill s first x known.formed is_free;
       }
 
   pub Shows-slot_table_set : (s : SlotTableState T) (values values' : List (Option T)) (links : List (Option Link)) (first len key : ℕ) (value : T) → Shows s values links first len → IsHeld s key → values' ≡ set values key (Some value) → Shows (slot_table_fill s key value) values' links first len
@@ -349,6 +339,8 @@ module _ {T : Type 0} where
         gone = ap (λ (t : SlotTableState T). value_at t key) is ∙ get_or-set_same s.values key None None below;
         refused = λ none. absurd (let no : true ≡ false = none in cc);
         kept = λ other apart. ap (λ (t : SlotTableState T). value_at t other) is ∙ get_or-set_other s.values key other None None apart;
+        count = λ _. ap (λ (t : SlotTableState T). held_count t + 1) is ∙ count_by-set_less s.values key value below at;
+        room = λ _. ap (λ (t : SlotTableState T). length t.free) is ∙ omega arith;
       }
 
   -- what is inserted is at the key that is returned

@@ -1,9 +1,9 @@
 -- The steps of a slot table: the slot state after each call, and what the calls that change a map promise.
-use Rattle.std.specs.Prelude.{◌≡◌, ◌≢◌, ◌↔◌, ℕ, List, [], ◌∷◌, length, nat_eq, nat_lt, if◌then◌else◌, Bool, Option, Some, None, IsTrue, IsNone, IfSome, is_some, slice_get, slice_set}
+use Rattle.std.specs.Prelude.{◌≡◌, ◌≢◌, ◌↔◌, ℕ, ◌+◌, List, [], ◌∷◌, length, nat_eq, nat_lt, if◌then◌else◌, Bool, Option, Some, None, IsTrue, IsNone, IsSome, IfSome, is_some, slice_get, slice_set}
 use Rattle.std.specs.Bool.{OnFalse}
 use Rattle.std.specs.Option.{option_map_or}
 use Rattle.std.specs.List.{fold, range_with_len}
-use Rattle.ix_slottable.specs.SlotTableState.{SlotTableState, value_at, IsHeld, IsKey, IsFree}
+use Rattle.ix_slottable.specs.SlotTableState.{SlotTableState, value_at, IsHeld, IsKey, IsFree, held_count}
 
 -- the keys but for the first one that equals this key
 abbrev pub keys_without : ℕ → List ℕ → List ℕ
@@ -48,6 +48,8 @@ module _ {T : Type 0} where
     pub full : IsNone result ↔ (old.free ≡ [])
     pub refused : IsNone result → new ≡ old
     pub kept : (key : ℕ) → IsHeld old key → value_at new key ≡ value_at old key
+    pub count : IsSome result → held_count new ≡ held_count old + 1
+    pub room : IsSome result → length new.free + 1 ≡ length old.free
 
   -- what `insert_at` and `insert_at_counted` promise
   pub record SlotTableInsertAt (old : SlotTableState T) (key : ℕ) (x : T) (new : SlotTableState T) (result : Bool) : Type 0 where
@@ -56,6 +58,10 @@ module _ {T : Type 0} where
     pub holds : IsTrue result → value_at new key ≡ Some x
     pub refused : OnFalse result (new ≡ old)
     pub kept : (other : ℕ) → other ≢ key → value_at new other ≡ value_at old other
+    pub count : IsFree old key → held_count new ≡ held_count old + 1
+    pub room : IsFree old key → length new.free + 1 ≡ length old.free
+    pub same_count : IsHeld old key → held_count new ≡ held_count old
+    pub same_free : IsHeld old key → new.free ≡ old.free
 
   -- what `remove` and `remove_counted` promise
   pub record SlotTableRemove (old : SlotTableState T) (key : ℕ) (new : SlotTableState T) (result : Option T) : Type 0 where
@@ -64,3 +70,5 @@ module _ {T : Type 0} where
     pub gone : value_at new key ≡ None
     pub refused : IsNone result → new ≡ old
     pub kept : (other : ℕ) → other ≢ key → value_at new other ≡ value_at old other
+    pub count : IsSome result → held_count new + 1 ≡ held_count old
+    pub room : IsSome result → length new.free ≡ length old.free + 1

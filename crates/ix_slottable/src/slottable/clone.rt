@@ -64,18 +64,6 @@ impl<T, S: Table<T>, L: Table<Link>> MetaSlotTable<T, S, L> {
     }
 }
 
-impl<T: Drop, const CAPACITY: usize> FixedSizeSlotTable<T, CAPACITY> {
-    /// Returns the capacity, which is that of the type.
-    #[doc(hidden)]
-    #[inline]
-    pub fn fixed_capacity(&self) -> usize
-        ensures value { result ≡ CAPACITY }
-        ensures capacity { length self.now.values ≡ CAPACITY }
-    {
-        self.values.inline_len()
-    }
-}
-
 impl<T: Clone, const CAPACITY: usize> Clone for FixedSizeSlotTable<T, CAPACITY> {
     ghost is_clone = { SlotTableIsClone T.is_clone };
 
@@ -87,7 +75,7 @@ impl<T: Clone, const CAPACITY: usize> Clone for FixedSizeSlotTable<T, CAPACITY> 
     /// Returns the error of the first clone that fails, and drops those already made.
     fn clone(&self) -> Result<Self, AllocError> {
         // Names the capacity, by which the check knows that the copy has the same.
-        let _capacity = self.fixed_capacity();
+        let _capacity = self.capacity();
         let mut copy = FixedSizeSlotTable::<T, CAPACITY>::default();
         copy.fill_with_clones(self)?;
         Ok(copy)

@@ -35,10 +35,15 @@ impl<T, S: Table<T>, L: Table<Link>> MetaSlotTable<T, S, L> {
         T: Drop,
         ensures items { drain_items result ≡ entries self.old }
         ensures left { drain_left result ≡ slot_table_clear self.old }
+        // What is left has no value, and every key is free.
+        ensures count { held_count (slot_table_clear self.old) ≡ 0 }
+        ensures room { length (slot_table_clear self.old).free ≡ length self.old.values }
         // With these two a caller knows what the map is once the iterator is dropped.
         ensures same_reference { drain_lender result ≡ self.entry.ghost_name }
         ensures stays { DrainingKeepsAlong drain_items drain_lender drain_left result }
     {
+        // Names the number of values, by which the check knows how many keys are free.
+        let _len = self.len();
         Drain { map: self, key: 0 }
     }
 }

@@ -79,7 +79,9 @@ impl<T, S: Table<T>, L: Table<Link>> MetaSlotTable<T, S, L> {
     /// Returns the number of keys, held and free: the maximum number of values.
     #[inline]
     pub fn capacity(&self) -> usize
-        ensures { result ≡ length self.now.values }
+        ensures value { result ≡ length self.now.values }
+        // Of an inline table: the capacity is that of its type.
+        ensures known { S.IsLen (length self.now.values) }
     {
         self.values.len()
     }
@@ -91,7 +93,10 @@ impl<T, S: Table<T>, L: Table<Link>> MetaSlotTable<T, S, L> {
         ensures rest { held_count self.now + length self.now.free ≡ length self.now.values }
         // This holds of every map, whatever calls were made.
         ensures formed { IsWellFormed self.now }
+        ensures known { S.IsLen (length self.now.values) }
     {
+        // Names the capacity, for what is known of it.
+        let _capacity = self.values.len();
         self.len
     }
 

@@ -1,8 +1,8 @@
 //! The calls of a slot table that go through all of its values.
-ghost use Rattle.std.specs.Prelude.{◌≡◌, ◌↔◌, ℕ, length, map, replicate, None};
+ghost use Rattle.std.specs.Prelude.{◌≡◌, ◌↔◌, ℕ, ◌+◌, ◌≤◌, length, map, replicate, None};
 ghost use Rattle.std.specs.List.{FoldsTo};
 ghost use Rattle.std.specs.Map.{keys_of};
-ghost use Rattle.ix_slottable.specs.SlotTableState.{IsHeld, entries};
+ghost use Rattle.ix_slottable.specs.SlotTableState.{IsHeld, held_count, entries};
 ghost use Rattle.ix_slottable.specs.SlotTableSteps.{slot_table_set, slot_table_remove, slot_table_clear};
 ghost use Rattle.ix_slottable.specs.SlotTableCalls.{IsCallableOnEach, ChangesItem, RetainsItem};
 
@@ -19,7 +19,11 @@ impl<T, S: Table<T>, L: Table<Link>> MetaSlotTable<T, S, L> {
         T: Drop,
         ensures map { self.new ≡ slot_table_clear self.old }
         ensures values { self.new.values ≡ replicate (length self.old.values) None }
+        ensures count { held_count self.new ≡ 0 }
+        ensures room { length self.new.free ≡ length self.old.values }
     {
+        // Names the number of values, by which the check knows how many keys are free.
+        let _len = self.len();
         for key in 0..self.capacity() {
             drop(self.remove(SlotTableKey::new(key)));
         }
@@ -69,6 +73,9 @@ impl<T, S: Table<T>, L: Table<Link>> MetaSlotTable<T, S, L> {
         ensures calls { (last : F) × FoldsTo (RetainsItem slot_table_set slot_table_remove F.step)
             (f, self.old) (entries self.old) (last, self.new) }
         ensures capacity { length self.new.values ≡ length self.old.values }
+        ensures count { held_count self.new ≤ held_count self.old }
+        // As many keys are free as were, and those that are no longer held.
+        ensures room { held_count self.new + length self.new.free ≡ held_count self.old + length self.old.free }
     {
         for number in 0..self.capacity() {
             let key = SlotTableKey::new(number);

@@ -1,6 +1,6 @@
 //! The steps of which the calls of a slot table are made.
 ghost use Rattle.std.specs.Prelude.{◌≡◌, ◌≢◌, ◌+◌, ◌<◌, ◌≤◌, [], length, drop, true, false};
-ghost use Rattle.ix_slottable.specs.SlotTableState.{IsHeld, IsKey, IsFree, entries_from};
+ghost use Rattle.ix_slottable.specs.SlotTableState.{IsHeld, IsKey, IsFree, held_count, entries_from};
 ghost use Rattle.ix_slottable.specs.SlotTableSteps.{slot_table_fill, slot_table_insert};
 ghost use Rattle.ix_slottable.specs.inner.FreeList.{IsLinkOf};
 
@@ -62,6 +62,8 @@ impl<T, S: Table<T>, L: Table<Link>> MetaSlotTable<T, S, L> {
         requires free { IsFree self.old key }
         requires link { IsLinkOf link self.old key }
         ensures map { self.new ≡ slot_table_fill self.old key value }
+        ensures count { held_count self.new ≡ held_count self.old + 1 }
+        ensures room { length self.new.free + 1 ≡ length self.old.free }
         ensures touches { touches.new ≤ touches.old + 8 }
         ensures rises { touches.old ≤ touches.new }
     {
@@ -95,6 +97,8 @@ impl<T, S: Table<T>, L: Table<Link>> MetaSlotTable<T, S, L> {
         T: Drop,
         requires { IsHeld self.old key }
         ensures map { self.new ≡ slot_table_fill self.old key value }
+        ensures count { held_count self.new ≡ held_count self.old }
+        ensures free { self.new.free ≡ self.old.free }
         ensures touches { touches.new ≡ touches.old + 2 }
     {
         *self.values.get_mut(key, touches) = value;

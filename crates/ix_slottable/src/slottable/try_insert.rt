@@ -1,7 +1,7 @@
 //! The calls of a slot table that insert a value and hand back what they don't keep.
 ghost use Rattle.std.specs.Prelude.{◌≡◌, ◌+◌, IfOk, Some};
 ghost use Rattle.std.specs.Result.{IfErr, is_ok, result_ok};
-ghost use Rattle.ix_slottable.specs.SlotTableState.{value_at, IsHeld};
+ghost use Rattle.ix_slottable.specs.SlotTableState.{value_at, IsHeld, held_count};
 ghost use Rattle.ix_slottable.specs.SlotTableSteps.{slot_table_fill, SlotTableInsert, SlotTableInsertAt};
 
 use crate::slottable::link::NO_KEY;
@@ -54,6 +54,8 @@ impl<T, S: Table<T>, L: Table<Link>> MetaSlotTable<T, S, L> {
         requires { IsHeld self.old key }
         ensures value { value_at self.old key ≡ Some result }
         ensures map { self.new ≡ slot_table_fill self.old key value }
+        ensures count { held_count self.new ≡ held_count self.old }
+        ensures free { self.new.free ≡ self.old.free }
         ensures touches { touches.new ≡ touches.old + 2 }
     {
         mem::replace(self.values.get_mut(key, touches), value)

@@ -6,6 +6,6 @@ pub returns : goal.returns
 returns g c =
     let at = c.loop-place.invariant in
     let done = c.loop-place-test.false in
-    let all = c.len-place-end.ensures in
+    let all = c.len-place-end.ensures.value in
     let len = c.requires.len in
     places_same (g.G.Table.places c.loop-place.table) (g.H.Table.places c.args.others.now) at.len (λ place below. at.copied place (omega (arith, done, all, len, below)))

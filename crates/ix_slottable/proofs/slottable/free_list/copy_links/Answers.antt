@@ -6,6 +6,6 @@ pub returns : goal.returns
 returns g c =
     let at = c.loop-key.invariant in
     let done = c.loop-key-test.false in
-    let all = c.len-key-end.ensures in
+    let all = c.len-key-end.ensures.value in
     let len = c.requires.len in
     places_same (g.L.Table.places c.loop-key.links) (g.M.Table.places c.args.others.now) at.len (λ key below. at.copied key (omega (arith, done, all, len, below)))

@@ -10,7 +10,7 @@ use Rattle.ix_slottable.proofs.slottable.meta_slot_table.MetaSlotTable.for_each_
 pub loop-number-preserved-then-not-contains : goal.loop-number-preserved-then-not-contains
 loop-number-preserved-then-not-contains g c =
     let below = c.loop-number-test.true in
-    let all = c.capacity-number-end.ensures in
+    let all = c.capacity-number-end.ensures.value in
     record {
       visited = Visited-free (ChangesItem slot_table_set (goal.F-step g)) _ _ c.loop-number.number _ _ c.loop-number.invariant.visited (omega (arith, below, all))
           (ap (value_at c.loop-number.self) (sym c.new-key.ensures) ∙ none_of_not_some _ (iff_false c.contains.ensures c.if-not-contains.true));

@@ -7,14 +7,14 @@ use Rattle.ix_slottable.proofs.slottable.meta_slot_table.MetaSlotTable.from_tabl
 pub invariant_of-result : goal.invariant_of-result
 invariant_of-result g c =
     let same = ap g.S.Table.places c.new-values.ensures in
-    let len = c.len.ensures ∙ ap length same in
+    let len = c.len.ensures.value ∙ ap length same in
     let bound = c.len.type_inv in
     (Shows-slot_table_new _ _ _ _ (same ∙ c.requires.values ∙ ap (λ n. replicate n None) (sym len)) c.link_all-first.ensures.links c.link_all-first.ensures.first (omega arith)).sound
 
 pub returns : goal.returns
 returns g c =
     let same = ap g.S.Table.places c.new-values.ensures in
-    let len = c.len.ensures ∙ ap length same in
+    let len = c.len.ensures.value ∙ ap length same in
     let bound = c.len.type_inv in
     (Shows-slot_table_new _ _ _ _ (same ∙ c.requires.values ∙ ap (λ n. replicate n None) (sym len)) c.link_all-first.ensures.links c.link_all-first.ensures.first (omega arith)).is
     ∙ ap slot_table_new len

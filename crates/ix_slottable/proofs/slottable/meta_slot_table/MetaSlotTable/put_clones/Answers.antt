@@ -21,7 +21,7 @@ loop-number-preserved g c =
 pub returns-clause-values : goal.returns-clause-values
 returns-clause-values g c =
     let done = c.loop-number-test.false in
-    let all = c.capacity-number-end.ensures in
+    let all = c.capacity-number-end.ensures.value in
     CopiesBelow-all g.T.Clone.is_clone c.args.other.now c.loop-number.self c.loop-number.number c.loop-number.invariant (omega (arith, done, all))
 
 pub returns-clause-capacity : goal.returns-clause-capacity
