@@ -27,7 +27,7 @@ pub mod kinds {
 
 #[doc(hidden)]
 pub mod meta_slot_map {
-    pub use ix_slotmap::slotmap::{MetaSlotMap, dead_keys_law};
+    pub use ix_slotmap::slotmap::{MetaSlotMap, cleared_keys_law, dead_keys_law};
 }
 
 #[doc(hidden)]
@@ -42,5 +42,6 @@ pub mod values {
 
 pub use ix_slotmap::slotmap::{
     Content, Drain, FixedSizeSlotMap, Iter, Keys, MetaSlotMap, RelocatableSlotMap, SlotMap,
-    SlotMapKey, UninitSlotMap, Values, dead_keys_law, default_key_law, key_order_law,
+    SlotMapKey, UninitSlotMap, Values, cleared_keys_law, dead_keys_law, default_key_law,
+    key_order_law,
 };

@@ -13,7 +13,7 @@ module _ {T : Type 0} where
   abbrev one_if_some : Option (Option T) → ℕ
   one_if_some content = if is_some content then 1 else 0
 
-  abbrev one_if_held : Option (Option T) → ℕ
+  abbrev pub one_if_held : Option (Option T) → ℕ
   one_if_held content = if is_some (option_flatten content) then 1 else 0
 
   abbrev pub one_if_retired : Option (Option T) → ℕ

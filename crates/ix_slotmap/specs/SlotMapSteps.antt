@@ -1,9 +1,9 @@
 -- The steps of a slot map with generations: the state after each call, and what the calls that change a map promise.
-use Rattle.std.specs.Prelude.{◌≡◌, ◌≢◌, ◌↔◌, ◌⊎◌, ℕ, ◌+◌, ◌<◌, List, [], length, nat_lt, if◌then◌else◌, Bool, Option, Some, None, IsSome, IsNone, IfSome, is_some, option_map, slice_get, slice_set}
+use Rattle.std.specs.Prelude.{◌≡◌, ◌≢◌, ◌↔◌, ◌⊎◌, ℕ, ◌+◌, ◌<◌, ◌≤◌, List, [], length, nat_lt, if◌then◌else◌, Bool, Option, Some, None, IsSome, IsNone, IfSome, is_some, option_map, slice_get, slice_set}
 use Rattle.std.specs.List.{fold, range_with_len}
 use Rattle.ix_slottable.specs.SlotTableState.{IsFree}
 use Rattle.ix_slottable.specs.SlotTableSteps.{slot_table_set, slot_table_fill, slot_table_vacate, slot_table_insert}
-use Rattle.ix_slotmap.specs.Generations.{SlotKey, SlotMapState, greatest_generation, generation_at, key_at, place_value, slot_map_value, IsDead}
+use Rattle.ix_slotmap.specs.Generations.{SlotKey, SlotMapState, greatest_generation, generation_at, key_at, place_value, slot_map_value, slot_map_len, IsDead}
 
 module _ {T : Type 0} where
   -- the generation of the place is raised by one
@@ -65,6 +65,8 @@ module _ {T : Type 0} where
     pub refused : IsNone result → new ≡ old
     pub kept : (key : SlotKey) → IsSome (slot_map_value old key) → slot_map_value new key ≡ slot_map_value old key
     pub dead : (key : SlotKey) → IsDead old key → IsDead new key
+    pub count : IsSome result → slot_map_len new ≡ slot_map_len old + 1
+    pub room : IsSome result → length new.slots.free + 1 ≡ length old.slots.free
 
   -- the place is free; or it holds a value, and its generation can be raised
   abbrev pub CanInsertAt : SlotMapState T → ℕ → Type 0
@@ -80,6 +82,10 @@ module _ {T : Type 0} where
     pub refused : IsNone result → new ≡ old
     pub kept : (key : SlotKey) → key.index ≢ place → slot_map_value new key ≡ slot_map_value old key
     pub dead : (key : SlotKey) → IsDead old key → IsDead new key
+    pub count : IsFree old.slots place → slot_map_len new ≡ slot_map_len old + 1
+    pub room : IsFree old.slots place → length new.slots.free + 1 ≡ length old.slots.free
+    pub same_count : IsSome (place_value old place) → slot_map_len new ≡ slot_map_len old
+    pub same_free : IsSome (place_value old place) → new.slots.free ≡ old.slots.free
 
   -- what `remove` and `remove_counted` promise
   pub record SlotMapRemove (old : SlotMapState T) (key : SlotKey) (new : SlotMapState T) (result : Option T) : Type 0 where
@@ -89,3 +95,7 @@ module _ {T : Type 0} where
     pub refused : IsNone result → new ≡ old
     pub kept : (other : SlotKey) → other ≢ key → slot_map_value new other ≡ slot_map_value old other
     pub dead : (other : SlotKey) → IsDead old other → IsDead new other
+    pub count : IsSome result → slot_map_len new + 1 ≡ slot_map_len old
+    -- the place of the key is free again, or it is retired
+    pub room : IsSome result → key.generation < greatest_generation → length new.slots.free ≡ length old.slots.free + 1
+    pub grows : length old.slots.free ≤ length new.slots.free

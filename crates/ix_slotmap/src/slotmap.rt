@@ -23,7 +23,7 @@ pub use drain::Drain;
 pub use iter::Iter;
 pub use keys::Keys;
 pub use kinds::{FixedSizeSlotMap, RelocatableSlotMap, SlotMap, UninitSlotMap};
-pub use meta_slot_map::{MetaSlotMap, dead_keys_law};
+pub use meta_slot_map::{MetaSlotMap, cleared_keys_law, dead_keys_law};
 pub use slot_map_key::{SlotMapKey, default_key_law, key_order_law};
 pub use values::Values;
 pub(crate) use word_table::{RETIRED, WordTable};

@@ -18,7 +18,7 @@ impl<T: Clone, const CAPACITY: usize> Clone for FixedSizeSlotMap<T, CAPACITY> {
     /// Returns the error of the first clone that fails, and drops those already made.
     fn clone(&self) -> Result<Self, AllocError> {
         // Names the capacity, by which the check knows that the tables have as many places.
-        let _capacity = self.slots.fixed_capacity();
+        let _capacity = self.slots.capacity();
         match self.slots.clone() {
             Ok(slots) => Ok(MetaSlotMap {
                 slots,

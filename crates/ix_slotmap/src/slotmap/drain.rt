@@ -1,9 +1,9 @@
 //! The iterator that drains a slot map.
-ghost use Rattle.std.specs.Prelude.{◌≡◌, length, drop, Some, IfSome};
+ghost use Rattle.std.specs.Prelude.{◌≡◌, ◌≤◌, length, drop, Some, IsSome, IfSome};
 ghost use Rattle.std.specs.Iterator.{UpTo, at_most, item_count};
 ghost use Rattle.std.specs.Iterator.SizeHint.{IsWithinCount};
 ghost use Rattle.ix_slottable.specs.SlotTableState.{entries_from};
-ghost use Rattle.ix_slotmap.specs.Generations.{slot_map_len, held_entries, slot_map_entries};
+ghost use Rattle.ix_slotmap.specs.Generations.{SlotKey, slot_map_value, slot_map_len, IsDead, held_entries, slot_map_entries};
 ghost use Rattle.ix_slotmap.specs.SlotMapSteps.{slot_map_clear};
 
 use crate::slotmap::{MetaSlotMap, SlotMapKey};
@@ -37,6 +37,12 @@ impl<T, S: Table<Option<T>>, L: Table<Link>, G: Table<u64>> MetaSlotMap<Option<T
         T: Drop,
         ensures items { drain_items result ≡ slot_map_entries self.old }
         ensures left { drain_left result ≡ slot_map_clear self.old }
+        // What is left holds no key: each that was held is dead, and no fewer places are free.
+        ensures count { slot_map_len (slot_map_clear self.old) ≡ 0 }
+        ensures killed { (key : SlotKey) → IsSome (slot_map_value self.old key)
+            → IsDead (slot_map_clear self.old) key }
+        ensures dead { (key : SlotKey) → IsDead self.old key → IsDead (slot_map_clear self.old) key }
+        ensures grows { length self.old.slots.free ≤ length (slot_map_clear self.old).slots.free }
         // With these two a caller knows what the map is once the iterator is dropped.
         ensures same_reference { drain_lender result ≡ self.entry.ghost_name }
         ensures stays { DrainingKeepsAlong drain_items drain_lender drain_left result }

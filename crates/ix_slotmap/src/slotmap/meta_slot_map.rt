@@ -7,7 +7,7 @@ ghost use Rattle.std.specs.contracts.option.Option as option;
 ghost use Rattle.ix_slottable.specs.SlotTableState.{IsFree, entries_from};
 ghost use Rattle.ix_slottable.specs.SlotTableSteps.{SlotTableInsert};
 ghost use Rattle.ix_slotmap.specs.Generations.{SlotKey, SlotMapState, greatest_generation, generation_at, key_at, slot_key_eq, place_value, slot_map_value, IsRetired, IsDead, retired_count, slot_map_len, held_entries, slot_map_entries, IsSlotMapFormed, DeadAreNotHeld, KeysRise, ListsExactly};
-ghost use Rattle.ix_slotmap.specs.SlotMapSteps.{slot_map_set, slot_map_set_at, slot_map_fill, slot_map_replace, slot_map_vacate, slot_map_retire, SlotMapInsert, SlotMapInsertAt, SlotMapRemove};
+ghost use Rattle.ix_slotmap.specs.SlotMapSteps.{slot_map_set, slot_map_set_at, slot_map_fill, slot_map_replace, slot_map_vacate, slot_map_retire, slot_map_clear, SlotMapInsert, SlotMapInsertAt, SlotMapRemove};
 
 use crate::slotmap::{Content, Iter, RETIRED, SlotMapKey, WordTable};
 use ix_slottable::slottable::{Link, MetaSlotTable, SlotTableKey};
@@ -60,6 +60,8 @@ impl<T, S: Table<Option<T>>, L: Table<Link>, G: Table<u64>> MetaSlotMap<Option<T
     #[inline]
     pub fn capacity(&self) -> usize
         ensures value { result ≡ length self.now.slots.values }
+        // Of an inline map: the capacity is that of its type.
+        ensures known { S.IsLen (length self.now.slots.values) }
     {
         self.slots.capacity()
     }
@@ -80,6 +82,7 @@ impl<T, S: Table<Option<T>>, L: Table<Link>, G: Table<u64>> MetaSlotMap<Option<T
             ≡ length self.now.slots.values }
         // These hold of every map, whatever calls were made.
         ensures formed { IsSlotMapFormed self.now }
+        ensures known { S.IsLen (length self.now.slots.values) }
     {
         self.slots.len() - self.retired
     }
@@ -361,6 +364,8 @@ impl<T, S: Table<Option<T>>, L: Table<Link>, G: Table<u64>> MetaSlotMap<Option<T
         requires { IsFree self.old.slots index }
         ensures generation { result ≡ generation_at self.old index }
         ensures map { self.new ≡ slot_map_fill self.old index value }
+        ensures count { slot_map_len self.new ≡ slot_map_len self.old + 1 }
+        ensures room { length self.new.slots.free + 1 ≡ length self.old.slots.free }
         ensures touches { touches.new ≤ touches.old + 11 }
         ensures rises { touches.old ≤ touches.new }
     {
@@ -377,6 +382,7 @@ impl<T, S: Table<Option<T>>, L: Table<Link>, G: Table<u64>> MetaSlotMap<Option<T
         requires generation { generation_at self.old index < greatest_generation }
         ensures value { result ≡ place_value self.old index }
         ensures map { self.new ≡ slot_map_vacate self.old index }
+        ensures count { slot_map_len self.new + 1 ≡ slot_map_len self.old }
         ensures raised { generation_at self.new index ≡ generation_at self.old index + 1 }
         ensures touches { touches.new ≤ touches.old + 7 }
         ensures rises { touches.old ≤ touches.new }
@@ -394,6 +400,7 @@ impl<T, S: Table<Option<T>>, L: Table<Link>, G: Table<u64>> MetaSlotMap<Option<T
         requires generation { generation_at self.old index ≡ greatest_generation }
         ensures value { result ≡ place_value self.old index }
         ensures map { self.new ≡ slot_map_retire self.old index }
+        ensures count { slot_map_len self.new + 1 ≡ slot_map_len self.old }
         ensures touches { touches.new ≡ touches.old + 4 }
     {
         // Each place is retired once, so that their number fits.
@@ -421,6 +428,15 @@ impl<T, S: Table<Option<T>>, L: Table<Link>, G: Table<u64>> MetaSlotMap<Option<T
 /// A dead key is not held, whatever the map. This function does nothing: its contract is the law.
 pub fn dead_keys_law<T>()
     ensures { (map : SlotMapState T) → DeadAreNotHeld map }
+{}
+
+/// A key that was held is dead once its map was cleared or drained, and a dead one stays dead, whatever the map. This function
+/// does nothing: its contract is the law.
+pub fn cleared_keys_law<T>()
+    ensures killed { (map : SlotMapState T) (key : SlotKey) → IsSlotMapFormed map
+        → IsSome (slot_map_value map key) → IsDead (slot_map_clear map) key }
+    ensures dead { (map : SlotMapState T) (key : SlotKey) → IsSlotMapFormed map
+        → IsDead map key → IsDead (slot_map_clear map) key }
 {}
 
 /// Prints a map from the held keys, each its index and its generation, to their values, in rising order. O(capacity).

@@ -1,9 +1,9 @@
 //! The calls of a slot map that go through all of its values.
-ghost use Rattle.std.specs.Prelude.{◌≡◌, ◌≢◌, ◌<◌, ◌↔◌, ◌⊎◌, ℕ, length, map, None, IsSome};
+ghost use Rattle.std.specs.Prelude.{◌≡◌, ◌≢◌, ◌+◌, ◌<◌, ◌≤◌, ◌↔◌, ◌⊎◌, ℕ, length, map, None, IsSome};
 ghost use Rattle.std.specs.List.{FoldsTo};
 ghost use Rattle.std.specs.Map.{keys_of};
 ghost use Rattle.ix_slottable.specs.SlotTableState.{value_at};
-ghost use Rattle.ix_slotmap.specs.Generations.{SlotKey, generation_at, key_at, place_value, slot_map_value, IsDead, slot_map_entries};
+ghost use Rattle.ix_slotmap.specs.Generations.{SlotKey, generation_at, key_at, place_value, slot_map_value, IsDead, retired_count, slot_map_len, slot_map_entries};
 ghost use Rattle.ix_slotmap.specs.SlotMapSteps.{slot_map_set, slot_map_remove, slot_map_clear, SlotMapRemove};
 ghost use Rattle.ix_slottable.specs.SlotTableCalls.{IsCallableOnEach, ChangesItem, RetainsItem};
 
@@ -24,10 +24,17 @@ impl<T, S: Table<Option<T>>, L: Table<Link>, G: Table<u64>> MetaSlotMap<Option<T
         ensures killed { (key : SlotKey) → IsSome (slot_map_value self.old key) → IsDead self.new key }
         ensures dead { (key : SlotKey) → IsDead self.old key → IsDead self.new key }
         ensures capacity { length self.new.slots.values ≡ length self.old.slots.values }
+        ensures count { slot_map_len self.new ≡ 0 }
+        // Each place is free then, or retired.
+        ensures room { retired_count self.new + length self.new.slots.free ≡ length self.old.slots.values }
+        ensures grows { length self.old.slots.free ≤ length self.new.slots.free }
     {
+        // Names the number of values, by which the check knows that the map is well-formed.
+        let _before = self.len();
         for place in 0..self.capacity() {
             drop(self.remove_at(place));
         }
+        let _after = self.len();
     }
 
     /// Returns an iterator over the held keys in rising order of their indexes. O(1), and O(capacity) for all of its items
@@ -84,6 +91,8 @@ impl<T, S: Table<Option<T>>, L: Table<Link>, G: Table<u64>> MetaSlotMap<Option<T
             → IsSome (slot_map_value self.new key) ⊎ IsDead self.new key }
         ensures dead { (key : SlotKey) → IsDead self.old key → IsDead self.new key }
         ensures capacity { length self.new.slots.values ≡ length self.old.slots.values }
+        ensures count { slot_map_len self.new ≤ slot_map_len self.old }
+        ensures grows { length self.old.slots.free ≤ length self.new.slots.free }
     {
         for index in 0..self.capacity() {
             if !self.has_value(index, &mut Touches::new()) {

@@ -1,7 +1,7 @@
 //! The calls of a slot map that insert a value and hand back what they don't keep.
 ghost use Rattle.std.specs.Prelude.{◌≡◌, ◌+◌, ◌<◌, ◌≤◌, IfOk, IsSome, option_map};
 ghost use Rattle.std.specs.Result.{IfErr, result_ok};
-ghost use Rattle.ix_slotmap.specs.Generations.{greatest_generation, generation_at, place_value};
+ghost use Rattle.ix_slotmap.specs.Generations.{greatest_generation, generation_at, place_value, slot_map_len};
 ghost use Rattle.ix_slotmap.specs.SlotMapSteps.{slot_map_replace, SlotMapInsert, SlotMapInsertAt};
 
 use crate::slotmap::{MetaSlotMap, SlotMapKey};
@@ -79,6 +79,7 @@ impl<T, S: Table<Option<T>>, L: Table<Link>, G: Table<u64>> MetaSlotMap<Option<T
         ensures generation { result.0 ≡ generation_at self.old index + 1 }
         ensures value { result.1 ≡ place_value self.old index }
         ensures map { self.new ≡ slot_map_replace self.old index value }
+        ensures count { slot_map_len self.new ≡ slot_map_len self.old }
         ensures raised { generation_at self.new index ≡ generation_at self.old index + 1 }
         ensures touches { touches.new ≡ touches.old + 4 }
     {

@@ -1,7 +1,8 @@
 use Rattle.std.proofs.Common.{◌≡◌, ◌/◌, sym, subst, ap, ◌∙◌, arith}
 use Rattle.ix_slottable.specs.SlotTableState.{IsFree}
-use Rattle.ix_slotmap.specs.Generations.{SlotMapState, generation_at}
+use Rattle.ix_slotmap.specs.Generations.{SlotMapState, generation_at, slot_map_len}
 use Rattle.ix_slotmap.proofs.Words.{word_within, free_word, state_of, fills}
+use Rattle.ix_slotmap.proofs.MapCounts.{slot_map_len-slot_map_fill}
 use Rattle.ix_slotmap.proofs.slotmap.meta_slot_map.MetaSlotMap+Option+T+S+L+G.fill.Goals as goal
 
 pub raise-requires-clause-fits : goal.raise-requires-clause-fits
@@ -30,3 +31,6 @@ returns-clause-generation g c =
     let raised = c.raise.ensures.value in
     let half : c.raise.result / 2 ≡ generation_at (state_of c.self.inside.slots c.self.inside.words) c.args.index = omega (arith, word.0, raised) in
     half ∙ ap (λ (s : SlotMapState g.row.T.Denot). generation_at s c.args.index) c.self.view_is
+
+pub returns-clause-count : goal.returns-clause-count
+returns-clause-count g c = ap slot_map_len (returns-clause-map g c) ∙ slot_map_len-slot_map_fill c.args.self.now c.args.index c.args.value c.requires

@@ -6,6 +6,7 @@ use Rattle.ix_slottable.specs.SlotTableCalls.{CalledOn, RetainsItem}
 use Rattle.ix_tables.proofs.Places.{none_of_not_some}
 use Rattle.ix_slottable.proofs.SlotTableCalls.{CalledOn-from_step}
 use Rattle.ix_slotmap.proofs.SlotMapCalls.{place_value-slot_map_set_at_same, slot_map_remove_at-slot_map_set_at, SettlesPlace-retained, VisitedPlaces-without, VisitedPlaces-with, VisitedPlaces-callable, Outlives, Outlives-slot_map_set_at, Outlives-removed, Outlives-both}
+use Rattle.ix_slotmap.proofs.MapCounts.{ThinsMap-trans, ThinsMap-retained}
 use Rattle.ix_slotmap.proofs.slotmap.retain.MetaSlotMap+Option+T+S+L+G.retain.Goals.{then-not-f, else-not-f}
 use Rattle.ix_slotmap.proofs.slotmap.retain.MetaSlotMap+Option+T+S+L+G.retain.Goals as goal
 
@@ -19,6 +20,7 @@ loop-index-preserved-then-not-has_value g c =
           (none_of_not_some _ (iff_false c.has_value.ensures.value c.if-not-has_value.true));
       removed = at.removed;
       dead = at.dead;
+      thins = at.thins;
     }
 
 pub f-requires : goal.f-requires
@@ -58,4 +60,5 @@ loop-index-preserved g c =
         | inr dead ↦ inr (settled.1.dead key dead)
       ];
       dead = λ key dead. settled.1.dead key (at.dead key dead);
+      thins = ThinsMap-trans _ _ _ at.thins (ThinsMap-retained now index value left c.f.result _ here settled.0);
     }
