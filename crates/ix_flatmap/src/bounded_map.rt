@@ -1,5 +1,5 @@
 //! The calls of a map as a trait.
-ghost use Rattle.std.specs.Prelude.{◌≡◌, ◌↔◌, ◌+◌, ℕ, [], length, Some, None, IsSome, IsTrue, IsNone, IsOk, IsErr, IfOk, OnErr, option_copied, option_map, replicate, slice_get, false, true, refl};
+ghost use Rattle.std.specs.Prelude.{◌≡◌, ◌↔◌, ◌+◌, ◌≤◌, ℕ, [], length, Some, None, IsSome, IsTrue, IsNone, IsOk, IsErr, IfOk, OnErr, option_copied, option_map, replicate, slice_get, false, true, refl};
 ghost use Rattle.std.specs.Borrow.{sem};
 ghost use Rattle.std.specs.List.{FoldsTo, list_any};
 ghost use Rattle.std.specs.Option.{option_copied_mut};
@@ -35,7 +35,9 @@ pub trait BoundedMap<K: Eq, V>: Sized {
         ensures refused { OnErr result (state self.new ≡ state self.old) }
         ensures kept { (other : K) → K.eq other key ≡ false
             → map_value K.eq (state self.new) other ≡ map_value K.eq (state self.old) other }
-        ensures distinct { HasDistinctKeys K.eq (state self.new) };
+        ensures distinct { HasDistinctKeys K.eq (state self.new) }
+        ensures count { IsOk result → held_count (state self.new) ≡ held_count (state self.old) + 1 }
+        ensures room { IsOk result → length (state self.new).free + 1 ≡ length (state self.old).free };
 
     /// Does what [`MetaMap::try_insert`](crate::map::MetaMap::try_insert) does.
     fn try_insert(&mut self, key: K, value: V) -> Result<(), (MapError, K, V)>
@@ -48,7 +50,9 @@ pub trait BoundedMap<K: Eq, V>: Sized {
         ensures refused { OnErr result (state self.new ≡ state self.old) }
         ensures kept { (other : K) → K.eq other key ≡ false
             → map_value K.eq (state self.new) other ≡ map_value K.eq (state self.old) other }
-        ensures distinct { HasDistinctKeys K.eq (state self.new) };
+        ensures distinct { HasDistinctKeys K.eq (state self.new) }
+        ensures count { IsOk result → held_count (state self.new) ≡ held_count (state self.old) + 1 }
+        ensures room { IsOk result → length (state self.new).free + 1 ≡ length (state self.old).free };
 
     /// Does what [`MetaMap::replace`](crate::map::MetaMap::replace) does.
     fn replace(&mut self, key: K, value: V) -> Result<Option<V>, (K, V)>
@@ -60,7 +64,14 @@ pub trait BoundedMap<K: Eq, V>: Sized {
         ensures holds { IsOk result → map_value K.eq (state self.new) key ≡ Some value }
         ensures refused { OnErr result (state self.new ≡ state self.old) }
         ensures kept { (other : K) → K.eq other key ≡ false
-            → map_value K.eq (state self.new) other ≡ map_value K.eq (state self.old) other };
+            → map_value K.eq (state self.new) other ≡ map_value K.eq (state self.old) other }
+        ensures count { IsOk result → map_value K.eq (state self.old) key ≡ None
+            → held_count (state self.new) ≡ held_count (state self.old) + 1 }
+        ensures room { IsOk result → map_value K.eq (state self.old) key ≡ None
+            → length (state self.new).free + 1 ≡ length (state self.old).free }
+        ensures same_count { IsSome (map_value K.eq (state self.old) key)
+            → held_count (state self.new) ≡ held_count (state self.old) }
+        ensures same_free { IsSome (map_value K.eq (state self.old) key) → (state self.new).free ≡ (state self.old).free };
 
     /// Does what [`MetaMap::get_ref`](crate::map::MetaMap::get_ref) does.
     fn get_ref(&self, key: &K) -> Option<&V>
@@ -96,7 +107,9 @@ pub trait BoundedMap<K: Eq, V>: Sized {
         ensures refused { IsNone result → state self.new ≡ state self.old }
         ensures kept { (other : K) → K.eq other key.now ≡ false
             → map_value K.eq (state self.new) other ≡ map_value K.eq (state self.old) other }
-        ensures distinct { HasDistinctKeys K.eq (state self.new) };
+        ensures distinct { HasDistinctKeys K.eq (state self.new) }
+        ensures count { IsSome result → held_count (state self.new) + 1 ≡ held_count (state self.old) }
+        ensures room { IsSome result → length (state self.new).free ≡ length (state self.old).free + 1 };
 
     /// Does what [`MetaMap::remove_entry`](crate::map::MetaMap::remove_entry) does.
     fn remove_entry(&mut self, key: &K) -> Option<(K, V)>
@@ -107,12 +120,16 @@ pub trait BoundedMap<K: Eq, V>: Sized {
         ensures refused { IsNone result → state self.new ≡ state self.old }
         ensures kept { (other : K) → K.eq other key.now ≡ false
             → map_value K.eq (state self.new) other ≡ map_value K.eq (state self.old) other }
-        ensures distinct { HasDistinctKeys K.eq (state self.new) };
+        ensures distinct { HasDistinctKeys K.eq (state self.new) }
+        ensures count { IsSome result → held_count (state self.new) + 1 ≡ held_count (state self.old) }
+        ensures room { IsSome result → length (state self.new).free ≡ length (state self.old).free + 1 };
 
     /// Does what [`MetaMap::clear`](crate::map::MetaMap::clear) does.
     fn clear(&mut self)
         ensures map { state self.new ≡ slot_table_clear (state self.old) }
-        ensures values { (state self.new).values ≡ replicate (length (state self.old).values) None };
+        ensures values { (state self.new).values ≡ replicate (length (state self.old).values) None }
+        ensures count { held_count (state self.new) ≡ 0 }
+        ensures room { length (state self.new).free ≡ length (state self.old).values };
 
     /// Does what [`MetaMap::for_each_mut`](crate::map::MetaMap::for_each_mut) does.
     fn for_each_mut<F: FnMut(&K, &mut V)>(&mut self, f: F)
@@ -134,7 +151,10 @@ pub trait BoundedMap<K: Eq, V>: Sized {
         ensures keys { (key : K) → IsSome (map_value K.eq (state self.new) key)
             → IsSome (map_value K.eq (state self.old) key) }
         ensures distinct { HasDistinctKeys K.eq (state self.new) }
-        ensures capacity { length (state self.new).values ≡ length (state self.old).values };
+        ensures capacity { length (state self.new).values ≡ length (state self.old).values }
+        ensures count { held_count (state self.new) ≤ held_count (state self.old) }
+        ensures room { held_count (state self.new) + length (state self.new).free
+            ≡ held_count (state self.old) + length (state self.old).free };
 
     /// Does what [`MetaMap::capacity`](crate::map::MetaMap::capacity) does.
     fn capacity(&self) -> usize

@@ -45,10 +45,15 @@ impl<K: Eq + Drop, V: Drop, S: Table<Pair<K, V>>, L: Table<Link>, I: KeyIndex<K,
     pub fn drain(&mut self) -> Drain<'_, K, V, S, L, I>
         ensures items { drain_items result ≡ map_items self.old }
         ensures left { drain_left result ≡ slot_table_clear self.old }
+        // What is left has no key, and every place is free.
+        ensures count { held_count (slot_table_clear self.old) ≡ 0 }
+        ensures room { length (slot_table_clear self.old).free ≡ length self.old.values }
         // With these two a caller knows what the map is once the iterator is dropped.
         ensures same_reference { drain_lender result ≡ self.entry.ghost_name }
         ensures stays { DrainingKeepsAlong drain_items drain_lender drain_left result }
     {
+        // Names the number of keys, by which the check knows how many places are free.
+        let _len = self.len();
         Drain {
             map: self,
             place: 0,

@@ -3,7 +3,7 @@ ghost use Rattle.std.specs.Prelude.{◌≡◌, ℕ, ◌≤◌, length, replicate
 ghost use Rattle.std.specs.Result.{IfErr, result_ok};
 ghost use Rattle.ix_tables.specs.Memory.{no_memory};
 ghost use Rattle.ix_tables.specs.declared.cells.memory_size.MemorySize.{MemorySize};
-ghost use Rattle.ix_slottable.specs.SlotTableState.{SlotTableState, IsHeld, value_at, slot_table_new};
+ghost use Rattle.ix_slottable.specs.SlotTableState.{SlotTableState, IsHeld, value_at, held_count, slot_table_new};
 ghost use Rattle.ix_slottable.specs.SlotTableSteps.{SlotTableInsert, SlotTableRemove, slot_table_clear};
 ghost use Rattle.ix_slottable.specs.SlotTableCopies.{SlotTableIsClone};
 ghost use Rattle.ix_flatmap.specs.MapState.{HasDistinctKeys, map_entry, IsBound};
@@ -92,6 +92,8 @@ pub trait KeyIndex<K: Eq + Drop, V: Drop>: PairIndex<Pair<K, V>> {
         requires { Self.PairIndex.Fits self.old pairs.old }
         ensures pairs { pairs.new ≡ slot_table_clear pairs.old }
         ensures values { pairs.new.values ≡ replicate (length pairs.old.values) None }
+        ensures count { held_count pairs.new ≡ 0 }
+        ensures room { length pairs.new.free ≡ length pairs.old.values }
         ensures fits { Self.PairIndex.Fits self.new pairs.new };
 
     /// Returns the place from which on none has a pair.

@@ -69,6 +69,8 @@ impl<K: Eq + Drop, V: Drop, S: Table<Pair<K, V>>, L: Table<Link>, I: KeyIndex<K,
         ensures kept { (other : K) → K.eq other key ≡ false
             → map_value K.eq self.new other ≡ map_value K.eq self.old other }
         ensures distinct { HasDistinctKeys K.eq self.new }
+        ensures count { IsOk result → held_count self.new ≡ held_count self.old + 1 }
+        ensures room { IsOk result → length self.new.free + 1 ≡ length self.old.free }
     {
         match self.try_insert(key, value) {
             Ok(()) => Ok(()),
@@ -151,6 +153,8 @@ impl<K: Eq + Drop, V: Drop, S: Table<Pair<K, V>>, L: Table<Link>, I: KeyIndex<K,
         ensures kept { (other : K) → K.eq other key.now ≡ false
             → map_value K.eq self.new other ≡ map_value K.eq self.old other }
         ensures distinct { HasDistinctKeys K.eq self.new }
+        ensures count { IsSome result → held_count self.new + 1 ≡ held_count self.old }
+        ensures room { IsSome result → length self.new.free ≡ length self.old.free + 1 }
     {
         let (_, value) = self.remove_entry(key)?;
         Some(value)
@@ -166,6 +170,8 @@ impl<K: Eq + Drop, V: Drop, S: Table<Pair<K, V>>, L: Table<Link>, I: KeyIndex<K,
         ensures kept { (other : K) → K.eq other key.now ≡ false
             → map_value K.eq self.new other ≡ map_value K.eq self.old other }
         ensures distinct { HasDistinctKeys K.eq self.new }
+        ensures count { IsSome result → held_count self.new + 1 ≡ held_count self.old }
+        ensures room { IsSome result → length self.new.free ≡ length self.old.free + 1 }
     {
         let seat = self.index.seat(&self.pairs, key);
         let place = self.index.place(&self.pairs, seat, key)?;
@@ -180,6 +186,8 @@ impl<K: Eq + Drop, V: Drop, S: Table<Pair<K, V>>, L: Table<Link>, I: KeyIndex<K,
     pub fn clear(&mut self)
         ensures map { self.new ≡ slot_table_clear self.old }
         ensures values { self.new.values ≡ replicate (length self.old.values) None }
+        ensures count { held_count self.new ≡ 0 }
+        ensures room { length self.new.free ≡ length self.old.values }
     {
         self.index.clear(&mut self.pairs);
     }
@@ -187,7 +195,9 @@ impl<K: Eq + Drop, V: Drop, S: Table<Pair<K, V>>, L: Table<Link>, I: KeyIndex<K,
     /// Returns the maximum number of keys. O(1).
     #[inline]
     pub fn capacity(&self) -> usize
-        ensures { result ≡ length self.now.values }
+        ensures value { result ≡ length self.now.values }
+        // Of an inline map: the capacity is that of its type.
+        ensures known { S.IsLen (length self.now.values) }
     {
         self.pairs.capacity()
     }
@@ -225,6 +235,7 @@ impl<K: Eq + Drop, V: Drop, S: Table<Pair<K, V>>, L: Table<Link>, I: KeyIndex<K,
         // These hold of every map, whatever calls were made.
         ensures formed { IsWellFormed self.now }
         ensures distinct { HasDistinctKeys K.eq self.now }
+        ensures known { S.IsLen (length self.now.values) }
     {
         self.pairs.len()
     }

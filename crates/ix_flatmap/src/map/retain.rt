@@ -2,7 +2,7 @@
 ghost use Rattle.std.specs.Prelude.{◌≡◌, ◌↔◌, ◌+◌, ◌<◌, ◌≤◌, length, drop, IsTrue, IsSome, Some};
 ghost use Rattle.std.specs.Borrow.{MutBor};
 ghost use Rattle.std.specs.List.{FoldsTo};
-ghost use Rattle.ix_slottable.specs.SlotTableState.{value_at, IsHeld, entries_from};
+ghost use Rattle.ix_slottable.specs.SlotTableState.{value_at, IsHeld, held_count, entries_from};
 ghost use Rattle.ix_slottable.specs.SlotTableSteps.{slot_table_set, SlotTableRemove};
 ghost use Rattle.ix_slottable.specs.SlotTableCalls.{CalledOn, IsCallableOnEach, ChangesItem, RetainsItem};
 ghost use Rattle.ix_flatmap.specs.MapState.{HasDistinctKeys, map_value, map_keys, map_items, IsBound};
@@ -51,6 +51,9 @@ impl<K: Eq + Drop, V: Drop, S: Table<Pair<K, V>>, L: Table<Link>, I: KeyIndex<K,
             → IsSome (map_value K.eq self.old key) }
         ensures distinct { HasDistinctKeys K.eq self.new }
         ensures capacity { length self.new.values ≡ length self.old.values }
+        ensures count { held_count self.new ≤ held_count self.old }
+        // As many places are free as were, and those whose keys are gone.
+        ensures room { held_count self.new + length self.new.free ≡ held_count self.old + length self.old.free }
     {
         for number in 0..self.bound() {
             let place = SlotTableKey::new(number);

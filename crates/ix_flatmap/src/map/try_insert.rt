@@ -1,8 +1,9 @@
 //! The calls of a map that insert a key.
-ghost use Rattle.std.specs.Prelude.{◌≡◌, ◌≢◌, ◌↔◌, [], Some, None, IsOk, IsErr, IfOk, OnErr, false};
+ghost use Rattle.std.specs.Prelude.{◌≡◌, ◌≢◌, ◌+◌, ◌↔◌, [], length, Some, None, IsSome, IsOk, IsErr, IfOk, OnErr, false};
 ghost use Rattle.std.specs.Borrow.{sem, LendsIfOk};
 ghost use Rattle.std.specs.Option.{UnwrapsOrElse};
 ghost use Rattle.std.specs.Result.{IfErr};
+ghost use Rattle.ix_slottable.specs.SlotTableState.{held_count};
 ghost use Rattle.ix_flatmap.specs.MapState.{HasDistinctKeys, map_value};
 ghost use Rattle.ix_flatmap.specs.MapSteps.{map_insert_result, map_insert, map_replace};
 
@@ -36,6 +37,8 @@ impl<K: Eq + Drop, V: Drop, S: Table<Pair<K, V>>, L: Table<Link>, I: KeyIndex<K,
         ensures kept { (other : K) → K.eq other key ≡ false
             → map_value K.eq self.new other ≡ map_value K.eq self.old other }
         ensures distinct { HasDistinctKeys K.eq self.new }
+        ensures count { IsOk result → held_count self.new ≡ held_count self.old + 1 }
+        ensures room { IsOk result → length self.new.free + 1 ≡ length self.old.free }
     {
         let seat = self.index.seat(&self.pairs, &key);
         if self.index.place(&self.pairs, seat, &key).is_some() {
@@ -63,6 +66,13 @@ impl<K: Eq + Drop, V: Drop, S: Table<Pair<K, V>>, L: Table<Link>, I: KeyIndex<K,
         ensures refused { OnErr result (self.new ≡ self.old) }
         ensures kept { (other : K) → K.eq other key ≡ false
             → map_value K.eq self.new other ≡ map_value K.eq self.old other }
+        ensures count { IsOk result → map_value K.eq self.old key ≡ None
+            → held_count self.new ≡ held_count self.old + 1 }
+        ensures room { IsOk result → map_value K.eq self.old key ≡ None
+            → length self.new.free + 1 ≡ length self.old.free }
+        ensures same_count { IsSome (map_value K.eq self.old key)
+            → held_count self.new ≡ held_count self.old }
+        ensures same_free { IsSome (map_value K.eq self.old key) → self.new.free ≡ self.old.free }
     {
         let seat = self.index.seat(&self.pairs, &key);
         if let Some(place) = self.index.place(&self.pairs, seat, &key) {

@@ -9,6 +9,7 @@ use Rattle.ix_flatmap.specs.declared.map.pair.Pair.{Pair}
 use Rattle.ix_slottable.specs.SlotTableCalls.{RetainsItem}
 use Rattle.ix_flatmap.specs.MapSteps.{map_set, map_remove}
 use Rattle.ix_flatmap.specs.MapCalls.{CallAtKey, TakesKey}
+use Rattle.ix_slottable.proofs.Counts.{Thins-refl, Thins-trans, Thins-retained}
 use Rattle.ix_slottable.proofs.SlotTableCalls.{slot_table_remove-slot_table_set, Settles-retained, Visited, Visited-free, Visited-held}
 use Rattle.ix_flatmap.proofs.MapCalls.{AtPlace, SameKeys-set, KeysWere, KeysWere-same, KeysWere-vacated, KeysWere-both, IsSome-map_value, map_retained, Visited-bounded, Visited-takes}
 use Rattle.ix_flatmap.proofs.map.retain.MetaMap+Pair+K+V+S+L+I.retain.Goals.{then-not-call_at, else-not-call_at}
@@ -19,6 +20,7 @@ loop-number-init g c = record {
   visited = record { capacity = refl; calls = refl; rest = λ place past. refl };
   keys = λ place pair at. (pair, at, refl);
   distinct = c.bound-number-end.ensures.distinct;
+  thins = Thins-refl c.args.self.now;
 }
 
 pub loop-number-preserved-then-not-has_pair : goal.loop-number-preserved-then-not-has_pair
@@ -31,6 +33,7 @@ loop-number-preserved-then-not-has_pair g c =
           (ap (value_at c.loop-number.self) (sym c.new-place.ensures) ∙ none_of_not_some _ (iff_false c.has_pair.ensures.value c.if-not-has_pair.true));
       keys = at.keys;
       distinct = at.distinct;
+      thins = at.thins;
     }
 
 pub call_at-requires-clause-callable : goal.call_at-requires-clause-callable
@@ -74,6 +77,7 @@ loop-number-preserved g c =
           (Settles-retained now place pair_left c.call_at.result settled_map settled.0));
       keys = KeysWere-both c.args.self.now now settled_map c.loop-number.invariant.keys settled.1;
       distinct = settled.2;
+      thins = Thins-trans _ _ _ c.loop-number.invariant.thins (Thins-retained now place pair pair_left c.call_at.result settled_map at settled.0);
     }
 
 pub returns-clause-calls : goal.returns-clause-calls
