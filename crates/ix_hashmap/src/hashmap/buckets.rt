@@ -158,7 +158,7 @@ impl<P: Hashed, const CAPACITY: usize, B: BuildHasher + Copy> CopyInline<P, CAPA
     for Buckets<InlineTable<ChainLink, CAPACITY>, B> {
     fn copy_inline(&self) -> Self {
         // Names the number of places, by which the check knows that the tables have as many.
-        let _places = self.links.inline_len();
+        let _places = self.links.len();
         Buckets {
             links: ChainTable::copy_of(InlineTable::default(), &self.links),
             hasher: self.hasher,

@@ -6,7 +6,7 @@ ghost use Rattle.ix_hashmap.specs.inner.HashChains.{no_link, head_at, next_at, l
 use crate::hashmap::ChainLink;
 use crate::hashmap::chain_link::NO_LINK;
 use ix_slottable::full_table::{copy_items, empty, fill};
-use ix_tables::{Counted, InlineTable, Table, Touches};
+use ix_tables::{Counted, Table, Touches};
 use std::marker::Model;
 
 /// A link in each place of a table. Contracts see the list of them.
@@ -52,7 +52,8 @@ impl<C: Table<ChainLink>> ChainTable<C> {
     /// Returns the number of places, which is a quarter of that of buckets.
     #[inline]
     pub(crate) fn len(&self) -> usize
-        ensures { result ≡ length self.now }
+        ensures value { result ≡ length self.now }
+        ensures known { C.IsLen (length self.now) }
     {
         self.links.len()
     }
@@ -153,17 +154,6 @@ impl<C: Table<ChainLink>> ChainTable<C> {
         ensures { self.new ≡ links_set_next self.old place next }
     {
         self.links.get_mut(place, &mut Touches::new()).next = next;
-    }
-}
-
-impl<const CAPACITY: usize> ChainTable<InlineTable<ChainLink, CAPACITY>> {
-    /// Returns the number of places, which is that of the type.
-    #[inline]
-    pub(crate) fn inline_len(&self) -> usize
-        ensures value { result ≡ CAPACITY }
-        ensures len { length self.now ≡ CAPACITY }
-    {
-        self.links.inline_len()
     }
 }
 

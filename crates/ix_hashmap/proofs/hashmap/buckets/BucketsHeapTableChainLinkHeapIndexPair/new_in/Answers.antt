@@ -7,7 +7,7 @@ use Rattle.ix_hashmap.proofs.hashmap.buckets.BucketsHeapTableChainLinkHeapIndexP
 
 pub returns-clause-value : goal.returns-clause-value
 returns-clause-value g c =
-    let all = c.len-places.ensures in
+    let all = c.len-places.ensures.value in
     let most = c.len-places.type_inv in
     let places = ap length c.in_ok-new.ensures.value ∙ length-replicate c.args.capacity None in
     IsHashed-new _ c.args.capacity c.new-links.result (c.new-links.ensures ∙ ap (λ n. replicate n no_link) places) (omega (arith, all, most))

@@ -7,7 +7,7 @@ use Rattle.ix_hashmap.proofs.hashmap.buckets.BucketsInlineTableChainLinkInlineIn
 
 pub returns : goal.returns
 returns g c =
-    let all = c.len-places.ensures in
+    let all = c.len-places.ensures.value in
     let most = c.len-places.type_inv in
     let places = ap length c.default.ensures ∙ length-replicate g.row.CAPACITY None in
     IsHashed-new _ g.row.CAPACITY c.new-links.result (c.new-links.ensures ∙ ap (λ n. replicate n no_link) places) (omega (arith, all, most))

@@ -4,7 +4,7 @@ use Rattle.ix_hashmap.proofs.HashSteps.{bucket_of-counted, IsBucket-none, IsBuck
 use Rattle.ix_hashmap.proofs.hashmap.buckets.BucketsKeyIndex.seat.Goals as goal
 
 pub returns-then-places-eq0-clause-seat : goal.returns-then-places-eq0-clause-seat
-returns-then-places-eq0-clause-seat g c = IsBucket-none _ c.args.self.now.links (sym c.len-places.ensures ∙ c.if-places-eq0.true)
+returns-then-places-eq0-clause-seat g c = IsBucket-none _ c.args.self.now.links (sym c.len-places.ensures.value ∙ c.if-places-eq0.true)
 
 pub returns-then-places-eq0-clause-equal : goal.returns-then-places-eq0-clause-equal
 returns-then-places-eq0-clause-equal g c =
@@ -13,8 +13,8 @@ returns-then-places-eq0-clause-equal g c =
 
 pub returns-clause-seat : goal.returns-clause-seat
 returns-clause-seat g c = record {
-  is = bucket_of-counted _ c.bucket_of-number.result c.len-places.result _ c.bucket_of-number.ensures.value c.len-places.ensures;
-  below = λ some. subst (λ (n : ℕ). c.bucket_of-number.result < 4 * n) c.len-places.ensures c.bucket_of-number.ensures.below;
+  is = bucket_of-counted _ c.bucket_of-number.result c.len-places.result _ c.bucket_of-number.ensures.value c.len-places.ensures.value;
+  below = λ some. subst (λ (n : ℕ). c.bucket_of-number.result < 4 * n) c.len-places.ensures.value c.bucket_of-number.ensures.below;
   starts = c.head.ensures;
 }
 

@@ -9,4 +9,4 @@ returns g c =
     let len = c.loop-number.invariant.len in
     let ended = c.loop-number-test.false in
     items_in-filled no_link _ no_link (λ bucket below. c.loop-number.invariant.emptied bucket (omega (arith, len, ended, below)))
-    ∙ ap (λ n. replicate n no_link) (len ∙ c.len-number-end.ensures ∙ sym (length-items_in no_link _) ∙ ap length c.self.view_is)
+    ∙ ap (λ n. replicate n no_link) (len ∙ c.len-number-end.ensures.value ∙ sym (length-items_in no_link _) ∙ ap length c.self.view_is)
