@@ -1,5 +1,5 @@
 pub mod Generations
-pub mod MapCounts
+pub mod SlotMapCounts
 pub mod SlotMapDrains
 pub mod SlotMapEntries
 pub mod SlotMapCalls

@@ -50,11 +50,11 @@ module _ {T : Type 0} where
   pub held_count-slot_table_set : (s : SlotTableState T) (key : ℕ) (old value : T) → value_at s key ≡ Some old → held_count (slot_table_set s key value) ≡ held_count s
   held_count-slot_table_set s key old value at = count_by-set_same s.values key old value (place_at_within s.values key old at) at
 
-  pub held_count-slot_fill_held : (s : SlotTableState T) (key : ℕ) (value : T) → IsHeld s key → held_count (slot_table_fill s key value) ≡ held_count s
-  held_count-slot_fill_held s key value held = let was = held_item (value_at s key) held in held_count-slot_table_set s key was.0 value was.1
+  pub held_count-slot_table_fill_held : (s : SlotTableState T) (key : ℕ) (value : T) → IsHeld s key → held_count (slot_table_fill s key value) ≡ held_count s
+  held_count-slot_table_fill_held s key value held = let was = held_item (value_at s key) held in held_count-slot_table_set s key was.0 value was.1
 
-  pub free-slot_fill_held : (s : SlotTableState T) (key : ℕ) (value : T) → IsWellFormed s → IsHeld s key → (slot_table_fill s key value).free ≡ s.free
-  free-slot_fill_held s key value formed held = elim (cases_eq (key_count key s.free) 0) [
+  pub free-slot_table_fill_held : (s : SlotTableState T) (key : ℕ) (value : T) → IsWellFormed s → IsHeld s key → (slot_table_fill s key value).free ≡ s.free
+  free-slot_table_fill_held s key value formed held = elim (cases_eq (key_count key s.free) 0) [
     | inl none ↦ keys_without-absent key s.free none
     | inr some ↦
         let empty = (formed.listed_is_free key (omega arith)).1 in

@@ -2,7 +2,7 @@ use Rattle.std.proofs.Common.{◌≡◌, ◌/◌, sym, subst, ap, ◌∙◌, ari
 use Rattle.ix_slottable.specs.SlotTableState.{IsFree}
 use Rattle.ix_slotmap.specs.Generations.{SlotMapState, generation_at, slot_map_len}
 use Rattle.ix_slotmap.proofs.Words.{word_within, free_word, state_of, fills}
-use Rattle.ix_slotmap.proofs.MapCounts.{slot_map_len-slot_map_fill}
+use Rattle.ix_slotmap.proofs.SlotMapCounts.{slot_map_len-slot_map_fill}
 use Rattle.ix_slotmap.proofs.slotmap.meta_slot_map.MetaSlotMap+Option+T+S+L+G.fill.Goals as goal
 
 pub raise-requires-clause-fits : goal.raise-requires-clause-fits

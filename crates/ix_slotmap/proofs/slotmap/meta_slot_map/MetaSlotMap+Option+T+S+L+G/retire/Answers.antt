@@ -2,7 +2,7 @@ use Rattle.std.proofs.Common.{ap, length, sym, subst, IsSome, arith, ◌+◌, �
 use Rattle.ix_slottable.specs.SlotTableSteps.{slot_table_set}
 use Rattle.ix_slotmap.specs.Generations.{SlotMapState, place_value, slot_map_len}
 use Rattle.ix_slotmap.proofs.Words.{retires, room_to_retire}
-use Rattle.ix_slotmap.proofs.MapCounts.{slot_map_len-slot_map_retire}
+use Rattle.ix_slotmap.proofs.SlotMapCounts.{slot_map_len-slot_map_retire}
 use Rattle.ix_slotmap.proofs.slotmap.meta_slot_map.MetaSlotMap+Option+T+S+L+G.retire.Goals as goal
 
 pub overflow_add-self : goal.overflow_add-self

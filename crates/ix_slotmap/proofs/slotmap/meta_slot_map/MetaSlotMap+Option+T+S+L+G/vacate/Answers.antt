@@ -1,7 +1,7 @@
 use Rattle.std.proofs.Common.{ap, ◌+◌, ◌∙◌}
 use Rattle.ix_slotmap.specs.Generations.{SlotMapState, slot_map_len}
 use Rattle.ix_slotmap.proofs.Words.{vacates, reads_raised, state_of}
-use Rattle.ix_slotmap.proofs.MapCounts.{slot_map_len-slot_map_vacate}
+use Rattle.ix_slotmap.proofs.SlotMapCounts.{slot_map_len-slot_map_vacate}
 use Rattle.ix_slotmap.proofs.slotmap.meta_slot_map.MetaSlotMap+Option+T+S+L+G.vacate.Goals as goal
 
 pub invariant_of-self : goal.invariant_of-self

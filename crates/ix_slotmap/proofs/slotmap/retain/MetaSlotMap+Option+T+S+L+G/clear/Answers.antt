@@ -4,7 +4,7 @@ use Rattle.ix_slotmap.specs.SlotMapSteps.{slot_map_remove_at}
 use Rattle.ix_slottable.proofs.SlotTableCalls.{fold-range_with_len}
 use Rattle.ix_slotmap.proofs.Generations.{if_none}
 use Rattle.ix_slotmap.proofs.SlotMapCalls.{SettlesPlace-slot_map_remove_at}
-use Rattle.ix_slotmap.proofs.MapCounts.{IsDead-map_clear_held, IsDead-slot_map_clear, place_value-slot_map_clear, slot_map_len-slot_map_clear, room-slot_map_clear}
+use Rattle.ix_slotmap.proofs.SlotMapCounts.{IsDead-slot_map_clear_held, IsDead-slot_map_clear, place_value-slot_map_clear, slot_map_len-slot_map_clear, room-slot_map_clear}
 use Rattle.ix_slotmap.proofs.slotmap.retain.MetaSlotMap+Option+T+S+L+G.clear.Goals as goal
 
 pub loop-place-preserved : goal.loop-place-preserved
@@ -26,7 +26,7 @@ returns-clause-empty g c =
 
 pub returns-clause-killed : goal.returns-clause-killed
 returns-clause-killed g c =
-    λ key held. subst (λ (s : SlotMapState g.row.T.Denot). IsDead s key) (sym (returns-clause-map g c)) (IsDead-map_clear_held c.args.self.now c.len-before.ensures.formed.generations key held)
+    λ key held. subst (λ (s : SlotMapState g.row.T.Denot). IsDead s key) (sym (returns-clause-map g c)) (IsDead-slot_map_clear_held c.args.self.now c.len-before.ensures.formed.generations key held)
 
 pub returns-clause-dead : goal.returns-clause-dead
 returns-clause-dead g c =

@@ -2,7 +2,7 @@ use Rattle.std.proofs.Common.{◌⊎◌, IsSome}
 use Rattle.ix_slotmap.specs.Generations.{SlotKey, slot_map_value, IsDead}
 use Rattle.ix_slotmap.specs.SlotMapSteps.{slot_map_set, slot_map_remove}
 use Rattle.ix_slottable.specs.SlotTableCalls.{RetainsItem}
-use Rattle.ix_slotmap.proofs.MapCounts.{ThinsMap}
+use Rattle.ix_slotmap.proofs.SlotMapCounts.{ThinsMap}
 use Rattle.ix_slotmap.proofs.SlotMapCalls.{VisitedPlaces}
 use Rattle.ix_slotmap.proofs.slotmap.retain.MetaSlotMap+Option+T+S+L+G.retain.Given as goal
 

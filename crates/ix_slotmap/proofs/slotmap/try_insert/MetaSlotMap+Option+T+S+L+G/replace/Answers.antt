@@ -2,7 +2,7 @@ use Rattle.std.proofs.Common.{Some, ap, ◌∙◌}
 use Rattle.ix_slottable.specs.SlotTableSteps.{slot_table_set}
 use Rattle.ix_slotmap.specs.Generations.{SlotMapState, slot_map_len}
 use Rattle.ix_slotmap.proofs.Words.{replaces, reads_raised, state_of}
-use Rattle.ix_slotmap.proofs.MapCounts.{slot_map_len-slot_map_replace}
+use Rattle.ix_slotmap.proofs.SlotMapCounts.{slot_map_len-slot_map_replace}
 use Rattle.ix_slotmap.proofs.slotmap.try_insert.MetaSlotMap+Option+T+S+L+G.replace.Goals as goal
 
 pub invariant_of-self : goal.invariant_of-self

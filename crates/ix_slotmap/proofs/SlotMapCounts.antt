@@ -221,8 +221,8 @@ module _ {T : Type 0} where
         })
 
     -- each key that was held is dead once the map was cleared, and a dead one stays dead
-    pub IsDead-map_clear_held : (key : SlotKey) → IsSome (slot_map_value s key) → IsDead (slot_map_clear s) key
-    IsDead-map_clear_held key some =
+    pub IsDead-slot_map_clear_held : (key : SlotKey) → IsSome (slot_map_value s key) → IsDead (slot_map_clear s) key
+    IsDead-slot_map_clear_held key some =
         let is = held_key s key some in
         subst (IsDead (slot_map_clear s)) (sym is.0) ((cleared (length s.slots.values)).killed key.index (below s key.index is.1) is.1)
 
