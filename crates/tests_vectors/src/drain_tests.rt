@@ -1,7 +1,12 @@
 //! Drains: the items that come, those that are dropped with the drain, and the vector afterwards. And the drops of the other
 //! calls that remove or move items.
+ghost use Rattle.std.proofs.Common.{rules};
+ghost use Rattle.std.specs.Cmp.Rules.{comparing};
+ghost use Rattle.std.specs.Ordering.{on};
+ghost use Rattle.std.specs.Prelude.{nat_eq};
+
 use ix_vector::{PolymorphicVec, StaticVec, Vector};
-use std::alloc::Global;
+use std::alloc::{AllocError, Global};
 use std::test::Fail;
 use test_support::{Findings, Noted, Notes, check_text, made, names_of};
 
@@ -121,5 +126,79 @@ fn drops_of_other_calls() -> Result<(), Fail> {
     findings.expect_same(notes.take_drops(), 325, "the tail is dropped");
     drop(vector.swap_remove(0));
     findings.expect_same(notes.take_drops(), 3, "taken out");
+    findings.verdict()
+}
+
+/// How many of the items 2, 3 and 4 are taken, and the names of those that are dropped with the drain, the next one first.
+const LEFT: &[(usize, u64)] = &[(0, 234), (1, 34), (2, 4), (3, 0), (4, 0)];
+
+/// Drains a vector of capacity 3 that is empty.
+fn check_left<'a, V: Vector<Noted<'a>>>(
+    findings: &Findings,
+    vector: &mut V,
+    notes: &'a Notes,
+    place: &str,
+) {
+    for (taken, left) in LEFT {
+        fill(findings, vector, 5, notes);
+        let mut drain = vector.drain();
+        for _ in 0..*taken {
+            drop(drain.next());
+        }
+        notes.take_drops();
+        drop(drain);
+        findings.expect_same_at(notes.take_drops(), *left, *taken, place);
+    }
+}
+
+#[test]
+fn drops_with_the_drain(rt: HostRuntime) -> Result<(), Fail> {
+    let findings = Findings::new();
+    let notes = Notes::new(0);
+    let mut fixed = StaticVec::<Noted, 3>::new();
+    check_left(&findings, &mut fixed, &notes, "fixed");
+    match PolymorphicVec::<Noted, Global>::new(rt.alloc(), 3) {
+        Ok(mut vector) => check_left(&findings, &mut vector, &notes, "allocated"),
+        Err(AllocError) => findings.miss("there is memory"),
+    }
+    findings.verdict()
+}
+
+/// An item that equals those of its number, and notes its drop.
+#[derive(Default, Drop)]
+struct Alike<'a> {
+    number: u64,
+    noted: Noted<'a>,
+}
+
+impl PartialEq for Alike<'_> {
+    ghost eq = { on (λ item. item.number) nat_eq };
+
+    ghost laws = { Prim.search (comparing, rules) };
+
+    fn eq(&self, other: &Self) -> bool {
+        self.number == other.number
+    }
+}
+
+/// The numbers and the names of items in turn, of which each that is like the one before it is removed.
+const ALIKE: &[(u64, u64)] = &[(7, 1), (7, 2), (8, 3), (8, 4), (7, 5)];
+
+#[test]
+fn drops_of_dedup() -> Result<(), Fail> {
+    let findings = Findings::new();
+    let notes = Notes::new(0);
+    let mut vector = StaticVec::<Alike, 5>::new();
+    for (number, name) in ALIKE {
+        let item = Alike {
+            number: *number,
+            noted: Noted::new(*name, &notes),
+        };
+        findings.expect(vector.push(item).is_ok(), "there is room");
+    }
+    vector.dedup();
+    findings.expect(are_both(notes.take_drops(), 2, 4), "what is removed");
+    drop(vector);
+    findings.expect_same(notes.drops(), 531, "what stays, the last one first");
     findings.verdict()
 }
