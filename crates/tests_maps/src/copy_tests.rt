@@ -250,3 +250,19 @@ fn clones_of_other_keys() -> Result<(), Fail> {
     }
     findings.verdict()
 }
+
+/// There is memory for copies of any size.
+#[test]
+fn large_copies(rt: HostRuntime) -> Result<(), Fail> {
+    let findings = Findings::new();
+    for capacity in [101, 1_000, 100_000] {
+        match HashMap::<u64, u64>::new(rt.alloc(), capacity) {
+            Ok(map) => {
+                let copied = map.try_clone_in(rt.alloc()).map(|copy| copy.capacity());
+                findings.expect_same(copied, Ok(capacity), "a copy");
+            }
+            Err(AllocError) => findings.miss("there is memory"),
+        }
+    }
+    findings.verdict()
+}

@@ -287,3 +287,19 @@ fn two_steps(rt: HostRuntime) -> Result<(), Fail> {
     }
     findings.verdict()
 }
+
+#[test]
+fn more_than_a_few_are_printed() -> Result<(), Fail> {
+    let findings = Findings::new();
+    let mut map = FixedSizeFlatMap::<u8, u8, 9>::new();
+    for number in 1..10 {
+        let _ = map.insert(number, number);
+    }
+    check_text(
+        &findings,
+        &map,
+        "{1: 1, 2: 2, 3: 3, 4: 4, 5: 5, 6: 6, 7: 7, 8: 8, 9: 9}",
+    );
+    check_text(&findings, &map.keys(), "[1, 2, 3, 4, 5, 6, 7, 8, 9]");
+    findings.verdict()
+}

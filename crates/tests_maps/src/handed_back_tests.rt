@@ -195,3 +195,56 @@ fn keys_that_are_lent() -> Result<(), Fail> {
     check_lent(&findings, &mut hashed, &notes);
     findings.verdict()
 }
+
+/// Gives `get_or_insert_with` a key of this name, and a closure with a value of it. Returns the name of the key that comes back, or
+/// 0.
+fn ask_for<'a>(
+    map: &mut FixedSizeFlatMap<NotedKey<'a>, Noted<'a>, 1>,
+    number: u64,
+    name: u64,
+    notes: &'a AllNotes,
+) -> u64 {
+    let (key, value) = notes.named(number, name);
+    match map.get_or_insert_with(key, || value) {
+        Ok(_) => 0,
+        Err(key) => key.noted.name,
+    }
+}
+
+#[test]
+fn a_key_that_is_asked_for() -> Result<(), Fail> {
+    let findings = Findings::new();
+    let notes = AllNotes::new();
+    let mut map = FixedSizeFlatMap::<NotedKey, Noted, 1>::new();
+    for (number, name, back, dropped) in [(1, 1, 0, (0, 0)), (1, 2, 0, (2, 2)), (2, 3, 3, (3, 3))] {
+        findings.expect_same(ask_for(&mut map, number, name, &notes), back, "the key");
+        findings.expect_same(notes.take_drops(), dropped, "keys and values");
+    }
+    drop(map);
+    findings.expect_same(notes.take_drops(), (1, 1), "dropped with the map");
+    findings.verdict()
+}
+
+/// What `retain` removes is dropped before it calls again.
+#[test]
+fn drops_between_calls_of_retain() -> Result<(), Fail> {
+    let findings = Findings::new();
+    let notes = AllNotes::new();
+    let mut map = FixedSizeFlatMap::<NotedKey, Noted, 3>::new();
+    for name in 1..4 {
+        let (key, value) = notes.named(name, name);
+        findings.expect(map.insert(key, value).is_ok(), "there is room");
+    }
+    let mut seen = 0u64;
+    map.retain(|_, _| {
+        let drops = (notes.keys.drops(), notes.values.drops());
+        seen = seen
+            .wrapping_mul(10_000)
+            .wrapping_add(drops.0.wrapping_mul(100))
+            .wrapping_add(drops.1);
+        false
+    });
+    findings.expect_same(seen, 101_1212, "the drops at each call");
+    findings.expect_same(notes.take_drops(), (123, 123), "all");
+    findings.verdict()
+}
