@@ -1,10 +1,8 @@
 -- The JSON tree of a value, and how a tree is read: as a value, or as the fault for which it is none.
-use Rattle.std.specs.Prelude.{◌≡◌, ℕ, ℤ, pos, negsuc, ◌-◌, ◌^◌, ◌||◌, ◌==◌, nat_le, nat_lt, List, ◌∷◌, [], ◌++◌, length, map, Bool, is_some, ok_or, option_and_then, if◌then◌else◌, Result, Ok, Err}
+use Rattle.std.specs.Prelude.{◌≡◌, ℕ, ℤ, pos, negsuc, ◌-◌, ◌^◌, ◌||◌, nat_le, nat_lt, List, ◌∷◌, [], ◌++◌, length, map, Bool, is_some, ok_or, option_and_then, if◌then◌else◌, Result, Ok, Err}
 use Rattle.std.specs.BTreeMap.{insert_entry}
-use Rattle.std.specs.Cmp.Lexicographic.{pointwise, slice_cmp}
 use Rattle.std.specs.List.{fold}
 use Rattle.std.specs.Option.{option_map_or}
-use Rattle.std.specs.Ordering.{nat_cmp}
 use Rattle.std.specs.Result.{result_map_both}
 use Rattle.serde_json.specs.Data.{Data, null, number, array, object, unsigned, Items, no_items, item, Members, no_members, member, put}
 use Rattle.serde_json.specs.Events.{items_len, members_len}
@@ -15,7 +13,7 @@ use Rattle.ix_flatmap.specs.MapState.{map_entry, map_value}
 use Rattle.ix_flatmap.specs.MapSteps.{map_insert, map_remove}
 use Rattle.ix_slottable.specs.SlotTableState.{SlotTableState}
 use Rattle.ix_flatmap.specs.declared.flatmap.Pair.{Pair}
-use Rattle.ix_string.specs.Text.{is_text}
+use Rattle.ix_string.specs.Text.{is_text, text_eq, text_cmp}
 use Rattle.ix_semantic_string.specs.Rules.{TextRules}
 use Rattle.ix_relocatable_option.specs.declared.relocatable_option.RelocatableOption.{RelocatableOption}
 use Rattle.ix_relocatable_option.specs.declared.relocatable_option.RelocatableOption.TheVariants as relocatable
@@ -148,12 +146,12 @@ module _ {V : Type 0} where
 
   -- the key that was read, if the map has no equal one
   abbrev pub new_key : TextMap V → Result (List ℕ) JsonFault → Result (List ℕ) JsonFault
-  new_key s (Ok key) = if is_some (map_entry (pointwise ◌==◌) s key) then Err InvalidContent else Ok key
+  new_key s (Ok key) = if is_some (map_entry text_eq s key) then Err InvalidContent else Ok key
   new_key s (Err fault) = Err fault
 
   -- the map with these items too, inserted in turn
   abbrev pub map_with : TextMap V → List (List ℕ × V) → TextMap V
-  map_with s items = fold (λ s entry. map_insert (pointwise ◌==◌) s entry.0 entry.1) s items
+  map_with s items = fold (λ s entry. map_insert text_eq s entry.0 entry.1) s items
 
   -- the map with the items of an object too, if there is room for them and it has none of their keys
   abbrev pub object_filled : ℕ → (Data → Result V JsonFault) → TextMap V → Data → Result (TextMap V) JsonFault
@@ -162,13 +160,13 @@ module _ {V : Type 0} where
 
   -- the items in the order of their keys
   abbrev pub by_key : List (List ℕ × V) → List (List ℕ × V)
-  by_key items = fold (λ sorted entry. insert_entry (slice_cmp nat_cmp) sorted entry.0 entry.1) [] items
+  by_key items = fold (λ sorted entry. insert_entry text_cmp sorted entry.0 entry.1) [] items
 
   -- the map without the keys of these items, of which the last is removed first
   abbrev pub map_without : TextMap V → List (List ℕ × V) → TextMap V
   map_without s [] = s
-  map_without s (entry ∷ items) = map_remove (pointwise ◌==◌) (map_without s items) entry.0
+  map_without s (entry ∷ items) = map_remove text_eq (map_without s items) entry.0
 
   -- each key has the same value in both maps, or none in both
   abbrev pub HasSameEntries : TextMap V → TextMap V → Type 0
-  HasSameEntries s other = (key : List ℕ) → map_value (pointwise ◌==◌) other key ≡ map_value (pointwise ◌==◌) s key
+  HasSameEntries s other = (key : List ℕ) → map_value text_eq other key ≡ map_value text_eq s key

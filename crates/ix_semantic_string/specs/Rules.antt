@@ -1,9 +1,8 @@
 -- The rules of a semantic string, and which texts they accept.
-use Rattle.std.specs.Prelude.{ℕ, ◌≡◌, ◌≤◌, ◌==◌, List, length, Bool, false}
+use Rattle.std.specs.Prelude.{ℕ, ◌≡◌, ◌≤◌, List, length, Bool, false}
 use Rattle.std.specs.declared.cmp.Ordering.{Ordering}
-use Rattle.std.specs.Ordering.{nat_cmp, on}
-use Rattle.std.specs.Cmp.Lexicographic.{pointwise, slice_cmp}
-use Rattle.ix_string.specs.Text.{IsText}
+use Rattle.std.specs.Ordering.{on}
+use Rattle.ix_string.specs.Text.{IsText, text_eq, text_cmp}
 
 -- what the functions of rules return: two tests for texts that are not accepted, and the normal form of those that are
 pub record TextRules : Type 0 where
@@ -20,8 +19,8 @@ pub record IsAccepted (capacity : ℕ) (rules : TextRules) (bytes : List ℕ) : 
 
 -- two texts mean the same if their normal forms are equal
 abbrev pub means_the_same : TextRules → List ℕ → List ℕ → Bool
-means_the_same rules = on rules.normal_form (pointwise ◌==◌)
+means_the_same rules = on rules.normal_form text_eq
 
 -- texts are ordered as the bytes of their normal forms
 abbrev pub compare_meanings : TextRules → List ℕ → List ℕ → Ordering
-compare_meanings rules = on rules.normal_form (slice_cmp nat_cmp)
+compare_meanings rules = on rules.normal_form text_cmp

@@ -1,3 +1,6 @@
+pub use Rattle.ix_tables.specs.Bounded
+pub use Rattle.ix_tables.specs.Memory
+pub use Rattle.ix_vector.specs.VectorSteps
 pub mod Creation
 pub mod Debug
 pub mod ErrorTexts

@@ -1,5 +1,8 @@
 -- Text: bytes from 1 to 127, and where one text occurs in another.
 use Rattle.std.specs.Prelude.{ℕ, ◌≡◌, ◌-◌, ◌<◌, ◌≤◌, ◌&&◌, ◌==◌, nat_lt, List, ◌++◌, length, take, replicate, Bool, Option, Some, None}
+use Rattle.std.specs.declared.cmp.Ordering.{Ordering}
+use Rattle.std.specs.Ordering.{nat_cmp}
+use Rattle.std.specs.Cmp.Lexicographic.{pointwise, slice_cmp}
 use Rattle.std.specs.List.{All, list_all, position_or_len}
 
 -- a byte of a text is from 1 to 127
@@ -16,6 +19,14 @@ is_text_byte b = nat_lt 0 b && nat_lt b 128
 -- the test for `IsText`
 abbrev pub is_text : List ℕ → Bool
 is_text = list_all is_text_byte
+
+-- the same bytes in the same order
+abbrev pub text_eq : List ℕ → List ℕ → Bool
+text_eq = pointwise ◌==◌
+
+-- by the first byte that differs, and otherwise the shorter text is less
+abbrev pub text_cmp : List ℕ → List ℕ → Ordering
+text_cmp = slice_cmp nat_cmp
 
 -- the text, and then zeros up to the capacity
 abbrev pub padded_text : ℕ → List ℕ → List ℕ

@@ -1,11 +1,10 @@
 //! Code over any string, which prints, compares and hashes through the trait's bounds alone: equality, order and hash
 //! agree, whatever the capacities.
 ghost use Rattle.std.specs.Prelude.{◌≡◌, ◌↔◌, IsTrue, IfOk, string_bytes};
-ghost use Rattle.std.specs.Cmp.Lexicographic.{slice_cmp};
 ghost use Rattle.std.specs.Hash.DefaultHasher as sip;
-ghost use Rattle.std.specs.Ordering.{nat_cmp};
 ghost use Rattle.std.specs.declared.cmp.Ordering.TheVariants.{Less};
 ghost use Rattle.ix_string.specs.Escape.{escaped_text};
+ghost use Rattle.ix_string.specs.Text.{text_cmp};
 
 use crate::kinds::{holding, refill};
 use ix_string::{PolymorphicString, StaticString, String, UninitString};
@@ -24,14 +23,14 @@ fn displayed<S: String>(alloc: Global, string: &S) -> Result<std::string::String
 }
 
 fn order_of<S: String>(left: &S, right: &S) -> Ordering
-    ensures { result ≡ slice_cmp nat_cmp (S.bounded left.now).items (S.bounded right.now).items }
+    ensures { result ≡ text_cmp (S.bounded left.now).items (S.bounded right.now).items }
 {
     left.cmp(right)
 }
 
 fn is_less<S: String>(left: &S, right: &S) -> bool
     ensures { IsTrue result
-        ↔ (slice_cmp nat_cmp (S.bounded left.now).items (S.bounded right.now).items ≡ Less) }
+        ↔ (text_cmp (S.bounded left.now).items (S.bounded right.now).items ≡ Less) }
 {
     left < right
 }

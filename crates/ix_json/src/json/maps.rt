@@ -1,9 +1,9 @@
 //! Maps from strings in JSON.
-ghost use Rattle.std.specs.Prelude.{◌≡◌, ◌≢◌, ◌==◌, ◌≤◌, ℕ, [], length, Ok, Err, IfOk, IfErr, IsOk, OnOk};
-ghost use Rattle.std.specs.Cmp.Lexicographic.{pointwise};
+ghost use Rattle.std.specs.Prelude.{◌≡◌, ◌≢◌, ◌≤◌, ℕ, [], length, Ok, Err, IfOk, IfErr, IsOk, OnOk};
 ghost use Rattle.std.specs.List.{AllByRecursion};
 ghost use Rattle.std.specs.Result.{IsOkAnd, result_map_both};
 ghost use Rattle.serde_json.specs.View.{view, members_view};
+ghost use Rattle.ix_string.specs.Text.{text_eq};
 ghost use Rattle.ix_flatmap.specs.MapState.{HasDistinctKeys, map_items};
 ghost use Rattle.ix_json.specs.JsonTree.{bytes_read, object_tree, members_read, new_key, map_with};
 ghost use Rattle.ix_json.specs.inner.Objects.{IsItemReadBack};
@@ -29,7 +29,7 @@ fn map_to_value<
     ensures value { IfOk result (λ value. view value ≡ object_tree V.tree (map_items map.now)) }
     ensures read_back { IsOk result
         → AllByRecursion (IsItemReadBack N V.tree V.read) (map_items map.now) }
-    ensures distinct { HasDistinctKeys (pointwise ◌==◌) map.now }
+    ensures distinct { HasDistinctKeys text_eq map.now }
     ensures fault { IfErr result (λ fault. fault ≡ OutOfMemory) }
     ensures memory { map_items map.now ≡ [] → IsOk result }
 {

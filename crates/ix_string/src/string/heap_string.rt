@@ -1,12 +1,12 @@
 //! The string in memory of an allocator.
 //!
 //! The impls of comparisons, hashes and printed texts do not call the trait `String`, whose laws cite them.
-ghost use Rattle.std.specs.Prelude.{◌≡◌, ◌==◌, ◌∷◌, [], refl, Some};
-ghost use Rattle.std.specs.Cmp.Lexicographic.{pointwise, slice_cmp};
+ghost use Rattle.std.specs.Prelude.{◌≡◌, ◌∷◌, [], refl, Some};
 ghost use Rattle.std.specs.Cmp.Rules.{comparing, hashing};
 ghost use Rattle.std.specs.Cmp.{partial_order_from_own_ties};
 ghost use Rattle.std.specs.Fmt.{WritesOnOk};
-ghost use Rattle.std.specs.Ordering.{nat_cmp, as_partial_cmp};
+ghost use Rattle.std.specs.Ordering.{as_partial_cmp};
+ghost use Rattle.ix_string.specs.Text.{text_eq, text_cmp};
 ghost use Rattle.std.proofs.Common.{rules};
 ghost use Rattle.ix_string.specs.Debug.{heap_debug_text};
 ghost use Rattle.ix_string.specs.Escape.{escaped_text};
@@ -107,7 +107,7 @@ impl<K: HeapStringKind, A: Allocator> String for HeapString<K, A> {
 
 /// Strings are equal if their bytes are, whatever their capacities.
 impl<K, A: Allocator> PartialEq for HeapString<K, A> {
-    ghost eq = { λ string other. pointwise ◌==◌ string.items other.items };
+    ghost eq = { λ string other. text_eq string.items other.items };
 
     ghost laws = { Prim.search (comparing, rules) };
 
@@ -123,7 +123,7 @@ impl<K, A: Allocator> Eq for HeapString<K, A> {
 /// Strings are compared by the first byte that differs, and otherwise the shorter one is less, whatever their
 /// capacities.
 impl<K, A: Allocator> Ord for HeapString<K, A> {
-    ghost cmp = { λ string other. slice_cmp nat_cmp string.items other.items };
+    ghost cmp = { λ string other. text_cmp string.items other.items };
 
     ghost total = { Prim.search (comparing, rules) };
 
@@ -138,7 +138,7 @@ impl<K, A: Allocator> Ord for HeapString<K, A> {
 
 impl<K, A: Allocator> PartialOrd for HeapString<K, A> {
     ghost partial_cmp = { as_partial_cmp
-        (λ string other. slice_cmp nat_cmp string.items other.items) };
+        (λ string other. text_cmp string.items other.items) };
 
     ghost laws = { partial_order_from_own_ties (Prim.search (comparing, rules))
         (Prim.search (comparing, rules)) };

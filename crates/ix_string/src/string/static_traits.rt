@@ -1,11 +1,11 @@
 //! Conversions into fixed strings, and how these are compared, hashed and printed.
 //!
 //! None of these impls calls the trait `String`, whose laws cite them.
-ghost use Rattle.std.specs.Prelude.{◌≡◌, ◌==◌, ◌∷◌, [], Some};
+ghost use Rattle.std.specs.Prelude.{◌≡◌, ◌∷◌, [], Some};
 ghost use Rattle.std.specs.Cmp.{partial_order_from_own_ties};
-ghost use Rattle.std.specs.Cmp.Lexicographic.{pointwise, slice_cmp};
 ghost use Rattle.std.specs.Cmp.Rules.{comparing, hashing};
-ghost use Rattle.std.specs.Ordering.{nat_cmp, as_partial_cmp};
+ghost use Rattle.std.specs.Ordering.{as_partial_cmp};
+ghost use Rattle.ix_string.specs.Text.{text_eq, text_cmp};
 ghost use Rattle.std.proofs.Common.{rules};
 ghost use Rattle.ix_string.specs.Debug.{static_debug_text};
 ghost use Rattle.ix_string.specs.Escape.{escaped_text};
@@ -73,7 +73,7 @@ impl<const CAPACITY: usize, const N: usize> TryFrom<&[u8; N]> for StaticString<C
 
 /// Strings are equal if their bytes are.
 impl<const CAPACITY: usize> PartialEq for StaticString<CAPACITY> {
-    ghost eq = { pointwise ◌==◌ };
+    ghost eq = { text_eq };
 
     ghost laws = { Prim.search (comparing, rules) };
 
@@ -88,7 +88,7 @@ impl<const CAPACITY: usize> Eq for StaticString<CAPACITY> {
 
 /// Strings are compared by the first byte that differs, and otherwise the shorter one is less.
 impl<const CAPACITY: usize> Ord for StaticString<CAPACITY> {
-    ghost cmp = { slice_cmp nat_cmp };
+    ghost cmp = { text_cmp };
 
     ghost total = { Prim.search (comparing, rules) };
 
@@ -102,7 +102,7 @@ impl<const CAPACITY: usize> Ord for StaticString<CAPACITY> {
 }
 
 impl<const CAPACITY: usize> PartialOrd for StaticString<CAPACITY> {
-    ghost partial_cmp = { as_partial_cmp (slice_cmp nat_cmp) };
+    ghost partial_cmp = { as_partial_cmp text_cmp };
 
     ghost laws = { partial_order_from_own_ties (Prim.search (comparing, rules))
         (Prim.search (comparing, rules)) };

@@ -1,13 +1,11 @@
 //! The trait of all strings.
-ghost use Rattle.std.specs.Prelude.{ℕ, ◌≡◌, ◌+◌, ◌-◌, ◌<◌, ◌≤◌, ◌↔◌, ◌==◌, [], ◌∷◌, ◌++◌, length, drop, Some, IsTrue, IsSome, IfSome, IfNone, OnSome, OnErr, slice_get};
+ghost use Rattle.std.specs.Prelude.{ℕ, ◌≡◌, ◌+◌, ◌-◌, ◌<◌, ◌≤◌, ◌↔◌, [], ◌∷◌, ◌++◌, length, drop, Some, IsTrue, IsSome, IfSome, IfNone, OnSome, OnErr, slice_get};
 ghost use Rattle.std.specs.Bool.{OnTrue, OnFalse};
-ghost use Rattle.std.specs.Cmp.Lexicographic.{pointwise, slice_cmp};
-ghost use Rattle.std.specs.Ordering.{nat_cmp};
 ghost use Rattle.std.specs.Str.Iter.{HasSubslice};
 ghost use Rattle.ix_tables.specs.Bounded.{Bounded, IsWithin, IsFull, with_items};
 ghost use Rattle.ix_vector.specs.VectorSteps.{HasRoomFor, vec_remove, vec_pop, vec_last, vec_truncate};
 ghost use Rattle.ix_string.specs.Escape.{escaped_text};
-ghost use Rattle.ix_string.specs.Text.{IsText, MatchesAt, IsFirstMatch, IsLastMatch, EndsWith};
+ghost use Rattle.ix_string.specs.Text.{IsText, text_eq, text_cmp, MatchesAt, IsFirstMatch, IsLastMatch, EndsWith};
 ghost use Rattle.ix_string.specs.Retain.{IsCallableAtText, Retains};
 ghost use Rattle.ix_string.specs.TextSteps.{text_insert_slice, text_insert, text_insert_result, IsRangeOf, text_remove_range};
 
@@ -347,18 +345,18 @@ pub trait String: Debug + Display + Eq + Ord + Hash {
     /// O(`len`).
     #[inline]
     final fn cmp_bytes(&self, other: &[u8]) -> Ordering
-        ensures { result ≡ slice_cmp nat_cmp (bounded self.now).items other.now }
+        ensures { result ≡ text_cmp (bounded self.now).items other.now }
     {
         self.as_bytes().cmp(&other)
     }
 
     /// Strings are equal if their bytes are.
     ghost eq_by_bytes: { (a b : Self)
-        → Self.PartialEq.eq a b ≡ pointwise ◌==◌ (bounded a).items (bounded b).items };
+        → Self.PartialEq.eq a b ≡ text_eq (bounded a).items (bounded b).items };
 
     /// Strings are ordered as their bytes are.
     ghost cmp_by_bytes: { (a b : Self)
-        → Self.Ord.cmp a b ≡ slice_cmp nat_cmp (bounded a).items (bounded b).items };
+        → Self.Ord.cmp a b ≡ text_cmp (bounded a).items (bounded b).items };
 
     /// The bytes are fed to a hasher in one write.
     ghost hash_input_by_bytes: { (a : Self) → Self.Hash.hash_input a ≡ (bounded a).items ∷ [] };

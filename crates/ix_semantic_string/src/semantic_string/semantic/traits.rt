@@ -1,9 +1,9 @@
 //! How semantic strings are converted, compared, hashed and printed.
-ghost use Rattle.std.specs.Prelude.{◌≡◌, ◌==◌, [], ◌∷◌, Some, IsTrue};
+ghost use Rattle.std.specs.Prelude.{◌≡◌, [], ◌∷◌, Some, IsTrue};
 ghost use Rattle.std.specs.Cmp.{partial_order_from_own_ties};
-ghost use Rattle.std.specs.Cmp.Lexicographic.{pointwise};
 ghost use Rattle.std.specs.Cmp.Rules.{comparing, hashing};
 ghost use Rattle.std.specs.Ordering.{as_partial_cmp};
+ghost use Rattle.ix_string.specs.Text.{text_eq};
 ghost use Rattle.std.proofs.Common.{rules};
 ghost use Rattle.ix_string.specs.Escape.{escaped_text};
 ghost use Rattle.ix_semantic_string.specs.Rules.{means_the_same, compare_meanings};
@@ -70,7 +70,7 @@ fn have_same_bytes<R: Rules<CAPACITY>, const CAPACITY: usize>(
     left: &Semantic<R, CAPACITY>,
     right: &Semantic<R, CAPACITY>,
 ) -> bool
-    ensures { result ≡ pointwise ◌==◌ left.now right.now }
+    ensures { result ≡ text_eq left.now right.now }
 {
     // std compares texts of at most 32 bytes as four numbers, without a call, and longer ones slower than bytes.
     if CAPACITY <= 32 {
