@@ -2,7 +2,8 @@
 
 It fails if a public item of the library, hidden or not, cites an inner word in its contract or in what an impl of a trait pins, and
 if a file of specs/ outside inner/ and laws/ uses one of them. And it fails if a definition outside of these is one that no public contract rests
-on: neither cites it, nor cites a definition that rests on it.
+on: neither cites it, nor cites a definition that rests on it. Nor may a public contract cite a word of a crate below that
+specs/Lib.antt does not pass on, since a caller would have to name that crate for it.
 """
 
 import re
@@ -35,6 +36,21 @@ def cited(crate):
                 for word in sorted({word for text in contracts(item, lines) for word in WORD.findall(text)}):
                     if ROOMS[0] in words.get(word, ""):
                         yield f"{path}: {item.name} cites {word} of {words[word]}"
+
+
+def not_passed_on(crate):
+    """Yields each file of a crate below whose words the public contracts of the crate cite, and its callers can't."""
+    passed_on = set(re.findall(r"^pub (?:mod|use) (?:[\w.]+\.)?(\w+)$", text_of(f"crates/{crate}/specs/Lib.antt"), re.M))
+    found = set()
+    for module in public_modules(crate, with_hidden=True):
+        for path, items in module.items:
+            words, lines = words_of(text_of(path)), text_of(path).splitlines()
+            cited_here = {word for item in items for text in contracts(item, lines) for word in WORD.findall(text)}
+            found |= {words[word] for word in cited_here & set(words)}
+    for path in sorted(found):
+        name = re.sub(r".*/|\.antt$", "", path)
+        if not any(room in path for room in ROOMS) and name not in passed_on:
+            yield f"crates/{crate}/specs/Lib.antt does not pass on {path}, which a public contract cites"
 
 
 def used(crate):
@@ -89,4 +105,4 @@ def uncited():
 
 def check():
     """Returns what is wrong."""
-    return [*(fault for crate in LIBRARY for fault in (*cited(crate), *used(crate))), *uncited()]
+    return [*(fault for crate in LIBRARY for fault in (*cited(crate), *not_passed_on(crate), *used(crate))), *uncited()]

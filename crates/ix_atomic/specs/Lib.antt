@@ -1,3 +1,4 @@
+pub use Rattle.ix_string.specs.Text
 pub mod Encoding
 pub mod Words
 pub mod EachStep

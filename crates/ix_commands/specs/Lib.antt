@@ -1,3 +1,13 @@
+pub use Rattle.ix_flatmap.specs.MapState
+pub use Rattle.ix_flatmap.specs.MapSteps
+pub use Rattle.ix_queue.specs.QueueSteps
+pub use Rattle.ix_slotmap.specs.Generations
+pub use Rattle.ix_slotmap.specs.SlotMapSteps
+pub use Rattle.ix_slottable.specs.SlotTableState
+pub use Rattle.ix_slottable.specs.SlotTableSteps
+pub use Rattle.ix_string.specs.TextSteps
+pub use Rattle.ix_tables.specs.Bounded
+pub use Rattle.ix_vector.specs.VectorSteps
 pub mod FlatRun
 pub mod MapRun
 pub mod QueueRun

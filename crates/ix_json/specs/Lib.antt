@@ -1,3 +1,6 @@
+pub use Rattle.ix_flatmap.specs.MapSteps
+pub use Rattle.ix_semantic_string.specs.Rules
+pub use Rattle.ix_string.specs.Text
 pub use Rattle.ix_flatmap.specs.MapState
 pub use Rattle.ix_relocatable_option.specs.Optional
 pub use Rattle.ix_slottable.specs.SlotTableState

@@ -1,3 +1,15 @@
+pub use Rattle.ix_commands.specs.MapRun
+pub use Rattle.ix_commands.specs.QueueRun
+pub use Rattle.ix_commands.specs.Run
+pub use Rattle.ix_commands.specs.SlotMapRun
+pub use Rattle.ix_commands.specs.SlotTableRun
+pub use Rattle.ix_commands.specs.StringRun
+pub use Rattle.ix_commands.specs.VectorRun
+pub use Rattle.ix_flatmap.specs.MapState
+pub use Rattle.ix_slotmap.specs.Generations
+pub use Rattle.ix_slottable.specs.SlotTableState
+pub use Rattle.ix_string.specs.Escape
+pub use Rattle.ix_tables.specs.Bounded
 pub mod Forms
 pub mod Headers
 pub mod Laws

@@ -1,3 +1,4 @@
+pub use Rattle.ix_slottable.specs.SlotTableCopies
 pub use Rattle.ix_slottable.specs.Draining
 pub use Rattle.ix_slottable.specs.FullTables
 pub use Rattle.ix_slottable.specs.Memory

@@ -1,6 +1,6 @@
 -- How much memory maps take: that of their tables, by the sizes of what these hold.
 use Rattle.std.specs.Prelude.{ℕ}
-use Rattle.ix_tables.specs.Memory.{memory_plus, table_memory}
+pub use Rattle.ix_tables.specs.Memory.{no_memory, memory_plus, table_memory}
 use Rattle.ix_tables.specs.declared.cells.MemorySize.{MemorySize}
 
 -- a table of values and one of links
