@@ -1,5 +1,5 @@
 //! The queue over any table.
-ghost use Rattle.std.specs.Prelude.{◌≡◌, ◌<◌, ◌≤◌, ◌↔◌, [], Some, IsTrue, IsSome, IsNone, IsErr, IfErr, OnErr, length, option_copied, slice_get};
+ghost use Rattle.std.specs.Prelude.{◌≡◌, ◌<◌, ◌≤◌, ◌↔◌, [], Some, IsTrue, IsSome, IsNone, IsOk, IsErr, IfErr, OnErr, length, option_copied, slice_get};
 ghost use Rattle.std.specs.List.{push};
 ghost use Rattle.std.specs.Bool.{OnFalse};
 ghost use Rattle.std.specs.Borrow.{sem, Lends, LendsIf};
@@ -152,6 +152,7 @@ impl<T, S: Table<T>> MetaQueue<T, S> {
     pub fn try_push(&mut self, value: T) -> Result<(), T>
         ensures queue { self.new ≡ bounded_push self.old value }
         ensures full { IsErr result ↔ IsFull self.old }
+        ensures room { IsOk result → length self.old.items < self.old.capacity }
         ensures returned { IfErr result (λ returned. returned ≡ value) }
         ensures refused { OnErr result (self.new ≡ self.old) }
     {

@@ -1,5 +1,5 @@
 //! Calls that go through a queue and change, keep or drop its items.
-ghost use Rattle.std.specs.Prelude.{◌≡◌};
+ghost use Rattle.std.specs.Prelude.{◌≡◌, ◌≤◌, length};
 ghost use Rattle.std.specs.Fn.{CalledAt};
 ghost use Rattle.std.specs.List.Retain.{IsFiltered};
 ghost use Rattle.ix_tables.specs.Bounded.{vec_truncate};
@@ -42,6 +42,7 @@ impl<T, S: Table<T>> MetaQueue<T, S> {
         T: Drop,
         requires { IsCallableOnEach F.FnMut self.old.items f }
         ensures items { IsFiltered (CalledAt F.FnMut) f self.old.items self.new.items }
+        ensures count { length self.new.items ≤ length self.old.items }
         ensures capacity { self.new.capacity ≡ self.old.capacity }
     {
         let capacity = self.capacity();
