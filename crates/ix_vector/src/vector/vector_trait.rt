@@ -247,6 +247,7 @@ pub trait Vector<T: Drop> {
         requires { IsCallableOnEach F.FnMut (bounded self.old).items f }
         ensures items { IsFiltered (CalledAt F.FnMut) f
             (bounded self.old).items (bounded self.new).items }
+        ensures count { length (bounded self.new).items ≤ length (bounded self.old).items }
         ensures capacity { (bounded self.new).capacity ≡ (bounded self.old).capacity }
     {
         let kept = keep_in_front(self.as_mut_slice(), f);
