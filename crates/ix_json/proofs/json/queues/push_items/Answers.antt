@@ -9,7 +9,7 @@ returns-then-len-capacity-clause-fault g c =
     let found = rw c.in-Some.is at c.as_array.ensures in
     let old = c.args.queue.now in
     let more = c.if-len-capacity.true in
-    let room = c.capacity.ensures in let count = c.len-len.ensures.value in
+    let room = c.capacity.ensures.value in let count = c.len-len.ensures.value in
     let longer : old.capacity - length old.items < length c.in-Some.entries.now.items = grind (arith, common_steps, c.len.ensures, c.in-Some.entries.now.ok) in
     list_filled-too_long g.T.JsonForm.read old _ c.in-Some.entries.now.items found longer
 
@@ -24,7 +24,7 @@ returns-in-Err-clause-fault g c =
     let parts : values ≡ take i values ++ value ∷ drop (i + 1) values = grind (arith, common_steps, c.entry-item.is) in
     let found = rw c.in-Some.is at c.as_array.ensures in
     let old = c.args.queue.now in
-    let room = c.capacity.ensures in let count = c.len-len.ensures.value in
+    let room = c.capacity.ensures.value in let count = c.len-len.ensures.value in
     let within = c.if-len-capacity.false in
     let fits : length values ≤ old.capacity - length old.items = grind (arith, common_steps, c.len.ensures, c.in-Some.entries.now.ok) in
     list_filled-fault g.T.JsonForm.read old _ values (take i values) (drop (i + 1) values) value c.loop-entry.queue c.in-Err.fault found fits parts so_far c.in-Err.ensures.value
@@ -41,7 +41,7 @@ loop-entry-preserved g c =
     let same = c.deref-entry-items.ensures.value in
     let so_far : length (take i values) ≡ i = grind (arith, common_steps) in
     let counted = c.len-len.ensures.value in
-    let room = c.capacity.ensures in
+    let room = c.capacity.ensures.value in
     let fits = c.if-len-capacity.false in
     let entries : c.len.result ≡ length values = grind (arith, common_steps, c.len.ensures, c.in-Some.entries.now.ok) in
     let place : length c.loop-entry.queue.items < c.loop-entry.queue.capacity = omega (arith, filled.as_many, filled.capacity) in
@@ -57,7 +57,7 @@ returns-clause-filled g c =
     let all : take c.loop-entry.entry-index c.deref-entry-items.result.now ≡ values = grind (arith, common_steps) in
     let found = rw c.in-Some.is at c.as_array.ensures in
     let old = c.args.queue.now in
-    let room = c.capacity.ensures in let count = c.len-len.ensures.value in
+    let room = c.capacity.ensures.value in let count = c.len-len.ensures.value in
     let within = c.if-len-capacity.false in
     let fits : length values ≤ old.capacity - length old.items = grind (arith, common_steps, c.len.ensures, c.in-Some.entries.now.ok) in
     IsFilledWith-all g.T.JsonForm.read old _ values _ found fits (rw all at c.loop-entry.invariant)

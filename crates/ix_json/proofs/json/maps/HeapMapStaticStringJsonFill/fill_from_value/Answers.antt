@@ -16,7 +16,7 @@ returns-then-len-capacity-clause-fault g c =
     let found = rw c.in-Some.is at c.as_object.ensures in
     let counted = members_len-members_view entries in
     let more = c.if-len-capacity.true in
-    let places = c.capacity.ensures in let held = c.len-2.ensures.value in let rest = c.len-2.ensures.rest in
+    let places = c.capacity.ensures.value in let held = c.len-2.ensures.value in let rest = c.len-2.ensures.rest in
     let longer : length map.free < members_len (members_view entries) = grind (arith, common_steps, c.len.ensures) in
     object_filled-too_long g.row.N g.V.JsonForm.read map (view c.args.value.now) (members_view entries) found longer
 
@@ -27,7 +27,7 @@ returns-in_err-check_members-clause-fault g c =
     let found = rw c.in-Some.is at c.as_object.ensures in
     let counted = members_len-members_view entries in
     let within = c.if-len-capacity.false in
-    let places = c.capacity.ensures in let held = c.len-2.ensures.value in let rest = c.len-2.ensures.rest in
+    let places = c.capacity.ensures.value in let held = c.len-2.ensures.value in let rest = c.len-2.ensures.rest in
     let fits : members_len (members_view entries) ≤ length map.free = grind (arith, common_steps, c.len.ensures) in
     let read = g.V.JsonForm.read in
     let fault = c.in_err-check_members.field-0.0 in
@@ -43,7 +43,7 @@ returns-clause-filled g c =
     let found = rw c.in-Some.is at c.as_object.ensures in
     let counted = members_len-members_view entries in
     let within = c.if-len-capacity.false in
-    let places = c.capacity.ensures in let held = c.len-2.ensures.value in let rest = c.len-2.ensures.rest in
+    let places = c.capacity.ensures.value in let held = c.len-2.ensures.value in let rest = c.len-2.ensures.rest in
     let fits : members_len (members_view entries) ≤ length map.free = grind (arith, common_steps, c.len.ensures) in
     let read = g.V.JsonForm.read in
     let whole = object_filled-members g.row.N read map (view c.args.value.now) (members_view entries) found fits
@@ -57,7 +57,7 @@ returns-clause-fault g c =
     let found = rw c.in-Some.is at c.as_object.ensures in
     let counted = members_len-members_view entries in
     let within = c.if-len-capacity.false in
-    let places = c.capacity.ensures in let held = c.len-2.ensures.value in let rest = c.len-2.ensures.rest in
+    let places = c.capacity.ensures.value in let held = c.len-2.ensures.value in let rest = c.len-2.ensures.rest in
     let fits : members_len (members_view entries) ≤ length map.free = grind (arith, common_steps, c.len.ensures) in
     let read = g.V.JsonForm.read in
     let whole = object_filled-members g.row.N read map (view c.args.value.now) (members_view entries) found fits

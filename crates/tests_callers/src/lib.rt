@@ -1,0 +1,5 @@
+//! What a caller concludes from the contracts of calls, with no proof written.
+#![tactic(auto)]
+
+/// How many items a container holds, how many more fit, and the capacity of inline kinds.
+pub mod counts;
