@@ -108,14 +108,6 @@ fn a_table_whose_calls_are_counted(rt: HostRuntime) {
     table.end();
 }
 
-// Shows: Counted::inline_len
-#[test]
-fn the_number_of_places_is_that_of_the_type(rt: HostRuntime) {
-    let table = Counted::new(InlineTable::<u64, 2>::new());
-    assert_eq!(rt; table.inline_len(), 2);
-    table.end();
-}
-
 // Shows: RelocatableContainer, RelocatableContainer::new_uninit, RelocatableContainer::init
 #[test]
 fn a_container_of_any_kind_that_is_made_in_two_steps(rt: HostRuntime) -> Result<(), Fail> {

@@ -3,7 +3,7 @@ ghost use Rattle.std.specs.Prelude.{◌≡◌, ℕ, ◌+◌, length, Some, None,
 ghost use Rattle.std.specs.Borrow.{ftrue, sem};
 ghost use Rattle.ix_tables.specs.Places.{place_at, IsEmptyAt, IsHeldAt, IsVacant};
 
-use crate::cells::{InlineTable, Table};
+use crate::cells::Table;
 use std::fmt;
 use std::marker::Model;
 
@@ -104,17 +104,6 @@ impl<S: fmt::Debug> fmt::Debug for Counted<S> {
         f.debug_struct("Counted")
             .field("table", &self.table)
             .finish()
-    }
-}
-
-impl<T: Drop, const CAP: usize> Counted<InlineTable<T, CAP>> {
-    /// Returns the number of places of an inline table, which is that of its type. This is not counted.
-    #[inline]
-    pub fn inline_len(&self) -> usize
-        ensures value { result ≡ length self.now }
-        ensures constant { result ≡ CAP }
-    {
-        Table::len(&self.table)
     }
 }
 
