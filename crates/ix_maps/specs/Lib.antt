@@ -1,7 +1,13 @@
+pub mod FlatCalls
+pub mod FlatCompared
+pub mod FlatCopies
+pub mod FlatDrain
 pub mod FlatState
 pub mod FlatSteps
 pub mod Generations
+pub mod SlotCalls
 pub mod SlotCopies
+pub mod SlotDrain
 pub mod SlotMapCopies
 pub mod SlotMapSteps
 pub mod SlotState
@@ -28,9 +34,3 @@ pub use Rattle.ix_flatmap.specs.MapDrain
 pub use Rattle.ix_hashmap.specs.HashDrain
 pub use Rattle.ix_slotmap.specs.SlotMapDrain
 pub use Rattle.ix_flatmap.specs.laws
-pub use Rattle.ix_slottable.specs.SlotTableCalls as SlotCalls
-pub use Rattle.ix_slottable.specs.SlotTableDrain as SlotDrain
-pub use Rattle.ix_flatmap.specs.MapCalls as FlatCalls
-pub use Rattle.ix_flatmap.specs.MapCopies as FlatCopies
-pub use Rattle.ix_flatmap.specs.MapCompared as FlatCompared
-pub use Rattle.ix_flatmap.specs.MapDrain as FlatDrain

@@ -1,0 +1,2 @@
+-- `MapCalls` by its old name.
+pub use Rattle.ix_flatmap.specs.MapCalls.{CallAtKey, TakesKey}

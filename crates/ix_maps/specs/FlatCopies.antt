@@ -1,0 +1,2 @@
+-- `MapCopies` by its old name.
+pub use Rattle.ix_flatmap.specs.MapCopies.{PairIsClone, PairIsInfallible}
