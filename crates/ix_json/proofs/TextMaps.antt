@@ -3,7 +3,7 @@ use Rattle.std.proofs.Common.{◌≡◌, ℕ, suc, ◌+◌, ◌≤◌, List, [],
 use Rattle.std.proofs.lemmas.Bool.{cases_Bool}
 use Rattle.std.proofs.lemmas.Bool.Decides.{nat_tests}
 use Rattle.std.proofs.lemmas.Cmp.{nat_list_cmp_total, nat_list_eq_equiv}
-use Rattle.std.proofs.lemmas.List.{get_or-set_same, get_or-set_other, set-set, set-get_or, length-set}
+use Rattle.std.proofs.lemmas.List.{set-set, set-get_or, length-set}
 use Rattle.std.proofs.lemmas.Map.Text.{is_eq-slice_cmp}
 use Rattle.std.proofs.lemmas.Slice.Eq.{bytes_eq-Decides}
 use Rattle.std.specs.BTreeMap.{insert_entry}
@@ -16,27 +16,18 @@ use Rattle.std.specs.Option.{option_map_or}
 use Rattle.std.specs.Ordering.{is_eq, nat_cmp, match_ordering, ordering_reverse}
 use Rattle.std.specs.Prelude.{◌==◌, nat_eq, if◌then◌else◌, is_some, option_map, slice_get}
 use Rattle.ix_tables.specs.Places.{place_at}
-use Rattle.ix_tables.proofs.Places.{place_at_within}
-use Rattle.ix_slottable.specs.SlotTableState.{SlotTableState, value_at, entries_from, slot_table_new}
-use Rattle.ix_slottable.specs.SlotTableSteps.{slot_table_vacate, slot_table_fill, slot_table_insert, keys_without, SlotTableRemove}
+use Rattle.ix_slottable.specs.SlotTableState.{SlotTableState, entries_from, slot_table_new}
+use Rattle.ix_slottable.specs.SlotTableSteps.{slot_table_vacate, slot_table_fill, slot_table_insert, keys_without}
 use Rattle.ix_flatmap.specs.MapState.{HasDistinctKeys, map_entry, map_value, map_item, map_items}
 use Rattle.ix_flatmap.specs.MapSteps.{map_insert, map_remove}
 use Rattle.ix_flatmap.specs.declared.flatmap.Pair.{Pair}
+use Rattle.ix_slottable.proofs.SlotTableSteps.{SlotTableRemove-vacated}
 use Rattle.ix_flatmap.proofs.MapEntries.{IsEntry-map_entry, map_entry-absent, map_value-IsEntry}
 use Rattle.ix_flatmap.proofs.MapSteps.{HasDistinctKeys-removed, map_value-removed, map_value-removed_other}
 use Rattle.ix_tables.proofs.VacantTables.{place_at-replicate}
 use Rattle.ix_json.specs.JsonTree.{TextMap, map_with, by_key, map_without}
 
 module _ {K V : Type 0} (eq : K → K → Bool) (laws : IsEquivalence eq) where
-  SlotTableRemove-vacated : (s : SlotTableState (Pair K V)) (place : ℕ) (pair : Pair K V) → value_at s place ≡ Some pair → SlotTableRemove s place (slot_table_vacate s place) (Some pair)
-  SlotTableRemove-vacated s place pair at = record {
-    value = sym at;
-    map = sym (ap (λ content. if is_some content then slot_table_vacate s place else s) at);
-    gone = get_or-set_same s.values place None None (place_at_within s.values place pair at);
-    refused = λ none. absurd (cc);
-    kept = λ other apart. get_or-set_other s.values place other None None apart;
-  }
-
   -- what is left of a map without a key
   record IsWithout (s : SlotTableState (Pair K V)) (key : K) (new : SlotTableState (Pair K V)) : Type 0 where
     distinct : HasDistinctKeys eq new
@@ -58,7 +49,7 @@ module _ {K V : Type 0} (eq : K → K → Bool) (laws : IsEquivalence eq) where
         })
         go (Some entry) some =
             let left = slot_table_vacate s entry.0 in
-            let step = SlotTableRemove-vacated s entry.0 entry.1 (IsEntry-map_entry eq s key entry some).at in
+            let step = SlotTableRemove-vacated s entry.0 entry.1 left (IsEntry-map_entry eq s key entry some).at refl in
             let has : Some entry.0 ≡ option_map (λ (e : ℕ × Pair K V). e.0) (map_entry eq s key) = sym (ap (option_map (λ (e : ℕ × Pair K V). e.0)) some) in
             subst (IsWithout s key) (sym (map_remove-found (Some entry) some)) (record {
               distinct = HasDistinctKeys-removed eq laws s left key entry.0 entry.1 has step distinct;

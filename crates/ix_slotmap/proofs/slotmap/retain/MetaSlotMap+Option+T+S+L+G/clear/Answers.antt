@@ -1,4 +1,4 @@
-use Rattle.std.proofs.Common.{rules, ◌+◌, ◌≤◌, length, sym, ap, ◌∙◌, subst, arith}
+use Rattle.std.proofs.Common.{rules, ◌≤◌, length, sym, ap, ◌∙◌, subst, arith}
 use Rattle.ix_slotmap.specs.Generations.{SlotMapState, place_value, slot_map_len, IsDead}
 use Rattle.ix_slotmap.specs.SlotMapSteps.{slot_map_remove_at}
 use Rattle.ix_slottable.proofs.SlotTableCalls.{fold-range_with_len}
