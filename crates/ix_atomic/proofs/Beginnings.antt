@@ -14,12 +14,6 @@ module _ {T : Type 0} where
   pub Begins-append : (xs ys zs : List T) → Begins xs ys → Begins xs (ys ++ zs)
   Begins-append xs ys zs begins = (begins.0 ++ zs, ap (λ list. list ++ zs) begins.1 ∙ append_assoc xs begins.0 zs)
 
-  pub Begins-trans : (xs ys zs : List T) → Begins xs ys → Begins ys zs → Begins xs zs
-  Begins-trans xs ys zs first second = subst (Begins xs) (sym second.1) (Begins-append xs ys second.0 first)
-
-  pub Begins-length : (xs ys : List T) → Begins xs ys → length xs ≤ length ys
-  Begins-length xs ys begins = let whole : length ys ≡ length (xs ++ begins.0) = ap length begins.1 in let parts = length-append xs begins.0 in omega arith
-
   pub length-push : (xs : List T) (x : T) → length (xs ++ x ∷ []) ≡ suc (length xs)
   length-push [] x = refl
   length-push (y ∷ ys) x = ap suc (length-push ys x)

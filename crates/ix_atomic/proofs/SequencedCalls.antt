@@ -11,7 +11,8 @@ use Rattle.ix_atomic.specs.Shares.{IsWhole}
 use Rattle.ix_atomic.specs.Writers.{IsRising, AreOwn, HoldsEach, Writes}
 use Rattle.ix_atomic.specs.inner.SequencedSteps.{Seated, stage_bytes, bytes_at, view_stage, view_bytes, seated_stage, view_end, reader_of, writer_of, ViewLoads, ViewClaims}
 use Rattle.ix_atomic.specs.Words.{word_of, bytes_of_word, word_count}
-use Rattle.ix_atomic.proofs.Beginnings.{Begins-trans, Begins-length, length-push, All-last, AreBelow}
+use Rattle.ix_atomic.specs.laws.HistoryLaws.{Begins-trans, Begins-length}
+use Rattle.ix_atomic.proofs.Beginnings.{length-push, All-last, AreBelow}
 use Rattle.ix_atomic.proofs.DataWords.{chunk_at, chunk_at-more, stored-chunk, with_word, with_word-front}
 use Rattle.ix_atomic.proofs.OwnPlaces.{IsRising-push}
 use Rattle.ix_atomic.proofs.StageBytes.{stage_bytes-Reading, stage_bytes-Writing, bytes_at-next}

@@ -2,3 +2,4 @@
 pub mod NumberLaws
 pub mod EncodingLaws
 pub mod ArrayLaws
+pub mod HistoryLaws
