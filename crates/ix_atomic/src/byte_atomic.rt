@@ -5,6 +5,7 @@
 
 mod arrays;
 mod atomic_copy;
+mod atomic_fields;
 mod fixed_size_byte_atomic;
 mod fixed_strings;
 mod integers;
@@ -12,6 +13,7 @@ mod maybe_torn;
 mod other_integers;
 mod pairs;
 mod relocatable_byte_atomic;
+mod ruled;
 mod signed_arrays;
 pub mod steps;
 mod unit_and_bool;
@@ -20,9 +22,11 @@ mod value_arrays;
 mod words;
 
 pub use atomic_copy::AtomicCopy;
+pub use atomic_fields::{AtomicFields, Fields};
 pub use fixed_size_byte_atomic::FixedSizeByteAtomic;
 pub use maybe_torn::MaybeTorn;
 pub use pairs::{decode_pair, decode_triple, encode_pair, encode_triple};
 pub use relocatable_byte_atomic::{RelocatableByteAtomic, UninitByteAtomic};
+pub use ruled::{Ruled, ValueRule};
 pub use value_arrays::{decode_array, encode_array};
 pub use words::{pack_word, unpack_word};

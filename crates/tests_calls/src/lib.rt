@@ -18,3 +18,5 @@ mod names;
 mod options;
 #[cfg(test)]
 mod sequenced_cells;
+#[cfg(test)]
+mod struct_cells;
