@@ -1,4 +1,3 @@
 mod Appending
 mod Windows
 pub mod Written
-pub mod Ranges

@@ -1,45 +1,35 @@
 -- Values that stand in a history stay where they are, and a seat that wrote all of it knows it.
-use Rattle.std.proofs.Common.{◌≡◌, ℕ, zero, suc, ◌+◌, ◌-◌, ◌*◌, ◌/◌, ◌%◌, ◌<◌, ◌≤◌, List, [], ◌∷◌, ◌++◌, length, map, drop, get_or, Some, None, refl, sym, ap, ◌∙◌, subst, ◌⊎◌, inl, inr, ⊎_elim, arith, add-one, le_refl, append_assoc, All}
+use Rattle.std.proofs.Common.{◌≡◌, ℕ, zero, suc, ◌+◌, ◌-◌, ◌/◌, ◌<◌, ◌≤◌, List, [], ◌∷◌, ◌++◌, length, drop, get_or, Some, None, refl, sym, ap, ◌∙◌, subst, ◌⊎◌, inl, inr, ⊎_elim, arith, add-one, le_refl, All}
 use Rattle.std.specs.Prelude.{slice_get}
 use Rattle.std.proofs.lemmas.Option.{slice_get_within, slice_get-get_or, get_or_from_slice_get}
 use Rattle.std.proofs.lemmas.List.Elements.{All-push}
 use Rattle.std.proofs.lemmas.List.Sorted.{IsNonDecreasingBy-push}
-use Rattle.std.proofs.lemmas.List.{get_or-map, get_or_push, get_or_append_left, ext_get_or, length-append, length-map, map-append}
+use Rattle.std.proofs.lemmas.List.{get_or-map, get_or_push, ext_get_or, length-append, length-map, map-append}
 use Rattle.std.specs.List.{Contains}
 use Rattle.std.specs.List.Sorted.{IsNonDecreasing}
 use Rattle.ix_atomic.specs.declared.sequenced.errors.TryWriteError.{TryWriteError}
 use Rattle.ix_atomic.specs.declared.sequenced.errors.TryWriteError.TheVariants.{Busy, VersionsUsedUp}
 use Rattle.ix_atomic.specs.History.{Begins, IsEven, IsOdd, Loads, LoadsTwice, history_value}
 use Rattle.ix_atomic.specs.Versions.{last_version}
+use Rattle.ix_atomic.specs.laws.HistoryLaws.{Begins-trans, Begins-length, Begins-loads, slice_get-begins, history_value-begins}
 use Rattle.ix_atomic.specs.Writers.{Writer, Writes, Refuses, AreOwn, HoldsEach, IsRising, as_reader, places_merge}
 use Rattle.ix_atomic.proofs.OwnPlaces.{merge-cases}
 use Rattle.ix_atomic.proofs.EveryValue.{every_value}
 use Rattle.examples.specs.Written.{StandAt, HasWritten, HasSet, GrewTo}
 
 module _ {T : Type 0} where
-  pub slice_get-longer : (history more : List T) (place : ℕ) (value : T) → slice_get history place ≡ Some value → slice_get (history ++ more) place ≡ Some value
-  slice_get-longer history more place value at = let inside = slice_get_within history place value at in let long = length-append history more in
-      slice_get-get_or (history ++ more) place value (omega (arith, inside, long))
-      ∙ ap Some (get_or_append_left history more value place inside ∙ get_or_from_slice_get history place value value at)
-
   pub StandAt-longer : (history history' : List T) (places : List ℕ) (values : List T) → Begins history history' → StandAt history places values → StandAt history' places values
   StandAt-longer history history' [] values begins stand = stand
   StandAt-longer history history' (place ∷ places) [] begins stand = let differ = ap length stand in absurd (omega (arith, differ))
   StandAt-longer history history' (place ∷ places) (value ∷ values) begins stand =
       let head : slice_get history place ≡ Some value = ap (λ list. get_or list 0 None) stand in
-      let here : slice_get history' place ≡ Some value = subst (λ (list : List T). slice_get list place ≡ Some value) (sym begins.1) (slice_get-longer history begins.0 place value head) in
+      let here : slice_get history' place ≡ Some value = slice_get-begins history history' place value begins head in
       let rest = StandAt-longer history history' places values begins (ap (λ list. drop 1 list) stand) in
       λ i. here i ∷ rest i
 
   pub StandAt-push : (history : List T) (places : List ℕ) (values : List T) (place : ℕ) (value : T) → StandAt history places values → slice_get history place ≡ Some value → StandAt history (places ++ place ∷ []) (values ++ value ∷ [])
   StandAt-push history places values place value stand here =
       map-append (slice_get history) places (place ∷ []) ∙ (λ i. stand i ++ here i ∷ []) ∙ sym (map-append Some values (value ∷ []))
-
-  Begins-trans : (xs ys zs : List T) → Begins xs ys → Begins ys zs → Begins xs zs
-  Begins-trans xs ys zs first second = (first.0 ++ second.0, second.1 ∙ ap (λ list. list ++ second.0) first.1 ∙ append_assoc xs first.0 second.0)
-
-  pub Begins-length : (xs ys : List T) → Begins xs ys → length xs ≤ length ys
-  Begins-length xs ys begins = let whole = ap length begins.1 in let parts = length-append xs begins.0 in omega (arith, whole, parts)
 
   pub begins_after : (before after : Writer T) (value : T) → Writes before after value → Begins before.known after.known
   begins_after before after value write = Begins-trans before.known write.earlier after.known write.begins (value ∷ [], write.known)
@@ -90,9 +80,7 @@ all_written history places values rising within count stand =
 -- what is read later is not less, if the history does not fall
 pub never_lower : (history known : List ℕ) → Begins known history → IsNonDecreasing history → (earlier later first second : ℕ) → earlier ≤ later → history_value known earlier ≡ Some first → history_value known later ≡ Some second → first ≤ second
 never_lower history known begins grows earlier later first second order one two =
-    let longer : (version value : ℕ) → history_value known version ≡ Some value → slice_get history (version / 2) ≡ Some value = λ version value at.
-    subst (λ (list : List ℕ). slice_get list (version / 2) ≡ Some value) (sym begins.1) (slice_get-longer known begins.0 (version / 2) value at) in
-    let at_first = longer earlier first one in let at_second = longer later second two in
+    let at_first = history_value-begins known history earlier first begins one in let at_second = history_value-begins known history later second begins two in
     let inside = slice_get_within history (later / 2) second at_second in
     let up = grows (earlier / 2) (later / 2) 0 (omega (arith, order)) inside in
     let is_first = get_or_from_slice_get history (earlier / 2) first 0 at_first in let is_second = get_or_from_slice_get history (later / 2) second 0 at_second in
@@ -140,7 +128,7 @@ pub refused_keeps : {T : Type 0} (before after : Writer T) (error : TryWriteErro
 refused_keeps {T} before after (Busy loaded found) refused = ⊎_elim
     (λ (odd : IsOdd loaded × (found ≡ loaded) × Loads (as_reader before) (as_reader after) loaded × (after.touched ≡ before.touched ++ 0 ∷ [])). odd.2.known)
     (λ (even : IsEven loaded × (loaded < last_version) × (loaded < found) × LoadsTwice (as_reader before) (as_reader after) loaded found × (after.touched ≡ before.touched ++ 0 ∷ 0 ∷ [])).
-    Begins-trans before.known even.3.between.known after.known even.3.first_load.known even.3.last_load.known) refused
+    Begins-loads (as_reader before) (as_reader after) loaded found even.3) refused
 refused_keeps {T} before after VersionsUsedUp refused = refused.0.known
 
 pub refused_written : (before after : Writer ℕ) (error : TryWriteError) (values : List ℕ) → Refuses before after error → after.places ≡ before.places → HasWritten before values → HasWritten after values

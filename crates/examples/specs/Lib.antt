@@ -1,4 +1,3 @@
 pub mod UnitNames
 pub mod UnitNamesLaws
-pub mod Ranges
 pub mod Written

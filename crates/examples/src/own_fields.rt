@@ -1,61 +1,9 @@
-//! Types of one's own with two and with three fields, in cells that threads share.
-ghost use Rattle.std.specs.Prelude.{◌≡◌, Some};
+//! Structs of one's own in cells: one of plain fields, and one whose ghost field holds of all that is read.
+ghost use Rattle.std.specs.Prelude.{◌≡◌, ◌≤◌, Some};
 
-use ix_atomic::{AtomicCopy, decode_pair, decode_triple, encode_pair, encode_triple};
+use ix_atomic::{AtomicCopy, AtomicFields, Fields};
 
-/// A range of numbers. `SequencedByteAtomic::<Range, 16>::new(alloc, range)?` is a cell of it.
-#[derive(Clone, Copy, PartialEq, Eq, Debug)]
-pub struct Range {
-    pub low: u64,
-    pub high: u64,
-}
-
-/// The bytes of `low`, and then those of `high`.
-impl AtomicCopy for Range {
-    ghost use Rattle.std.specs.Prelude.{◌<◌, ◌^◌, ◌++◌, ℕ, refl};
-    ghost use Rattle.std.specs.Int.{w64, to_le_bytes};
-    ghost use Rattle.ix_atomic.specs.laws.EncodingLaws.{u64_encoding-one_value, append-both};
-
-    const SIZE: usize = 16;
-
-    ghost SIZE = { 16 };
-
-    ghost is_value = { λ range. (range.low < 2 ^ 64) × (range.high < 2 ^ 64) };
-
-    ghost encoding = { λ range. to_le_bytes w64 range.low ++ to_le_bytes w64 range.high };
-
-    fn encode(&self, out: &mut [u8]) {
-        encode_pair(&self.low, &self.high, out);
-    }
-
-    fn decode(bytes: &[u8]) -> Option<Range> {
-        match decode_pair(bytes) {
-            Some((low, high)) => Some(Range { low, high }),
-            None => None,
-        }
-    }
-
-    ghost encoding_len = { λ _ _. refl };
-
-    ghost one_value = { λ v w v_is w_is same.
-        let both = append-both (to_le_bytes w64 v.low) (to_le_bytes w64 v.high)
-        (to_le_bytes w64 w.low) (to_le_bytes w64 w.high) refl same in
-        λ i. record {
-          low = u64_encoding-one_value v.low w.low v_is.0 w_is.0 both.0 i;
-          high = u64_encoding-one_value v.high w.high v_is.1 w_is.1 both.1 i;
-        } };
-}
-
-/// Encodes a range and decodes it again, as a cell does.
-pub fn range_through_bytes(range: &Range) -> Option<Range>
-    ensures { result ≡ Some range.now }
-{
-    let mut bytes = [0; 16];
-    range.encode(&mut bytes);
-    Range::decode(&bytes)
-}
-
-/// Where something was, and when. `SequencedByteAtomic::<Pose, 16>::new(alloc, pose)?` is a cell of it.
+/// Where something was, and when. `SequencedByteAtomic::<Fields<Pose>, 16>::new(alloc, Fields(pose))?` is a cell of it.
 #[derive(Clone, Copy, PartialEq, Eq, Debug)]
 pub struct Pose {
     pub x: u32,
@@ -63,51 +11,75 @@ pub struct Pose {
     pub time: u64,
 }
 
-/// The bytes of `x`, of `y`, and of `time`.
-impl AtomicCopy for Pose {
-    ghost use Rattle.std.specs.Prelude.{◌<◌, ◌^◌, ◌++◌, refl};
-    ghost use Rattle.std.specs.Int.{w32, w64, to_le_bytes};
-    ghost use Rattle.ix_atomic.specs.laws.EncodingLaws.{u32_encoding-one_value, u64_encoding-one_value, append-both};
+/// It is stored as the bytes of `x`, of `y`, and of `time`.
+impl AtomicFields for Pose {
+    ghost use Rattle.std.proofs.Common.{rules};
 
-    const SIZE: usize = 16;
+    type Fields = (u32, u32, u64);
 
-    ghost SIZE = { 16 };
+    ghost fields = { λ pose. (pose.x, pose.y, pose.time) };
 
-    ghost is_value = { λ pose. (pose.x < 2 ^ 32) × (pose.y < 2 ^ 32) × (pose.time < 2 ^ 64) };
-
-    ghost encoding = { λ pose.
-        to_le_bytes w32 pose.x ++ (to_le_bytes w32 pose.y ++ to_le_bytes w64 pose.time) };
-
-    fn encode(&self, out: &mut [u8]) {
-        encode_triple(&self.x, &self.y, &self.time, out);
+    fn to_fields(&self) -> Self::Fields {
+        (self.x, self.y, self.time)
     }
 
-    fn decode(bytes: &[u8]) -> Option<Pose> {
-        match decode_triple(bytes) {
-            Some((x, y, time)) => Some(Pose { x, y, time }),
-            None => None,
-        }
+    fn from_fields((x, y, time): Self::Fields) -> Option<Pose> {
+        Some(Pose { x, y, time })
     }
 
-    ghost encoding_len = { λ _ _. refl };
-
-    ghost one_value = { λ v w v_is w_is same.
-        let one = append-both (to_le_bytes w32 v.x) (to_le_bytes w32 v.y ++ to_le_bytes w64 v.time)
-        (to_le_bytes w32 w.x) (to_le_bytes w32 w.y ++ to_le_bytes w64 w.time) refl same in
-        let two = append-both (to_le_bytes w32 v.y) (to_le_bytes w64 v.time)
-        (to_le_bytes w32 w.y) (to_le_bytes w64 w.time) refl one.1 in
-        λ i. record {
-          x = u32_encoding-one_value v.x w.x v_is.0 w_is.0 one.0 i;
-          y = u32_encoding-one_value v.y w.y v_is.1 w_is.1 two.0 i;
-          time = u64_encoding-one_value v.time w.time v_is.2 w_is.2 two.1 i;
-        } };
+    ghost one_value = { Prim.search rules };
 }
 
 /// Encodes a pose and decodes it again, as a cell does.
-pub fn pose_through_bytes(pose: &Pose) -> Option<Pose>
-    ensures { result ≡ Some pose.now }
+pub fn pose_through_bytes(pose: Fields<Pose>) -> Option<Fields<Pose>>
+    ensures { result ≡ Some pose }
 {
     let mut bytes = [0; 16];
     pose.encode(&mut bytes);
-    Pose::decode(&bytes)
+    Fields::decode(&bytes)
+}
+
+/// A range of numbers, in order. Each range that is read from a cell is in order too, whoever wrote it.
+#[derive(Clone, Copy, PartialEq, Eq, Debug)]
+pub struct Range {
+    pub low: u64,
+    pub high: u64,
+    pub ghost in_order: { low ≤ high },
+}
+
+/// It is stored as the bytes of `low`, and of `high`.
+impl AtomicFields for Range {
+    ghost use Rattle.std.specs.Coded.{le_prop};
+    ghost use mathlib.Core.HLevel.{is_prop→PathP};
+
+    type Fields = (u64, u64);
+
+    ghost fields = { λ range. (range.low, range.high) };
+
+    fn to_fields(&self) -> Self::Fields {
+        (self.low, self.high)
+    }
+
+    fn from_fields((low, high): Self::Fields) -> Option<Range> {
+        if low <= high {
+            Some(Range { low, high })
+        } else {
+            None
+        }
+    }
+
+    ghost one_value = { λ v w same i. record {
+      low = (same i).0;
+      high = (same i).1;
+      in_order = is_prop→PathP (λ j. (same j).0 ≤ (same j).1) (λ j. le_prop) v.in_order w.in_order i;
+    } };
+}
+
+/// Encodes a range and decodes it again, as a cell does.
+pub fn range_through_bytes(range: Fields<Range>) -> Option<Fields<Range>>
+    ensures { result ≡ Some range }
+{
+    let mut bytes = [0; 16];
+    range.encode(&mut bytes);
+    Fields::decode(&bytes)
 }

@@ -1,56 +1,52 @@
-//! A range that two threads set while two others read it, none of which waits. Each range that is set is in order.
-ghost use Rattle.std.specs.Prelude.{◌≡◌, ◌++◌, ◌∷◌, ℕ, [], Some, length, true, false, IfOk, IfSome};
-ghost use Rattle.ix_atomic.specs.History.{Begins, history_value};
+//! A range that two threads set while two others read it, none of which waits. Each range that is read is in order.
+ghost use Rattle.std.specs.Prelude.{◌≡◌, ◌≤◌, ◌++◌, ◌∷◌, [], length, true, false, IfOk, IfSome};
+ghost use Rattle.ix_atomic.specs.History.{Begins};
 ghost use Rattle.ix_atomic.specs.Shares.{IsWhole};
 ghost use Rattle.ix_atomic.specs.Writers.{Writes, AreApart, HoldsEach, places_merge};
-ghost use Rattle.examples.specs.Ranges.{IsInOrder, AreInOrder, KnowsOf};
 
 use crate::own_fields::Range;
-use ix_atomic::{ReaderSeat, SequencedByteAtomic, WriterSeat};
+use ix_atomic::{Fields, ReaderSeat, SequencedByteAtomic, WriterSeat};
 use std::alloc::{AllocError, Global};
 use std::thread::{Threads, join_mut};
 
 /// The range that the threads share.
-pub type SharedRange = SequencedByteAtomic<Range, 16>;
+pub type SharedRange = SequencedByteAtomic<Fields<Range>, 16>;
+
+/// A seat that sets it.
+pub type Writer = WriterSeat<Fields<Range>>;
+
+/// A seat that reads it.
+pub type Reader = ReaderSeat<Fields<Range>>;
 
 /// Makes a cell of `range`, with a writer's seat and a reader's.
-pub fn make(
-    alloc: Global,
-    range: Range,
-) -> Result<(SharedRange, WriterSeat<Range>, ReaderSeat<Range>), AllocError>
-    requires { IsInOrder range }
+pub fn make(alloc: Global, range: Range) -> Result<(SharedRange, Writer, Reader), AllocError>
     ensures cells { IfOk result (λ made. (made.1.cell ≡ made.0) × (made.2.cell ≡ made.0)) }
-    ensures known { IfOk result
-        (λ made. (made.1.known ≡ range ∷ []) × (made.2.known ≡ range ∷ [])) }
-    ensures in_order { IfOk result (λ made. AreInOrder made.1) }
+    ensures known { IfOk result (λ made. (made.1.known ≡ record { 0 = range } ∷ [])
+        × (made.2.known ≡ record { 0 = range } ∷ [])) }
     ensures share { IfOk result (λ made. made.1.share ≡ 0 ∷ []) }
 {
-    SharedRange::new(alloc, range)
+    SharedRange::new(alloc, Fields(range))
 }
 
 /// Sets the range, unless another thread sets it right now. Returns whether it did.
-pub fn set_range(cell: &SharedRange, seat: &mut WriterSeat<Range>, range: Range) -> bool
-    requires cell { seat.old.cell ≡ cell.now }
-    requires in_order { AreInOrder seat.old × IsInOrder range }
+pub fn set_range(cell: &SharedRange, seat: &mut Writer, range: Range) -> bool
+    requires { seat.old.cell ≡ cell.now }
     ensures cell { seat.new.cell ≡ seat.old.cell }
     ensures share { seat.new.share ≡ seat.old.share }
-    ensures set { result ≡ true → Writes seat.old seat.new range }
+    ensures set { result ≡ true → Writes seat.old seat.new (record { 0 = range }) }
     ensures not_set { result ≡ false → seat.new.places ≡ seat.old.places }
-    ensures in_order { AreInOrder seat.new }
 {
-    match cell.try_write(seat, range) {
+    match cell.try_write(seat, Fields(range)) {
         Ok(()) => true,
         Err(_) => false,
     }
 }
 
 /// Sets `rounds` ranges, as far as no other thread sets one.
-fn set_ranges(cell: &SharedRange, seat: &mut WriterSeat<Range>, rounds: u64)
-    requires cell { seat.old.cell ≡ cell.now }
-    requires in_order { AreInOrder seat.old }
+fn set_ranges(cell: &SharedRange, seat: &mut Writer, rounds: u64)
+    requires { seat.old.cell ≡ cell.now }
     ensures cell { seat.new.cell ≡ seat.old.cell }
     ensures share { seat.new.share ≡ seat.old.share }
-    ensures in_order { AreInOrder seat.new }
 {
     for i in 0..rounds {
         set_range(cell, seat, Range { low: i, high: i });
@@ -58,17 +54,15 @@ fn set_ranges(cell: &SharedRange, seat: &mut WriterSeat<Range>, rounds: u64)
 }
 
 /// Reads the range `rounds` times. Returns the one that was read last, if any was.
-fn read_ranges(cell: &SharedRange, reader: &mut ReaderSeat<Range>, rounds: u64) -> Option<Range>
+fn read_ranges(cell: &SharedRange, reader: &mut Reader, rounds: u64) -> Option<Range>
     requires { reader.old.cell ≡ cell.now }
-    ensures cell { reader.new.cell ≡ reader.old.cell }
-    ensures known { IfSome result (KnowsOf reader.new) }
+    ensures { reader.new.cell ≡ reader.old.cell }
 {
     let mut latest = None;
     for _ in 0..rounds {
-        latest = match cell.try_read(reader) {
-            Ok(range) => Some(range),
-            Err(_) => None,
-        };
+        if let Ok(Fields(range)) = cell.try_read(reader) {
+            latest = Some(range);
+        }
     }
     latest
 }
@@ -77,15 +71,13 @@ fn read_ranges(cell: &SharedRange, reader: &mut ReaderSeat<Range>, rounds: u64) 
 fn set_both<R: Threads>(
     rt: &R,
     cell: &SharedRange,
-    one: &mut WriterSeat<Range>,
-    other: &mut WriterSeat<Range>,
+    one: &mut Writer,
+    other: &mut Writer,
     rounds: u64,
 )
-    requires cell { (one.old.cell ≡ cell.now) × (other.old.cell ≡ cell.now) }
-    requires in_order { AreInOrder one.old × AreInOrder other.old }
+    requires { (one.old.cell ≡ cell.now) × (other.old.cell ≡ cell.now) }
     ensures cell { (one.new.cell ≡ one.old.cell) × (other.new.cell ≡ other.old.cell) }
     ensures share { (one.new.share ≡ one.old.share) × (other.new.share ≡ other.old.share) }
-    ensures in_order { AreInOrder one.new × AreInOrder other.new }
 {
     join_mut(
         rt,
@@ -98,13 +90,12 @@ fn set_both<R: Threads>(
 fn read_both<R: Threads>(
     rt: &R,
     cell: &SharedRange,
-    one: &mut ReaderSeat<Range>,
-    other: &mut ReaderSeat<Range>,
+    one: &mut Reader,
+    other: &mut Reader,
     rounds: u64,
 ) -> (Option<Range>, Option<Range>)
     requires { (one.old.cell ≡ cell.now) × (other.old.cell ≡ cell.now) }
-    ensures cell { (one.new.cell ≡ one.old.cell) × (other.new.cell ≡ other.old.cell) }
-    ensures known { IfSome result.0 (KnowsOf one.new) × IfSome result.1 (KnowsOf other.new) }
+    ensures { (one.new.cell ≡ one.old.cell) × (other.new.cell ≡ other.old.cell) }
 {
     join_mut(
         rt,
@@ -117,38 +108,31 @@ fn read_both<R: Threads>(
 fn set_beside_reads<R: Threads + Sync>(
     rt: &R,
     cell: &SharedRange,
-    one: &mut WriterSeat<Range>,
-    other: &mut WriterSeat<Range>,
-    reader: &mut ReaderSeat<Range>,
-    further: &mut ReaderSeat<Range>,
+    one: &mut Writer,
+    other: &mut Writer,
+    reader: &mut Reader,
+    further: &mut Reader,
     rounds: u64,
 ) -> (Option<Range>, Option<Range>)
     requires writers { (one.old.cell ≡ cell.now) × (other.old.cell ≡ cell.now) }
-    requires in_order { AreInOrder one.old × AreInOrder other.old }
     requires readers { (reader.old.cell ≡ cell.now) × (further.old.cell ≡ cell.now) }
     ensures writers { (one.new.cell ≡ one.old.cell) × (other.new.cell ≡ other.old.cell) }
     ensures share { (one.new.share ≡ one.old.share) × (other.new.share ≡ other.old.share) }
-    ensures in_order { AreInOrder one.new × AreInOrder other.new }
     ensures readers { (reader.new.cell ≡ reader.old.cell) × (further.new.cell ≡ further.old.cell) }
-    ensures known { IfSome result.0 (KnowsOf reader.new) × IfSome result.1 (KnowsOf further.new) }
 {
     let (_, latest) = join_mut(
         rt,
         &mut ||
-            requires { (one.now.cell ≡ cell.now) × (other.now.cell ≡ cell.now)
-                × AreInOrder one.now × AreInOrder other.now }
+            requires { (one.now.cell ≡ cell.now) × (other.now.cell ≡ cell.now) }
             ensures { (one.exit.now.cell ≡ one.entry.now.cell)
                 × (other.exit.now.cell ≡ other.entry.now.cell)
                 × (one.exit.now.share ≡ one.entry.now.share)
-                × (other.exit.now.share ≡ other.entry.now.share)
-                × AreInOrder one.exit.now × AreInOrder other.exit.now }
+                × (other.exit.now.share ≡ other.entry.now.share) }
         { set_both(rt, cell, one, other, rounds) },
         &mut ||
             requires { (reader.now.cell ≡ cell.now) × (further.now.cell ≡ cell.now) }
             ensures { (reader.exit.now.cell ≡ reader.entry.now.cell)
-                × (further.exit.now.cell ≡ further.entry.now.cell)
-                × IfSome result.0 (KnowsOf reader.exit.now)
-                × IfSome result.1 (KnowsOf further.exit.now) }
+                × (further.exit.now.cell ≡ further.entry.now.cell) }
         { read_both(rt, cell, reader, further, rounds) },
     );
     latest
@@ -156,14 +140,12 @@ fn set_beside_reads<R: Threads + Sync>(
 
 /// Takes back the seat of another thread. What was set with either seat stands in one history, each range once; if no other
 /// thread has a seat, nothing else stands there but the first range.
-pub fn take_back(cell: &SharedRange, seat: &mut WriterSeat<Range>, other: WriterSeat<Range>)
-    requires cell { (seat.old.cell ≡ cell.now) × (other.cell ≡ cell.now) }
-    requires in_order { AreInOrder seat.old × AreInOrder other }
+pub fn take_back(cell: &SharedRange, seat: &mut Writer, other: Writer)
+    requires { (seat.old.cell ≡ cell.now) × (other.cell ≡ cell.now) }
     ensures cell { seat.new.cell ≡ seat.old.cell }
     ensures known { Begins seat.old.known seat.new.known × Begins other.known seat.new.known }
     ensures once { AreApart seat.old.places other.places }
     ensures places { seat.new.places ≡ places_merge seat.old.places other.places }
-    ensures in_order { AreInOrder seat.new }
     ensures share { seat.new.share ≡ seat.old.share ++ other.share }
     ensures all { IsWhole seat.new.share → HoldsEach (length seat.new.known) seat.new.places }
 {
@@ -171,24 +153,22 @@ pub fn take_back(cell: &SharedRange, seat: &mut WriterSeat<Range>, other: Writer
 }
 
 /// Sets ranges in two threads, one of which has a seat of its own, while two others read them. Returns what each of these read
-/// last. All that was ever set is known in the end, and it is in order, as is all that was read.
+/// last. All that was ever set is known in the end, and all that was read is in order.
 pub fn set_and_read<R: Threads + Sync>(
     rt: &R,
     alloc: Global,
     cell: &SharedRange,
-    seat: &mut WriterSeat<Range>,
-    mut reader: ReaderSeat<Range>,
+    seat: &mut Writer,
+    mut reader: Reader,
     rounds: u64,
 ) -> (Option<Range>, Option<Range>)
     requires cell { (seat.old.cell ≡ cell.now) × (reader.cell ≡ cell.now) }
-    requires in_order { AreInOrder seat.old }
     requires share { seat.old.share ≡ 0 ∷ [] }
     ensures cell { seat.new.cell ≡ seat.old.cell }
     ensures share { IsWhole seat.new.share }
     ensures all { HoldsEach (length seat.new.known) seat.new.places }
-    ensures in_order { (version : ℕ) (range : Range) → history_value seat.new.known version ≡ Some range
-        → IsInOrder range }
-    ensures read { IfSome result.0 IsInOrder × IfSome result.1 IsInOrder }
+    ensures read { IfSome result.0 (λ range. range.low ≤ range.high)
+        × IfSome result.1 (λ range. range.low ≤ range.high) }
 {
     let mut other = cell.writer(alloc, seat).unwrap();
     let mut further = cell.reader(alloc, seat).unwrap();

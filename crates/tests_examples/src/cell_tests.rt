@@ -7,7 +7,7 @@ use examples::log_position::{self, Position};
 use examples::own_fields::Range;
 use examples::rising_limit::{self, raise_limit};
 use examples::shared_range;
-use ix_atomic::{ReaderSeat, WriterSeat};
+use ix_atomic::{Fields, ReaderSeat, WriterSeat};
 use std::thread;
 use std::thread::Threads;
 
@@ -158,6 +158,6 @@ fn two_threads_set_and_two_read(rt: HostRuntime) {
     );
     assert!(rt; is_first_or_set(one));
     assert!(rt; is_first_or_set(other));
-    let last = cell.close(seat).expect(&rt, "nobody sets a range");
+    let Fields(last) = cell.close(seat).expect(&rt, "nobody sets a range");
     assert!(rt; last != FIRST_RANGE && is_first_or_set(Some(last)));
 }

@@ -4,7 +4,7 @@ use examples::arena::connect;
 use examples::own_fields::{Pose, Range, pose_through_bytes, range_through_bytes};
 use examples::station::{Station, add_station, empty_station};
 use examples::temperature::{Temperature, through_bytes};
-use ix_atomic::{AtomicCopy, FixedSizeByteAtomic};
+use ix_atomic::{AtomicCopy, Fields, FixedSizeByteAtomic};
 use ix_maps::FixedSizeQueue;
 use ix_names::{GroupName, JsonFault, JsonForm};
 use ix_string::String;
@@ -60,10 +60,10 @@ fn a_station_among_others(rt: HostRuntime) {
 
 #[test]
 fn fields_come_back(rt: HostRuntime) {
-    let range = Range {
+    let range = Fields(Range {
         low: 1,
         high: u64::MAX,
-    };
+    });
     let mut bytes = [0; 16];
     range.encode(&mut bytes);
     assert_eq!(rt;
@@ -72,13 +72,25 @@ fn fields_come_back(rt: HostRuntime) {
             1, 0, 0, 0, 0, 0, 0, 0, 255, 255, 255, 255, 255, 255, 255, 255
         ]
     );
-    assert_eq!(rt; range_through_bytes(&range), Some(range));
-    let pose = Pose {
+    assert_eq!(rt; range_through_bytes(range), Some(range));
+    let pose = Fields(Pose {
         x: 258,
         y: 3,
         time: 65_536,
-    };
+    });
     pose.encode(&mut bytes);
     assert_eq!(rt; bytes, [2, 1, 0, 0, 3, 0, 0, 0, 0, 0, 1, 0, 0, 0, 0, 0]);
-    assert_eq!(rt; pose_through_bytes(&pose), Some(pose));
+    assert_eq!(rt; pose_through_bytes(pose), Some(pose));
+}
+
+#[test]
+fn bytes_of_a_range_that_falls_are_no_range(rt: HostRuntime) {
+    let mut bytes = [0; 16];
+    bytes[0] = 1;
+    assert_eq!(rt; Fields::<Range>::decode(&bytes), None);
+    bytes[8] = 1;
+    assert_eq!(rt;
+        Fields::<Range>::decode(&bytes),
+        Some(Fields(Range { low: 1, high: 1 }))
+    );
 }

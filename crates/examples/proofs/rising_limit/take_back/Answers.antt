@@ -1,4 +1,4 @@
-use Rattle.std.proofs.Common.{◌≡◌, ℕ, ◌+◌, ◌/◌, List, length, true, sym, ap, ◌∙◌, subst, eqb-true}
+use Rattle.std.proofs.Common.{◌≡◌, ℕ, ◌/◌, List, true, sym, ap, ◌∙◌, subst, eqb-true}
 use Rattle.ix_atomic.specs.History.{Begins}
 use Rattle.examples.specs.Written.{HasSet}
 use Rattle.examples.proofs.Written.{wrote_all, never_lower}
