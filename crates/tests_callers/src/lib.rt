@@ -1,5 +1,7 @@
 //! What a caller concludes from the contracts of calls, with no proof written.
 #![tactic(auto)]
 
+/// Structs in cells, and what holds of all values of a cell.
+pub mod cells;
 /// How many items a container holds, how many more fit, and the capacity of inline kinds.
 pub mod counts;
