@@ -5,6 +5,8 @@ ghost use Rattle.std.specs.Prelude.{◌≡◌, ◌↔◌, ℕ, List, length, Som
 ///
 /// Each value has one encoding, and no two values have the same. The bytes of an encoding do not depend on the machine.
 ///
+/// A struct is stored as its fields are, by [`AtomicFields`](crate::AtomicFields).
+///
 /// This is `AtomicCopy` of iceoryx2-bb-elementary-traits, with an encoding in the place of the bytes in memory.
 pub trait AtomicCopy: Copy {
     /// The number of bytes of an encoding.

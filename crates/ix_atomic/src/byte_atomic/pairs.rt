@@ -1,4 +1,4 @@
-//! The encodings of two and of three values, one after another, for tuples and for structs of such fields.
+//! The encodings of two and of three values, one after another, for tuples.
 ghost use Rattle.std.specs.Prelude.{◌≡◌, ◌↔◌, ◌+◌, ◌<◌, ◌^◌, ◌++◌, length, Some};
 ghost use Rattle.ix_atomic.specs.Encoding.{joint_size};
 ghost use Rattle.ix_atomic.specs.inner.Decoding.{triple_of};
