@@ -55,8 +55,13 @@ const FALLING: Settings = Settings {
 // Shows: AtomicFields, AtomicFields::to_fields, AtomicFields::from_fields
 #[test]
 fn a_struct_is_its_fields(rt: HostRuntime) {
-    assert_eq!(rt; SETTINGS.to_fields(), (1, 2, 258));
-    assert_eq!(rt; Settings::from_fields((1, 2, 258)), Some(SETTINGS));
+    let settings = Settings {
+        low: 1,
+        high: 2,
+        mode: 258,
+    };
+    assert_eq!(rt; settings.to_fields(), (1, 2, 258));
+    assert_eq!(rt; Settings::from_fields((1, 2, 258)), Some(settings));
 }
 
 // Shows: Fields
@@ -76,7 +81,7 @@ fn a_struct_in_a_cell(rt: HostRuntime) -> Result<(), Fail> {
 #[test]
 fn what_is_read_derefs_to_the_struct(rt: HostRuntime) {
     let stored = Fields::from(SETTINGS);
-    assert_eq!(rt; stored.mode, 258);
+    assert_eq!(rt; stored.mode, SETTINGS.mode);
     assert_eq!(rt; *stored, SETTINGS);
 }
 
