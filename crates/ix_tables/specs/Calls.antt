@@ -17,3 +17,7 @@ IsCallableBelow {F} {X} step pre n f = CallableAtEachTurn (index_steps n) (λ g 
 -- f may be called with a `&` to each of these items in turn, whatever the calls return
 abbrev pub IsCallableOnEach : {F T R : Type 0} → Mut F (Bor T × Unit {0}) R → List T → F → Type 0
 IsCallableOnEach calls = CallableOnAllAt (YieldsFirst (λ rest. rest)) calls
+
+-- each call of f returns what `value` makes of its argument, and leaves f as it was
+abbrev pub Computes : {F X R : Type 0} → (F → X → R → F → Type 0) → F → (X → R) → Type 0
+Computes {F} {X} {R} step f value = (x : X) (r : R) (next : F) → step f x r next → (r ≡ value x) × (next ≡ f)

@@ -1,9 +1,9 @@
 //! Calls that go through a queue and change, keep or drop its items.
-ghost use Rattle.std.specs.Prelude.{◌≡◌, ◌≤◌, length};
-ghost use Rattle.std.specs.Fn.{CalledAt};
+ghost use Rattle.std.specs.Prelude.{◌≡◌, ◌≤◌, length, Bool, filter, map};
+ghost use Rattle.std.specs.Fn.{CalledAt, CalledAtMut};
 ghost use Rattle.std.specs.List.Retain.{IsFiltered};
 ghost use Rattle.ix_tables.specs.Bounded.{vec_truncate};
-ghost use Rattle.ix_tables.specs.Calls.{IsCallableOnEach};
+ghost use Rattle.ix_tables.specs.Calls.{Computes, IsCallableOnEach};
 ghost use Rattle.ix_queue.specs.QueueCalls.{ChangesInTurn, IsCallableOnEachMut};
 
 use crate::queue::MetaQueue;
@@ -28,6 +28,10 @@ impl<T, S: Table<T>> MetaQueue<T, S> {
     pub fn for_each_mut<F: FnMut(&mut T)>(&mut self, mut f: F)
         requires { IsCallableOnEachMut F.FnMut self.old.items f }
         ensures items { (last : F) × ChangesInTurn F.FnMut f self.old.items self.new.items last }
+        // A closure that computes a new item, and stays as it was, computes each.
+        ensures mapped { (change : T → T)
+            → Computes (λ g item left next. CalledAtMut F.FnMut g item tt next left) f change
+            → self.new.items ≡ map change self.old.items }
         ensures capacity { self.new.capacity ≡ self.old.capacity }
     {
         for i in 0..self.len() {
@@ -43,6 +47,9 @@ impl<T, S: Table<T>> MetaQueue<T, S> {
         requires { IsCallableOnEach F.FnMut self.old.items f }
         ensures items { IsFiltered (CalledAt F.FnMut) f self.old.items self.new.items }
         ensures count { length self.new.items ≤ length self.old.items }
+        // A closure that computes a test, and stays as it was, keeps the items that pass it.
+        ensures filtered { (test : T → Bool) → Computes (CalledAt F.FnMut) f test
+            → self.new.items ≡ filter test self.old.items }
         ensures capacity { self.new.capacity ≡ self.old.capacity }
     {
         let capacity = self.capacity();

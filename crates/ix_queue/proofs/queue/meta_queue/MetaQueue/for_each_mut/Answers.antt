@@ -3,7 +3,7 @@ use Rattle.std.specs.Fn.{CalledAtMut}
 use Rattle.std.proofs.lemmas.List.{drop_all, take_all}
 use Rattle.ix_tables.proofs.Calls.{Callable-now, Callable-on}
 use Rattle.ix_queue.specs.QueueCalls.{ChangesInTurn}
-use Rattle.ix_queue.proofs.QueueCalls.{items_left, items_left-set, items_before-set}
+use Rattle.ix_queue.proofs.QueueCalls.{items_left, items_left-set, items_before-set, ChangesInTurn-map}
 use Rattle.ix_queue.proofs.queue.meta_queue.MetaQueue.for_each_mut.Goals as goal
 
 pub f-requires : goal.f-requires
@@ -42,3 +42,8 @@ returns-clause-items g c =
       subst (λ (changed : List g.row.T.Denot). ChangesInTurn g.F.FnMut c.args.f old changed c.loop-i.f) whole
           (at.calls [] c.loop-i.f (subst (λ (left : List g.row.T.Denot). ChangesInTurn g.F.FnMut c.loop-i.f left [] c.loop-i.f) (sym none) refl)),
     )
+
+pub returns-clause-mapped : goal.returns-clause-mapped
+returns-clause-mapped g c change says =
+    let calls = returns-clause-items g c in
+    ChangesInTurn-map g.F.FnMut change _ says _ _ calls.0 calls.1

@@ -1,5 +1,5 @@
 use Rattle.std.proofs.Common.{◌<◌, true, false, length, sym, refl, ap, arith, rules}
-use Rattle.std.proofs.lemmas.Fn.{called_at}
+use Rattle.std.proofs.lemmas.Fn.{called_at, filter_same}
 use Rattle.std.proofs.lemmas.Grind.{common_steps}
 use Rattle.std.specs.Fn.{CalledAt}
 use Rattle.ix_tables.proofs.Calls.{Callable-now, Callable-on}
@@ -57,3 +57,6 @@ returns-clause-items g c =
     let len = c.len-i-end.ensures.value in
     let end = c.loop-i-test.false in
     Asked-end (CalledAt g.F.FnMut) _ _ c.loop-i.i _ _ c.loop-i.invariant.asked (omega arith)
+
+pub returns-clause-filtered : goal.returns-clause-filtered
+returns-clause-filtered g c test says = filter_same _ test _ says _ _ (returns-clause-items g c)
