@@ -1,3 +1,4 @@
+pub mod Computed
 pub mod Fronts
 pub mod Kept
 pub mod Lists

@@ -1,11 +1,12 @@
 //! The vector that allocates when it is made.
-ghost use Rattle.std.specs.Prelude.{◌≡◌, ◌^◌, ℕ, ◌<◌, ◌≤◌, length, IsOk, IfOk};
+ghost use Rattle.std.specs.Prelude.{◌≡◌, ◌^◌, ℕ, ◌<◌, ◌≤◌, length, map, IsOk, IfOk};
 ghost use Rattle.std.specs.Cmp.{on_per, on_equiv};
 ghost use Rattle.std.specs.Cmp.Lexicographic.{pointwise, lists_per, lists_equiv};
 ghost use Rattle.std.proofs.Common.{arith, ap};
 ghost use Rattle.std.proofs.lemmas.Grind.{common_steps};
 ghost use Rattle.ix_tables.specs.Bounded.{bounded_new, with_items, IsFull};
-ghost use Rattle.ix_tables.specs.Calls.{IsCallableBelow, ResultsFrom};
+ghost use Rattle.std.specs.List.{range_with_len};
+ghost use Rattle.ix_tables.specs.Calls.{Computes, IsCallableBelow, ResultsFrom};
 ghost use Rattle.ix_tables.specs.Cloning.{AreEqualClones};
 ghost use Rattle.ix_tables.specs.Memory.{items_memory, no_memory};
 ghost use Rattle.std.specs.Mem.{type_size};
@@ -89,6 +90,9 @@ impl<T: Drop, A: Allocator> PolymorphicVec<T, A> {
         ensures full { IfOk result (λ vector. IsFull vector) }
         ensures items { IfOk result
             (λ vector. (last : F) × ResultsFrom F.step 0 f vector.items last) }
+        // A closure that computes an item of its number, and stays as it was, computes each.
+        ensures computed { (item : ℕ → T) → Computes F.step f item
+            → IfOk result (λ vector. vector.items ≡ map item (range_with_len 0 capacity)) }
         ensures memory { capacity ≡ 0 → IsOk result }
     {
         let mut vector = PolymorphicVec::new(alloc, capacity)?;

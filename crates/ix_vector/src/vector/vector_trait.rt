@@ -1,5 +1,5 @@
 //! The trait of all vectors.
-ghost use Rattle.std.specs.Prelude.{◌≡◌, ◌+◌, ◌<◌, ◌≤◌, ◌↔◌, List, [], ◌∷◌, ◌++◌, length, take, Ok, Err, IsTrue, IsErr, IsOk, IsOkUnless, IfErr, IfSome, OnOk, OnErr, slice_get};
+ghost use Rattle.std.specs.Prelude.{◌≡◌, ◌+◌, ◌<◌, ◌≤◌, ◌↔◌, Bool, List, [], ◌∷◌, ◌++◌, filter, length, take, Ok, Err, IsTrue, IsErr, IsOk, IsOkUnless, IfErr, IfSome, OnOk, OnErr, slice_get};
 ghost use Rattle.std.specs.Bool.{OnFalse};
 ghost use Rattle.std.specs.Fn.{CalledAt};
 ghost use Rattle.std.specs.List.{AppendsResults, dedup, swap_remove};
@@ -7,7 +7,7 @@ ghost use Rattle.std.specs.List.Retain.{IsFiltered};
 ghost use Rattle.std.specs.Borrow.{sem};
 ghost use Rattle.std.specs.Iterator.{IsFiniteIterable};
 ghost use Rattle.ix_tables.specs.Bounded.{Bounded, IsWithin, IsFull, with_items, bounded_push};
-ghost use Rattle.ix_tables.specs.Calls.{IsCallableOnEach};
+ghost use Rattle.ix_tables.specs.Calls.{Computes, IsCallableOnEach};
 ghost use Rattle.ix_tables.specs.Cloning.{AreEqualClones, AreInfallible};
 ghost use Rattle.ix_vector.specs.Lending.{vec_lends};
 ghost use Rattle.ix_vector.specs.Iterating.{YieldsRefsTo, YieldsMutRefsTo, vec_lends_iter, ExtendsByItemsOf, YieldsMoreThanFit};
@@ -248,6 +248,9 @@ pub trait Vector<T: Drop> {
         ensures items { IsFiltered (CalledAt F.FnMut) f
             (bounded self.old).items (bounded self.new).items }
         ensures count { length (bounded self.new).items ≤ length (bounded self.old).items }
+        // A closure that computes a test, and stays as it was, keeps the items that pass it.
+        ensures filtered { (test : T → Bool) → Computes (CalledAt F.FnMut) f test
+            → (bounded self.new).items ≡ filter test (bounded self.old).items }
         ensures capacity { (bounded self.new).capacity ≡ (bounded self.old).capacity }
     {
         let kept = keep_in_front(self.as_mut_slice(), f);
@@ -415,6 +418,10 @@ pub trait Vector<T: Drop> {
         ensures len { OnOk result (length (bounded self.new).items ≡ n) }
         ensures vector { OnOk result (AppendsResults F.step (take n (bounded self.old).items)
             (bounded self.new).items f) }
+        // A closure that always returns one item, and stays as it was, resizes the vector with it.
+        ensures computed { (item : T)
+            → ((x : T) (next : F) → F.step f x next → (x ≡ item) × (next ≡ f))
+            → OnOk result (bounded self.new ≡ vec_resize (bounded self.old) n item) }
         ensures capacity { (bounded self.new).capacity ≡ (bounded self.old).capacity }
         ensures refused { OnErr result (self.new ≡ self.old) }
     {

@@ -1,6 +1,10 @@
-use Rattle.std.proofs.Common.{of_calls, arith, ◌≡◌, ◌+◌, ◌-◌, [], ◌∷◌, ◌++◌, append_assoc, length-append, length}
+use Rattle.std.proofs.Common.{of_calls, arith, ◌≡◌, ◌+◌, ◌-◌, [], ◌∷◌, ◌++◌, append_assoc, length-append, length, sym, ap, ap₂, ◌∙◌}
+use Rattle.std.specs.Prelude.{replicate}
 use Rattle.std.proofs.lemmas.Fn.{FoldsTo-push}
+use Rattle.std.proofs.lemmas.List.{take_all}
+use Rattle.ix_tables.specs.Bounded.{with_items}
 use Rattle.ix_vector.specs.VectorSteps.{vec_extend}
+use Rattle.ix_vector.proofs.Computed.{FoldsTo-replicate}
 use Rattle.ix_vector.proofs.vector.vector_trait.Vector.resize_with.Goals as goal
 
 pub loop-i-preserved : goal.loop-i-preserved
@@ -18,3 +22,14 @@ loop-i-preserved g c =
       callable = search of_calls;
       grown = (ys ++ x ∷ [], longer, bounded_push, FoldsTo-push _ _ ys _ _ _ at.grown.3 (search of_calls));
     }
+
+pub returns-clause-computed : goal.returns-clause-computed
+returns-clause-computed g c item one =
+    let old = g.Self.Vector.bounded c.args.self.now in
+    let (ys, counted, is, calls) = c.loop-i.invariant.grown in
+    let end = c.loop-i-test.false in
+    let longer = c.if-n-old_len.false in
+    let len = c.len-old_len.ensures.value in
+    let many : length ys ≡ c.args.n - length old.items = omega (arith, counted, end, longer, len) in
+    is ∙ ap₂ (λ front back. with_items old (front ++ back)) (sym (take_all c.args.n old.items (omega (arith, longer, len))))
+    (FoldsTo-replicate _ item _ one ys _ calls ∙ ap (λ k. replicate k item) many)
