@@ -5,6 +5,7 @@ pub mod Entries
 pub mod FreeKeys
 pub mod FullTables
 pub mod Memory
+pub mod Outcomes
 pub mod SlotTableCalls
 pub mod SlotTableCopies
 pub mod SlotTableDrains

@@ -1,10 +1,10 @@
 //! The calls of a slot table that go through all of its values.
-ghost use Rattle.std.specs.Prelude.{◌≡◌, ◌↔◌, ℕ, ◌+◌, ◌≤◌, length, map, replicate, None};
+ghost use Rattle.std.specs.Prelude.{◌≡◌, ◌↔◌, ℕ, ◌+◌, ◌≤◌, length, map, replicate, None, Bool, option_map};
 ghost use Rattle.std.specs.List.{FoldsTo};
 ghost use Rattle.std.specs.Map.{keys_of};
-ghost use Rattle.ix_slottable.specs.SlotTableState.{IsHeld, held_count, entries};
+ghost use Rattle.ix_slottable.specs.SlotTableState.{IsHeld, held_count, entries, value_at};
 ghost use Rattle.ix_slottable.specs.SlotTableSteps.{slot_table_set, slot_table_remove, slot_table_clear};
-ghost use Rattle.ix_slottable.specs.SlotTableCalls.{IsCallableOnEach, ChangesItem, RetainsItem};
+ghost use Rattle.ix_slottable.specs.SlotTableCalls.{IsCallableOnEach, ComputesTest, ComputesValue, ChangesItem, RetainsItem, option_filter};
 
 use crate::slottable::{Keys, Link, MetaSlotTable, SlotTableKey, Values};
 use ix_tables::Table;
@@ -51,6 +51,9 @@ impl<T, S: Table<T>, L: Table<Link>> MetaSlotTable<T, S, L> {
         requires { IsCallableOnEach F.step F.pre f (entries self.old) }
         ensures calls { (last : F) × FoldsTo (ChangesItem slot_table_set F.step)
             (f, self.old) (entries self.old) (last, self.new) }
+        // A closure that computes a new value of the old one, and stays as it was, computes each.
+        ensures mapped { (change : T → T) → ComputesValue F.step f (λ key. change) → (key : ℕ)
+            → value_at self.new key ≡ option_map change (value_at self.old key) }
         ensures keys { (key : ℕ) → IsHeld self.new key ↔ IsHeld self.old key }
         ensures free { self.new.free ≡ self.old.free }
         ensures capacity { length self.new.values ≡ length self.old.values }
@@ -72,6 +75,9 @@ impl<T, S: Table<T>, L: Table<Link>> MetaSlotTable<T, S, L> {
         requires { IsCallableOnEach F.step F.pre f (entries self.old) }
         ensures calls { (last : F) × FoldsTo (RetainsItem slot_table_set slot_table_remove F.step)
             (f, self.old) (entries self.old) (last, self.new) }
+        // A closure that computes a test of the value, and stays as it was, keeps the values that pass it.
+        ensures filtered { (test : T → Bool) → ComputesTest F.step f (λ key. test) → (key : ℕ)
+            → value_at self.new key ≡ option_filter test (value_at self.old key) }
         ensures capacity { length self.new.values ≡ length self.old.values }
         ensures count { held_count self.new ≤ held_count self.old }
         // As many keys are free as were, and those that are no longer held.

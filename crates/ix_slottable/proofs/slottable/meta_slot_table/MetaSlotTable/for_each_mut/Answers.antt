@@ -1,10 +1,11 @@
-use Rattle.std.proofs.Common.{◌+◌, refl, sym, ap, ◌∙◌, subst, arith}
+use Rattle.std.proofs.Common.{◌+◌, ◌≤◌, length, refl, sym, ap, ◌∙◌, subst, arith}
 use Rattle.std.proofs.lemmas.Bool.{iff_false}
 use Rattle.ix_slottable.specs.SlotTableState.{value_at}
 use Rattle.ix_slottable.specs.SlotTableSteps.{slot_table_set}
 use Rattle.ix_slottable.specs.SlotTableCalls.{ChangesItem}
 use Rattle.ix_tables.proofs.Places.{none_of_not_some}
-use Rattle.ix_slottable.proofs.SlotTableCalls.{CalledOn-from_step, IsHeld-slot_table_set, Settles-slot_table_set, Visited, Visited-free, Visited-held, Visited-callable}
+use Rattle.ix_slottable.proofs.SlotTableCalls.{CalledOn-from_step, IsHeld-slot_table_set, Settles-slot_table_set, Visited, Visited-free, Visited-held, Visited-callable, Visited-all}
+use Rattle.ix_slottable.proofs.Outcomes.{ChangesItem-map}
 use Rattle.ix_slottable.proofs.slottable.meta_slot_table.MetaSlotTable.for_each_mut.Goals as goal
 
 pub loop-number-preserved-then-not-contains : goal.loop-number-preserved-then-not-contains
@@ -37,3 +38,10 @@ loop-number-preserved g c =
       keys = λ key. (λ held. (c.loop-number.invariant.keys key).0 ((same key).0 held), λ held. (same key).1 ((c.loop-number.invariant.keys key).1 held));
       free = c.loop-number.invariant.free;
     }
+
+pub returns-clause-mapped : goal.returns-clause-mapped
+returns-clause-mapped g c change changes =
+    let end = c.loop-number-test.false in
+    let all = c.capacity-number-end.ensures in
+    let past : length c.args.self.now.values ≤ c.loop-number.number = omega (arith, end, all) in
+    ChangesItem-map _ _ _ _ (goal.F-step g) (λ key. change) changes (Visited-all (ChangesItem slot_table_set (goal.F-step g)) _ _ _ _ _ c.loop-number.invariant.visited past)

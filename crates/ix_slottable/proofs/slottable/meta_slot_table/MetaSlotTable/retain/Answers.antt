@@ -1,12 +1,13 @@
-use Rattle.std.proofs.Common.{◌≡◌, ◌+◌, sym, ap, ◌∙◌, subst, arith}
+use Rattle.std.proofs.Common.{◌≡◌, ◌+◌, ◌≤◌, length, sym, ap, ◌∙◌, subst, arith}
 use Rattle.std.specs.Prelude.{if◌then◌else◌, Bool}
 use Rattle.std.proofs.lemmas.Bool.{iff_false}
 use Rattle.ix_slottable.specs.SlotTableState.{value_at}
 use Rattle.ix_slottable.specs.SlotTableSteps.{slot_table_set, slot_table_remove}
 use Rattle.ix_slottable.specs.SlotTableCalls.{RetainsItem}
 use Rattle.ix_tables.proofs.Places.{none_of_not_some}
-use Rattle.ix_slottable.proofs.SlotTableCalls.{CalledOn-from_step, slot_table_remove-slot_table_set, Settles-retained, Visited, Visited-free, Visited-held, Visited-callable}
+use Rattle.ix_slottable.proofs.SlotTableCalls.{CalledOn-from_step, slot_table_remove-slot_table_set, Settles-retained, Visited, Visited-free, Visited-held, Visited-callable, Visited-all}
 use Rattle.ix_slottable.proofs.Counts.{Thins-trans, Thins-retained}
+use Rattle.ix_slottable.proofs.Outcomes.{RetainsItem-filter}
 use Rattle.ix_slottable.proofs.slottable.meta_slot_table.MetaSlotTable.retain.Goals.{then-not-f, else-not-f}
 use Rattle.ix_slottable.proofs.slottable.meta_slot_table.MetaSlotTable.retain.Goals as goal
 
@@ -47,3 +48,11 @@ loop-number-preserved g c =
 
 pub returns-clause-capacity : goal.returns-clause-capacity
 returns-clause-capacity g c = c.loop-number.invariant.visited.capacity
+returns-clause-capacity g c = c.loop-number.invariant.capacity
+
+pub returns-clause-filtered : goal.returns-clause-filtered
+returns-clause-filtered g c test tests =
+    let end = c.loop-number-test.false in
+    let all = c.capacity-number-end.ensures in
+    let past : length c.args.self.now.values ≤ c.loop-number.number = omega (arith, end, all) in
+    RetainsItem-filter _ _ _ _ (goal.F-step g) (λ key. test) tests (Visited-all (RetainsItem slot_table_set slot_table_remove (goal.F-step g)) _ _ _ _ _ c.loop-number.invariant past)
