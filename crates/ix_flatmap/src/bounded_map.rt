@@ -1,5 +1,5 @@
 //! The calls of a map as a trait.
-ghost use Rattle.std.specs.Prelude.{◌≡◌, ◌↔◌, ◌+◌, ◌≤◌, ℕ, [], length, Some, None, IsSome, IsTrue, IsNone, IsOk, IsErr, IfOk, OnErr, option_copied, option_map, replicate, slice_get, false, true, refl};
+ghost use Rattle.std.specs.Prelude.{◌≡◌, ◌↔◌, ◌+◌, ◌≤◌, ℕ, [], length, Some, None, IsSome, IsTrue, IsNone, IsOk, IsErr, IfOk, OnErr, option_copied, option_map, replicate, slice_get, false, true, refl, Bool, filter, map};
 ghost use Rattle.std.specs.Borrow.{sem};
 ghost use Rattle.std.specs.List.{FoldsTo, list_any};
 ghost use Rattle.std.specs.Option.{option_copied_mut};
@@ -9,7 +9,7 @@ ghost use Rattle.ix_slottable.specs.SlotTableSteps.{slot_table_clear};
 ghost use Rattle.ix_flatmap.specs.MapState.{HasDistinctKeys, map_entry, map_value, map_keys, map_item, map_items};
 ghost use Rattle.ix_flatmap.specs.MapCompared.{is_same_item, has_each};
 ghost use Rattle.ix_flatmap.specs.MapCalls.{CallAtKey, TakesKey};
-ghost use Rattle.ix_slottable.specs.SlotTableCalls.{IsCallableOnEach, ChangesItem, RetainsItem};
+ghost use Rattle.ix_slottable.specs.SlotTableCalls.{IsCallableOnEach, ComputesTest, ComputesValue, ChangesItem, RetainsItem, option_filter};
 ghost use Rattle.ix_flatmap.specs.MapSteps.{map_insert_result, map_insert, map_replace, map_set, map_remove};
 ghost use Rattle.ix_flatmap.specs.BoundedMap.{map_lends};
 ghost use Rattle.ix_flatmap.specs.declared.map.pair.Pair.{Pair};
@@ -136,6 +136,15 @@ pub trait BoundedMap<K: Eq, V>: Sized {
         requires { IsCallableOnEach (CallAtKey F.step) (TakesKey F.pre) f (map_items (state self.old)) }
         ensures calls { (last : F) × FoldsTo (ChangesItem (map_set K.eq) (CallAtKey F.step))
             (f, state self.old) (map_items (state self.old)) (last, state self.new) }
+        // A closure that computes a new value, and stays as it was, computes each.
+        ensures mapped { (change : K × V → V)
+            → ComputesValue (CallAtKey F.step) f (λ key value. change (key, value))
+            → map_items (state self.new)
+            ≡ map (λ item. (item.0, change item)) (map_items (state self.old)) }
+        // If it computes that of the old value alone, each key has the new one.
+        ensures values { (change : V → V) → ComputesValue (CallAtKey F.step) f (λ key. change)
+            → (key : K) → map_value K.eq (state self.new) key
+            ≡ option_map change (map_value K.eq (state self.old) key) }
         ensures keys { map_keys (state self.new) ≡ map_keys (state self.old) }
         ensures free { (state self.new).free ≡ (state self.old).free }
         ensures distinct { HasDistinctKeys K.eq (state self.new) }
@@ -147,6 +156,15 @@ pub trait BoundedMap<K: Eq, V>: Sized {
         ensures calls { (last : F)
             × FoldsTo (RetainsItem (map_set K.eq) (map_remove K.eq) (CallAtKey F.step))
             (f, state self.old) (map_items (state self.old)) (last, state self.new) }
+        // A closure that computes a test, and stays as it was, keeps the pairs that pass it.
+        ensures filtered { (test : K × V → Bool)
+            → ComputesTest (CallAtKey F.step) f (λ key value. test (key, value))
+            → map_items (state self.new)
+            ≡ filter test (map_items (state self.old)) }
+        // If it tests the value alone, each key has its value if that passes.
+        ensures values { (test : V → Bool) → ComputesTest (CallAtKey F.step) f (λ key. test)
+            → (key : K) → map_value K.eq (state self.new) key
+            ≡ option_filter test (map_value K.eq (state self.old) key) }
         // A key that the map has was there before.
         ensures keys { (key : K) → IsSome (map_value K.eq (state self.new) key)
             → IsSome (map_value K.eq (state self.old) key) }

@@ -1,10 +1,10 @@
 //! The calls of a map that go through all of its pairs.
-ghost use Rattle.std.specs.Prelude.{◌≡◌, ◌↔◌, ◌+◌, ◌<◌, ◌≤◌, length, drop, IsTrue, IsSome, Some};
+ghost use Rattle.std.specs.Prelude.{◌≡◌, ◌↔◌, ◌+◌, ◌<◌, ◌≤◌, Bool, filter, length, map, option_map, drop, IsTrue, IsSome, Some};
 ghost use Rattle.std.specs.Borrow.{MutBor};
 ghost use Rattle.std.specs.List.{FoldsTo};
 ghost use Rattle.ix_slottable.specs.SlotTableState.{value_at, IsHeld, held_count, entries_from};
 ghost use Rattle.ix_slottable.specs.SlotTableSteps.{slot_table_set, SlotTableRemove};
-ghost use Rattle.ix_slottable.specs.SlotTableCalls.{CalledOn, IsCallableOnEach, ChangesItem, RetainsItem};
+ghost use Rattle.ix_slottable.specs.SlotTableCalls.{CalledOn, IsCallableOnEach, ComputesTest, ComputesValue, ChangesItem, RetainsItem, option_filter};
 ghost use Rattle.ix_flatmap.specs.MapState.{HasDistinctKeys, map_value, map_keys, map_items, IsBound};
 ghost use Rattle.ix_flatmap.specs.MapSteps.{map_set, map_remove};
 ghost use Rattle.ix_flatmap.specs.MapCalls.{CallAtKey, TakesKey};
@@ -25,6 +25,13 @@ impl<K: Eq + Drop, V: Drop, S: Table<Pair<K, V>>, L: Table<Link>, I: KeyIndex<K,
         requires { IsCallableOnEach (CallAtKey F.step) (TakesKey F.pre) f (map_items self.old) }
         ensures calls { (last : F) × FoldsTo (ChangesItem (map_set K.eq) (CallAtKey F.step))
             (f, self.old) (map_items self.old) (last, self.new) }
+        // A closure that computes a new value, and stays as it was, computes each.
+        ensures mapped { (change : K × V → V)
+            → ComputesValue (CallAtKey F.step) f (λ key value. change (key, value))
+            → map_items self.new ≡ map (λ item. (item.0, change item)) (map_items self.old) }
+        // If it computes that of the old value alone, each key has the new one.
+        ensures values { (change : V → V) → ComputesValue (CallAtKey F.step) f (λ key. change)
+            → (key : K) → map_value K.eq self.new key ≡ option_map change (map_value K.eq self.old key) }
         ensures keys { map_keys self.new ≡ map_keys self.old }
         ensures free { self.new.free ≡ self.old.free }
         ensures distinct { HasDistinctKeys K.eq self.new }
@@ -46,6 +53,13 @@ impl<K: Eq + Drop, V: Drop, S: Table<Pair<K, V>>, L: Table<Link>, I: KeyIndex<K,
         requires { IsCallableOnEach (CallAtKey F.step) (TakesKey F.pre) f (map_items self.old) }
         ensures calls { (last : F) × FoldsTo (RetainsItem (map_set K.eq) (map_remove K.eq) (CallAtKey F.step))
             (f, self.old) (map_items self.old) (last, self.new) }
+        // A closure that computes a test, and stays as it was, keeps the pairs that pass it.
+        ensures filtered { (test : K × V → Bool)
+            → ComputesTest (CallAtKey F.step) f (λ key value. test (key, value))
+            → map_items self.new ≡ filter test (map_items self.old) }
+        // If it tests the value alone, each key has its value if that passes.
+        ensures values { (test : V → Bool) → ComputesTest (CallAtKey F.step) f (λ key. test)
+            → (key : K) → map_value K.eq self.new key ≡ option_filter test (map_value K.eq self.old key) }
         // A key that the map has was there before.
         ensures keys { (key : K) → IsSome (map_value K.eq self.new key)
             → IsSome (map_value K.eq self.old key) }

@@ -1,5 +1,5 @@
 //! The calls of a map that insert a key.
-ghost use Rattle.std.specs.Prelude.{◌≡◌, ◌≢◌, ◌+◌, ◌↔◌, [], length, Some, None, IsSome, IsOk, IsErr, IfOk, OnErr, false};
+ghost use Rattle.std.specs.Prelude.{◌≡◌, ◌≢◌, ◌+◌, ◌↔◌, [], length, Some, None, IsSome, IsOk, IsErr, IfOk, OnErr, false, unwrap_or};
 ghost use Rattle.std.specs.Borrow.{sem, LendsIfOk};
 ghost use Rattle.std.specs.Option.{UnwrapsOrElse};
 ghost use Rattle.std.specs.Result.{IfErr};
@@ -97,6 +97,9 @@ impl<K: Eq + Drop, V: Drop, S: Table<Pair<K, V>>, L: Table<Link>, I: KeyIndex<K,
             (LendsIfOk (the_row (pair.the_row K.row V.row) S.row L.row I.row ⟦<Pair<K, V> as Keyed>⟧ S.Table L.Table I.PairIndex)
             V.row self.entry result (map_replace K.eq self.old key) self.old) }
         ensures value { IfOk result (λ value. UnwrapsOrElse (map_value K.eq self.old key) (F.post f) value.now) }
+        // A closure that computes a value gives that one.
+        ensures computed { (new : V) → ((returned : V) → F.post f returned → returned ≡ new)
+            → IfOk result (λ value. value.now ≡ unwrap_or (map_value K.eq self.old key) new) }
         ensures full { IsErr result ↔ ((map_value K.eq self.old key ≡ None) × (self.old.free ≡ [])) }
         ensures returned { IfErr result (λ refused. refused ≡ key) }
         // Whatever value is written, the key has it, and any other key keeps its own.

@@ -7,6 +7,7 @@ use Rattle.ix_flatmap.specs.MapSteps.{map_set}
 use Rattle.ix_flatmap.specs.MapCalls.{CallAtKey, TakesKey}
 use Rattle.ix_slottable.proofs.SlotTableCalls.{Settles-slot_table_set, Visited, Visited-free, Visited-held}
 use Rattle.ix_flatmap.proofs.MapCalls.{AtPlace, SameKeys-set, SameKeys-both, map_keys-same, map_set-at, Visited-bounded, Visited-takes}
+use Rattle.ix_flatmap.proofs.FlatOutcomes.{map_items-map, map_value-map}
 use Rattle.ix_flatmap.proofs.map.retain.MetaMap+Pair+K+V+S+L+I.for_each_mut.Goals as goal
 
 pub loop-number-preserved-then-not-has_pair : goal.loop-number-preserved-then-not-has_pair
@@ -58,3 +59,11 @@ returns-clause-calls g c =
 
 pub returns-clause-keys : goal.returns-clause-keys
 returns-clause-keys g c = map_keys-same c.args.self.now c.loop-number.self c.loop-number.invariant.visited.capacity c.loop-number.invariant.keys
+
+pub returns-clause-mapped : goal.returns-clause-mapped
+returns-clause-mapped g c change changes =
+    map_items-map g.K.PartialEq.eq g.met.K.Eq.laws _ _ c.bound-number-end.ensures.distinct _ _ (goal.F-step g) (λ key value. change (key, value)) changes (returns-clause-calls g c).1 c.loop-number.invariant.visited.capacity
+
+pub returns-clause-values : goal.returns-clause-values
+returns-clause-values g c change changes =
+    map_value-map g.K.PartialEq.eq g.met.K.Eq.laws _ _ c.bound-number-end.ensures.distinct _ _ c.loop-number.invariant.distinct (goal.F-step g) change changes (returns-clause-calls g c).1

@@ -12,6 +12,7 @@ use Rattle.ix_flatmap.specs.MapCalls.{CallAtKey, TakesKey}
 use Rattle.ix_slottable.proofs.Counts.{Thins-refl, Thins-trans, Thins-retained}
 use Rattle.ix_slottable.proofs.SlotTableCalls.{slot_table_remove-slot_table_set, Settles-retained, Visited, Visited-free, Visited-held}
 use Rattle.ix_flatmap.proofs.MapCalls.{AtPlace, SameKeys-set, KeysWere, KeysWere-same, KeysWere-vacated, KeysWere-both, IsSome-map_value, map_retained, Visited-bounded, Visited-takes}
+use Rattle.ix_flatmap.proofs.FlatOutcomes.{map_items-filter, map_value-filter}
 use Rattle.ix_flatmap.proofs.map.retain.MetaMap+Pair+K+V+S+L+I.retain.Goals.{then-not-call_at, else-not-call_at}
 use Rattle.ix_flatmap.proofs.map.retain.MetaMap+Pair+K+V+S+L+I.retain.Goals as goal
 
@@ -91,3 +92,11 @@ returns-clause-calls g c =
 pub returns-clause-keys : goal.returns-clause-keys
 returns-clause-keys g c =
     IsSome-map_value g.K.PartialEq.eq g.met.K.Eq.laws c.args.self.now c.loop-number.self c.bound-number-end.ensures.distinct c.loop-number.invariant.keys
+
+pub returns-clause-filtered : goal.returns-clause-filtered
+returns-clause-filtered g c test tests =
+    map_items-filter g.K.PartialEq.eq g.met.K.Eq.laws _ _ c.bound-number-end.ensures.distinct _ _ (goal.F-step g) (λ key value. test (key, value)) tests (returns-clause-calls g c).1 c.loop-number.invariant.visited.capacity
+
+pub returns-clause-values : goal.returns-clause-values
+returns-clause-values g c test tests =
+    map_value-filter g.K.PartialEq.eq g.met.K.Eq.laws _ _ c.bound-number-end.ensures.distinct _ _ c.loop-number.invariant.distinct (goal.F-step g) test tests (returns-clause-calls g c).1

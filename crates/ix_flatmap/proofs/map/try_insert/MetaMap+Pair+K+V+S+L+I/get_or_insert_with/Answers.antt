@@ -1,5 +1,5 @@
 use Rattle.std.proofs.Common.{◌≡◌, Some, None, IsSome, inl, refl, sym, ap, ◌∙◌, subst}
-use Rattle.std.specs.Prelude.{option_map, slice_get}
+use Rattle.std.specs.Prelude.{option_map, slice_get, unwrap_or}
 use Rattle.std.specs.Option.{UnwrapsOrElse}
 use Rattle.ix_slottable.specs.SlotTableState.{IsFree}
 use Rattle.ix_flatmap.specs.MapState.{HasDistinctKeys, map_entry, map_value}
@@ -32,6 +32,7 @@ returns-in-Some g c =
       record {
         writes_back = tt;
         value = subst (λ o. UnwrapsOrElse o (goal.F-post g c.args.f) c.value_mut.result.now) (sym has) is;
+        computed = λ given computes. is ∙ ap (λ o. unwrap_or o given) (sym has);
         full = (λ err. absurd (cc), λ both. absurd (let no : Some entry.0.value ≡ None = sym has ∙ both.0 in cc));
         returned = tt;
         holds = λ written ok. ap (λ t. map_value eq t key) (map_replace-found eq laws s key (place, entry.0) found written) ∙ map_value-map_set eq laws s key written distinct (subst IsSome (sym has) refl);
@@ -77,6 +78,7 @@ returns g c =
       record {
         writes_back = tt;
         value = subst (λ o. UnwrapsOrElse o (goal.F-post g c.args.f) c.value_mut-in-Ok.result.now) (sym absent) (subst (goal.F-post g c.args.f) is c.f.ensures);
+        computed = λ given computes. computes _ (subst (goal.F-post g c.args.f) is c.f.ensures) ∙ ap (λ o. unwrap_or o given) (sym absent);
         full = (λ err. absurd (cc), λ both. absurd (let no : Some place ≡ None = sym first ∙ ap (λ keys. slice_get keys 0) both.1 in cc));
         returned = tt;
         holds = λ written ok. map_value-replace_new eq laws s key new place value none first free inserted distinct written (subst IsSome (sym holds) refl);
