@@ -62,10 +62,20 @@ module _ {F X : Type 0} (step : F → X → Bool → F → Type 0) (test : X →
       ap (λ (r : List X). reverse (map test r)) order ∙ ap reverse (map-append test (reverse xs) (x ∷ []))
       ∙ reverse-append (map test (reverse xs)) (test x ∷ []) ∙ ap (λ (r : List Bool). test x ∷ r) (reverse-map-reverse xs)
 
-  pub Retains-filter : (xs kept : List X) → Retains step f xs kept → kept ≡ filter (λ x. not (test x)) xs
+  Retains-filter : (xs kept : List X) → Retains step f xs kept → kept ≡ filter (λ x. not (test x)) xs
   Retains-filter xs kept (results, last, calls, is) =
       let all : reverse results ≡ map test xs = ap reverse (ResultsAt-map f (reverse xs) results last refl calls) ∙ reverse-map-reverse xs in
       is ∙ ap (λ (bs : List Bool). items_where_true (map not bs) xs) all ∙ items_where_true-filter xs
+
+not_not : (b : Bool) → not (not b) ≡ b
+not_not true = refl
+not_not false = refl
+
+pub Retains-kept : {F X : Type 0} (step : F → X → Bool → F → Type 0) (kept : X → Bool) (f : F) → ((x : X) (removed : Bool) (next : F) → step f x removed next → (not removed ≡ kept x) × (next ≡ f))
+    → (xs ys : List X) → Retains step f xs ys → ys ≡ filter kept xs
+Retains-kept step kept f says xs ys retains =
+    Retains-filter step (λ x. not (kept x)) f (λ x removed next called. let told = says x removed next called in (sym (not_not removed) ∙ ap not told.0, told.1)) xs ys retains
+    ∙ ap (λ test. filter test xs) (λ i x. not_not (kept x) i)
 
 module _ {X : Type 0} where
   -- the items from index i on are item i and those after it

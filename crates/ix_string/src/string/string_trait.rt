@@ -3,7 +3,6 @@ ghost use Rattle.std.specs.Prelude.{ℕ, ◌≡◌, ◌+◌, ◌-◌, ◌<◌, �
 ghost use Rattle.std.specs.Bool.{OnTrue, OnFalse};
 ghost use Rattle.std.specs.Str.Iter.{HasSubslice};
 ghost use Rattle.ix_tables.specs.Bounded.{Bounded, IsWithin, IsFull, with_items};
-ghost use Rattle.ix_tables.specs.Calls.{Computes};
 ghost use Rattle.ix_vector.specs.VectorSteps.{HasRoomFor, vec_remove, vec_pop, vec_last, vec_truncate};
 ghost use Rattle.ix_string.specs.Escape.{escaped_text};
 ghost use Rattle.ix_string.specs.Text.{IsText, text_eq, text_cmp, MatchesAt, IsFirstMatch, IsLastMatch, EndsWith};
@@ -303,9 +302,11 @@ pub trait String: Debug + Display + Eq + Ord + Hash {
     fn retain<F: FnMut(u8) -> bool>(&mut self, f: F)
         requires { IsCallableAtText F.step F.pre f }
         ensures string { Retains F.step f (bounded self.old).items (bounded self.new).items }
-        // A closure that computes a test, and stays as it was, removes the bytes that pass it.
-        ensures filtered { (test : ℕ → Bool) → Computes F.step f test
-            → (bounded self.new).items ≡ filter (λ byte. not (test byte)) (bounded self.old).items }
+        // A closure that computes whether a byte is kept, and stays as it was, leaves those that are.
+        ensures filtered { (kept : ℕ → Bool)
+            → ((byte : ℕ) (removed : Bool) (next : F) → F.step f byte removed next
+            → (not removed ≡ kept byte) × (next ≡ f))
+            → (bounded self.new).items ≡ filter kept (bounded self.old).items }
         ensures capacity { (bounded self.new).capacity ≡ (bounded self.old).capacity }
         ensures refused { (bounded self.new).items ≡ (bounded self.old).items
             → self.new ≡ self.old };

@@ -1,5 +1,5 @@
 use Rattle.std.proofs.Common.{rules}
-use Rattle.ix_string.proofs.Retaining.{All-Retains, Retains-filter}
+use Rattle.ix_string.proofs.Retaining.{All-Retains, Retains-kept}
 use Rattle.ix_string.specs.Text.{IsTextByte}
 use Rattle.ix_string.proofs.string.heap_string.HeapStringString.retain.Goals as goal
 
@@ -11,5 +11,5 @@ pub returns-clause-string : goal.returns-clause-string
 returns-clause-string g c = search rules
 
 pub returns-clause-filtered : goal.returns-clause-filtered
-returns-clause-filtered g c test tests =
-    Retains-filter (λ p x b q. goal.F-step g p x b q) test c.args.f tests _ _ (returns-clause-string g c)
+returns-clause-filtered g c kept says =
+    Retains-kept (λ p x b q. goal.F-step g p x b q) kept c.args.f says _ _ (returns-clause-string g c)

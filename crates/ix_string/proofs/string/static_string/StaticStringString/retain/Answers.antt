@@ -1,9 +1,9 @@
 use Rattle.std.proofs.Common.{◌≡◌, ◌+◌, ◌-◌, ◌≤◌, ◌++◌, length, length-drop, take, drop, replicate, sym, ap, ◌∙◌, arith}
-use Rattle.std.specs.Prelude.{filter, not}
+use Rattle.std.specs.Prelude.{filter}
 use Rattle.std.proofs.lemmas.Grind.{common_steps}
 use Rattle.std.proofs.lemmas.List.{take_at, drop_at}
 use Rattle.ix_string.specs.Text.{IsTextByte}
-use Rattle.ix_string.proofs.Retaining.{All-Retains, Retains-filter}
+use Rattle.ix_string.proofs.Retaining.{All-Retains, Retains-kept}
 use Rattle.ix_string.proofs.Texts.{IsPadded-shortened}
 use Rattle.ix_string.proofs.string.static_string.StaticStringString.retain.Goals as goal
 
@@ -28,7 +28,7 @@ invariant_of-self g c =
     IsPadded-shortened g.row.CAPACITY count n padded (drop n moved) c.close_gap_with_zeros.new.buffer was place shorter is (rw (shut, from_zero, front, behind))
 
 pub returns-clause-filtered : goal.returns-clause-filtered
-returns-clause-filtered g c test tests =
+returns-clause-filtered g c kept says =
     let was = c.self.invariant in
     let padded = c.self.inside.bytes in
     let count = c.self.inside.count in
@@ -43,5 +43,5 @@ returns-clause-filtered g c test tests =
     let shorter : length (drop n moved) ≡ count - n = omega (arith, length-drop n moved, whole) in
     let left : take (count - n) c.close_gap_with_zeros.new.buffer ≡ drop n moved = rw (shut, from_zero, front) (take_at (drop n moved) _ (count - n) shorter) in
     left
-    ∙ Retains-filter (λ p x b q. goal.F-step g p x b q) test c.args.f tests text (drop n moved) c.move_kept_back-start.ensures.kept
-    ∙ ap (filter (λ byte. not (test byte))) c.self.view_is
+    ∙ Retains-kept (λ p x b q. goal.F-step g p x b q) kept c.args.f says text (drop n moved) c.move_kept_back-start.ensures.kept
+    ∙ ap (filter kept) c.self.view_is
