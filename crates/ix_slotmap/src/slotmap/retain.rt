@@ -1,11 +1,11 @@
 //! The calls of a slot map that go through all of its values.
-ghost use Rattle.std.specs.Prelude.{◌≡◌, ◌≢◌, ◌+◌, ◌<◌, ◌≤◌, ◌↔◌, ◌⊎◌, ℕ, length, map, None, IsSome};
+ghost use Rattle.std.specs.Prelude.{◌≡◌, ◌≢◌, ◌+◌, ◌<◌, ◌≤◌, ◌↔◌, ◌⊎◌, ℕ, length, map, None, IsSome, Bool, option_map};
 ghost use Rattle.std.specs.List.{FoldsTo};
 ghost use Rattle.std.specs.Map.{keys_of};
 ghost use Rattle.ix_slottable.specs.SlotTableState.{value_at};
 ghost use Rattle.ix_slotmap.specs.Generations.{SlotKey, generation_at, key_at, place_value, slot_map_value, IsDead, retired_count, slot_map_len, slot_map_entries};
 ghost use Rattle.ix_slotmap.specs.SlotMapSteps.{slot_map_set, slot_map_remove, slot_map_clear, SlotMapRemove};
-ghost use Rattle.ix_slottable.specs.SlotTableCalls.{IsCallableOnEach, ChangesItem, RetainsItem};
+ghost use Rattle.ix_slottable.specs.SlotTableCalls.{IsCallableOnEach, ComputesTest, ComputesValue, ChangesItem, RetainsItem, option_filter};
 
 use crate::slotmap::{Keys, MetaSlotMap, SlotMapKey, Values};
 use ix_slottable::slottable::Link;
@@ -61,6 +61,9 @@ impl<T, S: Table<Option<T>>, L: Table<Link>, G: Table<u64>> MetaSlotMap<Option<T
         requires { IsCallableOnEach F.step F.pre f (slot_map_entries self.old) }
         ensures calls { (last : F) × FoldsTo (ChangesItem slot_map_set F.step)
             (f, self.old) (slot_map_entries self.old) (last, self.new) }
+        // A closure that computes a new value of the old one, and stays as it was, computes each.
+        ensures mapped { (change : T → T) → ComputesValue F.step f (λ key. change) → (key : SlotKey)
+            → slot_map_value self.new key ≡ option_map change (slot_map_value self.old key) }
         ensures keys { (key : SlotKey) →
             IsSome (slot_map_value self.new key) ↔ IsSome (slot_map_value self.old key) }
         ensures free { self.new.slots.free ≡ self.old.slots.free }
@@ -86,6 +89,9 @@ impl<T, S: Table<Option<T>>, L: Table<Link>, G: Table<u64>> MetaSlotMap<Option<T
         requires { IsCallableOnEach F.step F.pre f (slot_map_entries self.old) }
         ensures calls { (last : F) × FoldsTo (RetainsItem slot_map_set slot_map_remove F.step)
             (f, self.old) (slot_map_entries self.old) (last, self.new) }
+        // A closure that computes a test of the value, and stays as it was, keeps the values that pass it.
+        ensures filtered { (test : T → Bool) → ComputesTest F.step f (λ key. test) → (key : SlotKey)
+            → slot_map_value self.new key ≡ option_filter test (slot_map_value self.old key) }
         // A key that was held still is, or it is dead.
         ensures removed { (key : SlotKey) → IsSome (slot_map_value self.old key)
             → IsSome (slot_map_value self.new key) ⊎ IsDead self.new key }

@@ -1,10 +1,11 @@
-use Rattle.std.proofs.Common.{refl, subst, arith}
+use Rattle.std.proofs.Common.{◌≤◌, length, refl, subst, arith}
 use Rattle.std.proofs.lemmas.Bool.{iff_false}
 use Rattle.ix_slotmap.specs.SlotMapSteps.{slot_map_set}
 use Rattle.ix_slottable.specs.SlotTableCalls.{CalledOn, ChangesItem}
 use Rattle.ix_tables.proofs.Places.{none_of_not_some}
 use Rattle.ix_slottable.proofs.SlotTableCalls.{CalledOn-from_step}
-use Rattle.ix_slotmap.proofs.SlotMapCalls.{held-slot_map_set_at, IsDead-slot_map_set_at, SettlesPlace-slot_map_set_at, VisitedPlaces-without, VisitedPlaces-with, VisitedPlaces-callable}
+use Rattle.ix_slotmap.proofs.SlotMapCalls.{held-slot_map_set_at, IsDead-slot_map_set_at, SettlesPlace-slot_map_set_at, VisitedPlaces-without, VisitedPlaces-with, VisitedPlaces-callable, VisitedPlaces-all}
+use Rattle.ix_slotmap.proofs.MapOutcomes.{ChangesItem-keys_map}
 use Rattle.ix_slotmap.proofs.slotmap.retain.MetaSlotMap+Option+T+S+L+G.for_each_mut.Goals as goal
 
 pub loop-index-preserved-then-not-has_value : goal.loop-index-preserved-then-not-has_value
@@ -42,3 +43,10 @@ loop-index-preserved g c =
       generations = at.generations;
       dead = λ key dead. IsDead-slot_map_set_at c.loop-index.self c.loop-index.index value left c.value_mut.ensures.value key (at.dead key dead);
     }
+
+pub returns-clause-mapped : goal.returns-clause-mapped
+returns-clause-mapped g c change changes =
+    let end = c.loop-index-test.false in
+    let all = c.capacity-index-end.ensures.value in
+    let past : length c.args.self.now.slots.values ≤ c.loop-index.index = omega (arith, end, all) in
+    ChangesItem-keys_map _ _ _ _ (goal.F-step g) (λ key. change) changes (VisitedPlaces-all (ChangesItem slot_map_set (goal.F-step g)) _ _ _ _ _ c.loop-index.invariant.visited past)

@@ -1,12 +1,13 @@
-use Rattle.std.proofs.Common.{◌≡◌, IsSome, inl, inr, refl, sym, ap, ◌∙◌, subst, arith}
+use Rattle.std.proofs.Common.{◌≡◌, ◌≤◌, length, IsSome, inl, inr, refl, sym, ap, ◌∙◌, subst, arith}
 use Rattle.std.specs.Prelude.{if◌then◌else◌, Bool}
 use Rattle.std.proofs.lemmas.Bool.{iff_false}
 use Rattle.ix_slotmap.specs.SlotMapSteps.{slot_map_set_at, slot_map_set, slot_map_remove, slot_map_remove_at}
 use Rattle.ix_slottable.specs.SlotTableCalls.{CalledOn, RetainsItem}
 use Rattle.ix_tables.proofs.Places.{none_of_not_some}
 use Rattle.ix_slottable.proofs.SlotTableCalls.{CalledOn-from_step}
-use Rattle.ix_slotmap.proofs.SlotMapCalls.{place_value-slot_map_set_at_same, slot_map_remove_at-slot_map_set_at, SettlesPlace-retained, VisitedPlaces-without, VisitedPlaces-with, VisitedPlaces-callable, Outlives, Outlives-slot_map_set_at, Outlives-removed, Outlives-both}
+use Rattle.ix_slotmap.proofs.SlotMapCalls.{place_value-slot_map_set_at_same, slot_map_remove_at-slot_map_set_at, SettlesPlace-retained, VisitedPlaces-without, VisitedPlaces-with, VisitedPlaces-callable, Outlives, Outlives-slot_map_set_at, Outlives-removed, Outlives-both, VisitedPlaces-all}
 use Rattle.ix_slotmap.proofs.SlotMapCounts.{ThinsMap-trans, ThinsMap-retained}
+use Rattle.ix_slotmap.proofs.MapOutcomes.{RetainsItem-keys_filter}
 use Rattle.ix_slotmap.proofs.slotmap.retain.MetaSlotMap+Option+T+S+L+G.retain.Goals.{then-not-f, else-not-f}
 use Rattle.ix_slotmap.proofs.slotmap.retain.MetaSlotMap+Option+T+S+L+G.retain.Goals as goal
 
@@ -62,3 +63,10 @@ loop-index-preserved g c =
       dead = λ key dead. settled.1.dead key (at.dead key dead);
       thins = ThinsMap-trans _ _ _ at.thins (ThinsMap-retained now index value left c.f.result _ here settled.0);
     }
+
+pub returns-clause-filtered : goal.returns-clause-filtered
+returns-clause-filtered g c test tests =
+    let end = c.loop-index-test.false in
+    let all = c.capacity-index-end.ensures.value in
+    let past : length c.args.self.now.slots.values ≤ c.loop-index.index = omega (arith, end, all) in
+    RetainsItem-keys_filter _ _ _ _ (goal.F-step g) (λ key. test) tests (VisitedPlaces-all (RetainsItem slot_map_set slot_map_remove (goal.F-step g)) _ _ _ _ _ c.loop-index.invariant.visited past)
