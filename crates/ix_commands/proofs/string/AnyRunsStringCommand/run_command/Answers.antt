@@ -4,7 +4,7 @@ use Rattle.std.specs.List.{filter}
 use Rattle.ix_commands.specs.Replies.{key_reply}
 use Rattle.ix_commands.specs.declared.reply.Reply.TheVariants as reply
 use Rattle.ix_commands.proofs.StringMatches.{IsFirstMatch-match_indexes, IsLastMatch-match_indexes}
-use Rattle.ix_commands.proofs.StringRetain.{Retains-filter, is-with_items}
+use Rattle.ix_commands.proofs.StringRetain.{is-with_items}
 use Rattle.ix_commands.proofs.StringTests.{prefix-test, suffix-test, prefix-stripped, suffix-stripped}
 use Rattle.ix_commands.proofs.string.AnyRunsStringCommand.run_command.Goals as goal
 
@@ -43,5 +43,5 @@ returns-in-StripSuffix-clause-model g c =
 pub returns-in-Drop-clause-model : goal.returns-in-Drop-clause-model
 returns-in-Drop-clause-model g c =
     let old = g.S.String.bounded c.args.self.now in
-    let kept = Retains-filter _ (λ (b : ℕ). b == c.in-Drop.unwanted) _ (λ x b f k. search rules) _ _ c.retain.ensures.string in
+    let kept = c.retain.ensures.filtered (λ (b : ℕ). not (b == c.in-Drop.unwanted)) (λ x b f k. search rules) in
     rw c.in-Drop.is (is-with_items (g.S.String.bounded c.retain.new.self) old (filter (λ b. not (b == c.in-Drop.unwanted)) old.items) kept c.retain.ensures.capacity)
