@@ -5,3 +5,7 @@
 pub mod cells;
 /// How many items a container holds, how many more fit, and the capacity of inline kinds.
 pub mod counts;
+//! What callers can conclude: each function is proved by its contract's search alone, with no proof file.
+
+/// Calls with a closure that computes a test or a value.
+pub mod closures;
