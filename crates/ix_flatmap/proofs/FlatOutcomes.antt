@@ -8,7 +8,7 @@ use Rattle.std.proofs.lemmas.Bool.{cases_eq}
 use Rattle.ix_tables.specs.Places.{place_at}
 use Rattle.ix_slottable.specs.SlotTableState.{SlotTableState, value_at, entries, entries_from}
 use Rattle.ix_slottable.specs.SlotTableSteps.{slot_table_set, slot_table_remove}
-use Rattle.ix_slottable.specs.SlotTableCalls.{ComputesTest, ComputesValue, ChangesItem, RetainsItem, option_filter}
+use Rattle.ix_slottable.specs.SlotTableCalls.{CalledOn, ComputesTest, ComputesValue, ChangesItem, RetainsItem, option_filter}
 use Rattle.ix_slottable.proofs.SlotTableCalls.{Settles-slot_table_set, Settles-retained}
 use Rattle.ix_slottable.proofs.Outcomes.{becomes_at_each, value_at-retained}
 use Rattle.ix_flatmap.specs.MapState.{HasDistinctKeys, map_entry, map_value, map_item, map_items}
@@ -66,9 +66,10 @@ module _ {T : Type 0} where
         ap₂ (λ x xs. x ∷ xs) (same start value) (entries_from-map change changed same (start + 1) places)
 
 module _ {K V : Type 0} (eq : K → K → Bool) (laws : IsEquivalence eq) where
-  -- the pair with another value
-  abbrev revalued : (K → V → V) → Pair K V → Pair K V
-  revalued change pair = record pair { value = change pair.key pair.value }
+  -- the pair that a key with another value makes
+  abbrev revalued : (K × V → K × V) → Pair K V → Pair K V
+  revalued change pair =
+      let changed = change (pair.key, pair.value) in record { key = changed.0; value = changed.1 }
 
   HasDistinctKeys-retained : (s : SlotTableState (Pair K V)) (place : ℕ) (pair : Pair K V) (left : V) (keep : Bool) (new : SlotTableState (Pair K V)) → HasDistinctKeys eq s → value_at s place ≡ Some pair
       → new ≡ (if keep then slot_table_set s place (record pair { value = left }) else slot_table_remove s place) → HasDistinctKeys eq new
@@ -111,7 +112,8 @@ module _ {K V : Type 0} (eq : K → K → Bool) (laws : IsEquivalence eq) where
           (λ i. places_retained i ∙ place_at-map (option_filter passes) refl s.values i))
           ∙ entries_from-filter map_item passes (λ item. test item.0 item.1) (λ entry. refl) 0 s.values
 
-    module _ (step : F → Bor K → MutBor V → Unit {0} → MutBor V → F → Type 0) (change : K → V → V) (changes : ComputesValue (CallAtKey step) f change)
+    module _ (step : F → Bor K → MutBor V → Unit {0} → MutBor V → F → Type 0) (change : K × V → K × V)
+        (changes : (key : K) (value left : V) (next : F) → CalledOn (CallAtKey step) f key value tt left next → ((key, left) ≡ change (key, value)) × (next ≡ f))
         (folds : FoldsTo (ChangesItem (map_set eq) (CallAtKey step)) (f, s) (map_items s) (last, new)) where
       places_changed : (place : ℕ) → value_at new place ≡ option_map (revalued change) (value_at s place)
       places_changed =
@@ -126,15 +128,15 @@ module _ {K V : Type 0} (eq : K → K → Bool) (laws : IsEquivalence eq) where
             good = HasDistinctKeys-retained t place pair called.0 true q.1 good at is;
             kept = (Settles-slot_table_set t place (record pair { value = called.0 }) q.1 is).kept;
             becomes = value_at-retained t place pair (record pair { value = called.0 }) true q.1 at is
-                ∙ ap (λ (left : V). Some (record pair { value = left })) says.0 ∙ sym (ap (option_map (revalued change)) at);
+                ∙ ap (λ (item : K × V). let p : Pair K V = record { key = item.0; value = item.1 } in Some p) says.0 ∙ sym (ap (option_map (revalued change)) at);
           })
           s.values s last new distinct (λ place. refl) folds
 
-      pub map_items-map : length new.values ≡ length s.values → map_items new ≡ map (λ item. (item.0, change item.0 item.1)) (map_items s)
+      pub map_items-map : length new.values ≡ length s.values → map_items new ≡ map change (map_items s)
       map_items-map len =
           ap (λ places. map map_item (entries_from 0 places)) (places_same new.values (map (option_map (revalued change)) s.values) (len ∙ sym (length-map_places (option_map (revalued change)) s.values))
           (λ i. places_changed i ∙ place_at-map (option_map (revalued change)) refl s.values i))
-          ∙ entries_from-map map_item (revalued change) (λ item. (item.0, change item.0 item.1)) (λ key pair. refl) 0 s.values
+          ∙ entries_from-map map_item (revalued change) change (λ key pair. refl) 0 s.values
 
     module _ (held : HasDistinctKeys eq new) where
       -- a key has its value where that passes
@@ -183,16 +185,17 @@ module _ {K V : Type 0} (eq : K → K → Bool) (laws : IsEquivalence eq) where
 
       module _ (step : F → Bor K → MutBor V → Unit {0} → MutBor V → F → Type 0) (change : V → V) (changes : ComputesValue (CallAtKey step) f (λ key. change))
           (folds : FoldsTo (ChangesItem (map_set eq) (CallAtKey step)) (f, s) (map_items s) (last, new)) where
-        value_changed : (place : ℕ) → value_at new place ≡ option_map (revalued (λ key. change)) (value_at s place)
-        value_changed = places_changed step (λ key. change) changes folds
+        value_changed : (place : ℕ) → value_at new place ≡ option_map (revalued (λ item. (item.0, change item.1))) (value_at s place)
+        value_changed =
+            places_changed step (λ item. (item.0, change item.1)) (λ key value left next called. let says = changes key value left next called in (ap (λ v. (key, v)) says.0, says.1)) folds
 
         pub map_value-map : (key : K) → map_value eq new key ≡ option_map change (map_value eq s key)
         map_value-map key = go (map_entry eq s key) refl
           where
-            changed_from : (content : Option (Pair K V)) (pair : Pair K V) → option_map (revalued (λ key. change)) content ≡ Some pair → (was : Pair K V) × (content ≡ Some was) × (was.key ≡ pair.key)
+            changed_from : (content : Option (Pair K V)) (pair : Pair K V) → option_map (revalued (λ item. (item.0, change item.1))) content ≡ Some pair → (was : Pair K V) × (content ≡ Some was) × (was.key ≡ pair.key)
             changed_from None pair is = absurd (cc)
             changed_from (Some was) pair is =
-                let same : revalued (λ key. change) was ≡ pair = cc in
+                let same : revalued (λ item. (item.0, change item.1)) was ≡ pair = cc in
                 (was, refl, ap (λ (p : Pair K V). p.key) same)
 
             go : (found : Option (ℕ × Pair K V)) → map_entry eq s key ≡ found → map_value eq new key ≡ option_map change (map_value eq s key)
@@ -207,5 +210,5 @@ module _ {K V : Type 0} (eq : K → K → Bool) (laws : IsEquivalence eq) where
                     let no : true ≡ false = sym is.equal ∙ ap (λ k. eq k key) (sym was.2) ∙ differs in absurd (cc)
             go (Some entry) some =
                 let is = IsEntry-map_entry eq s key entry some in
-                map_value-IsEntry eq laws new key entry.0 (revalued (λ key. change) entry.1) held (value_changed entry.0 ∙ ap (option_map (revalued (λ key. change))) is.at) is.equal
+                map_value-IsEntry eq laws new key entry.0 (revalued (λ item. (item.0, change item.1)) entry.1) held (value_changed entry.0 ∙ ap (option_map (revalued (λ item. (item.0, change item.1)))) is.at) is.equal
                 ∙ sym (ap (λ (e : Option (ℕ × Pair K V)). option_map change (option_map (λ (e : ℕ × Pair K V). e.1.value) e)) some)

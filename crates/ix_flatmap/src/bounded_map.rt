@@ -9,7 +9,7 @@ ghost use Rattle.ix_slottable.specs.SlotTableSteps.{slot_table_clear};
 ghost use Rattle.ix_flatmap.specs.MapState.{HasDistinctKeys, map_entry, map_value, map_keys, map_item, map_items};
 ghost use Rattle.ix_flatmap.specs.MapCompared.{is_same_item, has_each};
 ghost use Rattle.ix_flatmap.specs.MapCalls.{CallAtKey, TakesKey};
-ghost use Rattle.ix_slottable.specs.SlotTableCalls.{IsCallableOnEach, ComputesTest, ComputesValue, ChangesItem, RetainsItem, option_filter};
+ghost use Rattle.ix_slottable.specs.SlotTableCalls.{CalledOn, IsCallableOnEach, ComputesTest, ComputesValue, ChangesItem, RetainsItem, option_filter};
 ghost use Rattle.ix_flatmap.specs.MapSteps.{map_insert_result, map_insert, map_replace, map_set, map_remove};
 ghost use Rattle.ix_flatmap.specs.BoundedMap.{map_lends};
 ghost use Rattle.ix_flatmap.specs.declared.map.pair.Pair.{Pair};
@@ -137,10 +137,11 @@ pub trait BoundedMap<K: Eq, V>: Sized {
         ensures calls { (last : F) × FoldsTo (ChangesItem (map_set K.eq) (CallAtKey F.step))
             (f, state self.old) (map_items (state self.old)) (last, state self.new) }
         // A closure that computes a new value, and stays as it was, computes each.
-        ensures mapped { (change : K × V → V)
-            → ComputesValue (CallAtKey F.step) f (λ key value. change (key, value))
-            → map_items (state self.new)
-            ≡ map (λ item. (item.0, change item)) (map_items (state self.old)) }
+        ensures mapped { (change : K × V → K × V)
+            → ((key : K) (value left : V) (next : F)
+            → CalledOn (CallAtKey F.step) f key value tt left next
+            → ((key, left) ≡ change (key, value)) × (next ≡ f))
+            → map_items (state self.new) ≡ map change (map_items (state self.old)) }
         // If it computes that of the old value alone, each key has the new one.
         ensures values { (change : V → V) → ComputesValue (CallAtKey F.step) f (λ key. change)
             → (key : K) → map_value K.eq (state self.new) key

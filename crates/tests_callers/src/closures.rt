@@ -127,11 +127,13 @@ pub fn flat_without<M: BoundedMap<u64, u64>>(map: &mut M, unwanted: u64)
 }
 
 /// Halves each value of a flat map.
-pub fn flat_halve(map: &mut FixedSizeFlatMap<u64, u64, 8>)
-    ensures { (key : ℕ) → map_value nat_eq map.new key
-        ≡ option_map (λ value. value / 2) (map_value nat_eq map.old key) }
+pub fn flat_halve(pairs: &mut FixedSizeFlatMap<u64, u64, 8>)
+    ensures values { (key : ℕ) → map_value nat_eq pairs.new key
+        ≡ option_map (λ value. value / 2) (map_value nat_eq pairs.old key) }
+    ensures items { map_items pairs.new
+        ≡ map (λ item. (item.0, item.1 / 2)) (map_items pairs.old) }
 {
-    map.for_each_mut(|_, value| *value /= 2);
+    pairs.for_each_mut(|_, value| *value /= 2);
 }
 
 /// Returns the value of a key, which is 0 if it is new; or `None` if there is no room.

@@ -26,9 +26,11 @@ impl<K: Eq + Drop, V: Drop, S: Table<Pair<K, V>>, L: Table<Link>, I: KeyIndex<K,
         ensures calls { (last : F) × FoldsTo (ChangesItem (map_set K.eq) (CallAtKey F.step))
             (f, self.old) (map_items self.old) (last, self.new) }
         // A closure that computes a new value, and stays as it was, computes each.
-        ensures mapped { (change : K × V → V)
-            → ComputesValue (CallAtKey F.step) f (λ key value. change (key, value))
-            → map_items self.new ≡ map (λ item. (item.0, change item)) (map_items self.old) }
+        ensures mapped { (change : K × V → K × V)
+            → ((key : K) (value left : V) (next : F)
+            → CalledOn (CallAtKey F.step) f key value tt left next
+            → ((key, left) ≡ change (key, value)) × (next ≡ f))
+            → map_items self.new ≡ map change (map_items self.old) }
         // If it computes that of the old value alone, each key has the new one.
         ensures values { (change : V → V) → ComputesValue (CallAtKey F.step) f (λ key. change)
             → (key : K) → map_value K.eq self.new key ≡ option_map change (map_value K.eq self.old key) }

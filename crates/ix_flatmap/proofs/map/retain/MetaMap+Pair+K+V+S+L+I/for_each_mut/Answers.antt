@@ -62,7 +62,7 @@ returns-clause-keys g c = map_keys-same c.args.self.now c.loop-number.self c.loo
 
 pub returns-clause-mapped : goal.returns-clause-mapped
 returns-clause-mapped g c change changes =
-    map_items-map g.K.PartialEq.eq g.met.K.Eq.laws _ _ c.bound-number-end.ensures.distinct _ _ (goal.F-step g) (λ key value. change (key, value)) changes (returns-clause-calls g c).1 c.loop-number.invariant.visited.capacity
+    map_items-map g.K.PartialEq.eq g.met.K.Eq.laws _ _ c.bound-number-end.ensures.distinct _ _ (goal.F-step g) change changes (returns-clause-calls g c).1 c.loop-number.invariant.visited.capacity
 
 pub returns-clause-values : goal.returns-clause-values
 returns-clause-values g c change changes =
