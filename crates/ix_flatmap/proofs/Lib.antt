@@ -3,6 +3,6 @@ pub mod MapCalls
 pub mod MapCopies
 pub mod MapEntries
 pub mod MapEqual
-pub mod FlatOutcomes
+pub mod MapOutcomes
 pub mod MapSteps
 mod WorkedFlatMaps

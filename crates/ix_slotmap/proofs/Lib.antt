@@ -2,7 +2,7 @@ pub mod Generations
 pub mod SlotMapCounts
 pub mod SlotMapDrains
 pub mod SlotMapEntries
-pub mod MapOutcomes
+pub mod SlotMapOutcomes
 pub mod SlotMapCalls
 pub mod SlotMapCopies
 pub mod WordTables

@@ -3,9 +3,7 @@
 
 /// Structs in cells, and what holds of all values of a cell.
 pub mod cells;
-/// How many items a container holds, how many more fit, and the capacity of inline kinds.
-pub mod counts;
-//! What callers can conclude: each function is proved by its contract's search alone, with no proof file.
-
 /// Calls with a closure that computes a test or a value.
 pub mod closures;
+/// How many items a container holds, how many more fit, and the capacity of inline kinds.
+pub mod counts;

@@ -1,12 +1,15 @@
-//! Paths of 0.10.0, in code and in clauses, to what lies in other crates now.
+//! Paths of 0.10.0, in code and in clauses, to what lies in other crates now, and its names of what has another name.
 ghost use Rattle.std.specs.Prelude.{◌≡◌, ◌↔◌, Err, IsSome, IsOkUnless, nat_eq};
-ghost use Rattle.ix_maps.specs.MapState.{map_value};
-ghost use Rattle.ix_maps.specs.declared.flatmap.map_error.MapError.TheVariants.{KeyAlreadyExists};
+ghost use Rattle.ix_maps.specs.FlatState.{flat_value};
+ghost use Rattle.ix_maps.specs.Generations.{map_value};
+ghost use Rattle.ix_maps.specs.SlotMapSteps.{map_remove};
+ghost use Rattle.ix_maps.specs.SlotState.{held_count, slot_new};
+ghost use Rattle.ix_maps.specs.declared.flatmap.MapError.TheVariants.{KeyAlreadyExists};
 ghost use Rattle.ix_cells.specs.declared.vector.modification_error.VectorModificationError.TheVariants.{InsertWouldExceedCapacity};
 
 use ix_cells::vector::{StaticVec, Vector, VectorModificationError};
-use ix_maps::flatmap::{self, FixedSizeFlatMap, MapError};
-use ix_maps::{queue, slottable};
+use ix_maps::flatmap::{self, FixedSizeFlatMap, FlatMapError};
+use ix_maps::{FixedSizeSlotMap, SlotMapKey, queue, slottable};
 use std::test::Fail;
 use test_support::Findings;
 
@@ -18,10 +21,28 @@ fn append(vector: &mut StaticVec<u8, 1>, item: u8) -> Result<(), VectorModificat
 }
 
 /// Inserts a key.
-fn insert(map: &mut FixedSizeFlatMap<u8, u8, 2>, key: u8) -> Result<(), MapError>
-    ensures { result ≡ Err KeyAlreadyExists ↔ IsSome (map_value nat_eq map.old key) }
+fn insert(map: &mut FixedSizeFlatMap<u8, u8, 2>, key: u8) -> Result<(), FlatMapError>
+    ensures { result ≡ Err KeyAlreadyExists ↔ IsSome (flat_value nat_eq map.old key) }
 {
     map.insert(key, 1)
+}
+
+/// Removes a key.
+fn remove(map: &mut FixedSizeSlotMap<u8, 2>, key: SlotMapKey) -> Option<u8>
+    ensures value { result ≡ map_value map.old key }
+    ensures map { map.new ≡ map_remove map.old key }
+{
+    map.remove(key)
+}
+
+/// Returns an empty table, and the number of its values.
+fn empty() -> (slottable::FixedSizeSlotTable<u8, 2>, usize)
+    ensures table { result.0 ≡ slot_new 2 }
+    ensures len { result.1 ≡ held_count result.0 }
+{
+    let table = slottable::FixedSizeSlotTable::new();
+    let len = table.len();
+    (table, len)
 }
 
 /// Returns the first of the items that are still to come.
@@ -43,7 +64,7 @@ fn errors_of_vectors_and_flat_maps() -> Result<(), Fail> {
     findings.expect_same(insert(&mut map, 7), Ok(()), "a key");
     findings.expect_same(
         insert(&mut map, 7),
-        Err(MapError::KeyAlreadyExists),
+        Err(FlatMapError::KeyAlreadyExists),
         "an equal key",
     );
     findings.verdict()
@@ -55,8 +76,13 @@ fn iterators_and_keys() -> Result<(), Fail> {
     let mut queue = queue::FixedSizeQueue::<u8, 2>::new();
     findings.expect_same(queue.push(3), true, "an item of a queue");
     findings.expect_same(first_of(queue.iter()), Some(3), "the front item");
-    let mut table = slottable::FixedSizeSlotTable::<u8, 2>::new();
+    let (mut table, len) = empty();
+    findings.expect_same(len, 0, "an empty table");
     let key = table.insert(5);
     findings.expect_same(key, Some(slottable::SlotTableKey::new(0)), "the first key");
+    let mut map = FixedSizeSlotMap::<u8, 2>::new();
+    if let Some(key) = map.insert(6) {
+        findings.expect_same(remove(&mut map, key), Some(6), "a value");
+    }
     findings.verdict()
 }

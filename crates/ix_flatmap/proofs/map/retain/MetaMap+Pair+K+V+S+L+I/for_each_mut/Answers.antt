@@ -7,7 +7,7 @@ use Rattle.ix_flatmap.specs.MapSteps.{map_set}
 use Rattle.ix_flatmap.specs.MapCalls.{CallAtKey, TakesKey}
 use Rattle.ix_slottable.proofs.SlotTableCalls.{Settles-slot_table_set, Visited, Visited-free, Visited-held}
 use Rattle.ix_flatmap.proofs.MapCalls.{AtPlace, SameKeys-set, SameKeys-both, map_keys-same, map_set-at, Visited-bounded, Visited-takes}
-use Rattle.ix_flatmap.proofs.FlatOutcomes.{map_items-map, map_value-map}
+use Rattle.ix_flatmap.proofs.MapOutcomes.{map_items-map, map_value-map}
 use Rattle.ix_flatmap.proofs.map.retain.MetaMap+Pair+K+V+S+L+I.for_each_mut.Goals as goal
 
 pub loop-number-preserved-then-not-has_pair : goal.loop-number-preserved-then-not-has_pair

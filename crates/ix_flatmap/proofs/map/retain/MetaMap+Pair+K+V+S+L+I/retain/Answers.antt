@@ -12,7 +12,7 @@ use Rattle.ix_flatmap.specs.MapCalls.{CallAtKey, TakesKey}
 use Rattle.ix_slottable.proofs.Counts.{Thins-refl, Thins-trans, Thins-retained}
 use Rattle.ix_slottable.proofs.SlotTableCalls.{slot_table_remove-slot_table_set, Settles-retained, Visited, Visited-free, Visited-held}
 use Rattle.ix_flatmap.proofs.MapCalls.{AtPlace, SameKeys-set, KeysWere, KeysWere-same, KeysWere-vacated, KeysWere-both, IsSome-map_value, map_retained, Visited-bounded, Visited-takes}
-use Rattle.ix_flatmap.proofs.FlatOutcomes.{map_items-filter, map_value-filter}
+use Rattle.ix_flatmap.proofs.MapOutcomes.{map_items-filter, map_value-filter}
 use Rattle.ix_flatmap.proofs.map.retain.MetaMap+Pair+K+V+S+L+I.retain.Goals.{then-not-call_at, else-not-call_at}
 use Rattle.ix_flatmap.proofs.map.retain.MetaMap+Pair+K+V+S+L+I.retain.Goals as goal
 

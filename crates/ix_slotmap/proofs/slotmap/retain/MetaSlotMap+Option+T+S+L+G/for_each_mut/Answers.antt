@@ -5,7 +5,7 @@ use Rattle.ix_slottable.specs.SlotTableCalls.{CalledOn, ChangesItem}
 use Rattle.ix_tables.proofs.Places.{none_of_not_some}
 use Rattle.ix_slottable.proofs.SlotTableCalls.{CalledOn-from_step}
 use Rattle.ix_slotmap.proofs.SlotMapCalls.{held-slot_map_set_at, IsDead-slot_map_set_at, SettlesPlace-slot_map_set_at, VisitedPlaces-without, VisitedPlaces-with, VisitedPlaces-callable, VisitedPlaces-all}
-use Rattle.ix_slotmap.proofs.MapOutcomes.{ChangesItem-keys_map}
+use Rattle.ix_slotmap.proofs.SlotMapOutcomes.{ChangesItem-keys_map}
 use Rattle.ix_slotmap.proofs.slotmap.retain.MetaSlotMap+Option+T+S+L+G.for_each_mut.Goals as goal
 
 pub loop-index-preserved-then-not-has_value : goal.loop-index-preserved-then-not-has_value

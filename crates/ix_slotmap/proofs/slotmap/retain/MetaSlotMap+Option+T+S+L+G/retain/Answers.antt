@@ -7,7 +7,7 @@ use Rattle.ix_tables.proofs.Places.{none_of_not_some}
 use Rattle.ix_slottable.proofs.SlotTableCalls.{CalledOn-from_step}
 use Rattle.ix_slotmap.proofs.SlotMapCalls.{place_value-slot_map_set_at_same, slot_map_remove_at-slot_map_set_at, SettlesPlace-retained, VisitedPlaces-without, VisitedPlaces-with, VisitedPlaces-callable, Outlives, Outlives-slot_map_set_at, Outlives-removed, Outlives-both, VisitedPlaces-all}
 use Rattle.ix_slotmap.proofs.SlotMapCounts.{ThinsMap-trans, ThinsMap-retained}
-use Rattle.ix_slotmap.proofs.MapOutcomes.{RetainsItem-keys_filter}
+use Rattle.ix_slotmap.proofs.SlotMapOutcomes.{RetainsItem-keys_filter}
 use Rattle.ix_slotmap.proofs.slotmap.retain.MetaSlotMap+Option+T+S+L+G.retain.Goals.{then-not-f, else-not-f}
 use Rattle.ix_slotmap.proofs.slotmap.retain.MetaSlotMap+Option+T+S+L+G.retain.Goals as goal
 

@@ -42,6 +42,6 @@ loop-number-preserved g c =
 pub returns-clause-mapped : goal.returns-clause-mapped
 returns-clause-mapped g c change changes =
     let end = c.loop-number-test.false in
-    let all = c.capacity-number-end.ensures in
+    let all = c.capacity-number-end.ensures.value in
     let past : length c.args.self.now.values ≤ c.loop-number.number = omega (arith, end, all) in
     ChangesItem-map _ _ _ _ (goal.F-step g) (λ key. change) changes (Visited-all (ChangesItem slot_table_set (goal.F-step g)) _ _ _ _ _ c.loop-number.invariant.visited past)

@@ -48,11 +48,10 @@ loop-number-preserved g c =
 
 pub returns-clause-capacity : goal.returns-clause-capacity
 returns-clause-capacity g c = c.loop-number.invariant.visited.capacity
-returns-clause-capacity g c = c.loop-number.invariant.capacity
 
 pub returns-clause-filtered : goal.returns-clause-filtered
 returns-clause-filtered g c test tests =
     let end = c.loop-number-test.false in
-    let all = c.capacity-number-end.ensures in
+    let all = c.capacity-number-end.ensures.value in
     let past : length c.args.self.now.values ≤ c.loop-number.number = omega (arith, end, all) in
-    RetainsItem-filter _ _ _ _ (goal.F-step g) (λ key. test) tests (Visited-all (RetainsItem slot_table_set slot_table_remove (goal.F-step g)) _ _ _ _ _ c.loop-number.invariant past)
+    RetainsItem-filter _ _ _ _ (goal.F-step g) (λ key. test) tests (Visited-all (RetainsItem slot_table_set slot_table_remove (goal.F-step g)) _ _ _ _ _ c.loop-number.invariant.visited past)
