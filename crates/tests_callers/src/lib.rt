@@ -7,3 +7,5 @@ pub mod cells;
 pub mod closures;
 /// How many items a container holds, how many more fit, and the capacity of inline kinds.
 pub mod counts;
+/// Names as keys.
+pub mod words;
