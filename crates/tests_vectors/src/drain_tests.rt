@@ -132,6 +132,20 @@ fn drops_of_other_calls() -> Result<(), Fail> {
 /// How many of the items 2, 3 and 4 are taken, and the names of those that are dropped with the drain, the next one first.
 const LEFT: &[(usize, u64)] = &[(0, 234), (1, 34), (2, 4), (3, 0), (4, 0)];
 
+/// Takes `taken` items of a drain and drops each, and then the drain. Returns what `read` returns after that, and clears what it
+/// returned before.
+fn drain_some<T: Drop, V: Vector<T>, F: Fn() -> u64>(vector: &mut V, taken: usize, read: F) -> u64
+    requires { F.IsAlwaysCallable read }
+{
+    let mut drain = vector.drain();
+    for _ in 0..taken {
+        drop(drain.next());
+    }
+    read();
+    drop(drain);
+    read()
+}
+
 /// Drains a vector of capacity 3 that is empty.
 fn check_left<'a, V: Vector<Noted<'a>>>(
     findings: &Findings,
@@ -141,13 +155,8 @@ fn check_left<'a, V: Vector<Noted<'a>>>(
 ) {
     for (taken, left) in LEFT {
         fill(findings, vector, 5, notes);
-        let mut drain = vector.drain();
-        for _ in 0..*taken {
-            drop(drain.next());
-        }
-        notes.take_drops();
-        drop(drain);
-        findings.expect_same_at(notes.take_drops(), *left, *taken, place);
+        let dropped = drain_some(vector, *taken, || notes.take_drops());
+        findings.expect_same_at(dropped, *left, *taken, place);
     }
 }
 
@@ -184,18 +193,22 @@ impl PartialEq for Alike<'_> {
 /// The numbers and the names of items in turn, of which each that is like the one before it is removed.
 const ALIKE: &[(u64, u64)] = &[(7, 1), (7, 2), (8, 3), (8, 4), (7, 5)];
 
+fn fill_alike<'a, V: Vector<Alike<'a>>>(findings: &Findings, vector: &mut V, notes: &'a Notes) {
+    for (number, name) in ALIKE {
+        let item = Alike {
+            number: *number,
+            noted: Noted::new(*name, notes),
+        };
+        findings.expect(vector.push(item).is_ok(), "there is room");
+    }
+}
+
 #[test]
 fn drops_of_dedup() -> Result<(), Fail> {
     let findings = Findings::new();
     let notes = Notes::new(0);
     let mut vector = StaticVec::<Alike, 5>::new();
-    for (number, name) in ALIKE {
-        let item = Alike {
-            number: *number,
-            noted: Noted::new(*name, &notes),
-        };
-        findings.expect(vector.push(item).is_ok(), "there is room");
-    }
+    fill_alike(&findings, &mut vector, &notes);
     vector.dedup();
     findings.expect(are_both(notes.take_drops(), 2, 4), "what is removed");
     drop(vector);
