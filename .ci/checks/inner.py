@@ -27,30 +27,27 @@ def contracts(item, lines):
             yield " ".join(member.head)
 
 
-def cited(crate):
-    """Yields each inner word that a public contract of the crate cites, with its place."""
+def citations(crate):
+    """Yields each word of specs/ that a public contract of the crate cites, with its place and the file that defines it."""
     for module in public_modules(crate, with_hidden=True):
         for path, items in module.items:
             words, lines = words_of(text_of(path)), text_of(path).splitlines()
             for item in items:
-                for word in sorted({word for text in contracts(item, lines) for word in WORD.findall(text)}):
-                    if ROOMS[0] in words.get(word, ""):
-                        yield f"{path}: {item.name} cites {word} of {words[word]}"
+                for word in sorted({word for text in contracts(item, lines) for word in WORD.findall(text)} & set(words)):
+                    yield f"{path}: {item.name}", word, words[word]
+
+
+def cited(crate):
+    """Yields each inner word that a public contract of the crate cites, with its place."""
+    yield from (f"{place} cites {word} of {home}" for place, word, home in citations(crate) if ROOMS[0] in home)
 
 
 def not_passed_on(crate):
     """Yields each file of a crate below whose words the public contracts of the crate cite, and its callers can't."""
     passed_on = set(re.findall(r"^pub (?:mod|use) (?:[\w.]+\.)?(\w+)$", text_of(f"crates/{crate}/specs/Lib.antt"), re.M))
-    found = set()
-    for module in public_modules(crate, with_hidden=True):
-        for path, items in module.items:
-            words, lines = words_of(text_of(path)), text_of(path).splitlines()
-            cited_here = {word for item in items for text in contracts(item, lines) for word in WORD.findall(text)}
-            found |= {words[word] for word in cited_here & set(words)}
-    for path in sorted(found):
-        name = re.sub(r".*/|\.antt$", "", path)
-        if not any(room in path for room in ROOMS) and name not in passed_on:
-            yield f"crates/{crate}/specs/Lib.antt does not pass on {path}, which a public contract cites"
+    for home in sorted({home for _, _, home in citations(crate)}):
+        if not any(room in home for room in ROOMS) and re.sub(r".*/|\.antt$", "", home) not in passed_on:
+            yield f"crates/{crate}/specs/Lib.antt does not pass on {home}, which a public contract cites"
 
 
 def used(crate):

@@ -31,7 +31,7 @@ WALKS = {
     "full_table": ("fill", "copy_items", "empty"),
 }
 # Calls of a single step: those of counted tables, of new values, of a value's part, and of std.
-CALLS = {"item", "item_mut", ".put", ".take", ".get", ".get_mut", ".len", ".inline_len", ".as_ref", ".is_some", ".ok", "Touches::new", "SlotTableKey::new", "SlotMapKey::new",
+CALLS = {"item", "item_mut", ".put", ".take", ".get", ".get_mut", ".len", ".as_ref", ".is_some", ".ok", "Touches::new", "SlotTableKey::new", "SlotMapKey::new",
          "Link::held", "Iter::new", "Keys::new", "Values::new", "P::of", "mem::replace", "write!", "Some", "Ok", "Err"}
 COUNTER = "touches: &mut Touches"
 FUNCTION = re.compile(r"( *)(?:pub(?:\(crate\))? )?fn (\w+)")
