@@ -1,4 +1,5 @@
-"""Says which steps each function of the cells takes, through which seat, where it loops, and where it takes memory.
+"""Says which steps each function of the cells takes, through which seat, where it loops, encodes and asks for its size, and where it
+takes memory.
 
 Contracts count the loads and stores of a seat that is lent. They don't see a load without a seat, a kind of step that does not
 count, an allocation, or how a byte cell walks. So the text is compared with the table below, line by line, in the order of the
@@ -11,13 +12,29 @@ import re
 from crates import ROOT
 
 TABLE = """
+byte_atomic/atomic_fields.rt encode: .encode(out)
+byte_atomic/fixed_size_byte_atomic.rt new: .encode(&mut bytes)
 byte_atomic/fixed_size_byte_atomic.rt new: array::from_fn(|i| AtomicU8::new(bytes[i]))
 byte_atomic/fixed_size_byte_atomic.rt read: array::from_fn(|i| self.bytes[i].load(Ordering::Relaxed))
+byte_atomic/fixed_size_byte_atomic.rt write: .encode(&mut encoding)
 byte_atomic/fixed_size_byte_atomic.rt write: for (cell, byte) in self.bytes.iter().zip(&encoding)
 byte_atomic/fixed_size_byte_atomic.rt write: cell.store(*byte, Ordering::Relaxed)
+byte_atomic/maybe_torn.rt fmt: self.bytes
+byte_atomic/pairs.rt encode_pair: .encode(front)
+byte_atomic/pairs.rt encode_pair: .encode(back)
+byte_atomic/pairs.rt encode_triple: .encode(front)
 byte_atomic/relocatable_byte_atomic.rt MAX_SIZE: isize::MAX as usize / size_of::<AtomicU8>()
+byte_atomic/relocatable_byte_atomic.rt read: self.cell
+byte_atomic/relocatable_byte_atomic.rt write: self.cell
+byte_atomic/relocatable_byte_atomic.rt init: if SIZE > MAX_SIZE
 byte_atomic/relocatable_byte_atomic.rt init: Box::new(alloc, FixedSizeByteAtomic::new(value))
+byte_atomic/steps/byte_step.rt places_are_within: for step in steps
+byte_atomic/steps/byte_step.rt all_loads_agree: for (place, byte) in first.iter().enumerate()
+byte_atomic/steps/byte_step.rt loads_agree_at: for step in steps
+byte_atomic/steps/versioned.rt writes_are_in_turn: for step in steps
+byte_atomic/steps/versioned.rt versions_are_right: for step in steps
 byte_atomic/value_arrays.rt encode_array: for value in values
+byte_atomic/value_arrays.rt encode_array: .encode(&mut out[start..end])
 byte_atomic/value_arrays.rt decode_array: for i in 1..N
 sequenced/data_words.rt new_words: Vec::new(alloc)
 sequenced/data_words.rt new_words: words.push(0)
@@ -33,11 +50,14 @@ sequenced/rule.rt impl: Split for NewReader
 sequenced/rule.rt impl: Split for NewWriter
 sequenced/rule.rt impl: Join for Merge
 sequenced/sequenced_byte_atomic.rt MAX_SIZE: (isize::MAX as usize / size_of::<u64>() - 1) * 8
+sequenced/sequenced_byte_atomic.rt new: if SIZE > MAX_SIZE
+sequenced/sequenced_byte_atomic.rt new: .encode(&mut bytes)
 sequenced/sequenced_byte_atomic.rt new: new_words(alloc, &bytes)
 sequenced/sequenced_byte_atomic.rt new: Table::of_words(alloc, words.as_slice(), &value)
 sequenced/sequenced_byte_atomic.rt new: ReaderSeat {
 sequenced/sequenced_byte_atomic.rt new: split_seat::<NewReader>(&mut seat)
 sequenced/sequenced_byte_atomic.rt new: WriterSeat {
+sequenced/sequenced_byte_atomic.rt try_write: .encode(&mut bytes)
 sequenced/sequenced_byte_atomic.rt try_write: load::<LoadVersion>(&mut seat.seat, 0)
 sequenced/sequenced_byte_atomic.rt try_write: compare_exchange::<Claim>(&mut seat.seat, 0, loaded, odd)
 sequenced/sequenced_byte_atomic.rt try_write: self.store_bytes(&mut seat.seat, &bytes)
@@ -74,7 +94,9 @@ STEPS = "load|store|compare_exchange(?:_with)?|split_seat|join_seat|close_with|p
 CALLS = "read|take_in|store_bytes|load_bytes|reader|writer|try_write|try_read|read_own|version|merge|merge_reader"
 # What the table lists: up to an open parenthesis, whose text is taken with it, or to the end of the match.
 LISTED = re.compile(
-    rf"\b(?:cell\.)?(?:{STEPS})(?:::<\w+>)?\(|\bself\.(?:{CALLS})\(|\bclosed\.word\(0\) % 2[^;]*|\bclosed\.word\(|\bif is_unfinished\b"
+    rf"\b(?:cell\.)?(?:{STEPS})(?:::<\w+>)?\(|\b(?:self\.|Self::)(?:{CALLS})\("
+    r"|\b(?:crate|self|super)::(?:\w+::)*[a-z_]\w*(?:::<[^>()]*>)?\(|\bself\.(?:bytes|cell)\b|\.encode\(|\bvec!|\bif [^{]*\bSIZE\b[^{]*"
+    r"|\bclosed\.word\(0\) % 2[^;]*|\bclosed\.word\(|\bif is_unfinished\b"
     r"|\b(?:array::from_fn|new_words|Table::\w+|Box::\w+|Vec::\w+|Rc::\w+|Arc::\w+|words\.\w+)\("
     r"|\b(?:Reader|Writer)Seat \{|\bfor [^{}]* in [^{]*|\bwhile\b[^{]*|\bloop\b|\b\w*(?:forget|leak|reserve|with_capacity|Perch|sync)\w*"
 )
@@ -134,6 +156,8 @@ def differs(texts):
 
 
 CELL, BYTES = "sequenced/sequenced_byte_atomic.rt", "byte_atomic/fixed_size_byte_atomic.rt"
+BOXED = "byte_atomic/relocatable_byte_atomic.rt"
+CLAIM = "let found = shared.compare_exchange::<Claim>(&mut seat.seat, 0, loaded, odd);"
 FIRST = "let loaded = shared.load::<LoadVersion>(&mut seat.seat, 0);"
 WRITER = "let writer = self.table.shared.split_seat::<NewWriter>(&mut seat.seat);"
 READER = "let reader = self.table.shared.split_seat::<NewReader>(&mut seat.seat);"
@@ -143,7 +167,10 @@ PLANTS = {
     "try_write waits by a load without a seat": (CELL, FIRST, "while shared.peek(0) % 2 == 1 {} " + FIRST),
     "merge waits by a load without a seat": (CELL, "shared.join_seat::<Merge>(seat, other);", "while shared.peek(0) % 2 == 1 {} shared.join_seat::<Merge>(seat, other);"),
     "writer waits through a reader's seat": (CELL, WRITER, "if let Ok(mut spy) = self.reader(_alloc, seat) { for _ in 0..u64::MAX { if self.version(&mut spy) % 2 == 0 { break; } } } " + WRITER),
+    "merge waits in a function of another file": ("sequenced.rt", "mod data_words;", "mod data_words; fn wait<R>(shared: &R) { while shared.peek(0) % 2 == 1 {} }"),
+    "merge calls a function of another file": (CELL, "shared.join_seat::<Merge>(seat, other);", "crate::sequenced::wait(&shared); shared.join_seat::<Merge>(seat, other);"),
     "try_write has a second seat": (CELL, FIRST, "let twin = shared.split_seat::<NewWriter>(&mut seat.seat); " + FIRST),
+    "reader allocates a vector by a macro": (CELL, READER, "let _words = vec![in _alloc; 0u64; 8]?; " + READER),
     "reader makes a writer's seat": (CELL, READER, "if let Ok(twin) = self.writer(_alloc, seat) { self.merge(seat, twin); } " + READER),
     "reader makes a seat by hand": (CELL, READER, READER + " let twin = WriterSeat { seat: reader };"),
     "reader makes a seat out of nothing": (CELL, READER, "let reader = self.table.shared.load_new_seat::<LoadVersion>(0).1;"),
@@ -154,6 +181,12 @@ PLANTS = {
     "close is unfinished from a version on": (CELL, "closed.word(0) % 2 == 1", "closed.word(0) % 2 == 1 || closed.word(0) > 200_000"),
     "close does not look whether a write is in progress": (CELL, "if is_unfinished {", "if false {"),
     "read loads until two reads agree": (BYTES, READ, "let first = array::from_fn(|i| self.bytes[i].load(Ordering::Relaxed)); " + READ),
+    "write reads its own bytes": (BYTES, STORED, STORED + " let _torn = Self::read(self);"),
+    "read of a boxed cell reads twice": (BOXED, "self.cell.read()", "{ let _ = self.cell.read(); self.cell.read() }"),
+    "write of a boxed cell writes nothing above 1,000 bytes": (BOXED, "self.cell.write(value);", "if SIZE <= 1000 { self.cell.write(value); }"),
+    "init of a boxed cell refuses above 4,096 bytes": (BOXED, "if SIZE > MAX_SIZE {", "if SIZE > MAX_SIZE || SIZE > 4096 {"),
+    "try_write encodes while the cell is busy": (CELL, CLAIM, CLAIM + " value.encode(&mut bytes);"),
+    "write walks its bytes once more": (BYTES, STORED, STORED + " let _is_zero = self.bytes.iter().any(|byte| byte.as_ptr() == 0);"),
     "write stores the complement first": (BYTES, STORED, "cell.store(255 - *byte, Ordering::Relaxed); " + STORED),
     "write leaves the bytes past 256": (BYTES, ".zip(&encoding)", ".zip(&encoding).take(256)"),
     "a kind of step is not counted": ("sequenced/rule.rt", "/// The load of the bytes", "impl<T: AtomicCopy> Play<(), SeatView<T>> for Peeks {}\n/// The load of the bytes"),
@@ -163,7 +196,7 @@ PLANTS = {
 def check():
     """Returns what is wrong."""
     root = os.path.join(ROOT, "crates", "ix_atomic", "src")
-    files = [file for folder in ("byte_atomic", "sequenced") for file in glob.glob(os.path.join(root, folder, "*.rt"))]
+    files = glob.glob(os.path.join(root, "**", "*.rt"), recursive=True)
     texts = {os.path.relpath(file, root): open(file, encoding="utf-8").read() for file in files}
     wrong = differs(texts)
     for plant, (name, old, new) in PLANTS.items():

@@ -80,8 +80,8 @@ impl<T: AtomicCopy, const SIZE: usize> SequencedByteAtomic<T, SIZE> {
 
     /// Appends `value` to the history, unless another write is in progress: it becomes the last finished value. O(`SIZE`).
     ///
-    /// Loads the version, exchanges it for the next odd one, stores the bytes of `value`, and then the next even version. Does not
-    /// try again.
+    /// Encodes `value`, loads the version, exchanges it for the next odd one, stores the bytes, and then the next even version. So
+    /// the cell is not busy while `encode` runs. Does not try again.
     ///
     /// Returns [`TryWriteError::Busy`] if the version is odd, or is no longer the loaded one when it would be exchanged, and
     /// [`TryWriteError::VersionsUsedUp`] at version 18,446,744,073,709,551,614, the greatest even number of a `u64`. Then the cell
