@@ -18,7 +18,6 @@ mod memory_tests;
 #[cfg(test)]
 mod readings;
 #[cfg(test)]
-#[cfg(test)]
 mod sequenced_tests;
 #[cfg(test)]
 mod sequenced_threads;

@@ -25,7 +25,7 @@ use std::marker::{Model, PhantomData};
 /// string is dropped. Contracts see the string as a bounded list.
 ///
 /// The two kinds `K` have names of their own, [`PolymorphicString`](crate::PolymorphicString) and
-/// [`RelocatableString`](crate::RelocatableString). `try_clone` asks for an allocator that is `Copy`.
+/// [`RelocatableString`](crate::RelocatableString). The first one has `try_clone`, which asks for an allocator that is `Copy`.
 #[derive(Drop)]
 pub struct HeapString<K, A: Allocator = Global> {
     pub(crate) bytes: PolymorphicVec<u8, A>,

@@ -85,7 +85,7 @@ impl fmt::Debug for Touches {
 /// A table whose calls raise a [`Touches`]: each by one, and [`Counted::get_mut`] by two, since its caller may read and
 /// write the item. Contracts see the table itself.
 ///
-/// Every call is O(1) and does not allocate.
+/// No call allocates. Each is O(1), but for [`Table::end`], which may look at each place.
 pub struct Counted<S> {
     table: S,
 }
