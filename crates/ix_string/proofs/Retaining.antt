@@ -2,7 +2,7 @@
 use Rattle.std.proofs.Common.{ℕ, ◌≡◌, ◌+◌, ◌-◌, ◌<◌, ◌≤◌, ◌∙◌, length, take, drop, set, get_or, arith, List, [], ◌∷◌, ◌++◌, Bool, true, false, refl, subst, sym, ap}
 use Rattle.std.specs.Prelude.{reverse, map, not, if◌then◌else◌}
 use Rattle.std.specs.List.{All, filter, items_where_true}
-use Rattle.std.proofs.lemmas.List.{map-append, reverse-append, take-take, get_or-take, drop-set, drop_more}
+use Rattle.std.proofs.lemmas.List.{map-append, reverse-append, take-take, take_more, get_or-take, drop-set, drop_more}
 use Rattle.std.proofs.lemmas.List.Elements.{All-nil, All-cons, All-drop}
 use Rattle.ix_tables.specs.Calls.{Computes}
 use Rattle.ix_string.specs.Retain.{ResultsAt, retained_items, Retains, IsCallableAtText}
@@ -116,15 +116,24 @@ module _ {X : Type 0} where
   pub All-Retains : {F : Type 0} (P : X → Type 0) (step : F → X → Bool → F → Type 0) (f : F) (xs kept : List X) → Retains step f xs kept → All P xs → All P kept
   All-Retains P step f xs kept (results, last, calls, is) all = rw is (All-items_where_true P (reverse results) xs all)
 
-module _ {F : Type 0} {step : F → ℕ → Bool → F → Type 0} {pre : F → ℕ → Type 0} {f : F}
-    (callable : IsCallableAtText step pre f) (byte : ℕ) (is : IsTextByte byte) where
+-- from the last to the first, the first n items are item n - 1 and those before it
+pub reverse-front : (xs : List ℕ) (n d : ℕ) → 0 < n → n ≤ length xs → reverse (take n xs) ≡ get_or xs (n - 1) d ∷ reverse (take (n - 1) xs)
+reverse-front xs n d some within =
+    let i = n - 1 in
+    let one_more : i + 1 ≡ n = omega arith in
+    ap (λ (k : ℕ). reverse (take k xs)) (sym one_more) ∙ ap (λ (front : List ℕ). reverse front) (take_more xs i d (omega arith))
+    ∙ reverse-append (take i xs) (get_or xs i d ∷ [])
+
+module _ {F : Type 0} {step : F → ℕ → Bool → F → Type 0} {pre : F → ℕ → Type 0} (text shorter : List ℕ) {f : F}
+    (callable : IsCallableAtText step pre text f) (byte : ℕ) (is : IsTextByte byte) (ends : reverse text ≡ byte ∷ reverse shorter) where
   -- the closure may be called at a byte of a text
   pub IsCallableAtText-now : pre f byte
-  IsCallableAtText-now = callable [] f byte refl (All-nil (λ b. IsTextByte b)) is
+  IsCallableAtText-now = callable [] (reverse shorter) f byte refl ends (All-nil (λ b. IsTextByte b)) is
 
   -- and then again
-  pub IsCallableAtText-on : (b : Bool) (g : F) → step f byte b g → IsCallableAtText step pre g
-  IsCallableAtText-on b g called bytes h next calls text = callable (byte ∷ bytes) h next (g, (b, called), calls) (All-cons (λ x. IsTextByte x) byte bytes is text)
+  pub IsCallableAtText-on : (b : Bool) (g : F) → step f byte b g → IsCallableAtText step pre shorter g
+  IsCallableAtText-on b g called bytes rest h next calls splits all =
+      callable (byte ∷ bytes) rest h next (g, (b, called), calls) (ends ∙ ap (λ (more : List ℕ). byte ∷ more) splits) (All-cons (λ x. IsTextByte x) byte bytes is all)
 
 -- byte i of a buffer that still has the first n bytes of a text
 pub IsTextByte-front : (buffer old : List ℕ) (i n d : ℕ) → i < n → n ≤ length old → take n buffer ≡ take n old → IsText old → IsTextByte (get_or buffer i d)

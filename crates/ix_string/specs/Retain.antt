@@ -1,5 +1,5 @@
 -- Which items are kept if a closure is called at each, from the last to the first, and returns true for those to remove.
-use Rattle.std.specs.Prelude.{ℕ, ◌≡◌, List, [], ◌∷◌, reverse, map, not, Bool}
+use Rattle.std.specs.Prelude.{ℕ, ◌≡◌, List, [], ◌∷◌, ◌++◌, reverse, map, not, Bool}
 use Rattle.std.specs.List.{FoldsTo, items_where_true}
 use Rattle.ix_string.specs.Text.{IsText, IsTextByte}
 
@@ -18,7 +18,7 @@ retained_items results xs = items_where_true (map not (reverse results)) xs
 abbrev pub Retains : {F X : Type 0} → (F → X → Bool → F → Type 0) → F → List X → List X → Type 0
 Retains {F} step f xs kept = (results : List Bool) × (last : F) × ResultsAt step f (reverse xs) results last × (kept ≡ retained_items results xs)
 
--- calls at any bytes of a text may be made in turn, whatever they return
-abbrev pub IsCallableAtText : {F : Type 0} → (F → ℕ → Bool → F → Type 0) → (F → ℕ → Type 0) → F → Type 0
-IsCallableAtText {F} step pre f = (bytes : List ℕ) (g : F) (byte : ℕ) → FoldsTo (λ p x q. (b : Bool) × step p x b q) f bytes g
-    → IsText bytes → IsTextByte byte → pre g byte
+-- calls at the bytes of a text, from the last to the first, may be made in turn, whatever they return
+abbrev pub IsCallableAtText : {F : Type 0} → (F → ℕ → Bool → F → Type 0) → (F → ℕ → Type 0) → List ℕ → F → Type 0
+IsCallableAtText {F} step pre text f = (bytes rest : List ℕ) (g : F) (byte : ℕ) → FoldsTo (λ p x q. (b : Bool) × step p x b q) f bytes g
+    → reverse text ≡ bytes ++ byte ∷ rest → IsText bytes → IsTextByte byte → pre g byte

@@ -1,5 +1,5 @@
--- The iterators over a vector, and what a vector takes from an iterator.
-use Rattle.std.specs.Prelude.{◌≡◌, ◌+◌, ◌^◌, ◌<◌, List, length, Option, Some}
+-- The iterators over a vector, and what a vector takes from an iterator or a closure.
+use Rattle.std.specs.Prelude.{ℕ, ◌≡◌, ◌+◌, ◌^◌, ◌<◌, List, length, Option, Some}
 use Rattle.std.specs.Borrow.{Fml, RattleType, MutBor, follows, Array}
 use Rattle.std.specs.Iterator.{YieldsThen}
 use Rattle.std.specs.Iterator.Runs.{WholeRun, YieldsRefsInOrder, YieldsRefsInReverse, YieldsMutRefsInOrder, YieldsMutRefsInReverse}
@@ -10,9 +10,14 @@ use Rattle.std.specs.declared.default.Default as default
 use Rattle.std.specs.declared.slice.Iter.{Iter}
 use Rattle.std.specs.declared.slice.IterMut.{IterMut}
 use Rattle.ix_tables.specs.Bounded.{Bounded}
+use Rattle.ix_tables.specs.Calls.{IsCallableBelow}
 use Rattle.ix_vector.specs.VectorSteps.{vec_extend, vec_refill}
 use Rattle.ix_vector.specs.contracts.vector.polymorphic_vec.PolymorphicVec as polymorphic_vec
 use Rattle.ix_vector.specs.contracts.vector.static_vec.StaticVec as static_vec
+
+-- n calls may be made in turn, whatever they return
+abbrev pub IsCallableTimes : {F X : Type 0} → (F → X → F → Type 0) → (F → Type 0) → ℕ → F → Type 0
+IsCallableTimes step pre = IsCallableBelow (λ g i x next. step g x next) (λ g i. pre g)
 
 module _ {T : Type 0} (xs : List T) where
   -- the iterator yields references to xs, from the first to the last, or from the back

@@ -1,5 +1,5 @@
 -- The steps of a vector: the bounded list after each call, and the result of each call that may be refused.
-use Rattle.std.specs.Prelude.{ℕ, ◌+◌, ◌-◌, ◌<◌, ◌≤◌, List, ◌++◌, length, take, insert, remove, replicate, slice_get, nat_le, if◌then◌else◌, Option, Result, Ok, Err}
+use Rattle.std.specs.Prelude.{ℕ, ◌+◌, ◌-◌, ◌<◌, ◌≤◌, List, ◌++◌, length, take, insert, remove, replicate, nat_le, if◌then◌else◌, Result, Ok, Err}
 use Rattle.std.specs.List.{refill}
 use Rattle.ix_tables.specs.Bounded.{Bounded, has_room, with_items}
 pub use Rattle.ix_tables.specs.Bounded.{vec_last, vec_pop, vec_truncate}

@@ -7,7 +7,7 @@ ghost use Rattle.ix_string.specs.Text.{IsText};
 /// buffer, keeping their order. Returns the index of the first of them, or the length of the buffer if there are none.
 pub(crate) fn move_kept_back<F: FnMut(u8) -> bool>(buffer: &mut [u8], mut f: F) -> usize
     requires text { IsText buffer.old }
-    requires callable { IsCallableAtText F.step F.pre f }
+    requires callable { IsCallableAtText F.step F.pre buffer.old f }
     ensures within { result ≤ length buffer.old }
     ensures kept { Retains F.step f buffer.old (drop result buffer.new) }
 {

@@ -300,7 +300,7 @@ pub trait String: Debug + Display + Eq + Ord + Hash {
     ///
     /// The `retain` of std keeps those bytes instead.
     fn retain<F: FnMut(u8) -> bool>(&mut self, f: F)
-        requires { IsCallableAtText F.step F.pre f }
+        requires { IsCallableAtText F.step F.pre (bounded self.old).items f }
         ensures string { Retains F.step f (bounded self.old).items (bounded self.new).items }
         // A closure that computes whether a byte is kept, and stays as it was, leaves those that are.
         ensures filtered { (kept : ℕ → Bool)

@@ -59,7 +59,7 @@ pub(crate) fn remove_from<V: Vector<u8>>(vector: &mut V, idx: usize, n: usize)
 /// Calls `f` at each byte, from the last to the first, and removes those for which it returns `true`.
 pub(crate) fn retain_in<V: Vector<u8>, F: FnMut(u8) -> bool>(vector: &mut V, f: F)
     requires text { IsText (V.bounded vector.old).items }
-    requires callable { IsCallableAtText F.step F.pre f }
+    requires callable { IsCallableAtText F.step F.pre (V.bounded vector.old).items f }
     ensures kept { Retains F.step f (V.bounded vector.old).items (V.bounded vector.new).items }
     ensures capacity { (V.bounded vector.new).capacity ≡ (V.bounded vector.old).capacity }
 {

@@ -1,5 +1,5 @@
 //! The trait of all vectors.
-ghost use Rattle.std.specs.Prelude.{◌≡◌, ◌+◌, ◌<◌, ◌≤◌, ◌↔◌, Bool, List, [], ◌∷◌, ◌++◌, filter, length, take, Ok, Err, IsTrue, IsErr, IsOk, IsOkUnless, IfErr, IfSome, OnOk, OnErr, slice_get};
+ghost use Rattle.std.specs.Prelude.{◌≡◌, ◌+◌, ◌-◌, ◌<◌, ◌≤◌, ◌↔◌, Bool, List, [], ◌∷◌, ◌++◌, filter, length, take, Ok, Err, IsTrue, IsErr, IsOk, IsOkUnless, IfErr, IfSome, OnOk, OnErr, slice_get};
 ghost use Rattle.std.specs.Bool.{OnFalse};
 ghost use Rattle.std.specs.Fn.{CalledAt};
 ghost use Rattle.std.specs.List.{AppendsResults, dedup, swap_remove};
@@ -10,7 +10,7 @@ ghost use Rattle.ix_tables.specs.Bounded.{Bounded, IsWithin, IsFull, with_items,
 ghost use Rattle.ix_tables.specs.Calls.{Computes, IsCallableOnEach};
 ghost use Rattle.ix_tables.specs.Cloning.{AreEqualClones, AreInfallible};
 ghost use Rattle.ix_vector.specs.Lending.{vec_lends};
-ghost use Rattle.ix_vector.specs.Iterating.{YieldsRefsTo, YieldsMutRefsTo, vec_lends_iter, ExtendsByItemsOf, YieldsMoreThanFit};
+ghost use Rattle.ix_vector.specs.Iterating.{IsCallableTimes, YieldsRefsTo, YieldsMutRefsTo, vec_lends_iter, ExtendsByItemsOf, YieldsMoreThanFit};
 ghost use Rattle.ix_vector.specs.VectorDrain.{drain_items, drain_capacity, drain_lender, DrainKeepsAlong};
 ghost use Rattle.ix_vector.specs.VectorSteps.{HasRoomFor, LacksRoomFor, vec_push_result, vec_insert, vec_insert_result, vec_remove, vec_pop, vec_last, vec_truncate, vec_extend, vec_resize, vec_resize_result};
 ghost use Rattle.ix_vector.specs.declared.vector.modification_error.VectorModificationError.TheVariants.{InsertWouldExceedCapacity, OutOfMemory};
@@ -25,7 +25,8 @@ use std::slice;
 /// A contiguous list of at most [`capacity`](Vector::capacity) items. Contracts see it as a bounded list.
 ///
 /// The memory for all items is there once the vector is made, so no call allocates, except that cloning an item may. A
-/// call that returns an error leaves the vector unchanged, and drops an item that was passed to it. Indexes start at 0.
+/// call that returns an error leaves the vector unchanged, and drops an item that was passed to it, but for
+/// [`try_push`](Vector::try_push) and [`try_insert`](Vector::try_insert), which hand it back. Indexes start at 0.
 ///
 /// This is `Vector` of iceoryx2-bb-container.
 pub trait Vector<T: Drop> {
@@ -413,7 +414,9 @@ pub trait Vector<T: Drop> {
         n: usize,
         mut f: F,
     ) -> Result<(), VectorModificationError>
-        requires { F.IsAlwaysCallable f }
+        // Of a refused call, and of one that truncates, it asks nothing.
+        requires { n ≤ (bounded self.old).capacity
+            → IsCallableTimes F.step F.pre (n - length (bounded self.old).items) f }
         ensures value { result ≡ vec_resize_result (bounded self.old) n }
         ensures len { OnOk result (length (bounded self.new).items ≡ n) }
         ensures vector { OnOk result (AppendsResults F.step (take n (bounded self.old).items)

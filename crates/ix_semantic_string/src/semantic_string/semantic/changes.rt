@@ -141,7 +141,7 @@ impl<R: Rules<CAPACITY>, const CAPACITY: usize> Semantic<R, CAPACITY> {
     ///
     /// Returns [`SemanticStringError::InvalidContent`] if the rules do not accept the kept bytes.
     pub fn retain<F: FnMut(u8) -> bool>(&mut self, f: F) -> Result<(), SemanticStringError>
-        requires { IsCallableAtText F.step F.pre f }
+        requires { IsCallableAtText F.step F.pre self.old f }
         ensures string { (kept : List ℕ) × Retains F.step f self.old kept
             × SemanticResult CAPACITY R.rules kept tt result × OnOk result (self.new ≡ kept) }
         ensures refused { OnErr result (self.new ≡ self.old) }

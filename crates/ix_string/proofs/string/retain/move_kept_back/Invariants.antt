@@ -7,7 +7,7 @@ abbrev pub invariant-loop-idx : goal.invariant-loop-idx
 invariant-loop-idx g l =
     let old = l.initial.buffer in
     record {
-      callable : IsCallableAtText (λ p x b q. goal.F-step g p x b q) (λ p x. goal.F-pre g p x) l.f;
+      callable : IsCallableAtText (λ p x b q. goal.F-step g p x b q) (λ p x. goal.F-pre g p x) (take l.idx old) l.f;
       order : l.idx ≤ l.start;
       within : l.start ≤ length old;
       front : take l.idx l.buffer ≡ take l.idx old;

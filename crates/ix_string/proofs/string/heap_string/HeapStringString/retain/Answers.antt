@@ -3,6 +3,9 @@ use Rattle.ix_string.proofs.Retaining.{All-Retains, Retains-kept}
 use Rattle.ix_string.specs.Text.{IsTextByte}
 use Rattle.ix_string.proofs.string.heap_string.HeapStringString.retain.Goals as goal
 
+pub retain_in-requires-clause-callable : goal.retain_in-requires-clause-callable
+retain_in-requires-clause-callable g c = rw c.self.view_is c.requires
+
 pub invariant_of-self : goal.invariant_of-self
 invariant_of-self g c =
     All-Retains (λ b. IsTextByte b) (λ p x b q. goal.F-step g p x b q) c.args.f c.self.inside.bytes.items c.retain_in.new.vector.items c.retain_in.ensures.kept c.self.invariant

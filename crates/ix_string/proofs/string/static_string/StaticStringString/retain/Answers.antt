@@ -7,6 +7,9 @@ use Rattle.ix_string.proofs.Retaining.{All-Retains, Retains-kept}
 use Rattle.ix_string.proofs.Texts.{IsPadded-shortened}
 use Rattle.ix_string.proofs.string.static_string.StaticStringString.retain.Goals as goal
 
+pub move_kept_back-start-requires-clause-callable : goal.move_kept_back-start-requires-clause-callable
+move_kept_back-start-requires-clause-callable g c = rw c.self.view_is c.requires
+
 pub invariant_of-self : goal.invariant_of-self
 invariant_of-self g c =
     let was = c.self.invariant in

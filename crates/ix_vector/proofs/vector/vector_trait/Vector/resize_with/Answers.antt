@@ -1,11 +1,18 @@
-use Rattle.std.proofs.Common.{of_calls, arith, ◌≡◌, ◌+◌, ◌-◌, [], ◌∷◌, ◌++◌, append_assoc, length-append, length, sym, ap, ap₂, ◌∙◌}
+use Rattle.std.proofs.Common.{of_calls, arith, refl, ◌≡◌, ◌+◌, ◌-◌, [], ◌∷◌, ◌++◌, append_assoc, length-append, length, sym, ap, ap₂, ◌∙◌}
 use Rattle.std.specs.Prelude.{replicate}
 use Rattle.std.proofs.lemmas.Fn.{FoldsTo-push}
 use Rattle.std.proofs.lemmas.List.{take_all}
 use Rattle.ix_tables.specs.Bounded.{with_items}
+use Rattle.ix_tables.proofs.Calls.{Callable-now, Callable-on}
 use Rattle.ix_vector.specs.VectorSteps.{vec_extend}
 use Rattle.ix_vector.proofs.Computed.{FoldsTo-replicate}
 use Rattle.ix_vector.proofs.vector.vector_trait.Vector.resize_with.Goals as goal
+
+pub f-requires : goal.f-requires
+f-requires g c =
+    let k = c.loop-i._i - c.len-old_len.result in
+    let more = c.loop-i-test.true in
+    Callable-now c.loop-i.invariant.callable k (k + 1) (omega (arith, more), refl, refl)
 
 pub loop-i-preserved : goal.loop-i-preserved
 loop-i-preserved g c =
@@ -15,11 +22,13 @@ loop-i-preserved g c =
     let old = g.Self.Vector.bounded c.args.self.now in
     let from = c.loop-i.auto._i in
     let counted = at.grown.1 in
+    let more = c.loop-i-test.true in
     let longer : length (ys ++ x ∷ []) ≡ c.loop-i._i + 1 - c.len-old_len.result = omega (arith, length-append ys (x ∷ [])) in
     let bounded_push : g.Self.Vector.bounded c.push_unchecked.new.self ≡ vec_extend old (ys ++ x ∷ []) =
     rw (c.push_unchecked.ensures, at.grown.2, append_assoc) in
     record {
-      callable = search of_calls;
+      callable =
+          Callable-on at.callable (c.loop-i._i - c.len-old_len.result) (c.loop-i._i + 1 - c.len-old_len.result) (omega (arith, more), refl, omega (arith, from)) c.f.new.self (x, search of_calls);
       grown = (ys ++ x ∷ [], longer, bounded_push, FoldsTo-push _ _ ys _ _ _ at.grown.3 (search of_calls));
     }
 
