@@ -274,6 +274,15 @@ module _ {T : Type 0} where
         counted = omega arith;
       })
 
+  -- a ring whose item is taken out has room for one
+  pub room-taken : (row row' : List (Option T)) (start start' len place : ℕ) → IsRing row start len → IsRing row' start' (len - 1) → len ≢ 0 → row' ≡ set row place None → length (row_items (ring_row row' start')) < length row'
+  room-taken row row' start start' len place ring ring' some taken =
+      let fits = ring.ring.fits in
+      let counted = ring.counted in
+      let counted' = ring'.counted in
+      let kept = ap length taken ∙ length-set row place None in
+      omega arith
+
   -- of a full list the front item is removed
   queue_overflow-full : (list : Bounded T) (y : T) → length list.items ≡ list.capacity → queue_overflow list y ≡ with_items list (drop 1 (push list.items y))
   queue_overflow-full list y full =

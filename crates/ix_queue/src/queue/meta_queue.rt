@@ -138,6 +138,7 @@ impl<T, S: Table<T>> MetaQueue<T, S> {
         ensures queue { self.new ≡ bounded_push self.old value }
         ensures full { OnFalse result (IsFull self.old) }
         ensures refused { OnFalse result (self.new ≡ self.old) }
+        ensures within { IsWithin self.new }
     {
         let capacity = self.table.len();
         let has_room = self.len < capacity;
@@ -155,6 +156,7 @@ impl<T, S: Table<T>> MetaQueue<T, S> {
         ensures room { IsOk result → length self.old.items < self.old.capacity }
         ensures returned { IfErr result (λ returned. returned ≡ value) }
         ensures refused { OnErr result (self.new ≡ self.old) }
+        ensures within { IsWithin self.new }
     {
         let capacity = self.table.len();
         if self.len == capacity {
@@ -171,6 +173,7 @@ impl<T, S: Table<T>> MetaQueue<T, S> {
         ensures value { result ≡ queue_overflow_item self.old value }
         ensures queue { self.new ≡ queue_overflow self.old value }
         ensures full { IsSome result ↔ IsFull self.old }
+        ensures within { IsWithin self.new }
     {
         let capacity = self.table.len();
         if self.len < capacity {
@@ -193,6 +196,7 @@ impl<T, S: Table<T>> MetaQueue<T, S> {
         ensures value { result ≡ queue_front self.old }
         ensures queue { self.new ≡ queue_pop self.old }
         ensures empty { IsNone result ↔ (self.old.items ≡ []) }
+        ensures room { IsSome result → length self.new.items < self.new.capacity }
     {
         let start = self.start;
         let len = self.len;
@@ -211,6 +215,7 @@ impl<T, S: Table<T>> MetaQueue<T, S> {
         ensures value { result ≡ vec_last self.old }
         ensures queue { self.new ≡ vec_pop self.old }
         ensures empty { IsNone result ↔ (self.old.items ≡ []) }
+        ensures room { IsSome result → length self.new.items < self.new.capacity }
     {
         let len = self.len;
         if len == 0 {

@@ -13,3 +13,6 @@ invariant_of-self g c =
 pub returns-clause-queue : goal.returns-clause-queue
 returns-clause-queue g c =
     (Shows-queue_overflow _ _ _ _ _ _ _ _ _ (record { sound = c.self.invariant; is = c.self.view_is }) c.if-self-capacity.false c.if-capacity-eq0.false c.len-capacity.ensures.value c.take-front.ensures.places c.put.ensures c.next_after-self-inside.ensures).is
+
+pub returns-clause-within : goal.returns-clause-within
+returns-clause-within g c = (invariant_of-self g c).ring.fits
