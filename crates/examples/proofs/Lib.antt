@@ -1,3 +1,5 @@
 mod Appending
+mod KeyOrders
+mod ReadyTasks
 mod Windows
 pub mod Written

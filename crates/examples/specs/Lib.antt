@@ -1,3 +1,5 @@
+pub mod InStep
+pub mod Tasks
 pub mod UnitNames
 pub mod UnitNamesLaws
 pub mod Written

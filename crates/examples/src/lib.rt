@@ -2,6 +2,8 @@
 #![tactic(auto)]
 
 pub mod arena;
+pub mod buffer_pool;
+pub mod cache;
 pub mod configuration;
 pub mod directory;
 pub mod groups;
@@ -15,6 +17,7 @@ pub mod queues;
 pub mod registry;
 pub mod rising_limit;
 pub mod rolling_window;
+pub mod scheduler;
 pub mod scripts;
 pub mod service_sessions;
 pub mod session_table;

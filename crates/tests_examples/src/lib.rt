@@ -8,4 +8,6 @@ mod example_tests;
 #[cfg(test)]
 mod own_type_tests;
 #[cfg(test)]
+mod program_tests;
+#[cfg(test)]
 mod session_tests;

@@ -1,0 +1,84 @@
+//! A pool of buffers that are lent and given back. A handle that was given back is refused from then on.
+ghost use Rattle.std.specs.Prelude.{◌≡◌, ◌≢◌, ◌↔◌, ◌+◌, ◌<◌, ◌++◌, false, [], None, Some, IsTrue, IsSome, IsNone, IfSome, length, option_map};
+ghost use Rattle.std.specs.Bool.{OnFalse};
+ghost use Rattle.ix_maps.specs.Generations.{SlotKey, greatest_generation, slot_map_value, slot_map_new, IsDead};
+
+use ix_cells::{StaticVec, Vector};
+use ix_maps::{FixedSizeSlotMap, SlotMapKey};
+
+/// A buffer of at most 256 bytes.
+pub type Buffer = StaticVec<u8, 256>;
+
+/// A pool of 8 buffers.
+#[derive(Drop)]
+pub struct BufferPool {
+    /// The buffers that are lent, by their handles.
+    pub lent: FixedSizeSlotMap<Buffer, 8>,
+    /// How many buffers may be lent still.
+    pub free: usize,
+    pub ghost counted: { free ≡ length lent.slots.free },
+}
+
+impl BufferPool {
+    /// Creates a pool whose buffers are all free.
+    pub fn new() -> Self
+        ensures lent { result.lent ≡ slot_map_new 8 0 }
+        ensures free { result.free ≡ 8 }
+    {
+        BufferPool {
+            lent: FixedSizeSlotMap::new(),
+            free: 8,
+        }
+    }
+
+    /// Lends an empty buffer and returns its handle, or `None` if no buffer is free.
+    pub fn lend(&mut self) -> Option<SlotMapKey>
+        ensures lent { IfSome result (λ handle. slot_map_value self.new.lent handle ≡ Some []) }
+        ensures none { IsNone result ↔ (self.old.free ≡ 0) }
+        ensures free { IsSome result → self.new.free + 1 ≡ self.old.free }
+        ensures refused { IsNone result → self.new ≡ self.old }
+        ensures kept { (other : SlotKey) → IsSome (slot_map_value self.old.lent other)
+            → slot_map_value self.new.lent other ≡ slot_map_value self.old.lent other }
+        ensures dead { (other : SlotKey) → IsDead self.old.lent other → IsDead self.new.lent other }
+    {
+        let handle = self.lent.insert(Buffer::new())?;
+        self.free -= 1;
+        Some(handle)
+    }
+
+    /// Appends `bytes` to a buffer that is lent. Returns `false` if the handle is not, or if there is no room for all of them.
+    pub fn append(&mut self, handle: SlotMapKey, bytes: &[u8]) -> bool
+        ensures appended { IsTrue result → slot_map_value self.new.lent handle
+            ≡ option_map (λ buffer. buffer ++ bytes.now) (slot_map_value self.old.lent handle) }
+        ensures stale { IsDead self.old.lent handle → result ≡ false }
+        ensures refused { OnFalse result (self.new ≡ self.old) }
+        ensures free { self.new.free ≡ self.old.free }
+        ensures kept { (other : SlotKey) → other ≢ handle
+            → slot_map_value self.new.lent other ≡ slot_map_value self.old.lent other }
+    {
+        match self.lent.get_mut(handle) {
+            Some(buffer) => buffer.extend_from_slice(bytes).is_ok(),
+            None => false,
+        }
+    }
+
+    /// Gives a buffer back and returns what is in it, or `None` if the handle is not of a buffer that is lent. The handle is
+    /// dead then. The buffer is free, unless its place has had all of its handles, 2³² of them.
+    pub fn give_back(&mut self, handle: SlotMapKey) -> Option<Buffer>
+        ensures value { result ≡ slot_map_value self.old.lent handle }
+        ensures dead { IsSome result → IsDead self.new.lent handle }
+        ensures free { IsSome result → handle.generation < greatest_generation
+            → self.new.free ≡ self.old.free + 1 }
+        ensures refused { IsNone result → self.new ≡ self.old }
+        ensures kept { (other : SlotKey) → other ≢ handle
+            → slot_map_value self.new.lent other ≡ slot_map_value self.old.lent other }
+    {
+        let buffer = self.lent.remove(handle)?;
+        if handle.generation() < u32::MAX {
+            // Names the number of buffers that are lent: these and the free ones are no more than 8.
+            let _len = self.lent.len();
+            self.free += 1;
+        }
+        Some(buffer)
+    }
+}
