@@ -189,6 +189,11 @@ pub trait BoundedMap<K: Eq, V>: Sized {
             ↔ (held_count (state self.now) ≡ length (state self.now).values) }
         ensures free { IsTrue result ↔ ((state self.now).free ≡ []) };
 
+    /// Does what [`MetaMap::remaining_capacity`](crate::map::MetaMap::remaining_capacity) does.
+    fn remaining_capacity(&self) -> usize
+        ensures value { result ≡ length (state self.now).free }
+        ensures full { result ≡ 0 ↔ ((state self.now).free ≡ []) };
+
     /// Does what [`MetaMap::contains`](crate::map::MetaMap::contains) does.
     fn contains(&self, key: &K) -> bool
         ensures { IsTrue result ↔ IsSome (map_value K.eq (state self.now) key.now) };
@@ -289,6 +294,11 @@ impl<K: Eq + Drop, V: Drop, S: Table<Pair<K, V>>, L: Table<Link>, I: KeyIndex<K,
     #[inline]
     fn is_full(&self) -> bool {
         MetaMap::is_full(self)
+    }
+
+    #[inline]
+    fn remaining_capacity(&self) -> usize {
+        MetaMap::remaining_capacity(self)
     }
 
     #[inline]

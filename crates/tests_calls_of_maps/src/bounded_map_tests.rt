@@ -68,6 +68,7 @@ fn a_key_is_looked_up_in_any_map(rt: HostRuntime) -> Result<(), Fail> {
 }
 
 // Shows: BoundedMap::capacity, BoundedMap::len, BoundedMap::is_empty, BoundedMap::is_full
+// Shows: BoundedMap::remaining_capacity
 #[test]
 fn room_is_known_of_any_map(rt: HostRuntime) -> Result<(), Fail> {
     fn room<M: BoundedMap<u16, char>>(map: &M) -> usize {
@@ -83,6 +84,7 @@ fn room_is_known_of_any_map(rt: HostRuntime) -> Result<(), Fail> {
     assert_eq!(rt; room(&map), 2);
     map.insert(80, 'a')?;
     assert_eq!(rt; room(&map), 1);
+    assert_eq!(rt; BoundedMap::remaining_capacity(&map), 1);
     map.insert(443, 'b')?;
     assert_eq!(rt; room(&map), 0);
     Ok(())

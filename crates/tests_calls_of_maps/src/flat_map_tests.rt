@@ -136,12 +136,14 @@ fn remove_entry_returns_the_key_too(rt: HostRuntime) -> Result<(), Fail> {
 }
 
 // Shows: MetaMap::capacity, MetaMap::len, MetaMap::is_empty, MetaMap::is_full
+// Shows: MetaMap::remaining_capacity
 #[test]
 fn a_map_knows_how_many_keys_it_has(rt: HostRuntime) -> Result<(), Fail> {
     let mut map = FixedSizeFlatMap::<u16, char, 2>::new();
     assert!(rt; map.is_empty());
     map.insert(80, 'a')?;
     assert_eq!(rt; (map.len(), map.capacity()), (1, 2));
+    assert_eq!(rt; map.remaining_capacity(), 1);
     map.insert(443, 'b')?;
     assert!(rt; map.is_full());
     Ok(())

@@ -14,10 +14,11 @@ fn the_oldest_item_comes_first(rt: HostRuntime) {
     assert_eq!(rt; queue.pop(), None);
 }
 
-// Shows: MetaQueue::try_push, MetaQueue::is_full
+// Shows: MetaQueue::try_push, MetaQueue::is_full, MetaQueue::remaining_capacity
 #[test]
 fn a_full_queue_hands_the_item_back(rt: HostRuntime) {
     let mut queue = FixedSizeQueue::<u64, 1>::new();
+    assert_eq!(rt; queue.remaining_capacity(), 1);
     assert_eq!(rt; queue.try_push(1), Ok(()));
     assert!(rt; queue.is_full());
     assert_eq!(rt; queue.try_push(2), Err(2));

@@ -7,10 +7,12 @@ use std::test::Fail;
 
 // Shows: FixedSizeSlotMap
 // Shows: FixedSizeSlotMap::new, MetaSlotMap::insert, MetaSlotMap::try_insert, MetaSlotMap::is_full
+// Shows: MetaSlotMap::remaining_capacity
 #[test]
 fn a_map_chooses_the_key_of_a_value(rt: HostRuntime) {
     let mut ports = FixedSizeSlotMap::<u16, 2>::new();
     assert_eq!(rt; ports.insert(80), Some(SlotMapKey::new(0, 0)));
+    assert_eq!(rt; ports.remaining_capacity(), 1);
     assert_eq!(rt; ports.try_insert(443), Ok(SlotMapKey::new(1, 0)));
     assert!(rt; ports.is_full());
     assert_eq!(rt; ports.insert(22), None); // 22 is dropped

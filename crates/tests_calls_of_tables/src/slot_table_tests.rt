@@ -9,10 +9,12 @@ use std::alloc::Global;
 use std::test::Fail;
 
 // Shows: FixedSizeSlotTable, FixedSizeSlotTable::new, MetaSlotTable::insert, MetaSlotTable::is_full
+// Shows: MetaSlotTable::remaining_capacity
 #[test]
 fn a_table_chooses_the_key_of_a_value(rt: HostRuntime) {
     let mut table = FixedSizeSlotTable::<char, 2>::new();
     assert_eq!(rt; table.insert('a'), Some(SlotTableKey::new(0)));
+    assert_eq!(rt; table.remaining_capacity(), 1);
     assert_eq!(rt; table.insert('b'), Some(SlotTableKey::new(1)));
     assert!(rt; table.is_full());
     assert_eq!(rt; table.insert('c'), None); // 'c' is dropped

@@ -219,6 +219,15 @@ impl<K: Eq + Drop, V: Drop, S: Table<Pair<K, V>>, L: Table<Link>, I: KeyIndex<K,
         self.pairs.is_full()
     }
 
+    /// Returns how many more keys there is room for. O(1).
+    #[inline]
+    pub fn remaining_capacity(&self) -> usize
+        ensures value { result ≡ length self.now.free }
+        ensures full { result ≡ 0 ↔ (self.now.free ≡ []) }
+    {
+        self.pairs.remaining_capacity()
+    }
+
     /// Returns `true` if the map has an equal key.
     #[inline]
     pub fn contains(&self, key: &K) -> bool

@@ -1,5 +1,5 @@
 //! The queue over any table.
-ghost use Rattle.std.specs.Prelude.{◌≡◌, ◌<◌, ◌≤◌, ◌↔◌, [], Some, IsTrue, IsSome, IsNone, IsOk, IsErr, IfErr, OnErr, length, option_copied, slice_get};
+ghost use Rattle.std.specs.Prelude.{◌≡◌, ◌+◌, ◌<◌, ◌≤◌, ◌↔◌, [], Some, IsTrue, IsSome, IsNone, IsOk, IsErr, IfErr, OnErr, length, option_copied, slice_get};
 ghost use Rattle.std.specs.List.{push};
 ghost use Rattle.std.specs.Bool.{OnFalse};
 ghost use Rattle.std.specs.Borrow.{sem, Lends, LendsIf};
@@ -127,6 +127,15 @@ impl<T, S: Table<T>> MetaQueue<T, S> {
         ensures room { OnFalse result (length self.now.items < self.now.capacity) }
     {
         self.len == self.table.len()
+    }
+
+    /// Returns how many more items there is room for.
+    #[inline]
+    pub fn remaining_capacity(&self) -> usize
+        ensures value { length self.now.items + result ≡ self.now.capacity }
+        ensures full { result ≡ 0 ↔ IsFull self.now }
+    {
+        self.capacity() - self.len()
     }
 
     /// Appends `value` at the back and returns `true`. Returns `false`, and drops `value`, if the queue is full.

@@ -103,6 +103,15 @@ impl<T, S: Table<Option<T>>, L: Table<Link>, G: Table<u64>> MetaSlotMap<Option<T
         self.slots.is_full()
     }
 
+    /// Returns the number of free places, which is how many more values there is room for.
+    #[inline]
+    pub fn remaining_capacity(&self) -> usize
+        ensures value { result ≡ length self.now.slots.free }
+        ensures full { result ≡ 0 ↔ (self.now.slots.free ≡ []) }
+    {
+        self.slots.remaining_capacity()
+    }
+
     /// Returns the key that the next [`MetaSlotMap::insert`] will return, or `None` if no place is free.
     #[inline]
     pub fn next_free_key(&self) -> Option<SlotMapKey>

@@ -117,6 +117,15 @@ impl<T, S: Table<T>, L: Table<Link>> MetaSlotTable<T, S, L> {
         self.len == self.values.len()
     }
 
+    /// Returns how many more values there is room for.
+    #[inline]
+    pub fn remaining_capacity(&self) -> usize
+        ensures value { result ≡ length self.now.free }
+        ensures full { result ≡ 0 ↔ (self.now.free ≡ []) }
+    {
+        self.capacity() - self.len()
+    }
+
     /// Returns the key that the next [`MetaSlotTable::insert`] will return, or `None` if the table is full.
     #[inline]
     pub fn next_free_key(&self) -> Option<SlotTableKey>
