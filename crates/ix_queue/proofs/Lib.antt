@@ -4,6 +4,7 @@ pub mod QueueCalls
 pub mod QueueClones
 pub mod QueueDrains
 pub mod QueueOrders
+pub mod QueueRemoves
 pub mod Ranges
 pub mod Rings
 mod WorkedQueues

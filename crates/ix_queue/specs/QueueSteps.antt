@@ -1,6 +1,6 @@
 -- The steps of a queue: the bounded list after each call, and the item that each call returns. The front item is the
 -- oldest.
-use Rattle.std.specs.Prelude.{ℕ, ◌-◌, List, length, drop, slice_get, slice_set, nat_lt, if◌then◌else◌, Bool, Option, None}
+use Rattle.std.specs.Prelude.{ℕ, ◌-◌, List, length, drop, remove, slice_get, slice_set, nat_lt, if◌then◌else◌, Bool, Option, None}
 use Rattle.std.specs.List.{push}
 use Rattle.ix_tables.specs.Bounded.{Bounded, with_items}
 
@@ -24,6 +24,10 @@ module _ {T : Type 0} where
   -- the front item removed
   abbrev pub queue_pop : Bounded T → Bounded T
   queue_pop queue = with_items queue (drop 1 queue.items)
+
+  -- the item at this index removed; the same list past the end
+  abbrev pub queue_remove : Bounded T → ℕ → Bounded T
+  queue_remove queue index = with_items queue (remove queue.items index)
 
   -- the front item replaced by x, if there is one
   abbrev pub queue_set_front : Bounded T → T → Bounded T

@@ -10,6 +10,7 @@ mod iter;
 mod kinds;
 mod meta_queue;
 mod order;
+mod remove;
 mod retain;
 
 pub use drain::Drain;

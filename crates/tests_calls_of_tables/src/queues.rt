@@ -155,6 +155,19 @@ fn the_newest_items_are_dropped(rt: HostRuntime) {
     assert!(rt; queue.is_empty());
 }
 
+// Shows: MetaQueue::remove
+#[test]
+fn a_waiting_item_is_removed(rt: HostRuntime) {
+    let mut queue = FixedSizeQueue::<u64, 3>::new();
+    queue.push(7);
+    queue.push(8);
+    queue.push(9);
+    assert_eq!(rt; queue.remove(1), Some(8));
+    assert_eq!(rt; queue.remove(2), None); // two items are left
+    assert_eq!(rt; queue.pop(), Some(7));
+    assert_eq!(rt; queue.pop(), Some(9));
+}
+
 // Shows: MetaQueue::retain
 #[test]
 fn some_items_stay_in_their_order(rt: HostRuntime) {

@@ -1,9 +1,9 @@
 //! Calls that no command makes: of the back item, of items by their index, and of all items at once, wherever the front
 //! item lies.
-use crate::call_tests::Answer::{Done, Is, Item, Pushed};
+use crate::call_tests::Answer::{Count, Done, Is, Item, Pushed};
 use crate::call_tests::Call::{
-    Back, DropBelow, GetRef, Has, Items, PopBack, Push, SetAt, SetBack, SetFront, SetToZero,
-    Truncate, TryPush,
+    Back, DropBelow, GetRef, Has, Items, PopBack, Push, Remove, Room, SetAt, SetBack, SetFront,
+    SetToZero, Truncate, TryPush,
 };
 use crate::replacing::{drop_below, replace_at, replace_back, replace_front, set_to_zero};
 use crate::rows::Row;
@@ -25,6 +25,9 @@ enum Call<'a> {
     /// As `SetFront`, of the item at an index through `get_mut_ref`.
     SetAt(usize, u64),
     PopBack,
+    Remove(usize),
+    /// Returns `remaining_capacity`.
+    Room,
     Truncate(usize),
     Has(u64),
     /// Sets each item to 0 by `for_each_mut`.
@@ -39,6 +42,7 @@ enum Call<'a> {
 enum Answer {
     Pushed(Result<(), u64>),
     Item(Option<u64>),
+    Count(usize),
     Is(bool),
     Done,
 }
@@ -62,6 +66,8 @@ fn answer_of<S: Table<u64>>(queue: &mut MetaQueue<u64, S>, call: &Call) -> Answe
         GetRef(index) => Item(queue.get_ref(*index).copied()),
         SetAt(index, item) => Item(replace_at(queue, *index, *item)),
         PopBack => Item(queue.pop_back()),
+        Remove(index) => Item(queue.remove(*index)),
+        Room => Count(queue.remaining_capacity()),
         Truncate(len) => {
             queue.truncate(*len);
             Done
@@ -120,6 +126,37 @@ const BY_INDEX: &[CallRow] = &[
     (Items(&[8, 7]), Is(true)),
 ];
 
+/// Calls of a queue of capacity 5.
+const REMOVED: &[CallRow] = &[
+    (Room, Count(5)),
+    (Remove(0), Item(None)),
+    (Push(1), Is(true)),
+    (Remove(1), Item(None)),
+    (Remove(0), Item(Some(1))),
+    (Items(&[]), Is(true)),
+    (Push(2), Is(true)),
+    (Push(3), Is(true)),
+    (Push(4), Is(true)),
+    (Push(5), Is(true)),
+    (Room, Count(1)),
+    (Push(6), Is(true)),
+    (Room, Count(0)),
+    (Remove(5), Item(None)),
+    (Remove(usize::MAX), Item(None)),
+    (Remove(1), Item(Some(3))),
+    (Items(&[2, 4, 5, 6]), Is(true)),
+    (Push(7), Is(true)),
+    (Remove(3), Item(Some(6))),
+    (Items(&[2, 4, 5, 7]), Is(true)),
+    (Push(8), Is(true)),
+    (Remove(2), Item(Some(5))),
+    (Items(&[2, 4, 7, 8]), Is(true)),
+    (Remove(3), Item(Some(8))),
+    (Remove(0), Item(Some(2))),
+    (Items(&[4, 7]), Is(true)),
+    (Room, Count(3)),
+];
+
 /// Calls of a queue of capacity 3.
 const ALL_ITEMS: &[CallRow] = &[
     (Has(0), Is(false)),
@@ -162,6 +199,8 @@ const OF_NONE: &[CallRow] = &[
     (GetRef(0), Item(None)),
     (SetAt(0, 3), Item(None)),
     (PopBack, Item(None)),
+    (Remove(0), Item(None)),
+    (Room, Count(0)),
     (Truncate(0), Done),
     (Has(1), Is(false)),
     (SetToZero, Done),
@@ -198,6 +237,11 @@ fn each_kind(rt: HostRuntime) -> Result<(), Fail> {
             check_made(&findings, fixed, *turn, *rows, turned);
             check_made(&findings, Queue::new(alloc, 3), *turn, *rows, turned);
         }
+    }
+    for (turn, turned) in TURNS {
+        let fixed = made(FixedSizeQueue::<u64, 5>::new());
+        check_made(&findings, fixed, *turn, REMOVED, turned);
+        check_made(&findings, Queue::new(alloc, 5), *turn, REMOVED, turned);
     }
     let fixed = made(FixedSizeQueue::<u64, 0>::new());
     check_made(&findings, fixed, &[], OF_NONE, "fixed");

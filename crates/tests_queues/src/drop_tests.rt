@@ -1,6 +1,7 @@
 //! When items are dropped: each one once, the front item first.
 use crate::drop_tests::Call::{
-    Clear, KeepOdd, Pop, PopBack, Push, PushWithOverflow, Truncate, TryPush, Write, WriteBack,
+    Clear, KeepOdd, Pop, PopBack, Push, PushWithOverflow, Remove, Truncate, TryPush, Write,
+    WriteBack,
 };
 use crate::replacing::replace_back;
 use ix_queue::{FixedSizeQueue, MetaQueue, Queue};
@@ -18,6 +19,7 @@ enum Call {
     Clear,
     TryPush(u64),
     PopBack,
+    Remove(usize),
     /// Replaces the back item through `back_mut`.
     WriteBack(u64),
     Truncate(usize),
@@ -54,6 +56,7 @@ fn returned_by<'a, S: Table<Noted<'a>>>(
         Clear => queue.clear(),
         TryPush(name) => return queue.try_push(Noted::new(*name, notes)).err(),
         PopBack => return queue.pop_back(),
+        Remove(index) => return queue.remove(*index),
         WriteBack(name) => return replace_back(queue, Noted::new(*name, notes)),
         Truncate(len) => queue.truncate(*len),
         KeepOdd => queue.retain(|item| item.name % 2 == 1),
@@ -181,8 +184,10 @@ const OF_NINE: Example = (
         (Push(3), 0, 0),
         (Push(4), 0, 0),
         (Push(5), 0, 0),
+        (Remove(1), 0, 2),
+        (Remove(2), 2, 24),
     ],
-    12_345,
+    24_135,
 );
 
 #[test]
