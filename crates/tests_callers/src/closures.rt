@@ -1,5 +1,5 @@
 //! Calls with a closure that computes a test or a value, and stays as it was.
-ghost use Rattle.std.specs.Prelude.{◌≡◌, ◌/◌, ◌==◌, ◌||◌, ℕ, not, nat_eq, nat_lt, filter, map, option_map, unwrap_or, IfOk, IfSome, OnOk};
+ghost use Rattle.std.specs.Prelude.{◌≡◌, ◌↔◌, ◌/◌, ◌==◌, ◌||◌, ℕ, [], None, IsNone, not, nat_eq, nat_lt, filter, map, option_map, unwrap_or, IfOk, IfSome, OnOk};
 ghost use Rattle.std.specs.List.{range_with_len};
 ghost use Rattle.ix_tables.specs.Bounded.{with_items};
 ghost use Rattle.ix_vector.specs.VectorSteps.{vec_resize};
@@ -9,6 +9,7 @@ ghost use Rattle.ix_slotmap.specs.Generations.{SlotKey, slot_map_value};
 ghost use Rattle.ix_flatmap.specs.MapState.{map_value, map_items};
 
 use ix_flatmap::{BoundedMap, FixedSizeFlatMap};
+use ix_hashmap::FixedSizeHashMap;
 use ix_queue::FixedSizeQueue;
 use ix_slotmap::FixedSizeSlotMap;
 use ix_slottable::FixedSizeSlotTable;
@@ -134,6 +135,40 @@ pub fn flat_halve(pairs: &mut FixedSizeFlatMap<u64, u64, 8>)
         ≡ map (λ item. (item.0, item.1 / 2)) (map_items pairs.old) }
 {
     pairs.for_each_mut(|_, value| *value /= 2);
+}
+
+/// Removes the keys of a hash map whose values are less than `least`.
+pub fn hash_drop_below(map: &mut FixedSizeHashMap<u64, u64, 8>, least: u64)
+    ensures { (key : ℕ) → map_value nat_eq map.new key
+        ≡ option_filter (λ value. not (nat_lt value least)) (map_value nat_eq map.old key) }
+{
+    map.retain(|_, value| *value >= least);
+}
+
+/// Removes a key of a hash map.
+pub fn hash_without(map: &mut FixedSizeHashMap<u64, u64, 8>, unwanted: u64)
+    ensures { map_items map.new ≡ filter (λ item. not (item.0 == unwanted)) (map_items map.old) }
+{
+    map.retain(|key, _| *key != unwanted);
+}
+
+/// Halves each value of a hash map.
+pub fn hash_halve(map: &mut FixedSizeHashMap<u64, u64, 8>)
+    ensures { (key : ℕ) → map_value nat_eq map.new key
+        ≡ option_map (λ value. value / 2) (map_value nat_eq map.old key) }
+{
+    map.for_each_mut(|_, value| *value /= 2);
+}
+
+/// Returns the value of a key of a hash map, which is `new` if it was not there; or `None` if there is no room.
+pub fn hash_value_or(map: &mut FixedSizeHashMap<u64, u64, 8>, key: u64, new: u64) -> Option<u64>
+    ensures value { IfSome result (λ value. value ≡ unwrap_or (map_value nat_eq map.old key) new) }
+    ensures full { IsNone result ↔ ((map_value nat_eq map.old key ≡ None) × (map.old.free ≡ [])) }
+{
+    match map.get_or_insert_with(key, || new) {
+        Ok(value) => Some(*value),
+        Err(_) => None,
+    }
 }
 
 /// Returns the value of a key, which is 0 if it is new; or `None` if there is no room.

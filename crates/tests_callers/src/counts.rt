@@ -1,13 +1,13 @@
 //! How many items a container holds, how many more fit, and the capacity of inline kinds. Each function is proved from what
 //! the calls in it promise.
-ghost use Rattle.std.specs.Prelude.{◌≡◌, ◌+◌, ◌-◌, ◌<◌, ◌≤◌, nat_eq, length, IsTrue, IsSome, IsOk, None};
+ghost use Rattle.std.specs.Prelude.{◌≡◌, ◌+◌, ◌-◌, ◌<◌, ◌≤◌, length, IsTrue, IsSome, IsOk};
+ghost use Rattle.ix_tables.specs.Bounded.{IsWithin};
 ghost use Rattle.ix_slottable.specs.SlotTableState.{held_count, IsHeld, IsFree};
 ghost use Rattle.ix_slotmap.specs.Generations.{greatest_generation, place_value, slot_map_value, slot_map_len, retired_count, IsDead};
 ghost use Rattle.ix_slotmap.specs.SlotMapSteps.{slot_map_clear};
-ghost use Rattle.ix_flatmap.specs.MapState.{map_value};
 
-use ix_flatmap::{BoundedMap, FixedSizeFlatMap, FlatMap, MapError};
-use ix_hashmap::{FixedSizeHashMap, HashMap};
+use ix_flatmap::FixedSizeFlatMap;
+use ix_hashmap::FixedSizeHashMap;
 use ix_queue::{FixedSizeQueue, Queue};
 use ix_slotmap::slotmap::cleared_keys_law;
 use ix_slotmap::{FixedSizeSlotMap, SlotMapKey};
@@ -26,6 +26,12 @@ type Hash = FixedSizeHashMap<u64, u64, 8>;
 
 pub fn queue_capacity(queue: &FixedSizeQueue<u64, 8>) -> usize
     ensures { result ≡ 8 }
+{
+    queue.capacity()
+}
+
+pub fn queue_capacity_of<const N: usize>(queue: &FixedSizeQueue<u64, N>) -> usize
+    ensures { result ≡ N }
 {
     queue.capacity()
 }
@@ -54,6 +60,18 @@ pub fn table_len(table: &Table) -> usize
     table.len()
 }
 
+pub fn table_capacity_of<const N: usize>(table: &FixedSizeSlotTable<u64, N>) -> usize
+    ensures { result ≡ N }
+{
+    table.capacity()
+}
+
+pub fn table_len_of<const N: usize>(table: &FixedSizeSlotTable<u64, N>) -> usize
+    ensures { result ≤ N }
+{
+    table.len()
+}
+
 pub fn slot_map_capacity(map: &Map) -> usize
     ensures { result ≡ 8 }
 {
@@ -66,10 +84,34 @@ pub fn slot_map_len(map: &Map) -> usize
     map.len()
 }
 
+pub fn slot_map_capacity_of<const N: usize>(map: &FixedSizeSlotMap<u64, N>) -> usize
+    ensures { result ≡ N }
+{
+    map.capacity()
+}
+
+pub fn slot_map_len_of<const N: usize>(map: &FixedSizeSlotMap<u64, N>) -> usize
+    ensures { result ≤ N }
+{
+    map.len()
+}
+
 pub fn flat_capacity(map: &Flat) -> usize
     ensures { result ≡ 8 }
 {
     map.capacity()
+}
+
+pub fn flat_capacity_of<const N: usize>(map: &FixedSizeFlatMap<u64, u64, N>) -> usize
+    ensures { result ≡ N }
+{
+    map.capacity()
+}
+
+pub fn flat_len(map: &Flat) -> usize
+    ensures { result ≤ 8 }
+{
+    map.len()
 }
 
 pub fn flat_len_of<const N: usize>(map: &FixedSizeFlatMap<u64, u64, N>) -> usize
@@ -86,6 +128,18 @@ pub fn hash_capacity(map: &Hash) -> usize
 
 pub fn hash_len(map: &Hash) -> usize
     ensures { result ≤ 8 }
+{
+    map.len()
+}
+
+pub fn hash_capacity_of<const N: usize>(map: &FixedSizeHashMap<u64, u64, N>) -> usize
+    ensures { result ≡ N }
+{
+    map.capacity()
+}
+
+pub fn hash_len_of<const N: usize>(map: &FixedSizeHashMap<u64, u64, N>) -> usize
+    ensures { result ≤ N }
 {
     map.len()
 }
@@ -121,6 +175,35 @@ pub fn queue_pop(queue: &mut FixedSizeQueue<u64, 8>) -> Option<u64>
     ensures { IsSome result → length queue.new.items + 1 ≡ length queue.old.items }
 {
     queue.pop()
+}
+
+pub fn queue_turn(queue: &mut Queue<u64>) -> bool
+    ensures { length queue.new.items ≡ length queue.old.items }
+{
+    match queue.pop() {
+        Some(item) => queue.push(item),
+        None => false,
+    }
+}
+
+pub fn queue_turn_back(queue: &mut Queue<u64>) -> Option<u64>
+    ensures { length queue.new.items ≡ length queue.old.items }
+{
+    let item = queue.pop_back()?;
+    queue.push(item);
+    Some(item)
+}
+
+pub fn queue_push_within(queue: &mut Queue<u64>)
+    ensures { IsWithin queue.new }
+{
+    queue.push(1);
+}
+
+pub fn queue_overflow_within(queue: &mut Queue<u64>) -> Option<u64>
+    ensures { IsWithin queue.new }
+{
+    queue.push_with_overflow(1)
 }
 
 pub fn queue_pop_back(queue: &mut FixedSizeQueue<u64, 8>) -> Option<u64>
@@ -323,99 +406,4 @@ pub fn slot_map_cleared(map: &Map, key: SlotMapKey)
 {
     map.len();
     cleared_keys_law::<u64>();
-}
-
-// Flat maps and hash maps.
-
-pub fn map_insert(map: &mut Flat) -> Result<(), MapError>
-    ensures count { IsOk result → held_count map.new ≡ held_count map.old + 1 }
-    ensures room { IsOk result → length map.new.free + 1 ≡ length map.old.free }
-{
-    map.insert(1, 1)
-}
-
-pub fn flat_try_insert(map: &mut Flat) -> bool
-    ensures count { IsTrue result → held_count map.new ≡ held_count map.old + 1 }
-    ensures room { IsTrue result → length map.new.free + 1 ≡ length map.old.free }
-{
-    map.try_insert(1, 1).is_ok()
-}
-
-pub fn map_replace(map: &mut Flat) -> bool
-    ensures count { IsSome (map_value nat_eq map.old 1) → held_count map.new ≡ held_count map.old }
-    ensures room { IsTrue result → map_value nat_eq map.old 1 ≡ None
-        → length map.new.free + 1 ≡ length map.old.free }
-{
-    map.replace(1, 1).is_ok()
-}
-
-pub fn map_remove(map: &mut Flat) -> Option<u64>
-    ensures count { IsSome result → held_count map.new + 1 ≡ held_count map.old }
-    ensures room { IsSome result → length map.new.free ≡ length map.old.free + 1 }
-{
-    map.remove(&1)
-}
-
-pub fn flat_remove_entry(map: &mut Flat) -> Option<(u64, u64)>
-    ensures count { IsSome result → held_count map.new + 1 ≡ held_count map.old }
-    ensures room { IsSome result → length map.new.free ≡ length map.old.free + 1 }
-{
-    map.remove_entry(&1)
-}
-
-pub fn flat_retain(map: &mut Flat)
-    ensures count { held_count map.new ≤ held_count map.old }
-    ensures room { length map.old.free ≤ length map.new.free }
-{
-    map.retain(|_, value| *value != 3);
-}
-
-pub fn flat_clear(map: &mut FlatMap<u64, u64>)
-    ensures count { held_count map.new ≡ 0 }
-    ensures room { length map.new.free ≡ length map.old.values }
-{
-    map.clear();
-}
-
-pub fn flat_drain(map: &mut Flat)
-    ensures count { held_count map.new ≡ 0 }
-    ensures room { length map.new.free ≡ length map.old.values }
-{
-    map.drain();
-}
-
-pub fn hash_insert(map: &mut HashMap<u64, u64>) -> Result<(), MapError>
-    ensures count { IsOk result → held_count map.new ≡ held_count map.old + 1 }
-    ensures room { IsOk result → length map.new.free + 1 ≡ length map.old.free }
-{
-    map.insert(1, 1)
-}
-
-pub fn hash_remove(map: &mut Hash) -> Option<u64>
-    ensures { IsSome result → held_count map.new + 1 ≡ held_count map.old }
-{
-    map.remove(&1)
-}
-
-// A map of any kind.
-
-pub fn any_insert<M: BoundedMap<u64, u64>>(map: &mut M) -> Result<(), MapError>
-    ensures count { IsOk result → held_count (M.state map.new) ≡ held_count (M.state map.old) + 1 }
-    ensures room { IsOk result → length (M.state map.new).free + 1 ≡ length (M.state map.old).free }
-{
-    map.insert(1, 1)
-}
-
-pub fn any_remove<M: BoundedMap<u64, u64>>(map: &mut M) -> Option<u64>
-    ensures count { IsSome result → held_count (M.state map.new) + 1 ≡ held_count (M.state map.old) }
-    ensures room { IsSome result → length (M.state map.new).free ≡ length (M.state map.old).free + 1 }
-{
-    map.remove(&1)
-}
-
-pub fn any_clear<M: BoundedMap<u64, u64>>(map: &mut M)
-    ensures count { held_count (M.state map.new) ≡ 0 }
-    ensures room { length (M.state map.new).free ≡ length (M.state map.old).values }
-{
-    map.clear();
 }

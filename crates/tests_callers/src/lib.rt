@@ -7,5 +7,7 @@ pub mod cells;
 pub mod closures;
 /// How many items a container holds, how many more fit, and the capacity of inline kinds.
 pub mod counts;
+/// How many keys a map holds, and how many more fit.
+pub mod map_counts;
 /// Names as keys.
 pub mod words;

@@ -1,0 +1,180 @@
+//! How many keys a map holds, and how many more fit.
+ghost use Rattle.std.specs.Prelude.{◌≡◌, ◌+◌, ◌≤◌, nat_eq, length, IsTrue, IsSome, IsOk, None};
+ghost use Rattle.ix_slottable.specs.SlotTableState.{held_count};
+ghost use Rattle.ix_flatmap.specs.MapState.{map_value};
+
+use ix_flatmap::{BoundedMap, FixedSizeFlatMap, FlatMap, MapError};
+use ix_hashmap::{FixedSizeHashMap, HashMap};
+
+type Flat = FixedSizeFlatMap<u64, u64, 8>;
+
+type Hash = FixedSizeHashMap<u64, u64, 8>;
+
+// Flat maps and hash maps.
+
+pub fn map_insert(map: &mut Flat) -> Result<(), MapError>
+    ensures count { IsOk result → held_count map.new ≡ held_count map.old + 1 }
+    ensures room { IsOk result → length map.new.free + 1 ≡ length map.old.free }
+{
+    map.insert(1, 1)
+}
+
+pub fn flat_try_insert(map: &mut Flat) -> bool
+    ensures count { IsTrue result → held_count map.new ≡ held_count map.old + 1 }
+    ensures room { IsTrue result → length map.new.free + 1 ≡ length map.old.free }
+{
+    map.try_insert(1, 1).is_ok()
+}
+
+pub fn map_replace(map: &mut Flat) -> bool
+    ensures count { IsSome (map_value nat_eq map.old 1) → held_count map.new ≡ held_count map.old }
+    ensures room { IsTrue result → map_value nat_eq map.old 1 ≡ None
+        → length map.new.free + 1 ≡ length map.old.free }
+{
+    map.replace(1, 1).is_ok()
+}
+
+pub fn map_remove(map: &mut Flat) -> Option<u64>
+    ensures count { IsSome result → held_count map.new + 1 ≡ held_count map.old }
+    ensures room { IsSome result → length map.new.free ≡ length map.old.free + 1 }
+{
+    map.remove(&1)
+}
+
+pub fn flat_remove_entry(map: &mut Flat) -> Option<(u64, u64)>
+    ensures count { IsSome result → held_count map.new + 1 ≡ held_count map.old }
+    ensures room { IsSome result → length map.new.free ≡ length map.old.free + 1 }
+{
+    map.remove_entry(&1)
+}
+
+pub fn flat_retain(map: &mut Flat)
+    ensures count { held_count map.new ≤ held_count map.old }
+    ensures room { length map.old.free ≤ length map.new.free }
+{
+    map.retain(|_, value| *value != 3);
+}
+
+pub fn flat_clear(map: &mut FlatMap<u64, u64>)
+    ensures count { held_count map.new ≡ 0 }
+    ensures room { length map.new.free ≡ length map.old.values }
+{
+    map.clear();
+}
+
+pub fn flat_drain(map: &mut Flat)
+    ensures count { held_count map.new ≡ 0 }
+    ensures room { length map.new.free ≡ length map.old.values }
+{
+    map.drain();
+}
+
+pub fn hash_insert(map: &mut HashMap<u64, u64>) -> Result<(), MapError>
+    ensures count { IsOk result → held_count map.new ≡ held_count map.old + 1 }
+    ensures room { IsOk result → length map.new.free + 1 ≡ length map.old.free }
+{
+    map.insert(1, 1)
+}
+
+pub fn hash_try_insert(map: &mut Hash) -> bool
+    ensures count { IsTrue result → held_count map.new ≡ held_count map.old + 1 }
+    ensures room { IsTrue result → length map.new.free + 1 ≡ length map.old.free }
+{
+    map.try_insert(1, 1).is_ok()
+}
+
+pub fn hash_replace(map: &mut Hash) -> bool
+    ensures count { IsSome (map_value nat_eq map.old 1) → held_count map.new ≡ held_count map.old }
+    ensures room { IsTrue result → map_value nat_eq map.old 1 ≡ None
+        → length map.new.free + 1 ≡ length map.old.free }
+{
+    map.replace(1, 1).is_ok()
+}
+
+pub fn hash_remove(map: &mut Hash) -> Option<u64>
+    ensures count { IsSome result → held_count map.new + 1 ≡ held_count map.old }
+    ensures room { IsSome result → length map.new.free ≡ length map.old.free + 1 }
+{
+    map.remove(&1)
+}
+
+pub fn hash_remove_entry(map: &mut Hash) -> Option<(u64, u64)>
+    ensures count { IsSome result → held_count map.new + 1 ≡ held_count map.old }
+    ensures room { IsSome result → length map.new.free ≡ length map.old.free + 1 }
+{
+    map.remove_entry(&1)
+}
+
+pub fn hash_retain(map: &mut Hash)
+    ensures count { held_count map.new ≤ held_count map.old }
+    ensures room { length map.old.free ≤ length map.new.free }
+{
+    map.retain(|_, value| *value != 3);
+}
+
+pub fn hash_clear(map: &mut HashMap<u64, u64>)
+    ensures count { held_count map.new ≡ 0 }
+    ensures room { length map.new.free ≡ length map.old.values }
+{
+    map.clear();
+}
+
+pub fn hash_drain(map: &mut Hash)
+    ensures count { held_count map.new ≡ 0 }
+    ensures room { length map.new.free ≡ length map.old.values }
+{
+    map.drain();
+}
+
+// A map of any kind.
+
+pub fn any_insert<M: BoundedMap<u64, u64>>(map: &mut M) -> Result<(), MapError>
+    ensures count { IsOk result → held_count (M.state map.new) ≡ held_count (M.state map.old) + 1 }
+    ensures room { IsOk result → length (M.state map.new).free + 1 ≡ length (M.state map.old).free }
+{
+    map.insert(1, 1)
+}
+
+pub fn any_try_insert<M: BoundedMap<u64, u64>>(map: &mut M) -> bool
+    ensures count { IsTrue result → held_count (M.state map.new) ≡ held_count (M.state map.old) + 1 }
+    ensures room { IsTrue result → length (M.state map.new).free + 1 ≡ length (M.state map.old).free }
+{
+    map.try_insert(1, 1).is_ok()
+}
+
+pub fn any_replace<M: BoundedMap<u64, u64>>(map: &mut M) -> bool
+    ensures count { IsSome (map_value nat_eq (M.state map.old) 1)
+        → held_count (M.state map.new) ≡ held_count (M.state map.old) }
+    ensures room { IsTrue result → map_value nat_eq (M.state map.old) 1 ≡ None
+        → length (M.state map.new).free + 1 ≡ length (M.state map.old).free }
+{
+    map.replace(1, 1).is_ok()
+}
+
+pub fn any_remove<M: BoundedMap<u64, u64>>(map: &mut M) -> Option<u64>
+    ensures count { IsSome result → held_count (M.state map.new) + 1 ≡ held_count (M.state map.old) }
+    ensures room { IsSome result → length (M.state map.new).free ≡ length (M.state map.old).free + 1 }
+{
+    map.remove(&1)
+}
+
+pub fn any_remove_entry<M: BoundedMap<u64, u64>>(map: &mut M) -> Option<(u64, u64)>
+    ensures count { IsSome result → held_count (M.state map.new) + 1 ≡ held_count (M.state map.old) }
+    ensures room { IsSome result → length (M.state map.new).free ≡ length (M.state map.old).free + 1 }
+{
+    map.remove_entry(&1)
+}
+
+pub fn any_retain<M: BoundedMap<u64, u64>>(map: &mut M)
+    ensures count { held_count (M.state map.new) ≤ held_count (M.state map.old) }
+    ensures room { length (M.state map.old).free ≤ length (M.state map.new).free }
+{
+    map.retain(|_, value| *value != 3);
+}
+
+pub fn any_clear<M: BoundedMap<u64, u64>>(map: &mut M)
+    ensures count { held_count (M.state map.new) ≡ 0 }
+    ensures room { length (M.state map.new).free ≡ length (M.state map.old).values }
+{
+    map.clear();
+}
