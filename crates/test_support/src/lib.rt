@@ -3,7 +3,7 @@
 //! containers are made, items that note their drops, [`hash_of`], [`order_of`] and [`check_text`], which know a value by a
 //! trait alone, [`fed_by`], which tells what a value feeds to a hasher, [`check_makings`], which has heaps of a few blocks,
 //! [`read_with`], which reads how many bytes are in use with a container, [`check_memory_sizes`], which knows how many it
-//! takes, [`check_drawn_sizes`], which has ample memory, [`check_equality`] and [`check_map_clone`] of maps of any kind, and
+//! takes, [`check_drawn_sizes`], which has ample memory, [`check_equality`] of maps of any kind, and
 //! [`devices`] that fail.
 //!
 //! ```text
@@ -33,8 +33,8 @@ pub use by_traits::{check_display, check_printed, check_text, hash_of, order_of}
 pub use drawn_sizes::check_drawn_sizes;
 pub use findings::Findings;
 pub use makings::{MAKINGS, Making, read_again, read_with};
-pub use maps::{MAP_CLONES, check_equality, check_map_clone, fill_with_hole};
-pub use noted::{Noted, Notes, names_of};
+pub use maps::check_equality;
+pub use noted::{Noted, Notes};
 pub use numbers::Numbers;
 pub use recorder::fed_by;
 pub use rows::{check_rows, check_tables, made};

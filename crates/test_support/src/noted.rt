@@ -1,5 +1,8 @@
 //! Items that note their drops.
-ghost use Rattle.std.specs.Prelude.{◌≡◌, ◌+◌, ◌*◌, ◌%◌, ◌^◌, fold};
+ghost use Rattle.std.proofs.Common.{rules};
+ghost use Rattle.std.specs.Cmp.Rules.{comparing};
+ghost use Rattle.std.specs.Ordering.{on};
+ghost use Rattle.std.specs.Prelude.{◌≡◌, nat_eq};
 
 use std::alloc::AllocError;
 use std::cell::Cell;
@@ -32,6 +35,12 @@ impl Notes {
     /// As [`Notes::drops`], and forgets them.
     pub fn take_drops(&self) -> u64 {
         self.drops.replace(0)
+    }
+
+    /// Notes one more digit.
+    pub fn note(&self, digit: u64) {
+        self.drops
+            .set(self.drops.get().wrapping_mul(10).wrapping_add(digit));
     }
 
     /// Returns the number of further clones that succeed.
@@ -68,9 +77,19 @@ impl Drop for Noted<'_> {
     fn drop(self) {
         let Self { name, notes } = self;
         if let Some(notes) = notes {
-            let drops = notes.drops.get();
-            notes.drops.set(drops.wrapping_mul(10).wrapping_add(name));
+            notes.note(name);
         }
+    }
+}
+
+/// Items are equal if their names are.
+impl PartialEq for Noted<'_> {
+    ghost eq = { on (λ item. item.name) nat_eq };
+
+    ghost laws = { Prim.search (comparing, rules) };
+
+    fn eq(&self, other: &Self) -> bool {
+        self.name == other.name
     }
 }
 
@@ -95,15 +114,4 @@ impl Clone for Noted<'_> {
             notes: self.notes,
         })
     }
-}
-
-/// Returns the names of items, as the digits of a number modulo 2^64. O(`items.len()`).
-pub fn names_of(items: &[Noted]) -> u64
-    ensures { result ≡ fold (λ names item. (names * 10 % 2 ^ 64 + item.name) % 2 ^ 64) 0 items.now }
-{
-    let mut names = 0u64;
-    for item in items {
-        names = names.wrapping_mul(10).wrapping_add(item.name);
-    }
-    names
 }

@@ -1,17 +1,14 @@
 //! Clones, equality, defaults, look-ups by index and by `get_or_insert_with`.
 use crate::hashers::{HASHES, OneHash};
 use crate::memory_tests::HASH_SIZES;
-use ix_flatmap::{BoundedMap, FixedSizeFlatMap, FlatMap, KeyIndex, MetaMap, Pair};
+use ix_flatmap::{FixedSizeFlatMap, FlatMap, KeyIndex, MetaMap, Pair};
 use ix_hashmap::{FixedSizeHashMap, HashMap};
 use ix_slottable::Link;
 use ix_tables::Table;
 use linked_list_allocator::LocalHeap;
 use std::alloc::{AllocError, Global};
 use std::test::Fail;
-use test_support::{
-    Findings, MAP_CLONES, Noted, Notes, check_equality, check_makings, check_map_clone, check_text,
-    fill_with_hole,
-};
+use test_support::{Findings, check_equality, check_makings, check_text};
 
 /// A key; what `get_or_insert_with` returns of it once the value is raised by one; and the number of calls so far. A map of 2 is
 /// empty before the first row, and 7 is inserted.
@@ -106,76 +103,6 @@ fn equal_maps(rt: HostRuntime) -> Result<(), Fail> {
     }
     let empty = FixedSizeFlatMap::<u64, u64, 2>::default();
     findings.expect_same((empty.len(), empty.capacity()), (0, 2), "the default map");
-    findings.verdict()
-}
-
-/// Clones a fixed map of 4, which is empty.
-fn check_fixed<'a, M: BoundedMap<u64, Noted<'a>> + Clone>(
-    findings: &Findings,
-    map: &mut M,
-    notes: &'a Notes,
-) {
-    fill_with_hole(findings, map, notes);
-    for row in MAP_CLONES {
-        notes.allow_clones(row.0);
-        check_map_clone(findings, map.clone(), notes, row);
-    }
-    findings.expect(map.contains(&20), "the original");
-}
-
-/// Clones flat maps.
-fn check_map(findings: &Findings, alloc: Global, heap: &LocalHeap) {
-    let notes = Notes::new(0);
-    let mut fixed = FixedSizeFlatMap::<u64, Noted, 4>::new();
-    check_fixed(findings, &mut fixed, &notes);
-    match FlatMap::<u64, Noted, Global>::new(alloc, 4) {
-        Ok(mut map) => {
-            fill_with_hole(findings, &mut map, &notes);
-            for row in MAP_CLONES {
-                notes.allow_clones(row.0);
-                check_map_clone(findings, map.try_clone_in(heap), &notes, row);
-                findings.expect_same_at(heap.used(), 0, row.0 as usize, "bytes in use");
-            }
-        }
-        Err(AllocError) => findings.miss("there is memory"),
-    }
-    drop(fixed);
-    findings.expect_same(notes.take_drops(), 153153, "the values of the two maps");
-}
-
-/// Clones hash maps, whose hashers are those of `hasher`.
-fn check_hashed(findings: &Findings, alloc: Global, heap: &LocalHeap, hasher: OneHash) {
-    let notes = Notes::new(0);
-    let mut fixed = FixedSizeHashMap::<u64, Noted, 4, OneHash>::with_hasher(hasher);
-    check_fixed(findings, &mut fixed, &notes);
-    match HashMap::<u64, Noted, Global, OneHash>::with_hasher(alloc, 4, hasher) {
-        Ok(mut map) => {
-            fill_with_hole(findings, &mut map, &notes);
-            for row in MAP_CLONES {
-                notes.allow_clones(row.0);
-                check_map_clone(findings, map.try_clone_in(heap), &notes, row);
-                findings.expect_same_at(heap.used(), 0, row.0 as usize, "bytes in use");
-            }
-            findings.expect(map.contains(&20), "the original");
-        }
-        Err(AllocError) => findings.miss("there is memory"),
-    }
-    drop(fixed);
-    findings.expect_same(notes.take_drops(), 153153, "the values of the two maps");
-}
-
-#[test]
-fn clones(rt: HostRuntime) -> Result<(), Fail> {
-    let findings = Findings::new();
-    match LocalHeap::new(rt.alloc(), 4096) {
-        Ok(heap) => {
-            check_map(&findings, rt.alloc(), &heap);
-            for hash in HASHES {
-                check_hashed(&findings, rt.alloc(), &heap, OneHash { hash });
-            }
-        }
-        Err(_) => findings.miss("a heap"),
-    }
     findings.verdict()
 }
 

@@ -1,14 +1,13 @@
-//! Iterators and drains: the order of the items wherever the front item lies, walks that stop early, and which items are
-//! dropped with an iterator.
+//! Iterators and drains: the order of the items wherever the front item lies, and walks that stop early.
 use crate::iter_tests::Step::{Back, Left, Next};
 use crate::replacing::{drain_all, drain_one};
 use crate::rows::Row;
-use crate::turning::{TURNS, fill_round};
+use crate::turning::TURNS;
 use ix_queue::{FixedSizeQueue, MetaQueue, Queue};
 use ix_tables::Table;
 use std::alloc::AllocError;
 use std::test::Fail;
-use test_support::{Findings, Noted, Notes, check_rows, check_text, made};
+use test_support::{Findings, check_rows, check_text, made};
 
 /// A call of an iterator and its result.
 enum Step {
@@ -183,101 +182,5 @@ fn texts() -> Result<(), Fail> {
     let mut iter = queue.into_iter();
     iter.next();
     check_text(&findings, &iter, "[4]");
-    findings.verdict()
-}
-
-/// The number of items that are taken, the names of the items that are dropped then, and those once the iterator is
-/// dropped.
-type Taken = (usize, u64, u64);
-
-const TAKEN: &[Taken] = &[
-    (0, 0, 234),
-    (1, 2, 234),
-    (2, 23, 234),
-    (3, 234, 234),
-    (4, 234, 234),
-];
-
-/// Takes an item and drops it.
-fn take_one<'a, I: Iterator<Item = Noted<'a>>>(iter: &mut I)
-    requires { (at : I) → I.can_next at }
-{
-    drop(iter.next());
-}
-
-/// Takes items of an iterator over the items 2, 3 and 4, and drops it.
-fn check_taken<'a, I: Iterator<Item = Noted<'a>>>(
-    findings: &Findings,
-    mut iter: I,
-    notes: &'a Notes,
-    row: &Taken,
-)
-    requires { (at : I) → I.can_next at }
-{
-    let (taken, before, after) = row;
-    for _ in 0..*taken {
-        take_one(&mut iter);
-    }
-    findings.expect_same_at(notes.drops(), *before, *taken, "taken");
-    drop(iter);
-    findings.expect_same_at(
-        notes.take_drops(),
-        *after,
-        *taken,
-        "dropped with the iterator",
-    );
-}
-
-#[test]
-fn drops(rt: HostRuntime) -> Result<(), Fail> {
-    let findings = Findings::new();
-    let notes = Notes::new(0);
-    let mut drained = FixedSizeQueue::<Noted, 3>::new();
-    for row in TAKEN {
-        fill_round(&mut drained, &notes);
-        check_taken(&findings, drained.drain(), &notes, row);
-        let mut fixed = FixedSizeQueue::<Noted, 3>::new();
-        fill_round(&mut fixed, &notes);
-        check_taken(&findings, fixed.into_iter(), &notes, row);
-        match Queue::<Noted>::new(rt.alloc(), 3) {
-            Ok(mut queue) => {
-                fill_round(&mut queue, &notes);
-                check_taken(&findings, queue.into_iter(), &notes, row);
-            }
-            Err(AllocError) => findings.miss("there is memory"),
-        }
-    }
-    drop(drained);
-    findings.expect_same(notes.drops(), 0, "nothing is dropped twice");
-    findings.verdict()
-}
-
-#[test]
-fn an_item_outlives_its_iterator() -> Result<(), Fail> {
-    let findings = Findings::new();
-    let notes = Notes::new(0);
-    let mut queue = FixedSizeQueue::<Noted, 3>::new();
-    fill_round(&mut queue, &notes);
-    let mut iter = queue.into_iter();
-    let item = iter.next();
-    drop(iter);
-    findings.expect_same(notes.drops(), 34, "dropped with the iterator");
-    drop(item);
-    findings.expect_same(notes.drops(), 342, "dropped by the caller");
-    findings.verdict()
-}
-
-#[test]
-fn a_loop_that_is_left_drops_the_rest() -> Result<(), Fail> {
-    let findings = Findings::new();
-    let notes = Notes::new(0);
-    let mut queue = FixedSizeQueue::<Noted, 3>::new();
-    fill_round(&mut queue, &notes);
-    for item in queue {
-        if item.name == 2 {
-            break;
-        }
-    }
-    findings.expect_same(notes.drops(), 234, "each item is dropped");
     findings.verdict()
 }

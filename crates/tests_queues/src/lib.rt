@@ -9,8 +9,6 @@ mod closure_tests;
 #[cfg(test)]
 mod copy_tests;
 #[cfg(test)]
-mod drop_tests;
-#[cfg(test)]
 mod function_tests;
 #[cfg(test)]
 mod iter_tests;

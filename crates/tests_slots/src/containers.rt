@@ -3,7 +3,6 @@ use ix_slotmap::{MetaSlotMap, SlotMapKey};
 use ix_slottable::{Link, MetaSlotTable, SlotTableKey};
 use ix_tables::Table;
 use std::fmt::Debug;
-use test_support::{Findings, Noted};
 
 /// The greatest generation.
 pub const LAST: u32 = 4_294_967_295;
@@ -13,7 +12,7 @@ pub fn key(index: usize, generation: u32) -> SlotMapKey {
     SlotMapKey::new(index, generation)
 }
 
-/// A value with a number: its own, or its name.
+/// A value with a number.
 pub trait Numbered: Drop {
     /// Raises the number by `by`, and returns what it was.
     fn raise(&mut self, by: u64) -> u64;
@@ -33,12 +32,6 @@ impl Numbered for () {
     }
 }
 
-impl Numbered for Noted<'_> {
-    fn raise(&mut self, by: u64) -> u64 {
-        self.name.raise(by)
-    }
-}
-
 /// How many items were seen, and the index and the number of each, as two digits.
 pub type Seen = (usize, u64);
 
@@ -51,9 +44,8 @@ pub fn with_item((count, digits): Seen, index: usize, number: u64) -> Seen {
     )
 }
 
-/// What was seen of a drain: its size hint, its first item, what was read when that was dropped, the number of items that were
-/// still to come, and what was read when the drain was dropped.
-pub type FirstDrained<K> = ((usize, Option<usize>), Option<(K, u64)>, u64, usize, u64);
+/// What was seen of a drain: its size hint, its first item, and the number of items that were still to come.
+pub type FirstDrained<K> = ((usize, Option<usize>), Option<(K, u64)>, usize);
 
 /// A slot table or a slot map with values of the type `T`. Each call does what the container's call of that name does.
 pub trait Slots<T: Numbered> {
@@ -66,15 +58,10 @@ pub trait Slots<T: Numbered> {
 
     fn len(&self) -> usize;
 
-    /// Returns the number of retired places, or `None` for a slot table, which has none.
-    fn retired(&self) -> Option<usize>;
-
     /// Returns the number of values, 0 or 1, by `is_empty`, `len`, and the iterators over keys and over values.
     fn lens(&self) -> [usize; 5];
 
     fn next_free_key(&self) -> Option<Self::Key>;
-
-    fn contains(&self, key: Self::Key) -> bool;
 
     fn insert(&mut self, value: T) -> Option<Self::Key>;
 
@@ -83,9 +70,6 @@ pub trait Slots<T: Numbered> {
     fn try_insert(&mut self, value: T) -> Result<Self::Key, T>;
 
     fn try_insert_at(&mut self, index: usize, value: T) -> Result<(Self::Key, Option<T>), T>;
-
-    /// Replaces a value through `get_mut`.
-    fn write(&mut self, key: Self::Key, value: T);
 
     fn remove(&mut self, key: Self::Key) -> Option<T>;
 
@@ -97,19 +81,8 @@ pub trait Slots<T: Numbered> {
     /// Raises the number of each value by `raise`, and removes all keys but `kept`, through `retain`.
     fn raise_and_retain(&mut self, raise: u64, kept: Option<Self::Key>) -> Seen;
 
-    /// Takes the first item of a drain and drops it, and then the drain. Calls `read` after each of the two.
-    fn drain_first<F: Fn() -> u64>(&mut self, read: F) -> FirstDrained<Self::Key>
-        requires { F.IsAlwaysCallable read };
-
-    /// Takes all items of a drain, each of which is dropped before the next.
-    fn drain_each(&mut self) -> Seen;
-}
-
-/// Checks the number of retired places, which only a slot map has.
-pub fn check_retired<T: Numbered, C: Slots<T>>(findings: &Findings, slots: &C, retired: usize) {
-    if let Some(found) = slots.retired() {
-        findings.expect_same(found, retired, "the retired places");
-    }
+    /// Takes the first item of a drain.
+    fn drain_first(&mut self) -> FirstDrained<Self::Key>;
 }
 
 impl<T: Numbered, S: Table<T>, L: Table<Link>> Slots<T> for MetaSlotTable<T, S, L> {
@@ -127,10 +100,6 @@ impl<T: Numbered, S: Table<T>, L: Table<Link>> Slots<T> for MetaSlotTable<T, S, 
         MetaSlotTable::len(self)
     }
 
-    fn retired(&self) -> Option<usize> {
-        None
-    }
-
     fn lens(&self) -> [usize; 5] {
         let is_held = usize::from(!MetaSlotTable::is_empty(self));
         let (keys, values) = (self.keys(), self.values());
@@ -145,10 +114,6 @@ impl<T: Numbered, S: Table<T>, L: Table<Link>> Slots<T> for MetaSlotTable<T, S, 
 
     fn next_free_key(&self) -> Option<SlotTableKey> {
         MetaSlotTable::next_free_key(self)
-    }
-
-    fn contains(&self, key: SlotTableKey) -> bool {
-        MetaSlotTable::contains(self, key)
     }
 
     fn insert(&mut self, value: T) -> Option<SlotTableKey> {
@@ -169,12 +134,6 @@ impl<T: Numbered, S: Table<T>, L: Table<Link>> Slots<T> for MetaSlotTable<T, S, 
         match MetaSlotTable::try_insert_at(self, key, value) {
             Ok(replaced) => Ok((key, replaced)),
             Err(value) => Err(value),
-        }
-    }
-
-    fn write(&mut self, key: SlotTableKey, value: T) {
-        if let Some(place) = MetaSlotTable::get_mut(self, key) {
-            *place = value;
         }
     }
 
@@ -203,22 +162,11 @@ impl<T: Numbered, S: Table<T>, L: Table<Link>> Slots<T> for MetaSlotTable<T, S, 
         seen
     }
 
-    fn drain_first<F: Fn() -> u64>(&mut self, read: F) -> FirstDrained<SlotTableKey> {
+    fn drain_first(&mut self) -> FirstDrained<SlotTableKey> {
         let mut drain = self.drain();
         let hint = drain.size_hint();
         let first = drain.next().map(|(key, mut value)| (key, value.raise(0)));
-        let dropped = read();
-        let left = drain.len();
-        drop(drain);
-        (hint, first, dropped, left, read())
-    }
-
-    fn drain_each(&mut self) -> Seen {
-        let mut seen = (0, 0);
-        for (key, mut value) in self.drain() {
-            seen = with_item(seen, key.value(), value.raise(0));
-        }
-        seen
+        (hint, first, drain.len())
     }
 }
 
@@ -238,10 +186,6 @@ impl<T: Numbered, S: Table<Option<T>>, L: Table<Link>, G: Table<u64>> Slots<T>
         MetaSlotMap::len(self)
     }
 
-    fn retired(&self) -> Option<usize> {
-        Some(MetaSlotMap::retired(self))
-    }
-
     fn lens(&self) -> [usize; 5] {
         let is_held = usize::from(!MetaSlotMap::is_empty(self));
         let (keys, values) = (self.keys(), self.values());
@@ -258,10 +202,6 @@ impl<T: Numbered, S: Table<Option<T>>, L: Table<Link>, G: Table<u64>> Slots<T>
         MetaSlotMap::next_free_key(self)
     }
 
-    fn contains(&self, key: SlotMapKey) -> bool {
-        MetaSlotMap::contains(self, key)
-    }
-
     fn insert(&mut self, value: T) -> Option<SlotMapKey> {
         MetaSlotMap::insert(self, value)
     }
@@ -276,12 +216,6 @@ impl<T: Numbered, S: Table<Option<T>>, L: Table<Link>, G: Table<u64>> Slots<T>
 
     fn try_insert_at(&mut self, index: usize, value: T) -> Result<(SlotMapKey, Option<T>), T> {
         MetaSlotMap::try_insert_at(self, index, value)
-    }
-
-    fn write(&mut self, key: SlotMapKey, value: T) {
-        if let Some(place) = MetaSlotMap::get_mut(self, key) {
-            *place = value;
-        }
     }
 
     fn remove(&mut self, key: SlotMapKey) -> Option<T> {
@@ -309,21 +243,10 @@ impl<T: Numbered, S: Table<Option<T>>, L: Table<Link>, G: Table<u64>> Slots<T>
         seen
     }
 
-    fn drain_first<F: Fn() -> u64>(&mut self, read: F) -> FirstDrained<SlotMapKey> {
+    fn drain_first(&mut self) -> FirstDrained<SlotMapKey> {
         let mut drain = self.drain();
         let hint = drain.size_hint();
         let first = drain.next().map(|(key, mut value)| (key, value.raise(0)));
-        let dropped = read();
-        let left = drain.len();
-        drop(drain);
-        (hint, first, dropped, left, read())
-    }
-
-    fn drain_each(&mut self) -> Seen {
-        let mut seen = (0, 0);
-        for (key, mut value) in self.drain() {
-            seen = with_item(seen, key.index(), value.raise(0));
-        }
-        seen
+        (hint, first, drain.len())
     }
 }

@@ -6,7 +6,7 @@
 #[cfg(test)]
 mod containers;
 #[cfg(test)]
-mod copy_tests;
+mod equality_tests;
 #[cfg(test)]
 mod map_counting_tests;
 #[cfg(test)]
@@ -15,8 +15,6 @@ mod map_rows;
 mod map_tests;
 #[cfg(test)]
 mod memory_tests;
-#[cfg(test)]
-mod noted_tests;
 #[cfg(test)]
 mod row_tests;
 #[cfg(test)]

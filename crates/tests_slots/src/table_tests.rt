@@ -14,8 +14,8 @@ use std::alloc::{AllocError, Global};
 use std::mem::size_of;
 use std::test::Fail;
 use test_support::{
-    Findings, Noted, Notes, check_display, check_printed, check_rows, check_tables, check_text,
-    hash_of, made, order_of,
+    Findings, check_display, check_printed, check_rows, check_tables, check_text, hash_of, made,
+    order_of,
 };
 
 #[test]
@@ -237,64 +237,15 @@ fn values_without_a_test() -> Result<(), Fail> {
     findings.verdict()
 }
 
-/// Puts values at all keys of an empty table of three: `{0: 1, 1: 5, 2: 3}`.
-fn fill<'a, S: Table<Noted<'a>>, L: Table<Link>>(
-    findings: &Findings,
-    map: &mut MetaSlotTable<Noted<'a>, S, L>,
-    notes: &'a Notes,
-) {
-    for (number, name) in [(0, 1), (1, 5), (2, 3)] {
-        let put = map.try_insert_at(SlotTableKey::new(number), Noted::new(name, notes));
-        let is_first = put.map(|old| old.is_none()).ok();
-        findings.expect_same(
-            (is_first, notes.take_drops()),
-            (Some(true), 0),
-            "a free key",
-        );
-    }
-}
-
-/// Checks the values that are taken out of a table of three, in rising order, and those that are dropped with the iterator.
-fn check_taken<'a, S: Table<Noted<'a>>, L: Table<Link>, E: Drop>(
-    findings: &Findings,
-    made: Result<MetaSlotTable<Noted<'a>, S, L>, E>,
-    notes: &'a Notes,
-) {
-    let Ok(mut map) = made else {
-        return findings.miss("there is memory");
-    };
-    fill(findings, &mut map, notes);
-    map.retain(|_, _| false);
-    findings.expect_same(notes.take_drops(), 153, "retain drops the values");
-    fill(findings, &mut map, notes);
-    let mut values = map.into_iter();
-    findings.expect_same(values.len(), 3, "three values");
-    if let Some((key, value)) = values.next() {
-        findings.expect_same((key.value(), value.name), (0, 1), "the least key");
-    }
-    findings.expect_same(notes.take_drops(), 1, "the caller drops a value");
-    findings.expect_same(values.size_hint(), (2, Some(2)), "two values");
-    drop(values);
-    findings.expect_same(notes.take_drops(), 53, "the iterator drops the others");
-}
-
 #[test]
-fn taken_apart(rt: HostRuntime) -> Result<(), Fail> {
+fn taken_apart() -> Result<(), Fail> {
     let findings = Findings::new();
-    let notes = Notes::new(0);
-    check_taken(
-        &findings,
-        made(FixedSizeSlotTable::<Noted, 3>::new()),
-        &notes,
-    );
-    check_taken(&findings, SlotTable::<Noted>::new(rt.alloc(), 3), &notes);
-    let relocatable = UninitSlotTable::<Noted>::new_uninit(3).init(rt.alloc());
-    check_taken(&findings, relocatable, &notes);
     let mut map = FixedSizeSlotTable::<u64, 4>::new();
     let _ = map.insert_at(SlotTableKey::new(3), 7);
     let _ = map.insert_at(SlotTableKey::new(1), 5);
     let items = map.into_iter();
     check_text(&findings, &items, "[(1, 5), (3, 7)]");
+    findings.expect_same((items.len(), items.size_hint()), (2, (2, Some(2))), "two");
     let mut seen = (0, 0);
     for (key, value) in items {
         seen = with_item(seen, key.value(), value);

@@ -9,8 +9,6 @@ mod clone_tests;
 #[cfg(test)]
 mod drain_tests;
 #[cfg(test)]
-mod drop_tests;
-#[cfg(test)]
 mod function_tests;
 #[cfg(test)]
 mod iterating_tests;
