@@ -73,7 +73,7 @@ module _ {T : Type 0} where
 
 module _ {K V : Type 0} where
   -- nothing is found from the bound on
-  pub map_entry-ended : (eq : K → K → Bool) (s : SlotTableState (Pair K V)) (bound place : ℕ) (key : K) → IsBound s bound → bound ≤ place
+  pub map_entry-ended : {Q : Type 0} (eq : K → Q → Bool) (s : SlotTableState (Pair K V)) (bound place : ℕ) (key : Q) → IsBound s bound → bound ≤ place
       → find (λ entry. eq entry.1.key key) (entries_from place (drop place s.values)) ≡ map_entry eq s key → None ≡ map_entry eq s key
   map_entry-ended eq s bound place key bounds past found =
       ap (find (λ entry. eq entry.1.key key))

@@ -1,4 +1,5 @@
 pub mod FlatBounds
+pub mod MapBytes
 pub mod MapCalls
 pub mod MapCopies
 pub mod MapEntries

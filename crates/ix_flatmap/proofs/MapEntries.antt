@@ -23,23 +23,23 @@ find-differs test x xs differs = ap (λ b. cond b (Some x) (find test xs)) diffe
 pub equal_keys : {K : Type 0} {eq : K → K → Bool} → IsEquivalence eq → (a b key : K) → eq a key ≡ true → eq b key ≡ true → eq a b ≡ true
 equal_keys laws a b key first second = laws.congr a key b first ∙ (laws.symm key b ∙ second)
 
-module _ {K V : Type 0} (eq : K → K → Bool) where
+module _ {K Q V : Type 0} (eq : K → Q → Bool) where
   -- the pair at this place has a key that equals this one
-  pub record IsEntry (s : SlotTableState (Pair K V)) (key : K) (place : ℕ) (pair : Pair K V) : Type 0 where
+  pub record IsEntry (s : SlotTableState (Pair K V)) (key : Q) (place : ℕ) (pair : Pair K V) : Type 0 where
     pub at : value_at s place ≡ Some pair
     pub equal : eq pair.key key ≡ true
 
   -- the same of places that come after `start` others
-  record IsEntryFrom (start : ℕ) (places : List (Option (Pair K V))) (key : K) (entry : ℕ × Pair K V) : Type 0 where
+  record IsEntryFrom (start : ℕ) (places : List (Option (Pair K V))) (key : Q) (entry : ℕ × Pair K V) : Type 0 where
     pub i : ℕ
     pub is : entry.0 ≡ start + i
     pub at : place_at places i ≡ Some entry.1
     pub equal : eq entry.1.key key ≡ true
 
-  after : (start : ℕ) (place : Option (Pair K V)) (places : List (Option (Pair K V))) (key : K) (entry : ℕ × Pair K V) → IsEntryFrom (start + 1) places key entry → IsEntryFrom start (place ∷ places) key entry
+  after : (start : ℕ) (place : Option (Pair K V)) (places : List (Option (Pair K V))) (key : Q) (entry : ℕ × Pair K V) → IsEntryFrom (start + 1) places key entry → IsEntryFrom start (place ∷ places) key entry
   after start place places key entry later = let is = later.is in record { i = suc later.i; is = omega (arith, is); at = later.at; equal = later.equal }
 
-  found_from : (start : ℕ) (places : List (Option (Pair K V))) (key : K) (entry : ℕ × Pair K V) → find (λ e. eq e.1.key key) (entries_from start places) ≡ Some entry → IsEntryFrom start places key entry
+  found_from : (start : ℕ) (places : List (Option (Pair K V))) (key : Q) (entry : ℕ × Pair K V) → find (λ e. eq e.1.key key) (entries_from start places) ≡ Some entry → IsEntryFrom start places key entry
   found_from start [] key entry found = absurd (cc)
   found_from start (None ∷ places) key entry found = after start None places key entry (found_from (start + 1) places key entry found)
   found_from start (Some pair ∷ places) key entry found = elim (cases_Bool (eq pair.key key)) [
@@ -53,7 +53,7 @@ module _ {K V : Type 0} (eq : K → K → Bool) where
         (found_from (start + 1) places key entry (sym (find-differs (λ e. eq e.1.key key) (start, pair) (entries_from (start + 1) places) differs) ∙ found))
   ]
 
-  none_from : (start : ℕ) (places : List (Option (Pair K V))) (key : K) → find (λ e. eq e.1.key key) (entries_from start places) ≡ None → (i : ℕ) (pair : Pair K V) → place_at places i ≡ Some pair → eq pair.key key ≡ false
+  none_from : (start : ℕ) (places : List (Option (Pair K V))) (key : Q) → find (λ e. eq e.1.key key) (entries_from start places) ≡ None → (i : ℕ) (pair : Pair K V) → place_at places i ≡ Some pair → eq pair.key key ≡ false
   none_from start [] key none i pair at = absurd (cc)
   none_from start (None ∷ places) key none zero pair at = absurd (cc)
   none_from start (None ∷ places) key none (suc i) pair at = none_from (start + 1) places key none i pair at
@@ -72,13 +72,13 @@ module _ {K V : Type 0} (eq : K → K → Bool) where
       first_or_later (suc i) at later differs = later i pair at
 
   -- no place among the first has the key
-  abbrev NoneOfFirst : ℕ → List (Option (Pair K V)) → K → Type 0
+  abbrev NoneOfFirst : ℕ → List (Option (Pair K V)) → Q → Type 0
   NoneOfFirst n places key = (i : ℕ) → i < n → option_map_or (λ pair. eq pair.key key) (place_at places i) false ≡ false
 
-  none-of-rest : (n : ℕ) (place : Option (Pair K V)) (places : List (Option (Pair K V))) (key : K) → NoneOfFirst (suc n) (place ∷ places) key → NoneOfFirst n places key
+  none-of-rest : (n : ℕ) (place : Option (Pair K V)) (places : List (Option (Pair K V))) (key : Q) → NoneOfFirst (suc n) (place ∷ places) key → NoneOfFirst n places key
   none-of-rest n place places key none i below = none (suc i) (omega (arith, below))
 
-  find-skips : (n start : ℕ) (places : List (Option (Pair K V))) (key : K) → NoneOfFirst n places key
+  find-skips : (n start : ℕ) (places : List (Option (Pair K V))) (key : Q) → NoneOfFirst n places key
       → find (λ e. eq e.1.key key) (entries_from (start + n) (drop n places)) ≡ find (λ e. eq e.1.key key) (entries_from start places)
   find-skips zero start places key none =
       let at : start + 0 ≡ start = omega arith in
@@ -95,13 +95,13 @@ module _ {K V : Type 0} (eq : K → K → Bool) where
       skips-one (Some pair) differs = sym (find-differs (λ e. eq e.1.key key) (start, pair) (entries_from (start + 1) places) differs)
 
   -- what is found from a place on is what is found in all, if no place before it has the key
-  pub map_entry_from : (s : SlotTableState (Pair K V)) (key : K) (start : ℕ) → HasNoKeyIn eq s key 0 start → find (λ e. eq e.1.key key) (entries_from start (drop start s.values)) ≡ map_entry eq s key
+  pub map_entry_from : (s : SlotTableState (Pair K V)) (key : Q) (start : ℕ) → HasNoKeyIn eq s key 0 start → find (λ e. eq e.1.key key) (entries_from start (drop start s.values)) ≡ map_entry eq s key
   map_entry_from s key start none =
       let at : start ≡ 0 + start = omega arith in
       ap (λ first. find (λ e. eq e.1.key key) (entries_from first (drop start s.values))) at ∙ find-skips start 0 s.values key (λ i below. let at : i ≡ 0 + i = omega arith in ap (is_key_at eq s key) at ∙ none i below)
 
   -- none of so many, and none of so many more
-  pub HasNoKeyIn-both : (s : SlotTableState (Pair K V)) (key : K) (start n more : ℕ) → HasNoKeyIn eq s key start n → HasNoKeyIn eq s key (start + n) more → HasNoKeyIn eq s key start (n + more)
+  pub HasNoKeyIn-both : (s : SlotTableState (Pair K V)) (key : Q) (start n more : ℕ) → HasNoKeyIn eq s key start n → HasNoKeyIn eq s key (start + n) more → HasNoKeyIn eq s key start (n + more)
   HasNoKeyIn-both s key start n more first second i below = elim (cases_lt i n) [
     | inl before ↦ first i before
     | inr later ↦
@@ -110,21 +110,21 @@ module _ {K V : Type 0} (eq : K → K → Bool) where
   ]
 
   -- none of the first, and none of so many more
-  pub HasNoKeyIn-more : (s : SlotTableState (Pair K V)) (key : K) (start n : ℕ) → HasNoKeyIn eq s key 0 start → HasNoKeyIn eq s key start n → HasNoKeyIn eq s key 0 (start + n)
+  pub HasNoKeyIn-more : (s : SlotTableState (Pair K V)) (key : Q) (start n : ℕ) → HasNoKeyIn eq s key 0 start → HasNoKeyIn eq s key start n → HasNoKeyIn eq s key 0 (start + n)
   HasNoKeyIn-more s key start n first more = HasNoKeyIn-both s key 0 start n first (λ i below. let at : (0 + start) + i ≡ start + i = omega arith in ap (is_key_at eq s key) at ∙ more i below)
 
   -- what is found is an entry
-  pub IsEntry-map_entry : (s : SlotTableState (Pair K V)) (key : K) (entry : ℕ × Pair K V) → map_entry eq s key ≡ Some entry → IsEntry s key entry.0 entry.1
+  pub IsEntry-map_entry : (s : SlotTableState (Pair K V)) (key : Q) (entry : ℕ × Pair K V) → map_entry eq s key ≡ Some entry → IsEntry s key entry.0 entry.1
   IsEntry-map_entry s key entry found =
       let here = found_from 0 s.values key entry found in
       let is : here.i ≡ entry.0 = let first = here.is in omega arith in
       record { at = subst (λ place. value_at s place ≡ Some entry.1) is here.at; equal = here.equal }
 
-  pub map_entry_none : (s : SlotTableState (Pair K V)) (key : K) → map_entry eq s key ≡ None → (place : ℕ) (pair : Pair K V) → value_at s place ≡ Some pair → eq pair.key key ≡ false
+  pub map_entry_none : (s : SlotTableState (Pair K V)) (key : Q) → map_entry eq s key ≡ None → (place : ℕ) (pair : Pair K V) → value_at s place ≡ Some pair → eq pair.key key ≡ false
   map_entry_none s key none place pair at = none_from 0 s.values key none place pair at
 
   -- the pair at the place of a key
-  pub map_entry-place : (s : SlotTableState (Pair K V)) (key : K) (place : ℕ) → Some place ≡ option_map (λ e. e.0) (map_entry eq s key) → (pair : Pair K V) × (map_entry eq s key ≡ Some (place, pair)) × IsEntry s key place pair
+  pub map_entry-place : (s : SlotTableState (Pair K V)) (key : Q) (place : ℕ) → Some place ≡ option_map (λ e. e.0) (map_entry eq s key) → (pair : Pair K V) × (map_entry eq s key ≡ Some (place, pair)) × IsEntry s key place pair
   map_entry-place s key place is = go (map_entry eq s key) refl is
     where
       go : (found : Option (ℕ × Pair K V)) → map_entry eq s key ≡ found → Some place ≡ option_map (λ e. e.0) found → (pair : Pair K V) × (map_entry eq s key ≡ Some (place, pair)) × IsEntry s key place pair
@@ -135,7 +135,7 @@ module _ {K V : Type 0} (eq : K → K → Bool) where
           (entry.1, found, IsEntry-map_entry s key (place, entry.1) found)
 
   -- a key without a place has no value
-  pub map_value-none : (s : SlotTableState (Pair K V)) (key : K) → None ≡ option_map (λ e. e.0) (map_entry eq s key) → None ≡ map_value eq s key
+  pub map_value-none : (s : SlotTableState (Pair K V)) (key : Q) → None ≡ option_map (λ e. e.0) (map_entry eq s key) → None ≡ map_value eq s key
   map_value-none s key is = go (map_entry eq s key) is
     where
       go : (found : Option (ℕ × Pair K V)) → None ≡ option_map (λ e. e.0) found → None ≡ option_map (λ (e : ℕ × Pair K V). e.1.value) found
@@ -143,18 +143,18 @@ module _ {K V : Type 0} (eq : K → K → Bool) where
       go (Some entry) is = absurd (cc)
 
   -- a key without a place has no entry
-  pub map_entry-unplaced : (s : SlotTableState (Pair K V)) (key : K) (found : Option ℕ) → found ≡ option_map (λ e. e.0) (map_entry eq s key) → is_some found ≡ false → map_entry eq s key ≡ None
+  pub map_entry-unplaced : (s : SlotTableState (Pair K V)) (key : Q) (found : Option ℕ) → found ≡ option_map (λ e. e.0) (map_entry eq s key) → is_some found ≡ false → map_entry eq s key ≡ None
   map_entry-unplaced s key found is none = go (map_entry eq s key) (ap is_some (sym is) ∙ none)
     where
       go : (entry : Option (ℕ × Pair K V)) → is_some (option_map (λ e. e.0) entry) ≡ false → entry ≡ None
       go None none = refl
       go (Some entry) none = absurd (cc)
 
-  pub map_entry-without_place : (s : SlotTableState (Pair K V)) (key : K) → None ≡ option_map (λ e. e.0) (map_entry eq s key) → map_entry eq s key ≡ None
+  pub map_entry-without_place : (s : SlotTableState (Pair K V)) (key : Q) → None ≡ option_map (λ e. e.0) (map_entry eq s key) → map_entry eq s key ≡ None
   map_entry-without_place s key is = map_entry-unplaced s key None is refl
 
   -- a key without a value has no entry
-  pub map_entry-absent : (s : SlotTableState (Pair K V)) (key : K) → (IsSome (map_value eq s key) → ⊥) → map_entry eq s key ≡ None
+  pub map_entry-absent : (s : SlotTableState (Pair K V)) (key : Q) → (IsSome (map_value eq s key) → ⊥) → map_entry eq s key ≡ None
   map_entry-absent s key absent = go (map_entry eq s key) absent
     where
       go : (found : Option (ℕ × Pair K V)) → (IsSome (option_map (λ (e : ℕ × Pair K V). e.1.value) found) → ⊥) → found ≡ None
@@ -162,7 +162,7 @@ module _ {K V : Type 0} (eq : K → K → Bool) where
       go (Some entry) absent = absurd (absent refl)
 
   -- what is found is nothing exactly if no pair has an equal key
-  pub IsNone-map_value : (s : SlotTableState (Pair K V)) (key : K) (value : Option V) → value ≡ map_value eq s key → IsNone value ↔ ((place : ℕ) (pair : Pair K V) → value_at s place ≡ Some pair → eq pair.key key ≡ false)
+  pub IsNone-map_value : (s : SlotTableState (Pair K V)) (key : Q) (value : Option V) → value ≡ map_value eq s key → IsNone value ↔ ((place : ℕ) (pair : Pair K V) → value_at s place ≡ Some pair → eq pair.key key ≡ false)
   IsNone-map_value s key value is = subst (λ v. IsNone v ↔ ((place : ℕ) (pair : Pair K V) → value_at s place ≡ Some pair → eq pair.key key ≡ false)) (sym is) (go (map_entry eq s key) refl)
     where
       go : (found : Option (ℕ × Pair K V)) → map_entry eq s key ≡ found → IsNone (map_value eq s key) ↔ ((place : ℕ) (pair : Pair K V) → value_at s place ≡ Some pair → eq pair.key key ≡ false)
@@ -173,42 +173,42 @@ module _ {K V : Type 0} (eq : K → K → Bool) where
             λ differs. absurd (both_ways _ (differs entry.0 entry.1 is.at) is.equal),
           )
 
-  module _ (laws : IsEquivalence eq) where
-    -- where keys are distinct, an entry is what is found
-    pub map_entry-IsEntry : (s : SlotTableState (Pair K V)) (key : K) (place : ℕ) (pair : Pair K V) → HasDistinctKeys eq s → IsEntry s key place pair → map_entry eq s key ≡ Some (place, pair)
-    map_entry-IsEntry s key place pair distinct is = go (map_entry eq s key) refl
-      where
-        go : (found : Option (ℕ × Pair K V)) → map_entry eq s key ≡ found → found ≡ Some (place, pair)
-        go None none = absurd (both_ways _ (map_entry_none s key none place pair is.at) is.equal)
-        go (Some entry) some =
-            let other = IsEntry-map_entry s key entry some in
-            let place_is : entry.0 ≡ place = distinct entry.0 place entry.1 pair other.at is.at (equal_keys laws entry.1.key pair.key key other.equal is.equal) in
-            let both : Some entry.1 ≡ Some pair = sym other.at ∙ (ap (value_at s) place_is ∙ is.at) in
-            let pair_is : entry.1 ≡ pair = cc in
-            ap (λ (p : ℕ). Some (p, entry.1)) place_is ∙ ap (λ (p : Pair K V). Some (place, p)) pair_is
+module _ {K V : Type 0} (eq : K → K → Bool) (laws : IsEquivalence eq) where
+  -- where keys are distinct, an entry is what is found
+  pub map_entry-IsEntry : (s : SlotTableState (Pair K V)) (key : K) (place : ℕ) (pair : Pair K V) → HasDistinctKeys eq s → IsEntry eq s key place pair → map_entry eq s key ≡ Some (place, pair)
+  map_entry-IsEntry s key place pair distinct is = go (map_entry eq s key) refl
+    where
+      go : (found : Option (ℕ × Pair K V)) → map_entry eq s key ≡ found → found ≡ Some (place, pair)
+      go None none = absurd (both_ways _ (map_entry_none eq s key none place pair is.at) is.equal)
+      go (Some entry) some =
+          let other = IsEntry-map_entry eq s key entry some in
+          let place_is : entry.0 ≡ place = distinct entry.0 place entry.1 pair other.at is.at (equal_keys laws entry.1.key pair.key key other.equal is.equal) in
+          let both : Some entry.1 ≡ Some pair = sym other.at ∙ (ap (value_at s) place_is ∙ is.at) in
+          let pair_is : entry.1 ≡ pair = cc in
+          ap (λ (p : ℕ). Some (p, entry.1)) place_is ∙ ap (λ (p : Pair K V). Some (place, p)) pair_is
 
-    -- where keys are distinct, the pair at a place that has the key is what is found
-    pub map_entry-is_key_at : (s : SlotTableState (Pair K V)) (key : K) (place : ℕ) (pair : Pair K V) → HasDistinctKeys eq s → value_at s place ≡ Some pair → is_key_at eq s key place ≡ true → map_entry eq s key ≡ Some (place, pair)
-    map_entry-is_key_at s key place pair distinct at found =
-        map_entry-IsEntry s key place pair distinct (record { at = at; equal = sym (ap (λ p. option_map_or (λ pair. eq pair.key key) p false) at) ∙ found })
+  -- where keys are distinct, the pair at a place that has the key is what is found
+  pub map_entry-is_key_at : (s : SlotTableState (Pair K V)) (key : K) (place : ℕ) (pair : Pair K V) → HasDistinctKeys eq s → value_at s place ≡ Some pair → is_key_at eq s key place ≡ true → map_entry eq s key ≡ Some (place, pair)
+  map_entry-is_key_at s key place pair distinct at found =
+      map_entry-IsEntry s key place pair distinct (record { at = at; equal = sym (ap (λ p. option_map_or (λ pair. eq pair.key key) p false) at) ∙ found })
 
-    pub map_value-IsEntry : (s : SlotTableState (Pair K V)) (key : K) (place : ℕ) (pair : Pair K V) → HasDistinctKeys eq s → value_at s place ≡ Some pair → eq pair.key key ≡ true → map_value eq s key ≡ Some pair.value
-    map_value-IsEntry s key place pair distinct at equal =
-        ap (option_map (λ (e : ℕ × Pair K V). e.1.value)) (map_entry-IsEntry s key place pair distinct (record { at = at; equal = equal }))
+  pub map_value-IsEntry : (s : SlotTableState (Pair K V)) (key : K) (place : ℕ) (pair : Pair K V) → HasDistinctKeys eq s → value_at s place ≡ Some pair → eq pair.key key ≡ true → map_value eq s key ≡ Some pair.value
+  map_value-IsEntry s key place pair distinct at equal =
+      ap (option_map (λ (e : ℕ × Pair K V). e.1.value)) (map_entry-IsEntry s key place pair distinct (record { at = at; equal = equal }))
 
-    -- two maps with the same entries of a key find the same
-    pub map_entry_same : (s t : SlotTableState (Pair K V)) (key : K) → HasDistinctKeys eq t → ((place : ℕ) (pair : Pair K V) → IsEntry s key place pair → IsEntry t key place pair) → ((place : ℕ) (pair : Pair K V) → IsEntry t key place pair → IsEntry s key place pair) → map_entry eq t key ≡ map_entry eq s key
-    map_entry_same s t key distinct to from = go (map_entry eq s key) refl
-      where
-        there : (found : Option (ℕ × Pair K V)) → map_entry eq t key ≡ found → map_entry eq s key ≡ None → found ≡ None
-        there None found none = refl
-        there (Some entry) found none =
-            let is = from entry.0 entry.1 (IsEntry-map_entry t key entry found) in
-            absurd (both_ways _ (map_entry_none s key none entry.0 entry.1 is.at) is.equal)
+  -- two maps with the same entries of a key find the same
+  pub map_entry_same : (s t : SlotTableState (Pair K V)) (key : K) → HasDistinctKeys eq t → ((place : ℕ) (pair : Pair K V) → IsEntry eq s key place pair → IsEntry eq t key place pair) → ((place : ℕ) (pair : Pair K V) → IsEntry eq t key place pair → IsEntry eq s key place pair) → map_entry eq t key ≡ map_entry eq s key
+  map_entry_same s t key distinct to from = go (map_entry eq s key) refl
+    where
+      there : (found : Option (ℕ × Pair K V)) → map_entry eq t key ≡ found → map_entry eq s key ≡ None → found ≡ None
+      there None found none = refl
+      there (Some entry) found none =
+          let is = from entry.0 entry.1 (IsEntry-map_entry eq t key entry found) in
+          absurd (both_ways _ (map_entry_none eq s key none entry.0 entry.1 is.at) is.equal)
 
-        go : (found : Option (ℕ × Pair K V)) → map_entry eq s key ≡ found → map_entry eq t key ≡ found
-        go None none = there (map_entry eq t key) refl none
-        go (Some entry) some = map_entry-IsEntry t key entry.0 entry.1 distinct (to entry.0 entry.1 (IsEntry-map_entry s key entry some))
+      go : (found : Option (ℕ × Pair K V)) → map_entry eq s key ≡ found → map_entry eq t key ≡ found
+      go None none = there (map_entry eq t key) refl none
+      go (Some entry) some = map_entry-IsEntry t key entry.0 entry.1 distinct (to entry.0 entry.1 (IsEntry-map_entry eq s key entry some))
 
 -- an empty map has no two values
 pub AreDistinctBy-slot_table_new : {T : Type 0} (same : T → T → Bool) (capacity : ℕ) (s : SlotTableState T) → s ≡ slot_table_new capacity → AreDistinctBy same s

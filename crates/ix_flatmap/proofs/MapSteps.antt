@@ -202,6 +202,11 @@ module _ {K V : Type 0} (eq : K → K → Bool) (laws : IsEquivalence eq) where
     pub pair_set-found : (entry : ℕ × Pair K V) → map_entry eq s key ≡ Some entry → (written : V) → pair_set s entry.0 written ≡ map_set eq s key written
     pair_set-found entry found written = sym (ap (λ found. option_map_or (λ entry. pair_set s entry.0 written) found s) found)
 
+    pub map_replace-found_set : (entry : ℕ × Pair K V) → map_entry eq s key ≡ Some entry → value_at s entry.0 ≡ Some entry.1 → (written : V) → map_replace eq s key written ≡ slot_table_set s entry.0 (record entry.1 { value = written })
+    map_replace-found_set entry found at written =
+        map_replace-found entry found written ∙ sym (pair_set-found entry found written)
+        ∙ ap (λ pair. option_map_or (λ pair. slot_table_set s entry.0 (record pair { value = written })) pair s) at
+
     map_replace-absent : map_entry eq s key ≡ None → (written : V) → map_replace eq s key written ≡ slot_table_insert s (record { key = key; value = written })
     map_replace-absent none written =
         ap (λ found. if is_some found then map_set eq s key written else map_insert eq s key written) none
@@ -233,6 +238,9 @@ module _ {K V : Type 0} (eq : K → K → Bool) (laws : IsEquivalence eq) where
           ∙ ap (λ places. let t : SlotTableState (Pair K V) = record { values = places; free = keys_without place s.free } in t)
           (set-set s.values place (Some (record { key = key; value = value })) (Some (record { key = key; value = written })))
           ∙ sym (map_replace-absent none written ∙ ap (λ first. option_map_or (λ place. slot_table_fill s place (record { key = key; value = written })) first s) first)
+
+      pub map_replace-new_set : (written : V) → map_replace eq s key written ≡ slot_table_set new place (record { key = key; value = written })
+      map_replace-new_set written = sym (map_replace-new written) ∙ pair_set-new written
 
       module _ (distinct : HasDistinctKeys eq new) where
         map_set-new : (written : V) → map_set eq new key written ≡ map_replace eq s key written

@@ -1,6 +1,7 @@
 -- A flat map as contracts see it: a slot state of pairs, a key and its value each, in which no two keys are equal.
 use Rattle.std.specs.Prelude.{◌≡◌, ℕ, ◌≤◌, List, length, map, Option, Some, None, Bool, true, option_map}
 use Rattle.std.specs.List.{find}
+use Rattle.std.specs.Str.{bytes_eq}
 use Rattle.ix_slottable.specs.SlotTableState.{SlotTableState, value_at, entries}
 use Rattle.ix_flatmap.specs.declared.map.pair.Pair.{Pair}
 
@@ -14,17 +15,25 @@ pub record IsBound {T : Type 0} (s : SlotTableState T) (bound : ℕ) : Type 0 wh
   pub within : bound ≤ length s.values
   pub beyond : (place : ℕ) → bound ≤ place → value_at s place ≡ None
 
+-- keys are equal exactly if their bytes are
+abbrev pub AreEqualByBytes : {K : Type 0} → (K → K → Bool) → (K → List ℕ) → Type 0
+AreEqualByBytes {K} eq bytes = (key other : K) → eq key other ≡ bytes_eq (bytes key) (bytes other)
+
+-- the key has these bytes
+abbrev pub has_bytes : {K : Type 0} → (K → List ℕ) → K → List ℕ → Bool
+has_bytes bytes key query = bytes_eq (bytes key) query
+
 module _ {K V : Type 0} where
   -- no two places have equal keys
   abbrev pub HasDistinctKeys : (K → K → Bool) → SlotTableState (Pair K V) → Type 0
   HasDistinctKeys eq s = AreDistinctBy (λ (a b : Pair K V). eq a.key b.key) s
 
-  -- the place whose pair's key equals this one, and the pair
-  abbrev pub map_entry : (K → K → Bool) → SlotTableState (Pair K V) → K → Option (ℕ × Pair K V)
+  -- the place whose pair's key equals this one, and the pair. A key may be compared with what stands for one
+  abbrev pub map_entry : {Q : Type 0} → (K → Q → Bool) → SlotTableState (Pair K V) → Q → Option (ℕ × Pair K V)
   map_entry eq s key = find (λ entry. eq entry.1.key key) (entries s)
 
   -- the value of the key, if the map has an equal one
-  abbrev pub map_value : (K → K → Bool) → SlotTableState (Pair K V) → K → Option V
+  abbrev pub map_value : {Q : Type 0} → (K → Q → Bool) → SlotTableState (Pair K V) → Q → Option V
   map_value eq s key = option_map (λ entry. entry.1.value) (map_entry eq s key)
 
   -- the keys in slot order, that of their places

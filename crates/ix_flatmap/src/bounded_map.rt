@@ -1,31 +1,49 @@
 //! The calls of a map as a trait.
-ghost use Rattle.std.specs.Prelude.{◌≡◌, ◌↔◌, ◌+◌, ◌≤◌, ℕ, [], length, Some, None, IsSome, IsTrue, IsNone, IsOk, IsErr, IfOk, OnErr, option_copied, option_map, replicate, slice_get, false, true, refl, Bool, filter, map};
+ghost use Rattle.std.specs.Prelude.{◌≡◌, ◌≢◌, ◌↔◌, ◌+◌, ◌≤◌, ℕ, List, [], length, Some, None, IsSome, IsTrue, IsNone, IsOk, IsErr, IfOk, IfSome, OnErr, option_copied, option_map, replicate, slice_get, unwrap_or, false, true, refl, Bool, filter, map};
 ghost use Rattle.std.specs.Borrow.{sem};
-ghost use Rattle.std.specs.List.{FoldsTo, list_any};
-ghost use Rattle.std.specs.Option.{option_copied_mut};
+ghost use Rattle.std.specs.List.{FoldsTo};
+ghost use Rattle.std.specs.Map.{keys_of, lookup};
+ghost use Rattle.std.specs.Option.{UnwrapsOrElse, option_copied_mut};
 ghost use Rattle.std.specs.Result.{IfErr};
+ghost use Rattle.ix_tables.specs.Cloning.{AreEqualClones};
 ghost use Rattle.ix_slottable.specs.SlotTableState.{SlotTableState, IsWellFormed, value_at, held_count};
 ghost use Rattle.ix_slottable.specs.SlotTableSteps.{slot_table_clear};
-ghost use Rattle.ix_flatmap.specs.MapState.{HasDistinctKeys, map_entry, map_value, map_keys, map_item, map_items};
-ghost use Rattle.ix_flatmap.specs.MapCompared.{is_same_item, has_each};
+ghost use Rattle.ix_flatmap.specs.MapState.{AreEqualByBytes, HasDistinctKeys, has_bytes, map_entry, map_value, map_keys, map_values, map_item, map_items};
 ghost use Rattle.ix_flatmap.specs.MapCalls.{CallAtKey, TakesKey};
 ghost use Rattle.ix_slottable.specs.SlotTableCalls.{CalledOn, IsCallableOnEach, ComputesTest, ComputesValue, ChangesItem, RetainsItem, option_filter};
-ghost use Rattle.ix_flatmap.specs.MapSteps.{map_insert_result, map_insert, map_replace, map_set, map_remove};
-ghost use Rattle.ix_flatmap.specs.BoundedMap.{map_lends};
+ghost use Rattle.ix_flatmap.specs.MapSteps.{map_insert_result, map_insert, map_replace, map_set, map_remove, ListsUntilStop};
+ghost use Rattle.ix_flatmap.specs.BoundedMap.{map_lends, map_lends_pair};
 ghost use Rattle.ix_flatmap.specs.declared.map.pair.Pair.{Pair};
 
-use crate::map::{Iter, KeyIndex, MapError, MetaMap, Pair};
+use crate::map::{CallbackProgression, Iter, KeyIndex, Keys, MapError, MetaMap, Pair, Values};
 use ix_slottable::slottable::Link;
 use ix_tables::Table;
+use std::alloc::AllocError;
+use std::convert::AsSlice;
 
 /// A map with room for a set number of keys, each with a value, as [`MetaMap`](crate::map::MetaMap) is. A function over any such
 /// map is written over this trait. What a call costs is said at the map.
 pub trait BoundedMap<K: Eq, V>: Sized {
+    /// The table of its pairs.
+    type Pairs: Table<Pair<K, V>>;
+
+    /// The table of its links.
+    type Links: Table<Link>;
+
     /// The pair or nothing at each place.
     ghost state: { Self → SlotTableState (Pair K V) };
 
     /// The map with another value of a key that it has.
     ghost with_value: { Self → K → V → Self };
+
+    /// The map with a key and this value of it, whether it had the key or not.
+    ghost with_pair: { Self → K → V → Self };
+
+    /// What is known of the capacity.
+    ghost IsCapacity: { ℕ → Type 0 };
+
+    /// What is asked of keys that are found by these bytes of theirs.
+    ghost AreFoundBy: { (K → List ℕ) → Type 0 };
 
     /// Does what [`MetaMap::insert`](crate::map::MetaMap::insert) does.
     fn insert(&mut self, key: K, value: V) -> Result<(), MapError>
@@ -72,6 +90,67 @@ pub trait BoundedMap<K: Eq, V>: Sized {
         ensures same_count { IsSome (map_value K.eq (state self.old) key)
             → held_count (state self.new) ≡ held_count (state self.old) }
         ensures same_free { IsSome (map_value K.eq (state self.old) key) → (state self.new).free ≡ (state self.old).free };
+
+    /// Does what [`MetaMap::get_or_insert_with`](crate::map::MetaMap::get_or_insert_with) does.
+    fn get_or_insert_with<F: FnOnce() -> V>(&mut self, key: K, f: F) -> Result<&mut V, K>
+        requires { map_value K.eq (state self.old) key ≡ None → (state self.old).free ≢ [] → F.pre f }
+        ensures* writes_back { sem 𝓛 (map_lends_pair Self.row V.row with_pair self.entry key result) }
+        ensures value { IfOk result (λ value. UnwrapsOrElse (map_value K.eq (state self.old) key) (F.post f) value.now) }
+        // A closure that computes a value gives that one.
+        ensures computed { (new : V) → ((returned : V) → F.post f returned → returned ≡ new)
+            → IfOk result (λ value. value.now ≡ unwrap_or (map_value K.eq (state self.old) key) new) }
+        ensures full { IsErr result
+            ↔ ((map_value K.eq (state self.old) key ≡ None) × ((state self.old).free ≡ [])) }
+        ensures returned { IfErr result (λ refused. refused ≡ key) }
+        // Whatever value is written, the key has it, and any other key keeps its own.
+        ensures holds { (written : V) → IsOk result
+            → map_value K.eq (map_replace K.eq (state self.old) key written) key ≡ Some written }
+        ensures kept { (written : V) (other : K) → K.eq other key ≡ false
+            → map_value K.eq (map_replace K.eq (state self.old) key written) other
+            ≡ map_value K.eq (state self.old) other }
+        // So many keys are there then.
+        ensures count { (written : V) → IsOk result → map_value K.eq (state self.old) key ≡ None
+            → held_count (map_replace K.eq (state self.old) key written) ≡ held_count (state self.old) + 1 }
+        ensures room { (written : V) → IsOk result → map_value K.eq (state self.old) key ≡ None
+            → length (map_replace K.eq (state self.old) key written).free + 1 ≡ length (state self.old).free }
+        ensures same_count { (written : V) → IsSome (map_value K.eq (state self.old) key)
+            → held_count (map_replace K.eq (state self.old) key written) ≡ held_count (state self.old) }
+        ensures same_free { (written : V) → IsSome (map_value K.eq (state self.old) key)
+            → (map_replace K.eq (state self.old) key written).free ≡ (state self.old).free };
+
+    /// Does what [`MetaMap::get`](crate::map::MetaMap::get) does.
+    fn get(&self, key: &K) -> Result<Option<V>, AllocError>
+    where
+        V: Clone,
+        requires clones { AreEqualClones V.is_clone }
+        ensures value { IfOk result (λ value. value ≡ map_value K.eq (state self.now) key.now) }
+        ensures memory { IfSome (map_value K.eq (state self.now) key.now) V.is_infallible → IsOk result };
+
+    /// Does what [`MetaMap::get_bytes`](crate::map::MetaMap::get_bytes) does.
+    fn get_bytes(&self, bytes: &[u8]) -> Option<&V>
+    where
+        K: AsSlice<u8>,
+        requires equal { AreEqualByBytes K.eq K.items }
+        requires found { AreFoundBy K.items }
+        ensures value { option_copied result ≡ map_value (has_bytes K.items) (state self.now) bytes.now }
+        // That is the value of each key with these bytes.
+        ensures key { (key : K) → K.items key ≡ bytes.now
+            → option_copied result ≡ map_value K.eq (state self.now) key };
+
+    /// Does what [`MetaMap::get_str`](crate::map::MetaMap::get_str) does.
+    #[inline]
+    final fn get_str(&self, text: &str) -> Option<&V>
+    where
+        K: AsSlice<u8>,
+        requires equal { AreEqualByBytes K.eq K.items }
+        requires found { AreFoundBy K.items }
+        ensures value { option_copied result ≡ map_value (has_bytes K.items) (state self.now) text.now }
+        // That is the value of each key with these bytes.
+        ensures key { (key : K) → K.items key ≡ text.now
+            → option_copied result ≡ map_value K.eq (state self.now) key }
+    {
+        self.get_bytes(text.as_bytes())
+    }
 
     /// Does what [`MetaMap::get_ref`](crate::map::MetaMap::get_ref) does.
     fn get_ref(&self, key: &K) -> Option<&V>
@@ -177,7 +256,8 @@ pub trait BoundedMap<K: Eq, V>: Sized {
 
     /// Does what [`MetaMap::capacity`](crate::map::MetaMap::capacity) does.
     fn capacity(&self) -> usize
-        ensures { result ≡ length (state self.now).values };
+        ensures value { result ≡ length (state self.now).values }
+        ensures known { IsCapacity (length (state self.now).values) };
 
     /// Does what [`MetaMap::is_empty`](crate::map::MetaMap::is_empty) does.
     fn is_empty(&self) -> bool
@@ -205,7 +285,29 @@ pub trait BoundedMap<K: Eq, V>: Sized {
             ≡ length (state self.now).values }
         // These hold of every map, whatever calls were made.
         ensures formed { IsWellFormed (state self.now) }
-        ensures distinct { HasDistinctKeys K.eq (state self.now) };
+        ensures distinct { HasDistinctKeys K.eq (state self.now) }
+        ensures known { IsCapacity (length (state self.now).values) };
+
+    /// Does what [`MetaMap::list_keys`](crate::map::MetaMap::list_keys) does.
+    fn list_keys<F: FnMut(&K) -> CallbackProgression>(&self, callback: F)
+        requires { F.IsAlwaysCallable callback }
+        ensures { (last : F) × ListsUntilStop F.FnMut callback (map_keys (state self.now)) last };
+
+    /// Does what [`MetaMap::keys`](crate::map::MetaMap::keys) does.
+    fn keys(&self) -> Keys<'_, K, V, Self::Pairs, Self::Links>
+        ensures { result ≡ map_keys (state self.now) };
+
+    /// Does what [`MetaMap::values`](crate::map::MetaMap::values) does.
+    fn values(&self) -> Values<'_, K, V, Self::Pairs, Self::Links>
+        ensures { result ≡ map_values (state self.now) };
+
+    /// Does what [`MetaMap::iter`](crate::map::MetaMap::iter) does.
+    fn iter(&self) -> Iter<'_, K, V, Self::Pairs, Self::Links>
+        ensures items { result ≡ map_items (state self.now) }
+        ensures keys { keys_of result ≡ map_keys (state self.now) }
+        // A key comes with its value exactly if the map has an equal one.
+        ensures exactly { (key : K)
+            → lookup (λ other. K.eq other key) result ≡ map_value K.eq (state self.now) key };
 
     /// Does what [`MetaMap::nth_key`](crate::map::MetaMap::nth_key) does.
     fn nth_key(&self, n: usize) -> Option<&K>
@@ -214,17 +316,33 @@ pub trait BoundedMap<K: Eq, V>: Sized {
     /// Another value of a key is what a write to it leaves.
     ghost state_with_value: { (map : Self) (key : K) (value : V)
         → state (with_value map key value) ≡ map_set K.eq (state map) key value };
+
+    /// And so is a new key with the value that is written.
+    ghost state_with_pair: { (map : Self) (key : K) (value : V)
+        → state (with_pair map key value) ≡ map_replace K.eq (state map) key value };
 }
 
 impl<K: Eq + Drop, V: Drop, S: Table<Pair<K, V>>, L: Table<Link>, I: KeyIndex<K, V>> BoundedMap<
     K,
     V,
 > for MetaMap<Pair<K, V>, S, L, I> {
+    type Pairs = S;
+
+    type Links = L;
+
     ghost state = { λ map. map };
 
     ghost with_value = { λ map key value. map_set K.eq map key value };
 
+    ghost with_pair = { λ map key value. map_replace K.eq map key value };
+
+    ghost IsCapacity = { S.IsLen };
+
+    ghost AreFoundBy = { I.AreFoundBy };
+
     ghost state_with_value = { λ map key value. refl };
+
+    ghost state_with_pair = { λ map key value. refl };
 
     #[inline]
     fn insert(&mut self, key: K, value: V) -> Result<(), MapError> {
@@ -239,6 +357,27 @@ impl<K: Eq + Drop, V: Drop, S: Table<Pair<K, V>>, L: Table<Link>, I: KeyIndex<K,
     #[inline]
     fn replace(&mut self, key: K, value: V) -> Result<Option<V>, (K, V)> {
         MetaMap::replace(self, key, value)
+    }
+
+    #[inline]
+    fn get_or_insert_with<F: FnOnce() -> V>(&mut self, key: K, f: F) -> Result<&mut V, K> {
+        MetaMap::get_or_insert_with(self, key, f)
+    }
+
+    #[inline]
+    fn get(&self, key: &K) -> Result<Option<V>, AllocError>
+    where
+        V: Clone,
+    {
+        MetaMap::get(self, key)
+    }
+
+    #[inline]
+    fn get_bytes(&self, bytes: &[u8]) -> Option<&V>
+    where
+        K: AsSlice<u8>,
+    {
+        MetaMap::get_bytes(self, bytes)
     }
 
     #[inline]
@@ -312,37 +451,27 @@ impl<K: Eq + Drop, V: Drop, S: Table<Pair<K, V>>, L: Table<Link>, I: KeyIndex<K,
     }
 
     #[inline]
+    fn list_keys<F: FnMut(&K) -> CallbackProgression>(&self, callback: F) {
+        MetaMap::list_keys(self, callback);
+    }
+
+    #[inline]
+    fn keys(&self) -> Keys<'_, K, V, S, L> {
+        MetaMap::keys(self)
+    }
+
+    #[inline]
+    fn values(&self) -> Values<'_, K, V, S, L> {
+        MetaMap::values(self)
+    }
+
+    #[inline]
+    fn iter(&self) -> Iter<'_, K, V, S, L> {
+        MetaMap::iter(self)
+    }
+
+    #[inline]
     fn nth_key(&self, n: usize) -> Option<&K> {
         MetaMap::nth_key(self, n)
-    }
-}
-
-/// Returns `true` if `map` has each of these keys, with an equal value.
-#[doc(hidden)]
-pub fn has_each_of<K: Eq, V: PartialEq, M: BoundedMap<K, V>, S: Table<Pair<K, V>>, L: Table<Link>>(
-    map: &M,
-    items: Iter<'_, K, V, S, L>,
-) -> bool
-    ensures { result ≡ has_each (is_same_item K.eq V.eq) (map_items (M.state map.now)) items.entry }
-{
-    for (key, value) in items {
-        if !has_equal(map, key, value) {
-            return false;
-        }
-    }
-    true
-}
-
-/// Returns `true` if `map` has an equal key, with an equal value.
-#[inline]
-fn has_equal<K: Eq, V: PartialEq, M: BoundedMap<K, V>>(map: &M, key: &K, value: &V) -> bool
-    ensures { result ≡ list_any (λ item. is_same_item K.eq V.eq item (key.now, value.now))
-        (map_items (M.state map.now)) }
-{
-    // Names the number of keys, by which the check knows that no two keys are equal.
-    let _len = map.len();
-    match map.get_ref(key) {
-        Some(own) => *own == *value,
-        None => false,
     }
 }

@@ -8,7 +8,8 @@ mod kinds;
 mod search;
 
 pub use crate::map::{
-    CallbackProgression, Drain, Iter, Keyed, Keys, MapError, MapError as FlatMapError, Pair, Values,
+    CallbackProgression, Drain, IntoIter, Iter, Keyed, Keys, MapError, MapError as FlatMapError,
+    Pair, Values,
 };
 pub use bound::Bound;
 pub use kinds::{

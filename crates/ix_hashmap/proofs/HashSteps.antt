@@ -275,9 +275,9 @@ module _ {T : Type 0} (hash : T → ℕ) where
       ];
     }
 
-module _ {K V : Type 0} (eq : K → K → Bool) where
+module _ {K Q V : Type 0} (eq : K → Q → Bool) where
   -- the chain of a key's bucket leads to it
-  pub LeadsToKey-hashed : (hash : Pair K V → ℕ) (s : SlotTableState (Pair K V)) (links : List ChainLink) (key : K) (bucket : ℕ) → IsHashed hash s links → ((pair : Pair K V) → eq pair.key key ≡ true → bucket_of (hash pair) (length links) ≡ bucket) → LeadsToKey eq s links key (head_at links bucket)
+  pub LeadsToKey-hashed : (hash : Pair K V → ℕ) (s : SlotTableState (Pair K V)) (links : List ChainLink) (key : Q) (bucket : ℕ) → IsHashed hash s links → ((pair : Pair K V) → eq pair.key key ≡ true → bucket_of (hash pair) (length links) ≡ bucket) → LeadsToKey eq s links key (head_at links bucket)
   LeadsToKey-hashed hash s links key bucket hashed same =
       let at = hashed.each bucket in record {
         chain = at.chain;
@@ -293,7 +293,7 @@ module _ {K V : Type 0} (eq : K → K → Bool) where
       bucket_if_key None none = absurd (cc)
       bucket_if_key (Some pair) is = ap Some (same pair is)
 
-  module _ (s : SlotTableState (Pair K V)) (links : List ChainLink) (key : K) (first : ℕ) (leads : LeadsToKey eq s links key first) where
+  module _ (s : SlotTableState (Pair K V)) (links : List ChainLink) (key : Q) (first : ℕ) (leads : LeadsToKey eq s links key first) where
     pub LeadsToKey-held : first ≢ no_place → IsHeld s first
     LeadsToKey-held apart = leads.held first (on_chain-first links first leads.chain apart)
 

@@ -14,7 +14,7 @@ mod search;
 pub use buckets::Buckets;
 pub use chain_link::ChainLink;
 pub use hashed::Hashed;
-pub use ix_flatmap::map::Drain;
+pub use ix_flatmap::map::{Drain, IntoIter};
 pub use kinds::{
     DefaultHashBuilder, FixedSizeHashMap, HashMap, HashMapFamily, MetaHashMap, RelocatableHashMap,
     UninitHashMap, hash_map_memory_law,

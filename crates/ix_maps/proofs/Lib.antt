@@ -7,6 +7,7 @@ pub use Rattle.ix_queue.proofs.QueueCalls
 pub use Rattle.ix_queue.proofs.QueueDrains
 pub use Rattle.ix_queue.proofs.QueueOrders
 pub use Rattle.ix_queue.proofs.QueueClones
+pub use Rattle.ix_queue.proofs.QueueRemoves
 pub use Rattle.ix_slottable.proofs.FreeKeys
 pub use Rattle.ix_slottable.proofs.Chains
 pub use Rattle.ix_slottable.proofs.SlotTables
@@ -16,6 +17,7 @@ pub use Rattle.ix_slottable.proofs.SlotTableCalls
 pub use Rattle.ix_slottable.proofs.SlotTableCopies
 pub use Rattle.ix_tables.proofs.VacantTables
 pub use Rattle.ix_flatmap.proofs.FlatBounds
+pub use Rattle.ix_flatmap.proofs.MapBytes
 pub use Rattle.ix_flatmap.proofs.MapEntries
 pub use Rattle.ix_flatmap.proofs.MapSteps
 pub use Rattle.ix_flatmap.proofs.MapCalls

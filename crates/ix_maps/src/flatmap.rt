@@ -49,5 +49,6 @@ pub mod values {
 
 pub use ix_flatmap::flatmap::{
     Bound, CallbackProgression, Drain, FixedSizeFlatMap, FlatMap, FlatMapError, FlatMapFamily,
-    Iter, Keyed, Keys, MapError, MetaFlatMap, Pair, RelocatableFlatMap, UninitFlatMap, Values,
+    IntoIter, Iter, Keyed, Keys, MapError, MetaFlatMap, Pair, RelocatableFlatMap, UninitFlatMap,
+    Values,
 };

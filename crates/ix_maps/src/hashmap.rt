@@ -30,5 +30,5 @@ pub mod meta_hash_map {
 
 pub use ix_hashmap::hashmap::{
     Buckets, ChainLink, DefaultHashBuilder, Drain, FixedSizeHashMap, HashMap, HashMapFamily,
-    Hashed, MetaHashMap, RelocatableHashMap, UninitHashMap, hash_map_memory_law,
+    Hashed, IntoIter, MetaHashMap, RelocatableHashMap, UninitHashMap, hash_map_memory_law,
 };

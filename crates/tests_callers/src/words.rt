@@ -1,11 +1,14 @@
 //! Names as keys: clauses about maps from strings.
-ghost use Rattle.std.specs.Prelude.{◌≡◌, ℕ, List, Some, IsTrue, false};
+ghost use Rattle.std.specs.Prelude.{◌≡◌, ◌↔◌, ℕ, List, Some, IsSome, IsTrue, false};
+ghost use Rattle.ix_tables.specs.Bounded.{Bounded};
 ghost use Rattle.ix_flatmap.specs.MapState.{map_value};
 ghost use Rattle.ix_string.specs.Text.{text_eq};
 
 use ix_flatmap::FixedSizeFlatMap;
+use ix_hashmap::{FixedSizeHashMap, HashMap};
 use ix_slotmap::SlotMapKey;
-use ix_string::StaticString;
+use ix_string::{PolymorphicString, StaticString};
+use std::alloc::Allocator;
 
 /// The handles of at most 8 services, by their names.
 pub type Handles = FixedSizeFlatMap<StaticString<32>, SlotMapKey, 8>;
@@ -24,4 +27,32 @@ pub fn handle_of(handles: &Handles, name: &StaticString<32>) -> Option<SlotMapKe
     ensures { result ≡ map_value text_eq handles.now name.now }
 {
     handles.get_ref(name).copied()
+}
+
+/// Does what [`handle_of`] does, for a text of any length.
+pub fn handle_named(handles: &Handles, name: &str) -> Option<SlotMapKey>
+    ensures { result ≡ map_value text_eq handles.now name.now }
+{
+    handles.get_str(name).copied()
+}
+
+/// Does what [`handle_named`] does, of a hash map.
+pub fn hashed_handle_named(
+    handles: &FixedSizeHashMap<StaticString<32>, SlotMapKey, 8>,
+    name: &str,
+) -> Option<SlotMapKey>
+    ensures { result ≡ map_value text_eq handles.now name.now }
+{
+    handles.get_str(name).copied()
+}
+
+/// Returns `true` if a map whose keys are strings in memory has a name with these bytes.
+pub fn has_name<A: Allocator + Copy>(
+    handles: &HashMap<PolymorphicString<A>, u64, A>,
+    name: &[u8],
+) -> bool
+    ensures { (key : Bounded ℕ) → key.items ≡ name.now
+        → (IsTrue result ↔ IsSome (map_value (λ (own other : Bounded ℕ). text_eq own.items other.items) handles.now key)) }
+{
+    handles.get_bytes(name).is_some()
 }

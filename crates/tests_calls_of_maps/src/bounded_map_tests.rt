@@ -1,6 +1,7 @@
 //! Examples of functions over any bounded map, called with a flat map or a hash map.
 use ix_maps::MapError::{IsFull, KeyAlreadyExists};
-use ix_maps::{BoundedMap, FixedSizeFlatMap, FixedSizeHashMap};
+use ix_maps::{BoundedMap, CallbackProgression, FixedSizeFlatMap, FixedSizeHashMap};
+use ix_string::StaticString;
 use std::test::Fail;
 
 // Shows: BoundedMap, BoundedMap::get_mut_ref, BoundedMap::insert
@@ -64,6 +65,51 @@ fn a_key_is_looked_up_in_any_map(rt: HostRuntime) -> Result<(), Fail> {
     assert_eq!(rt; port_named(&map, 443), None);
     assert_eq!(rt; name_or(&map, 80, '?'), 'a');
     assert_eq!(rt; name_or(&map, 443, '?'), '?');
+    Ok(())
+}
+
+// Shows: BoundedMap::get_str, BoundedMap::get_bytes, BoundedMap::get, BoundedMap::get_or_insert_with
+#[test]
+fn a_name_is_looked_up_in_any_map(rt: HostRuntime) -> Result<(), Fail> {
+    fn count<M: BoundedMap<StaticString<8>, u32>>(counts: &mut M, name: StaticString<8>) {
+        if let Ok(count) = counts.get_or_insert_with(name, || 0) {
+            *count = count.saturating_add(1);
+        }
+    }
+    let name = StaticString::<8>::try_from("web")?;
+    let mut counts = FixedSizeHashMap::<StaticString<8>, u32, 2>::new();
+    count(&mut counts, name);
+    count(&mut counts, name);
+    assert_eq!(rt; BoundedMap::get_str(&counts, "web"), Some(&2));
+    assert_eq!(rt; BoundedMap::get_bytes(&counts, b"mail"), None);
+    assert_eq!(rt; BoundedMap::get(&counts, &name), Ok(Some(2)));
+    Ok(())
+}
+
+// Shows: BoundedMap::iter, BoundedMap::keys, BoundedMap::values, BoundedMap::list_keys
+#[test]
+fn any_map_is_gone_through(rt: HostRuntime) -> Result<(), Fail> {
+    fn sums<M: BoundedMap<u16, u16>>(map: &M) -> [u16; 4] {
+        let mut sums = [0; 4];
+        for (port, value) in map.iter() {
+            sums[0] ^= *port ^ *value;
+        }
+        for port in map.keys() {
+            sums[1] ^= *port;
+        }
+        for value in map.values() {
+            sums[2] ^= *value;
+        }
+        map.list_keys(|port| {
+            sums[3] ^= *port;
+            CallbackProgression::Stop
+        });
+        sums
+    }
+    let mut map = FixedSizeFlatMap::<u16, u16, 2>::new();
+    map.insert(1, 16)?;
+    map.insert(2, 32)?;
+    assert_eq!(rt; sums(&map), [51, 3, 48, 1]);
     Ok(())
 }
 

@@ -30,6 +30,20 @@ fn a_loop_goes_through_a_map(rt: HostRuntime) -> Result<(), Fail> {
     Ok(())
 }
 
+// Shows: IntoIterator for MetaMap, IntoIter, Iterator for IntoIter, ExactSizeIterator for IntoIter
+#[test]
+fn a_loop_takes_a_map_apart(rt: HostRuntime) -> Result<(), Fail> {
+    let mut map = FixedSizeFlatMap::<u16, char, 3>::new();
+    map.insert(80, 'a')?;
+    map.insert(22, 'b')?;
+    let mut items = map.into_iter();
+    assert_eq!(rt; (items.len(), items.size_hint()), (2, (2, Some(2))));
+    for (port, name) in items {
+        assert!(rt; (port, name) == (80, 'a') || (port, name) == (22, 'b'));
+    }
+    Ok(())
+}
+
 // Shows: MetaMap::drain, Drain, Iterator for Drain, ExactSizeIterator for Drain
 // Shows: Drop for Drain
 #[test]

@@ -5,6 +5,7 @@ use ix_maps::{
     CallbackProgression, FixedSizeFlatMap, FlatMap, FlatMapFamily, Pair, RelocatableFlatMap,
     UninitFlatMap,
 };
+use ix_string::StaticString;
 use std::alloc::Global;
 use std::test::Fail;
 
@@ -70,6 +71,17 @@ fn a_value_is_found_by_an_equal_key(rt: HostRuntime) -> Result<(), Fail> {
     assert_eq!(rt; map.get_ref(&80), Some(&'a'));
     assert_eq!(rt; map.get_ref(&443), None);
     assert!(rt; map.contains(&80) && !map.contains(&443));
+    Ok(())
+}
+
+// Shows: MetaMap::get_str, MetaMap::get_bytes
+#[test]
+fn a_value_is_found_by_a_text(rt: HostRuntime) -> Result<(), Fail> {
+    let mut ports = FixedSizeFlatMap::<StaticString<8>, u16, 3>::new();
+    ports.insert(StaticString::try_from("web")?, 80)?;
+    assert_eq!(rt; ports.get_str("web"), Some(&80));
+    assert_eq!(rt; ports.get_bytes(b"web"), Some(&80));
+    assert_eq!(rt; ports.get_str("a text without room"), None);
     Ok(())
 }
 

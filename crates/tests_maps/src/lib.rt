@@ -36,6 +36,8 @@ mod slow_map;
 #[cfg(test)]
 mod small_key_tests;
 #[cfg(test)]
+mod text_key_tests;
+#[cfg(test)]
 mod walk_tests;
 #[cfg(test)]
 mod whole_tests;

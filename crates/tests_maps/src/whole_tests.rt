@@ -317,5 +317,12 @@ fn a_drain_counts_and_prints_what_is_left() -> Result<(), Fail> {
     test_support::check_text(&findings, &drain, "[(10, 5), (20, 3)]");
     drop(drain);
     findings.expect(map.is_empty(), "the rest is dropped");
+    let _ = (map.insert(30, 1), map.insert(10, 5), map.insert(20, 3));
+    let _ = map.remove(&10);
+    let mut items = map.into_iter();
+    findings.expect_same(items.len(), 2, "by value");
+    findings.expect_same(items.next(), Some((20, 3)), "the least place");
+    findings.expect_same(items.next(), Some((30, 1)), "a later place");
+    findings.expect_same(items.next(), None, "no more");
     findings.verdict()
 }

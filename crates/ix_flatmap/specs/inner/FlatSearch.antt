@@ -6,11 +6,11 @@ use Rattle.ix_flatmap.specs.declared.map.pair.Pair.{Pair}
 
 module _ {K V : Type 0} where
   -- the place has a pair whose key equals this one
-  abbrev pub is_key_at : (K → K → Bool) → SlotTableState (Pair K V) → K → ℕ → Bool
+  abbrev pub is_key_at : {Q : Type 0} → (K → Q → Bool) → SlotTableState (Pair K V) → Q → ℕ → Bool
   is_key_at eq s key place = option_map_or (λ pair. eq pair.key key) (value_at s place) false
 
   -- none of so many places from start on has it
-  abbrev pub HasNoKeyIn : (K → K → Bool) → SlotTableState (Pair K V) → K → ℕ → ℕ → Type 0
+  abbrev pub HasNoKeyIn : {Q : Type 0} → (K → Q → Bool) → SlotTableState (Pair K V) → Q → ℕ → ℕ → Type 0
   HasNoKeyIn eq s key start n = (i : ℕ) → i < n → is_key_at eq s key (start + i) ≡ false
 
   -- which of n places from start on has it, or n itself, and then none of the first i has it

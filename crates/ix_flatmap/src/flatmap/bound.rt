@@ -7,11 +7,12 @@ ghost use Rattle.ix_flatmap.specs.inner.Bounds.{bound_with, bound_without};
 ghost use Rattle.ix_flatmap.specs.laws.Bounds.{IsBound-clone};
 
 use crate::flatmap::FlatMapFamily;
-use crate::flatmap::search::{find_from, find_in_front};
+use crate::flatmap::search::{find_bytes, find_from, find_in_front};
 use crate::map::{CopyIn, CopyInline, HeapIndex, InlineIndex, KeyIndex, Pair, PairIndex};
 use ix_slottable::slottable::{Link, MetaSlotTable, SlotTableKey};
 use ix_tables::{MemorySize, Table};
 use std::alloc::{AllocError, Allocator};
+use std::convert::AsSlice;
 use std::mem::size_of_val;
 
 /// The index of a flat map: below which place each pair lies. Keys are compared one by one.
@@ -58,6 +59,20 @@ impl<K: Eq + Drop, V: Drop> KeyIndex<K, V> for Bound {
         } else {
             find_from(pairs, 0, self.place, key)
         }
+    }
+
+    ghost AreFoundBy = { λ bytes. ⊤ };
+
+    #[inline]
+    fn find_bytes<'a, S: Table<Pair<K, V>>, L: Table<Link>>(
+        &self,
+        pairs: &'a MetaSlotTable<Pair<K, V>, S, L>,
+        bytes: &[u8],
+    ) -> Option<(SlotTableKey, &'a Pair<K, V>)>
+    where
+        K: AsSlice<u8>,
+    {
+        find_bytes(pairs, self.place, bytes)
     }
 
     #[inline]

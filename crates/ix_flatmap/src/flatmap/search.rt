@@ -1,13 +1,14 @@
 //! How a flat map looks for a key.
 ghost use Rattle.std.specs.Prelude.{◌≡◌, ◌+◌, ◌<◌, ◌≤◌, ℕ, length, nat_lt, if◌then◌else◌, IfSome, IsNone, option_map, true};
 ghost use Rattle.ix_slottable.specs.SlotTableState.{IsHeld};
-ghost use Rattle.ix_flatmap.specs.MapState.{HasDistinctKeys, map_entry, IsBound};
+ghost use Rattle.ix_flatmap.specs.MapState.{HasDistinctKeys, has_bytes, map_entry, IsBound};
 ghost use Rattle.ix_flatmap.specs.inner.FlatSearch.{is_key_at, HasNoKeyIn, IsFoundIn};
 ghost use Rattle.ix_flatmap.specs.declared.flatmap.search.TheConstants.{BLOCK_LEN, ROW_LEN};
 
 use crate::map::Pair;
 use ix_slottable::slottable::{Link, MetaSlotTable, SlotTableKey};
 use ix_tables::Table;
+use std::convert::AsSlice;
 
 /// A map without a free place before its last key compares so many keys at a time, with no branch between them.
 const BLOCK_LEN: usize = 8;
@@ -204,6 +205,28 @@ pub(crate) fn find_from<'a, K: Eq, V, S: Table<Pair<K, V>>, L: Table<Link>>(
         let place = SlotTableKey::new(place);
         if let Some(pair) = pairs.get(place)
             && pair.key == *key
+        {
+            return Some((place, pair));
+        }
+    }
+    None
+}
+
+/// Returns the place of the key with these bytes, and the pair there. No place from `end` on has a pair.
+#[inline]
+pub(crate) fn find_bytes<'a, K: AsSlice<u8>, V, S: Table<Pair<K, V>>, L: Table<Link>>(
+    pairs: &'a MetaSlotTable<Pair<K, V>, S, L>,
+    end: usize,
+    bytes: &[u8],
+) -> Option<(SlotTableKey, &'a Pair<K, V>)>
+    requires { IsBound pairs.now end }
+    ensures { option_map (λ entry. (entry.0, entry.1.now)) result
+        ≡ map_entry (has_bytes K.items) pairs.now bytes.now }
+{
+    for place in 0..end {
+        let place = SlotTableKey::new(place);
+        if let Some(pair) = pairs.get(place)
+            && pair.key.as_slice() == bytes
         {
             return Some((place, pair));
         }

@@ -59,6 +59,8 @@ impl<K: Eq + Clone, V: Clone, A: Allocator + Copy, I: PairIndex<Pair<K, V>>> Hea
     ///
     /// O(`capacity`), with as many allocations at most as it took to make the map, and `len` clones of keys and of values. Returns
     /// `AllocError` if an allocation or a clone fails; nothing stays allocated then.
+    ///
+    /// The index of a flat map is [`CopyIn`] for each `D`, and that of a hash map if its hasher is `Copy`.
     pub fn try_clone_in<D: Allocator + Copy>(
         &self,
         alloc: D,

@@ -1,10 +1,12 @@
 //! Equality of maps.
+ghost use Rattle.std.specs.Prelude.{◌≡◌};
+ghost use Rattle.std.specs.List.{list_any};
 ghost use Rattle.ix_flatmap.specs.MapState.{map_items};
-ghost use Rattle.ix_flatmap.specs.MapCompared.{is_same_item, has_same};
+ghost use Rattle.ix_flatmap.specs.MapCompared.{is_same_item, has_each, has_same};
 ghost use Rattle.ix_flatmap.specs.laws.MapCompared.{same_items_per, same_items_equiv};
 
-use crate::bounded_map::has_each_of;
-use crate::map::{KeyIndex, MetaMap, Pair};
+use crate::bounded_map::BoundedMap;
+use crate::map::{Iter, KeyIndex, MetaMap, Pair};
 use ix_slottable::slottable::Link;
 use ix_tables::Table;
 
@@ -29,4 +31,33 @@ impl<
 impl<K: Eq + Drop, V: Eq + Drop, S: Table<Pair<K, V>>, L: Table<Link>, I: KeyIndex<K, V>> Eq
     for MetaMap<Pair<K, V>, S, L, I> {
     ghost laws = { same_items_equiv K.eq V.eq K.Eq.laws V.Eq.laws };
+}
+
+/// Returns `true` if `map` has each of these keys, with an equal value.
+fn has_each_of<K: Eq, V: PartialEq, M: BoundedMap<K, V>, S: Table<Pair<K, V>>, L: Table<Link>>(
+    map: &M,
+    items: Iter<'_, K, V, S, L>,
+) -> bool
+    ensures { result ≡ has_each (is_same_item K.eq V.eq) (map_items (M.state map.now)) items.entry }
+{
+    for (key, value) in items {
+        if !has_equal(map, key, value) {
+            return false;
+        }
+    }
+    true
+}
+
+/// Returns `true` if `map` has an equal key, with an equal value.
+#[inline]
+fn has_equal<K: Eq, V: PartialEq, M: BoundedMap<K, V>>(map: &M, key: &K, value: &V) -> bool
+    ensures { result ≡ list_any (λ item. is_same_item K.eq V.eq item (key.now, value.now))
+        (map_items (M.state map.now)) }
+{
+    // Names the number of keys, by which the check knows that no two keys are equal.
+    let _len = map.len();
+    match map.get_ref(key) {
+        Some(own) => *own == *value,
+        None => false,
+    }
 }

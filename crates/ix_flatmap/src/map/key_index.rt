@@ -1,18 +1,19 @@
 //! What a map finds its keys by.
-ghost use Rattle.std.specs.Prelude.{◌≡◌, ℕ, ◌≤◌, length, replicate, Some, None, IsOk, IfOk, IfSome, option_map, true};
+ghost use Rattle.std.specs.Prelude.{◌≡◌, ℕ, ◌≤◌, List, length, replicate, Some, None, IsOk, IfOk, IfSome, option_map, true};
 ghost use Rattle.std.specs.Result.{IfErr, result_ok};
 ghost use Rattle.ix_tables.specs.Memory.{no_memory};
 ghost use Rattle.ix_tables.specs.declared.cells.memory_size.MemorySize.{MemorySize};
 ghost use Rattle.ix_slottable.specs.SlotTableState.{SlotTableState, IsHeld, value_at, held_count, slot_table_new};
 ghost use Rattle.ix_slottable.specs.SlotTableSteps.{SlotTableInsert, SlotTableRemove, slot_table_clear};
 ghost use Rattle.ix_slottable.specs.SlotTableCopies.{SlotTableIsClone};
-ghost use Rattle.ix_flatmap.specs.MapState.{HasDistinctKeys, map_entry, IsBound};
+ghost use Rattle.ix_flatmap.specs.MapState.{AreEqualByBytes, HasDistinctKeys, has_bytes, map_entry, IsBound};
 ghost use Rattle.ix_flatmap.specs.declared.map.pair.Pair.{Pair};
 
 use crate::map::Pair;
 use ix_slottable::slottable::{Link, MetaSlotTable, SlotTableKey};
 use ix_tables::{MemorySize, Table};
 use std::alloc::{AllocError, Allocator};
+use std::convert::AsSlice;
 
 /// An index of the pairs of a map.
 pub trait PairIndex<P>: Sized {
@@ -54,6 +55,24 @@ pub trait KeyIndex<K: Eq + Drop, V: Drop>: PairIndex<Pair<K, V>> {
         requires seat { IsSeat self.now pairs.now key.now seat }
         ensures { option_map (λ entry. (entry.0, entry.1.now)) result
             ≡ map_entry K.eq pairs.now key.now };
+
+    /// What is asked of keys that are found by these bytes of theirs, beside that keys with equal bytes are equal.
+    ghost AreFoundBy: { (K → List ℕ) → Type 0 };
+
+    /// Returns the place of the key with these bytes, and the pair there.
+    fn find_bytes<'a, S: Table<Pair<K, V>>, L: Table<Link>>(
+        &self,
+        pairs: &'a MetaSlotTable<Pair<K, V>, S, L>,
+        bytes: &[u8],
+    ) -> Option<(SlotTableKey, &'a Pair<K, V>)>
+    where
+        K: AsSlice<u8>,
+        requires fits { Self.PairIndex.Fits self.now pairs.now }
+        requires distinct { HasDistinctKeys K.eq pairs.now }
+        requires equal { AreEqualByBytes K.eq K.items }
+        requires found { AreFoundBy K.items }
+        ensures { option_map (λ entry. (entry.0, entry.1.now)) result
+            ≡ map_entry (has_bytes K.items) pairs.now bytes.now };
 
     /// Inserts `pair`, whose key belongs at `seat` and none of the pairs has, at the first free place. Returns `pair` as the error
     /// if no place is free.

@@ -6,7 +6,7 @@ ghost use Rattle.std.specs.Map.{keys_of, lookup};
 ghost use Rattle.ix_tables.specs.Cloning.{AreEqualClones};
 ghost use Rattle.ix_slottable.specs.SlotTableState.{IsWellFormed, IsHeld, value_at, held_count};
 ghost use Rattle.ix_slottable.specs.SlotTableSteps.{slot_table_clear};
-ghost use Rattle.ix_flatmap.specs.MapState.{HasDistinctKeys, map_entry, map_value, map_keys, map_values, map_item, map_items};
+ghost use Rattle.ix_flatmap.specs.MapState.{AreEqualByBytes, HasDistinctKeys, has_bytes, map_entry, map_value, map_keys, map_values, map_item, map_items};
 ghost use Rattle.ix_flatmap.specs.MapSteps.{map_insert_result, map_insert, pair_set, map_set, map_remove, ListsUntilStop};
 
 use crate::map::{
@@ -15,6 +15,7 @@ use crate::map::{
 use ix_slottable::slottable::{Link, MetaSlotTable, SlotTableKey};
 use ix_tables::Table;
 use std::alloc::AllocError;
+use std::convert::AsSlice;
 use std::fmt::{self, Debug, Formatter, Write};
 use std::marker::Model;
 
@@ -109,6 +110,44 @@ impl<K: Eq + Drop, V: Drop, S: Table<Pair<K, V>>, L: Table<Link>, I: KeyIndex<K,
             Some((_, pair)) => Some(&pair.value),
             None => None,
         }
+    }
+
+    /// Returns a reference to the value of the key with these bytes, or `None` if the map has none. The bytes are not copied.
+    ///
+    /// Keys are equal if their bytes are; keys of a hash map feed a hasher their bytes, in one write. Strings and arrays of bytes do
+    /// so.
+    #[inline]
+    pub fn get_bytes(&self, bytes: &[u8]) -> Option<&V>
+    where
+        K: AsSlice<u8>,
+        requires equal { AreEqualByBytes K.eq K.items }
+        requires found { I.AreFoundBy K.items }
+        ensures value { option_copied result ≡ map_value (has_bytes K.items) self.now bytes.now }
+        // That is the value of each key with these bytes.
+        ensures key { (key : K) → K.items key ≡ bytes.now
+            → option_copied result ≡ map_value K.eq self.now key }
+    {
+        // Names the number of keys, by which the check knows that no two keys are equal.
+        let _len = self.len();
+        let Some((_, pair)) = self.index.find_bytes(&self.pairs, bytes) else {
+            return None;
+        };
+        Some(&pair.value)
+    }
+
+    /// Returns a reference to the value of the key with these bytes, as [`MetaMap::get_bytes`] does.
+    #[inline]
+    pub fn get_str(&self, text: &str) -> Option<&V>
+    where
+        K: AsSlice<u8>,
+        requires equal { AreEqualByBytes K.eq K.items }
+        requires found { I.AreFoundBy K.items }
+        ensures value { option_copied result ≡ map_value (has_bytes K.items) self.now text.now }
+        // That is the value of each key with these bytes.
+        ensures key { (key : K) → K.items key ≡ text.now
+            → option_copied result ≡ map_value K.eq self.now key }
+    {
+        self.get_bytes(text.as_bytes())
     }
 
     /// Returns references to the equal key of the map and to its value, or `None` if the map has no equal key.

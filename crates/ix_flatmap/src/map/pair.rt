@@ -1,11 +1,27 @@
 //! What a map has at a place.
-ghost use Rattle.std.specs.Prelude.{Bool};
+ghost use Rattle.std.specs.Prelude.{◌≡◌, Bool};
 
 /// What a [`MetaMap`](crate::map::MetaMap) can hold at a place: it has a key. Every [`Pair`] is, and nothing else
 /// has the calls of a map.
 pub trait Keyed {
     /// The two have equal keys.
     ghost has_key_of: { Self → Self → Bool };
+}
+
+/// What comes apart into a key and its value, as every [`Pair`] does.
+pub trait IntoItem: Keyed {
+    /// What the key is.
+    type Key;
+
+    /// What the value is.
+    type Value;
+
+    /// The key, and its value.
+    ghost item: { Self → Self.Key × Self.Value };
+
+    /// Returns the key, and its value.
+    fn into_item(self) -> (Self::Key, Self::Value)
+        ensures { result ≡ item self };
 }
 
 /// A key and its value, as the tables of a map hold them.
@@ -19,4 +35,17 @@ pub struct Pair<K, V> {
 
 impl<K: Eq, V> Keyed for Pair<K, V> {
     ghost has_key_of = { λ pair other. K.eq pair.key other.key };
+}
+
+impl<K: Eq, V> IntoItem for Pair<K, V> {
+    type Key = K;
+
+    type Value = V;
+
+    ghost item = { λ pair. (pair.key, pair.value) };
+
+    #[inline]
+    fn into_item(self) -> (K, V) {
+        (self.key, self.value)
+    }
 }

@@ -108,6 +108,15 @@ impl<K: Eq + Drop, V: Drop, S: Table<Pair<K, V>>, L: Table<Link>, I: KeyIndex<K,
         ensures kept { (written : V) (other : K) → K.eq other key ≡ false
             → map_value K.eq (map_replace K.eq self.old key written) other
             ≡ map_value K.eq self.old other }
+        // So many keys are there then.
+        ensures count { (written : V) → IsOk result → map_value K.eq self.old key ≡ None
+            → held_count (map_replace K.eq self.old key written) ≡ held_count self.old + 1 }
+        ensures room { (written : V) → IsOk result → map_value K.eq self.old key ≡ None
+            → length (map_replace K.eq self.old key written).free + 1 ≡ length self.old.free }
+        ensures same_count { (written : V) → IsSome (map_value K.eq self.old key)
+            → held_count (map_replace K.eq self.old key written) ≡ held_count self.old }
+        ensures same_free { (written : V) → IsSome (map_value K.eq self.old key)
+            → (map_replace K.eq self.old key written).free ≡ self.old.free }
     {
         let seat = self.index.seat(&self.pairs, &key);
         if let Some(place) = self.index.place(&self.pairs, seat, &key) {

@@ -137,7 +137,7 @@ pub record IsBucket (hash : ℕ) (links : List ChainLink) (number first : ℕ) :
   pub starts : first ≡ head_at links number
 
 -- on the chain that begins at `first` each place has a pair, and if a place has the key, it is there
-pub record LeadsToKey {K V : Type 0} (eq : K → K → Bool) (s : SlotTableState (Pair K V)) (links : List ChainLink) (key : K) (first : ℕ) : Type 0 where
+pub record LeadsToKey {K Q V : Type 0} (eq : K → Q → Bool) (s : SlotTableState (Pair K V)) (links : List ChainLink) (key : Q) (first : ℕ) : Type 0 where
   pub chain : IsChainFrom links first
   pub held : (place : ℕ) → IsOnChain links first place → IsHeld s place
   pub has : (place : ℕ) → is_key_at eq s key place ≡ true → IsOnChain links first place

@@ -1,5 +1,5 @@
 //! The index of hash maps.
-ghost use Rattle.std.specs.Prelude.{◌≡◌, true};
+ghost use Rattle.std.specs.Prelude.{◌≡◌, [], ◌∷◌, true};
 ghost use Rattle.std.proofs.Common.{ap};
 ghost use Rattle.std.specs.Mem.{type_size};
 ghost use Rattle.ix_tables.specs.Memory.{memory_plus, table_memory};
@@ -10,13 +10,14 @@ ghost use Rattle.ix_hashmap.specs.laws.HashChains.{IsHashed-clone};
 
 use crate::hashmap::chain_link::NO_PLACE;
 use crate::hashmap::chain_table::ChainTable;
-use crate::hashmap::hashed::bucket_of;
-use crate::hashmap::search::find_from;
+use crate::hashmap::hashed::{bucket_of, bucket_of_bytes};
+use crate::hashmap::search::{find_bytes, find_from};
 use crate::hashmap::{ChainLink, HashMapFamily, Hashed};
 use ix_flatmap::map::{CopyIn, CopyInline, HeapIndex, InlineIndex, KeyIndex, Pair, PairIndex};
 use ix_slottable::slottable::{Link, MetaSlotTable, SlotTableKey};
 use ix_tables::{HeapTable, InlineTable, MemorySize, Table};
 use std::alloc::{AllocError, Allocator};
+use std::convert::AsSlice;
 use std::hash::{BuildHasher, Hash};
 
 /// The index of a hash map: for each of its buckets a chain of the places whose keys have it, in a table `C`. Keys are found by
@@ -79,6 +80,26 @@ impl<K: Eq + Hash + Drop, V: Drop, C: Table<ChainLink>, B: BuildHasher> KeyIndex
         key: &K,
     ) -> Option<(SlotTableKey, &'a Pair<K, V>)> {
         find_from(pairs, &self.links, seat.first, key)
+    }
+
+    // A key feeds a hasher these bytes, in one write.
+    ghost AreFoundBy = { λ bytes. (key : K) → K.hash_input key ≡ bytes key ∷ [] };
+
+    #[inline]
+    fn find_bytes<'a, S: Table<Pair<K, V>>, L: Table<Link>>(
+        &self,
+        pairs: &'a MetaSlotTable<Pair<K, V>, S, L>,
+        bytes: &[u8],
+    ) -> Option<(SlotTableKey, &'a Pair<K, V>)>
+    where
+        K: AsSlice<u8>,
+    {
+        let places = self.links.len();
+        if places == 0 {
+            return None;
+        }
+        let number = bucket_of_bytes(&self.hasher, bytes, places);
+        find_bytes(pairs, &self.links, self.links.head(number), bytes)
     }
 
     #[inline]

@@ -1,9 +1,9 @@
 //! What a hash map has at a place, and which bucket a key has.
-ghost use Rattle.std.specs.Prelude.{◌≡◌, ◌*◌, ◌<◌, ℕ, List};
+ghost use Rattle.std.specs.Prelude.{◌≡◌, ◌*◌, ◌<◌, ℕ, List, [], ◌∷◌};
 ghost use Rattle.ix_hashmap.specs.inner.HashChains.{bucket_of, hash_of};
 
 use ix_flatmap::map::Pair;
-use std::hash::{BuildHasher, Hash};
+use std::hash::{BuildHasher, Hash, Hasher};
 
 /// What a [`MetaHashMap`](crate::hashmap::MetaHashMap) can hold at a place: it has a key that can be hashed. Every
 /// [`Pair`](ix_flatmap::map::Pair) whose key implements `Hash` is, and nothing else has the calls of a map.
@@ -24,5 +24,28 @@ pub(crate) fn bucket_of<K: Eq + Hash, B: BuildHasher>(hasher: &B, key: &K, place
         ≡ bucket_of (hash_of B.Hasher.finish B.Hasher.write (B.build_hasher hasher.now) (K.hash_input key.now)) places }
     ensures below { result < 4 * places }
 {
-    (hasher.hash_one(key) as u128 * places as u128) >> 62
+    bucket_of_hash(hasher.hash_one(key), places)
+}
+
+/// Returns the bucket of a key that feeds a hasher these bytes, in one write.
+#[inline]
+pub(crate) fn bucket_of_bytes<B: BuildHasher>(hasher: &B, bytes: &[u8], places: usize) -> u128
+    requires { 0 < places }
+    ensures value { result
+        ≡ bucket_of (hash_of B.Hasher.finish B.Hasher.write (B.build_hasher hasher.now) (bytes.now ∷ [])) places }
+    ensures below { result < 4 * places }
+{
+    let mut state = hasher.build_hasher();
+    state.write(bytes);
+    bucket_of_hash(state.finish(), places)
+}
+
+/// Returns the bucket of a hash in a map of so many places, of which there is at least one.
+#[inline]
+fn bucket_of_hash(hash: u64, places: usize) -> u128
+    requires { 0 < places }
+    ensures value { result ≡ bucket_of hash places }
+    ensures below { result < 4 * places }
+{
+    (hash as u128 * places as u128) >> 62
 }

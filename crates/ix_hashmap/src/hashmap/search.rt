@@ -1,6 +1,6 @@
 //! How a hash map looks for a key.
 ghost use Rattle.std.specs.Prelude.{◌≡◌, option_map};
-ghost use Rattle.ix_flatmap.specs.MapState.{HasDistinctKeys, map_entry};
+ghost use Rattle.ix_flatmap.specs.MapState.{AreEqualByBytes, HasDistinctKeys, has_bytes, map_entry};
 ghost use Rattle.ix_hashmap.specs.inner.HashChains.{LeadsToKey};
 
 use crate::hashmap::ChainLink;
@@ -9,6 +9,7 @@ use crate::hashmap::chain_table::ChainTable;
 use ix_flatmap::map::Pair;
 use ix_slottable::slottable::{Link, MetaSlotTable, SlotTableKey};
 use ix_tables::Table;
+use std::convert::AsSlice;
 
 /// Returns the place of the key that equals `key`, and the pair there. If the map has one, it is in the chain that begins at
 /// `first`.
@@ -29,6 +30,40 @@ pub(crate) fn find_from<'a, K: Eq, V, S: Table<Pair<K, V>>, L: Table<Link>, C: T
         let number = SlotTableKey::new(place);
         let pair = pairs.get_unchecked(number);
         if pair.key == *key {
+            return Some((number, pair));
+        }
+        place = chains.next(place);
+    }
+    None
+}
+
+/// Returns the place of the key with these bytes, and the pair there. If the map has one, it is in the chain that begins at
+/// `first`.
+#[inline]
+pub(crate) fn find_bytes<
+    'a,
+    K: Eq + AsSlice<u8>,
+    V,
+    S: Table<Pair<K, V>>,
+    L: Table<Link>,
+    C: Table<ChainLink>,
+>(
+    pairs: &'a MetaSlotTable<Pair<K, V>, S, L>,
+    chains: &ChainTable<C>,
+    first: usize,
+    bytes: &[u8],
+) -> Option<(SlotTableKey, &'a Pair<K, V>)>
+    requires leads { LeadsToKey (has_bytes K.items) pairs.now chains.now bytes.now first }
+    requires distinct { HasDistinctKeys K.eq pairs.now }
+    requires equal { AreEqualByBytes K.eq K.items }
+    ensures { option_map (λ entry. (entry.0, entry.1.now)) result
+        ≡ map_entry (has_bytes K.items) pairs.now bytes.now }
+{
+    let mut place = first;
+    while place != NO_PLACE {
+        let number = SlotTableKey::new(place);
+        let pair = pairs.get_unchecked(number);
+        if pair.key.as_slice() == bytes {
             return Some((number, pair));
         }
         place = chains.next(place);

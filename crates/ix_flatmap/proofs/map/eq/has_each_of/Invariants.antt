@@ -1,7 +1,7 @@
 use Rattle.std.proofs.Common.{◌≡◌}
 use Rattle.ix_flatmap.specs.MapState.{map_items}
 use Rattle.ix_flatmap.specs.MapCompared.{is_same_item, has_each}
-use Rattle.ix_flatmap.proofs.bounded_map.has_each_of.Given as goal
+use Rattle.ix_flatmap.proofs.map.eq.has_each_of.Given as goal
 
 -- all keys are had if those that are left are
 abbrev pub invariant-loop-key : goal.invariant-loop-key

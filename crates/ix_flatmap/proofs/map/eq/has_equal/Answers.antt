@@ -1,7 +1,7 @@
 use Rattle.std.proofs.Common.{sym, ap, ◌∙◌, false}
 use Rattle.std.specs.Option.{option_map_or}
 use Rattle.ix_flatmap.proofs.MapEqual.{any_value}
-use Rattle.ix_flatmap.proofs.bounded_map.has_equal.Goals as goal
+use Rattle.ix_flatmap.proofs.map.eq.has_equal.Goals as goal
 
 pub returns-in-Some : goal.returns-in-Some
 returns-in-Some g c =

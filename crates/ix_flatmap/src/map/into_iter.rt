@@ -1,0 +1,94 @@
+//! The iterator that takes a map apart.
+ghost use Rattle.std.specs.Prelude.{◌≡◌, length, map, Some, IfSome};
+ghost use Rattle.std.specs.Iterator.{YieldsFirst, UpTo, at_most, item_count};
+ghost use Rattle.std.specs.Iterator.SizeHint.{IsWithinCount};
+ghost use Rattle.ix_slottable.specs.SlotTableState.{entries};
+
+use crate::map::{IntoItem, MetaMap, PairIndex};
+use ix_slottable::slottable::{self, Link};
+use ix_tables::Table;
+use std::fmt::{self, Debug, Formatter, Write};
+use std::iter::FusedIterator;
+use std::marker::Model;
+
+/// An iterator that removes the keys of a map, each with its value, in slot order, as `into_iter` returns it. Contracts see the
+/// items that are still to come.
+///
+/// It has the map's memory, but for that of the index. The keys and values that are still to come when it is dropped are dropped with it, the
+/// next ones first, in O(capacity) time.
+#[derive(Drop)]
+pub struct IntoIter<P: IntoItem, S: Table<P>, L: Table<Link>> {
+    pairs: slottable::IntoIter<P, S, L>,
+}
+
+impl<P: IntoItem, S: Table<P>, L: Table<Link>> Model for IntoIter<P, S, L> {
+    ghost use Rattle.std.specs.Prelude.{List, map};
+
+    ghost Value = { List (P.Key × P.Value) };
+
+    ghost view = { λ iter. map (λ entry. P.item entry.1) iter.pairs };
+}
+
+impl<P: IntoItem + Drop, S: Table<P>, L: Table<Link>> Iterator for IntoIter<P, S, L> {
+    type Item = (P::Key, P::Value);
+
+    ghost next_gives = { YieldsFirst (λ rest. rest) };
+
+    ghost remaining = { item_count (λ rest. rest) };
+
+    /// Removes the next key and returns it with its value, or `None` after the last one. O(the number of free places before
+    /// it).
+    #[inline]
+    fn next(&mut self) -> Option<(P::Key, P::Value)> {
+        match self.pairs.next() {
+            Some((_, pair)) => Some(pair.into_item()),
+            None => None,
+        }
+    }
+
+    /// Returns the number of items that are still to come, as both bounds. O(1).
+    #[inline]
+    fn size_hint(&self) -> (usize, Option<usize>)
+        ensures value { result ≡ (length self.now, Some (length self.now)) }
+        ensures lower { IsWithinCount result.0 (at_most (length self.now)) }
+        ensures upper { IfSome result.1 (UpTo (at_most (length self.now))) }
+    {
+        self.pairs.size_hint()
+    }
+}
+
+impl<P: IntoItem + Drop, S: Table<P>, L: Table<Link>> ExactSizeIterator for IntoIter<P, S, L> {
+    /// Returns the number of items that are still to come. O(1).
+    #[inline]
+    fn len(&self) -> usize {
+        self.pairs.len()
+    }
+}
+
+impl<P: IntoItem + Drop, S: Table<P>, L: Table<Link>> FusedIterator for IntoIter<P, S, L> {}
+
+/// Prints a list of the places that are still to come, each its number and its pair. O(capacity).
+impl<P: IntoItem + Debug, S: Table<P>, L: Table<Link>> Debug for IntoIter<P, S, L> {
+    fn fmt<W: Write>(&self, f: &mut Formatter<W>) -> fmt::Result {
+        self.pairs.fmt(f)
+    }
+}
+
+// Over any `P`: the checker covers no caller of a function that takes by value what needs `Pair<K, V>: Keyed`.
+impl<P: IntoItem + Drop, S: Table<P>, L: Table<Link>, I: PairIndex<P> + Drop> IntoIterator
+    for MetaMap<P, S, L, I> {
+    type Item = (P::Key, P::Value);
+
+    type IntoIter = IntoIter<P, S, L>;
+
+    ghost into_iter_gives = { λ own iter. iter ≡ map (λ entry. P.item entry.1) (entries own) };
+
+    /// Returns an iterator that removes the keys, each with its value, in slot order. O(1).
+    #[inline]
+    fn into_iter(self) -> IntoIter<P, S, L> {
+        let MetaMap { pairs, index: _ } = self;
+        IntoIter {
+            pairs: pairs.into_iter(),
+        }
+    }
+}
