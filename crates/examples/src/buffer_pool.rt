@@ -2,6 +2,7 @@
 ghost use Rattle.std.specs.Prelude.{◌≡◌, ◌≢◌, ◌↔◌, ◌+◌, ◌<◌, ◌++◌, false, [], None, Some, IsTrue, IsSome, IsNone, IfSome, length, option_map};
 ghost use Rattle.std.specs.Bool.{OnFalse};
 ghost use Rattle.ix_maps.specs.Generations.{SlotKey, greatest_generation, slot_map_value, slot_map_new, IsDead};
+ghost use Rattle.ix_maps.specs.SlotMapSteps.{slot_map_insert};
 
 use ix_cells::{StaticVec, Vector};
 use ix_maps::{FixedSizeSlotMap, SlotMapKey};
@@ -40,6 +41,8 @@ impl BufferPool {
         ensures kept { (other : SlotKey) → IsSome (slot_map_value self.old.lent other)
             → slot_map_value self.new.lent other ≡ slot_map_value self.old.lent other }
         ensures dead { (other : SlotKey) → IsDead self.old.lent other → IsDead self.new.lent other }
+        // No other buffer is lent.
+        ensures pool { self.new.lent ≡ slot_map_insert self.old.lent [] }
     {
         let handle = self.lent.insert(Buffer::new())?;
         self.free -= 1;
@@ -69,6 +72,8 @@ impl BufferPool {
         ensures dead { IsSome result → IsDead self.new.lent handle }
         ensures free { IsSome result → handle.generation < greatest_generation
             → self.new.free ≡ self.old.free + 1 }
+        ensures retired { IsSome result → handle.generation ≡ greatest_generation
+            → self.new.free ≡ self.old.free }
         ensures refused { IsNone result → self.new ≡ self.old }
         ensures kept { (other : SlotKey) → other ≢ handle
             → slot_map_value self.new.lent other ≡ slot_map_value self.old.lent other }
