@@ -26,6 +26,7 @@ TRIED_AS = {
     "SlotTable::try_clone_in": ("MetaSlotTable::try_clone_in",),
     "SlotMap::try_clone_in": ("MetaSlotMap::try_clone_in",),
     "MetaMap::get": ("MetaFlatMap::get",),
+    "BoundedMap::get": ("MetaFlatMap::get",),
     "Uninit::init": ("UninitVec::init", "UninitString::init", "UninitQueue::init", "UninitSlotTable::init", "UninitFlatMap::init", "UninitHashMap::init"),
     "Vector::extend_from_slice_unchecked": ("extend_from_slice_unchecked of a",),
     "Vector::extend_from_slice": ("extend_from_slice",),
