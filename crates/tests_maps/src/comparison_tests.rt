@@ -1,6 +1,6 @@
 //! How often keys are compared: with each key of one bucket where all have the same, and with about one where hashes are spread.
+use crate::counted_key::{CountedKey, Counts};
 use crate::hashers::{HASHES, OneHash};
-use crate::noted_key::{AllNotes, NotedKey};
 use ix_flatmap::BoundedMap;
 use ix_hashmap::HashMap;
 use std::alloc::{AllocError, Global};
@@ -8,30 +8,30 @@ use std::test::Fail;
 use test_support::Findings;
 
 /// Inserts the key, and returns the number of comparisons.
-fn insert<'a, M: BoundedMap<NotedKey<'a>, u64>>(
+fn insert<'a, M: BoundedMap<CountedKey<'a>, u64>>(
     findings: &Findings,
     map: &mut M,
     number: u64,
-    notes: &'a AllNotes,
+    counts: &'a Counts,
 ) -> u64 {
-    notes.comparisons.set(0);
-    let inserted = map.insert(notes.to_find(number), number);
+    counts.take();
+    let inserted = map.insert(counts.key(number), number);
     findings.expect_same(inserted, Ok(()), "a new key");
-    notes.comparisons.get()
+    counts.take().0
 }
 
 /// Looks the key up, and returns the number of comparisons.
-fn look_up<'a, M: BoundedMap<NotedKey<'a>, u64>>(
+fn look_up<'a, M: BoundedMap<CountedKey<'a>, u64>>(
     findings: &Findings,
     map: &M,
     number: u64,
     is_held: bool,
-    notes: &'a AllNotes,
+    counts: &'a Counts,
 ) -> u64 {
-    notes.comparisons.set(0);
-    let found = map.contains(&notes.to_find(number));
+    counts.take();
+    let found = map.contains(&counts.key(number));
     findings.expect_same(found, is_held, "a key that is looked up");
-    notes.comparisons.get()
+    counts.take().0
 }
 
 /// The number of keys of the maps with one bucket.
@@ -39,36 +39,36 @@ const FEW: u64 = 40;
 
 /// With all keys in one bucket a new key is compared with each other one, and so is one that the map does not have. Of the keys
 /// that it has, one is compared with one key, another with two, and so on.
-fn check_one_bucket<'a, M: BoundedMap<NotedKey<'a>, u64>>(
+fn check_one_bucket<'a, M: BoundedMap<CountedKey<'a>, u64>>(
     findings: &Findings,
     map: &mut M,
-    notes: &'a AllNotes,
+    counts: &'a Counts,
 ) {
     let mut all = 0u64;
     for number in 0..FEW {
-        let found = insert(findings, map, number, notes);
+        let found = insert(findings, map, number, counts);
         findings.expect_same(found, number, "with each key");
     }
     for number in 0..FEW {
-        all = all.wrapping_add(look_up(findings, &*map, number, true, notes));
+        all = all.wrapping_add(look_up(findings, &*map, number, true, counts));
     }
     findings.expect_same(all, FEW * (FEW + 1) / 2, "with half of the keys");
-    let found = look_up(findings, &*map, FEW, false, notes);
+    let found = look_up(findings, &*map, FEW, false, counts);
     findings.expect_same(found, FEW, "in vain, with each key");
 }
 
 #[test]
 fn one_bucket(rt: HostRuntime) -> Result<(), Fail> {
     let findings = Findings::new();
-    let notes = AllNotes::new();
+    let counts = Counts::new();
     for hash in HASHES {
-        let made = HashMap::<NotedKey, u64, Global, OneHash>::with_hasher(
+        let made = HashMap::<CountedKey, u64, Global, OneHash>::with_hasher(
             rt.alloc(),
             FEW as usize,
             OneHash { hash },
         );
         match made {
-            Ok(mut map) => check_one_bucket(&findings, &mut map, &notes),
+            Ok(mut map) => check_one_bucket(&findings, &mut map, &counts),
             Err(AllocError) => findings.miss("there is memory"),
         }
     }
@@ -81,20 +81,20 @@ const MANY: u64 = 1000;
 /// Fills a map with multiples of `step`, and looks each of them up, and as many that it does not have. A full map has a quarter
 /// of a key a bucket on average, so that a key is found by one and an eighth comparisons, and missed by a quarter of one, where hashes
 /// are drawn. Those of multiples of a number are not: the bounds leave room for that.
-fn check_spread<'a, M: BoundedMap<NotedKey<'a>, u64>>(
+fn check_spread<'a, M: BoundedMap<CountedKey<'a>, u64>>(
     findings: &Findings,
     map: &mut M,
     step: u64,
-    notes: &'a AllNotes,
+    counts: &'a Counts,
 ) {
     let (mut found, mut missed, mut most) = (0u64, 0u64, 0u64);
     for number in 0..MANY {
-        let _ = insert(findings, map, number.wrapping_mul(step), notes);
+        let _ = insert(findings, map, number.wrapping_mul(step), counts);
     }
     for number in 0..MANY {
-        let one = look_up(findings, &*map, number.wrapping_mul(step), true, notes);
+        let one = look_up(findings, &*map, number.wrapping_mul(step), true, counts);
         let other = (MANY + number).wrapping_mul(step);
-        let none = look_up(findings, &*map, other, false, notes);
+        let none = look_up(findings, &*map, other, false, counts);
         found = found.wrapping_add(one);
         missed = missed.wrapping_add(none);
         most = most.max(one).max(none);
@@ -110,10 +110,10 @@ fn check_spread<'a, M: BoundedMap<NotedKey<'a>, u64>>(
 #[test]
 fn spread_keys(rt: HostRuntime) -> Result<(), Fail> {
     let findings = Findings::new();
-    let notes = AllNotes::new();
+    let counts = Counts::new();
     for step in [1, 3, 1000, 4096, 1 << 32, 1 << 48] {
-        match HashMap::<NotedKey, u64>::new(rt.alloc(), MANY as usize) {
-            Ok(mut map) => check_spread(&findings, &mut map, step, &notes),
+        match HashMap::<CountedKey, u64>::new(rt.alloc(), MANY as usize) {
+            Ok(mut map) => check_spread(&findings, &mut map, step, &counts),
             Err(AllocError) => findings.miss("there is memory"),
         }
     }

@@ -12,19 +12,17 @@ mod comparison_tests;
 #[cfg(test)]
 mod copy_tests;
 #[cfg(test)]
-mod function_tests;
+mod count_tests;
 #[cfg(test)]
-mod handed_back_tests;
+mod counted_key;
+#[cfg(test)]
+mod function_tests;
 #[cfg(test)]
 mod hashers;
 #[cfg(test)]
 mod keys;
 #[cfg(test)]
 mod memory_tests;
-#[cfg(test)]
-mod noted_key;
-#[cfg(test)]
-mod noted_tests;
 #[cfg(test)]
 mod refusal_tests;
 #[cfg(test)]
