@@ -3,6 +3,8 @@
 #![tactic(auto)]
 
 #[cfg(test)]
+mod hasher_tests;
+#[cfg(test)]
 mod holder;
 #[cfg(test)]
 mod map_tests;
