@@ -34,6 +34,20 @@ pub fn map_replace(map: &mut Flat) -> bool
     map.replace(1, 1).is_ok()
 }
 
+pub fn map_get_or_insert_with(map: &mut Flat) -> bool
+    ensures count { IsTrue result → map_value nat_eq map.old 1 ≡ None
+        → held_count map.new ≡ held_count map.old + 1 }
+    ensures room { IsSome (map_value nat_eq map.old 1) → map.new.free ≡ map.old.free }
+{
+    match map.get_or_insert_with(1, || 0) {
+        Ok(value) => {
+            *value = 2;
+            true
+        }
+        Err(_) => false,
+    }
+}
+
 pub fn map_remove(map: &mut Flat) -> Option<u64>
     ensures count { IsSome result → held_count map.new + 1 ≡ held_count map.old }
     ensures room { IsSome result → length map.new.free ≡ length map.old.free + 1 }

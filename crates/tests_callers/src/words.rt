@@ -1,7 +1,7 @@
 //! Names as keys: clauses about maps from strings.
-ghost use Rattle.std.specs.Prelude.{◌≡◌, ◌↔◌, ℕ, List, Some, IsSome, IsTrue, false};
+ghost use Rattle.std.specs.Prelude.{◌≡◌, ◌↔◌, ℕ, List, Some, IsSome, IsTrue, false, slice_get};
 ghost use Rattle.ix_tables.specs.Bounded.{Bounded};
-ghost use Rattle.ix_flatmap.specs.MapState.{map_value};
+ghost use Rattle.ix_flatmap.specs.MapState.{map_items, map_value};
 ghost use Rattle.ix_string.specs.Text.{text_eq};
 
 use ix_flatmap::FixedSizeFlatMap;
@@ -55,4 +55,12 @@ pub fn has_name<A: Allocator + Copy>(
         → (IsTrue result ↔ IsSome (map_value (λ (own other : Bounded ℕ). text_eq own.items other.items) handles.now key)) }
 {
     handles.get_bytes(name).is_some()
+}
+
+/// Takes a map apart, and returns its first name with its handle.
+pub fn first_of(handles: Handles) -> Option<(StaticString<32>, SlotMapKey)>
+    ensures { result ≡ slice_get (map_items handles) 0 }
+{
+    let mut items = handles.into_iter();
+    items.next()
 }
