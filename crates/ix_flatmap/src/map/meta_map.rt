@@ -114,8 +114,7 @@ impl<K: Eq + Drop, V: Drop, S: Table<Pair<K, V>>, L: Table<Link>, I: KeyIndex<K,
 
     /// Returns a reference to the value of the key with these bytes, or `None` if the map has none. The bytes are not copied.
     ///
-    /// Keys are equal if their bytes are; keys of a hash map feed a hasher their bytes, in one write. Strings and arrays of bytes do
-    /// so.
+    /// Keys are equal if their bytes are, and those of a hash map feed a hasher their bytes in one write, as strings do.
     #[inline]
     pub fn get_bytes(&self, bytes: &[u8]) -> Option<&V>
     where
