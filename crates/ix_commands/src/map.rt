@@ -1,5 +1,5 @@
 //! Commands of maps.
-ghost use Rattle.std.specs.Prelude.{◌≡◌, is_some, IfOk, OnOk, OnErr};
+ghost use Rattle.std.specs.Prelude.{◌≡◌, [], is_some, IsOk, IfOk, OnOk, OnErr};
 ghost use Rattle.ix_flatmap.specs.MapState.{map_value};
 ghost use Rattle.ix_flatmap.specs.MapSteps.{map_set};
 ghost use Rattle.ix_commands.specs.MapRun.{map_reply, map_after};
@@ -59,6 +59,7 @@ pub fn run_map<K: Eq + Copy, V: Copy, S: Table<Pair<K, V>>, L: Table<Link>, I: K
         replies.items ≡ run_replies (map_reply K.eq) (map_after K.eq) map.old commands.now) }
     ensures map { OnOk result (map.new ≡ run_state (map_after K.eq) map.old commands.now) }
     ensures refused { OnErr result (map.new ≡ map.old) }
+    ensures memory { commands.now ≡ [] → IsOk result }
 {
     run_all(alloc, map, commands)
 }

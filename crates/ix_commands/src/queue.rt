@@ -1,5 +1,5 @@
 //! Commands of queues.
-ghost use Rattle.std.specs.Prelude.{◌≡◌, ◌<◌, length, nat_lt, slice_get, IfOk, OnOk, OnErr};
+ghost use Rattle.std.specs.Prelude.{◌≡◌, ◌<◌, [], length, nat_lt, slice_get, IsOk, IfOk, OnOk, OnErr};
 ghost use Rattle.ix_queue.specs.QueueSteps.{queue_set_front};
 ghost use Rattle.ix_commands.specs.QueueRun.{queue_reply, queue_after};
 ghost use Rattle.ix_commands.specs.Run.{run_replies, run_state};
@@ -59,6 +59,7 @@ pub fn run_queue<T: Copy, S: Table<T>>(
         (λ replies. replies.items ≡ run_replies queue_reply queue_after queue.old commands.now) }
     ensures queue { OnOk result (queue.new ≡ run_state queue_after queue.old commands.now) }
     ensures refused { OnErr result (queue.new ≡ queue.old) }
+    ensures memory { commands.now ≡ [] → IsOk result }
 {
     run_all(alloc, queue, commands)
 }

@@ -1,5 +1,5 @@
 //! Lists of commands.
-ghost use Rattle.std.specs.Prelude.{◌≡◌, IfOk, OnOk, OnErr};
+ghost use Rattle.std.specs.Prelude.{◌≡◌, [], IsOk, IfOk, OnOk, OnErr};
 ghost use Rattle.ix_commands.specs.Run.{run_replies, run_state};
 
 use std::alloc::{AllocError, Global};
@@ -39,6 +39,7 @@ pub fn run_all<C: Copy, T: Runs<C>>(
     ensures model { OnOk result
         (T.model container.new ≡ run_state T.after (T.model container.old) commands.now) }
     ensures refused { OnErr result (container.new ≡ container.old) }
+    ensures memory { commands.now ≡ [] → IsOk result }
 {
     let mut replies = Vec::with_capacity(alloc, commands.len())?;
     for command in commands {

@@ -1,5 +1,5 @@
 //! Commands of slot maps.
-ghost use Rattle.std.specs.Prelude.{◌≡◌, List, is_some, if◌then◌else◌, IfOk, OnOk, OnErr};
+ghost use Rattle.std.specs.Prelude.{◌≡◌, [], List, is_some, if◌then◌else◌, IsOk, IfOk, OnOk, OnErr};
 ghost use Rattle.ix_slotmap.specs.Generations.{SlotMapState, slot_map_value, IsSlotMapFormed};
 ghost use Rattle.ix_slotmap.specs.SlotMapSteps.{slot_map_set};
 ghost use Rattle.ix_commands.specs.Run.{run_replies, run_state};
@@ -64,6 +64,7 @@ pub fn run_slot_map<T: Copy, S: Table<Option<T>>, L: Table<Link>, G: Table<u64>>
         (λ replies. replies.items ≡ run_replies slot_map_reply slot_map_after map.old commands.now) }
     ensures map { OnOk result (map.new ≡ run_state slot_map_after map.old commands.now) }
     ensures refused { OnErr result (map.new ≡ map.old) }
+    ensures memory { commands.now ≡ [] → IsOk result }
     ensures dead { DeadStaysDead map.old commands.now }
 {
     // A call of `len` tells that the map is well formed, from which the last clause follows.

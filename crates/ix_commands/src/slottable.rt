@@ -1,5 +1,5 @@
 //! Commands of slot tables.
-ghost use Rattle.std.specs.Prelude.{◌≡◌, is_some, if◌then◌else◌, IfOk, OnOk, OnErr};
+ghost use Rattle.std.specs.Prelude.{◌≡◌, [], is_some, if◌then◌else◌, IsOk, IfOk, OnOk, OnErr};
 ghost use Rattle.ix_slottable.specs.SlotTableState.{value_at};
 ghost use Rattle.ix_slottable.specs.SlotTableSteps.{slot_table_set};
 ghost use Rattle.ix_commands.specs.Replies.{key_reply};
@@ -63,6 +63,7 @@ pub fn run_slot_table<T: Copy, S: Table<T>, L: Table<Link>>(
         (λ replies. replies.items ≡ run_replies slot_table_reply slot_table_after map.old commands.now) }
     ensures map { OnOk result (map.new ≡ run_state slot_table_after map.old commands.now) }
     ensures refused { OnErr result (map.new ≡ map.old) }
+    ensures memory { commands.now ≡ [] → IsOk result }
 {
     run_all(alloc, map, commands)
 }

@@ -1,5 +1,5 @@
 //! Commands of strings.
-ghost use Rattle.std.specs.Prelude.{◌≡◌, IfOk, OnOk, OnErr};
+ghost use Rattle.std.specs.Prelude.{◌≡◌, [], IsOk, IfOk, OnOk, OnErr};
 ghost use Rattle.ix_commands.specs.Replies.{result_reply};
 ghost use Rattle.ix_commands.specs.Run.{run_replies, run_state};
 ghost use Rattle.ix_commands.specs.StringRun.{string_reply, string_after, string_reply_error, string_insert_reply, string_insert_after};
@@ -73,6 +73,7 @@ pub fn run_string<S: String>(
     ensures string { OnOk result
         (S.bounded string.new ≡ run_state string_after (S.bounded string.old) commands.now) }
     ensures refused { OnErr result (string.new ≡ string.old) }
+    ensures memory { commands.now ≡ [] → IsOk result }
 {
     run_all(alloc, string, commands)
 }

@@ -1,5 +1,5 @@
 //! Commands of vectors.
-ghost use Rattle.std.specs.Prelude.{◌≡◌, length, set, slice_get, nat_lt, nat_le, if◌then◌else◌, IfOk, OnOk, OnErr};
+ghost use Rattle.std.specs.Prelude.{◌≡◌, [], length, set, slice_get, nat_lt, nat_le, if◌then◌else◌, IsOk, IfOk, OnOk, OnErr};
 ghost use Rattle.ix_tables.specs.Bounded.{Bounded, with_items};
 ghost use Rattle.ix_vector.specs.VectorSteps.{vec_extend, vec_resize, vec_resize_result};
 ghost use Rattle.ix_commands.specs.Replies.{option_reply, result_reply, vector_reply_error};
@@ -66,6 +66,7 @@ pub fn run_vector<T: Copy, V: Vector<T>>(
     ensures vector { OnOk result
         (V.bounded vector.new ≡ run_state vector_after (V.bounded vector.old) commands.now) }
     ensures refused { OnErr result (vector.new ≡ vector.old) }
+    ensures memory { commands.now ≡ [] → IsOk result }
 {
     run_all(alloc, vector, commands)
 }
