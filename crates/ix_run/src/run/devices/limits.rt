@@ -26,3 +26,6 @@ pub const MAX_NUMBERS: usize = 100;
 
 /// The number of reads of an input, and of tries of a write that is interrupted.
 pub(crate) const MAX_TRIES: u64 = u64::MAX;
+
+// A script ends with a fault if it reads so often, which no input does.
+const _: () = prove!(MAX_TRIES == u64::MAX);
