@@ -3,6 +3,7 @@ use crate::hashers::{HASHES, OneHash};
 use ix_flatmap::{BoundedMap, FixedSizeFlatMap};
 use ix_hashmap::FixedSizeHashMap;
 use ix_string::StaticString;
+use std::convert::AsSlice;
 use std::test::Fail;
 use test_support::Findings;
 
@@ -11,12 +12,9 @@ type Name = StaticString<4>;
 const NAMES: [&str; 6] = ["", "a", "ab", "abcd", "b", "ba"];
 
 /// Checks which of the names from `start` on are found, each with its number.
-fn check_names<M: BoundedMap<Name, usize>>(
-    findings: &Findings,
-    map: &M,
-    start: usize,
-    place: &str,
-) {
+fn check_names<M: BoundedMap<Name, usize>>(findings: &Findings, map: &M, start: usize, place: &str)
+    requires { M.AreFoundBy ⟦<Name as AsSlice<u8>>⟧.items }
+{
     for (number, name) in NAMES.iter().enumerate() {
         let wanted = if number < start { None } else { Some(&number) };
         findings.expect_same_at(map.get_str(*name), wanted, number, place);
@@ -25,7 +23,9 @@ fn check_names<M: BoundedMap<Name, usize>>(
 }
 
 /// Inserts the names into an empty map of six, the last one first, and removes them.
-fn check_map<M: BoundedMap<Name, usize> + Drop>(findings: &Findings, mut map: M, place: &str) {
+fn check_map<M: BoundedMap<Name, usize> + Drop>(findings: &Findings, mut map: M, place: &str)
+    requires { M.AreFoundBy ⟦<Name as AsSlice<u8>>⟧.items }
+{
     for (number, text) in NAMES.iter().enumerate().rev() {
         check_names(findings, &map, number + 1, place);
         if let Ok(name) = Name::try_from(*text) {
