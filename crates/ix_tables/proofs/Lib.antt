@@ -13,5 +13,6 @@ pub mod RawSending
 pub mod RawSharing
 pub mod RawSteps
 pub mod Refilling
+pub mod Repetitions
 pub mod VacantTables
 mod WorkedMemory

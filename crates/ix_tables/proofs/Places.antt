@@ -26,6 +26,15 @@ module _ {T : Type 0} where
   pub place_at_within : (places : List (Option T)) (i : ℕ) (x : T) → place_at places i ≡ Some x → i < length places
   place_at_within places i x at = held_within places i (subst (λ (place : Option T). IsSome place) (sym at) refl)
 
+  -- a row is a repetition of what each of its places has
+  pub all_alike : (x : T) (row : List T) (n : ℕ) → length row ≡ n → ((i : ℕ) (e : T) → i < n → slice_index_or row i e ≡ x) → row ≡ replicate n x
+  all_alike x [] zero long at = refl
+  all_alike x [] (suc n) long at = cc
+  all_alike x (y ∷ row) zero long at = cc
+  all_alike x (y ∷ row) (suc n) long at =
+      ap (λ (first : T). first ∷ row) (at 0 x (omega arith))
+      ∙ ap (λ (rest : List T). x ∷ rest) (all_alike x row n (omega (arith, long)) (λ i e below. at (suc i) e (omega (arith, below))))
+
   -- a row of no items shows empty places
   pub shown_vacant : (n : ℕ) → map (option_flatten {T = T}) (replicate n None) ≡ replicate n None
   shown_vacant zero = refl

@@ -1,6 +1,9 @@
 //! Tables, tables that count the calls on them, and containers that are made in two steps.
 
 mod counted;
+mod filled;
+mod filled_heap_table;
+mod filled_inline_table;
 #[doc(hidden)]
 pub mod full_array;
 mod heap_table;
@@ -15,6 +18,8 @@ mod table;
 mod uninit;
 
 pub use counted::{Counted, Touches};
+pub use filled_heap_table::FilledHeapTable;
+pub use filled_inline_table::FilledInlineTable;
 pub use heap_table::HeapTable;
 #[doc(hidden)]
 pub use held_item::{item, item_mut};

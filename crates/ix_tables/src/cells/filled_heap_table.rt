@@ -1,0 +1,124 @@
+//! A table of `Copy` items in memory of an allocator, in one block.
+ghost use Rattle.std.specs.Prelude.{◌≡◌, ℕ, ◌≤◌, Some, None, IsOk, IfOk, slice_set, replicate, refl};
+ghost use Rattle.std.specs.Mem.{type_size};
+ghost use Rattle.ix_tables.specs.Memory.{no_memory, items_memory};
+ghost use Rattle.ix_tables.specs.inner.Filled.{shown_item};
+
+use crate::cells::filled::Filled;
+use crate::cells::{MemorySize, Table};
+use std::alloc::{AllocError, Allocator, Global};
+use std::fmt;
+use std::marker::Model;
+
+/// A table that allocates its places from `A` when it is made, in one block, and never after, and deallocates them when it is
+/// dropped. It is for items that are `Copy`.
+///
+/// A place has the bytes of an item at all times, and nothing beside them: whether it holds that item only contracts see.
+#[derive(Drop)]
+pub struct FilledHeapTable<T, A: Allocator = Global> {
+    places: Vec<Filled<T>, A>,
+}
+
+impl<T, A: Allocator> Model for FilledHeapTable<T, A> {
+    ghost use Rattle.std.specs.Prelude.{List, Option};
+
+    ghost Value = { List (Option T) };
+
+    ghost view = { λ table. table.places.items };
+}
+
+impl<T: Copy, A: Allocator> FilledHeapTable<T, A> {
+    /// Returns how much memory a table of `len` places takes from its allocator when it is made: a block of as many items. None
+    /// if `len` is 0. An allocator that rounds each block up takes more than these bytes ([`MemorySize`]).
+    ///
+    /// Does not allocate. O(1).
+    #[inline]
+    pub fn memory_size(len: usize) -> MemorySize
+        ensures value { result ≡ items_memory (type_size T.row) len }
+        ensures monotone { (greater : ℕ) → len ≤ greater
+            → result.bytes ≤ (items_memory (type_size T.row) greater).bytes }
+        ensures none { len ≡ 0 → result ≡ no_memory }
+    {
+        MemorySize::of_items::<T>(len)
+    }
+
+    /// Creates a table of `len` empty places, which have the bytes of `filler`.
+    ///
+    /// O(`len`), with at most one allocation. Returns `AllocError` if it fails, and if the places would take more than
+    /// `isize::MAX` bytes.
+    pub fn new(alloc: A, len: usize, filler: T) -> Result<Self, AllocError>
+        ensures value { IfOk result (λ table. table ≡ replicate len None) }
+        ensures memory { len ≡ 0 → IsOk result }
+    {
+        Self::with_places(alloc, len, filler, false)
+    }
+
+    /// Creates a table of `len` places that each hold `item`.
+    ///
+    /// O(`len`), with at most one allocation. Returns `AllocError` if it fails, and if the places would take more than
+    /// `isize::MAX` bytes.
+    pub fn full(alloc: A, len: usize, item: T) -> Result<Self, AllocError>
+        ensures value { IfOk result (λ table. table ≡ replicate len (Some item)) }
+        ensures memory { len ≡ 0 → IsOk result }
+    {
+        Self::with_places(alloc, len, item, true)
+    }
+
+    fn with_places(alloc: A, len: usize, item: T, held: bool) -> Result<Self, AllocError>
+        ensures value { IfOk result (λ table. table ≡ replicate len (shown_item held item)) }
+        ensures memory { len ≡ 0 → IsOk result }
+    {
+        let mut places = Vec::with_capacity(alloc, len)?;
+        for _place in 0..len {
+            places.push_reserved(Filled::new(item, held));
+        }
+        Ok(FilledHeapTable { places })
+    }
+}
+
+/// Prints the type's name and the number of places. A table can't be asked which of them hold an item.
+impl<T, A: Allocator> fmt::Debug for FilledHeapTable<T, A> {
+    fn fmt<W: fmt::Write>(&self, f: &mut fmt::Formatter<W>) -> fmt::Result {
+        f.debug_struct("FilledHeapTable")
+            .field("len", &self.places.len())
+            .finish_non_exhaustive()
+    }
+}
+
+impl<T: Copy + Drop, A: Allocator + Drop> Table<T> for FilledHeapTable<T, A> {
+    ghost places = { λ table. table };
+
+    ghost with_item = { λ table i x. slice_set table i (Some x) };
+
+    ghost places_with_item = { λ table i x. refl };
+
+    #[inline]
+    fn len(&self) -> usize {
+        self.places.len()
+    }
+
+    #[inline]
+    fn put(&mut self, i: usize, item: T) {
+        self.places[i] = Filled::new(item, true);
+    }
+
+    #[inline]
+    fn take(&mut self, i: usize) -> T {
+        self.places[i].take()
+    }
+
+    #[inline]
+    fn get(&self, i: usize) -> &T {
+        self.places[i].get()
+    }
+
+    #[inline]
+    fn get_mut(&mut self, i: usize) -> &mut T {
+        let place = &mut self.places[i];
+        place.get_mut()
+    }
+
+    fn end(self) {
+        let FilledHeapTable { places: _ } = self;
+    }
+}
