@@ -86,7 +86,7 @@ impl<T: Clone, A: Allocator + Copy> SlotTable<T, A> {
     /// Creates a table of the same capacity that holds clones of the values at the same keys, and has the same free keys in the
     /// same order, in memory of `alloc`.
     ///
-    /// O(`capacity`), with at most four allocations and `len` clones. Returns `AllocError` if an allocation or a clone fails;
+    /// O(`capacity`), with at most three allocations and `len` clones. Returns `AllocError` if an allocation or a clone fails;
     /// nothing stays allocated then.
     pub fn try_clone_in<B: Allocator + Copy>(&self, alloc: B) -> Result<SlotTable<T, B>, AllocError>
         requires { AreEqualClones T.is_clone }

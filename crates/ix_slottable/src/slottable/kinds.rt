@@ -7,7 +7,8 @@ ghost use Rattle.ix_slottable.specs.SlotTableState.{slot_table_new};
 
 use crate::slottable::{Link, MetaSlotTable};
 use ix_tables::{
-    ContainerFamily, HeapTable, InlineTable, MAX_FIXED_CAPACITY, MemorySize, Table, Uninit,
+    ContainerFamily, FilledHeapTable, FilledInlineTable, HeapTable, InlineTable, MAX_FIXED_CAPACITY,
+    MemorySize, Uninit,
 };
 use std::alloc::{AllocError, Allocator, Global};
 use std::marker::PhantomData;
@@ -18,7 +19,7 @@ use std::marker::PhantomData;
 pub type FixedSizeSlotTable<T, const CAPACITY: usize> = MetaSlotTable<
     T,
     InlineTable<T, CAPACITY>,
-    InlineTable<Link, CAPACITY>,
+    FilledInlineTable<Link, CAPACITY>,
 >;
 
 impl<T: Drop, const CAPACITY: usize> FixedSizeSlotTable<T, CAPACITY> {
@@ -29,7 +30,10 @@ impl<T: Drop, const CAPACITY: usize> FixedSizeSlotTable<T, CAPACITY> {
         requires { CAPACITY ≤ MAX_FIXED_CAPACITY }
         ensures { result ≡ slot_table_new CAPACITY }
     {
-        MetaSlotTable::from_tables(InlineTable::new(), InlineTable::new())
+        MetaSlotTable::from_tables(
+            InlineTable::new(),
+            FilledInlineTable::new(Link::default()),
+        )
     }
 }
 
@@ -38,14 +42,17 @@ impl<T: Drop, const CAPACITY: usize> Default for FixedSizeSlotTable<T, CAPACITY>
     ghost is_default = { λ map. map ≡ slot_table_new CAPACITY };
 
     fn default() -> Self {
-        MetaSlotTable::from_tables(InlineTable::default(), InlineTable::default())
+        MetaSlotTable::from_tables(
+            InlineTable::default(),
+            FilledInlineTable::new(Link::default()),
+        )
     }
 }
 
 /// A slot table whose memory is allocated from `A` when it is made, and deallocated when it is dropped.
 ///
 /// This is `SlotMap` of iceoryx2-bb-container, whose keys have no generation.
-pub type SlotTable<T, A = Global> = MetaSlotTable<T, HeapTable<T, A>, HeapTable<Link, A>>;
+pub type SlotTable<T, A = Global> = MetaSlotTable<T, HeapTable<T, A>, FilledHeapTable<Link, A>>;
 
 impl<T: Drop, A: Allocator + Copy> SlotTable<T, A> {
     ghost use Rattle.ix_slottable.specs.contracts.slottable.link.Link as link;
@@ -62,26 +69,21 @@ impl<T: Drop, A: Allocator + Copy> SlotTable<T, A> {
         ensures none { capacity ≡ 0 → result ≡ no_memory }
     {
         let values = HeapTable::<T, A>::memory_size(capacity);
-        let links = HeapTable::<Link, A>::memory_size(capacity);
+        let links = FilledHeapTable::<Link, A>::memory_size(capacity);
         values.saturating_add(links)
     }
 
     /// Creates an empty table with `capacity` keys.
     ///
-    /// O(`capacity`), with at most four allocations. Returns `AllocError` if one fails, and if the values would take more
+    /// O(`capacity`), with at most three allocations. Returns `AllocError` if one fails, and if the values would take more
     /// than `isize::MAX` bytes; nothing stays allocated then. A capacity of 0 needs no memory.
     pub fn new(alloc: A, capacity: usize) -> Result<Self, AllocError>
         ensures value { IfOk result (λ map. map ≡ slot_table_new capacity) }
         ensures memory { capacity ≡ 0 → IsOk result }
     {
+        let links = FilledHeapTable::new(alloc, capacity, Link::default())?;
         let values = HeapTable::new(alloc, capacity)?;
-        match HeapTable::new(alloc, capacity) {
-            Ok(links) => Ok(MetaSlotTable::from_tables(values, links)),
-            Err(error) => {
-                Table::<T>::end(values);
-                Err(error)
-            }
-        }
+        Ok(MetaSlotTable::from_tables(values, links))
     }
 }
 
@@ -117,7 +119,7 @@ impl<T: Drop, A: Allocator + Copy> ContainerFamily<A> for SlotTableFamily<T> {
 
     ghost is_empty_with = { λ capacity map. map ≡ slot_table_new capacity };
 
-    /// Creates an empty table with `capacity` keys. O(`capacity`), with at most four allocations.
+    /// Creates an empty table with `capacity` keys. O(`capacity`), with at most three allocations.
     #[inline]
     fn with_capacity(alloc: A, capacity: usize) -> Result<RelocatableSlotTable<T, A>, AllocError> {
         SlotTable::new(alloc, capacity)

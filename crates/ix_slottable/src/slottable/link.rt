@@ -6,7 +6,7 @@ ghost use Rattle.ix_slottable.specs.inner.FreeList.{held_link};
 ///
 /// Links are made by slot tables alone. A user names this type to make a table of links for
 /// [`MetaSlotTable::from_tables`](crate::MetaSlotTable::from_tables).
-#[derive(Clone, Copy, Debug)]
+#[derive(Clone, Copy, Debug, Default)]
 pub struct Link {
     /// The free key before this one, or [`NO_KEY`]. A held key names itself here.
     pub(crate) previous: usize,

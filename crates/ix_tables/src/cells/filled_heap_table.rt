@@ -85,7 +85,7 @@ impl<T, A: Allocator> fmt::Debug for FilledHeapTable<T, A> {
     }
 }
 
-impl<T: Copy + Drop, A: Allocator + Drop> Table<T> for FilledHeapTable<T, A> {
+impl<T: Copy, A: Allocator> Table<T> for FilledHeapTable<T, A> {
     ghost places = { λ table. table };
 
     ghost with_item = { λ table i x. slice_set table i (Some x) };

@@ -30,7 +30,7 @@ impl<T, const CAP: usize> Model for FilledInlineTable<T, CAP> {
     ghost invariant = { λ table. length table.places.items ≡ CAP };
 }
 
-impl<T: Copy + Drop, const CAP: usize> FilledInlineTable<T, CAP> {
+impl<T: Copy, const CAP: usize> FilledInlineTable<T, CAP> {
     /// Creates a table of empty places, which have the bytes of `filler`. O(`CAP`).
     pub fn new(filler: T) -> Self
         ensures { result ≡ replicate CAP None }
@@ -60,7 +60,7 @@ impl<T, const CAP: usize> fmt::Debug for FilledInlineTable<T, CAP> {
     }
 }
 
-impl<T: Copy + Drop, const CAP: usize> Table<T> for FilledInlineTable<T, CAP> {
+impl<T: Copy, const CAP: usize> Table<T> for FilledInlineTable<T, CAP> {
     ghost places = { λ table. table };
 
     ghost with_item = { λ table i x. slice_set table i (Some x) };
@@ -104,7 +104,7 @@ impl<T: Copy + Drop, const CAP: usize> Table<T> for FilledInlineTable<T, CAP> {
     }
 }
 
-fn places_of<T: Copy + Drop, const CAP: usize>(item: T, held: bool) -> [Filled<T>; CAP]
+fn places_of<T: Copy, const CAP: usize>(item: T, held: bool) -> [Filled<T>; CAP]
     ensures { result ≡ replicate CAP (shown_item held item) }
 {
     array::from_fn(

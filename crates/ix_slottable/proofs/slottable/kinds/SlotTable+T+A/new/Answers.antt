@@ -5,7 +5,4 @@ pub from_tables-requires-clause-values : goal.from_tables-requires-clause-values
 from_tables-requires-clause-values g c = IsVacant-replicate _ c.in_ok-values.ensures.value
 
 pub from_tables-requires-clause-links : goal.from_tables-requires-clause-links
-from_tables-requires-clause-links g c = replicate-same_length _ c.in_ok-values.ensures.value c.in-Ok.ensures.value
-
-pub end-requires : goal.end-requires
-end-requires g c = IsVacant-replicate _ c.in_ok-values.ensures.value
+from_tables-requires-clause-links g c = replicate-same_length _ c.in_ok-values.ensures.value c.in_ok-links.ensures.value
