@@ -1,9 +1,9 @@
 -- Lemmas on a table with an item in each of its places.
-use Rattle.std.proofs.Common.{◌≡◌, ℕ, suc, ◌<◌, inl, inr, List, [], ◌∷◌, length, get_or, set, Option, Some, None, IsSome, refl, sym, ap, ap₂, ◌∙◌, subst, arith}
+use Rattle.std.proofs.Common.{◌≡◌, ℕ, zero, suc, ◌<◌, inl, inr, List, [], ◌∷◌, length, get_or, set, Option, Some, None, IsSome, refl, sym, ap, ap₂, ◌∙◌, subst, arith}
 use Rattle.std.specs.Prelude.{replicate, unwrap_or}
 use Rattle.std.proofs.Math.ListN.{get_or-map}
 use Rattle.std.proofs.lemmas.Bool.{cases_eq}
-use Rattle.std.proofs.lemmas.List.{get_or-set_same, get_or-set_other, length-map, length-set, map-set}
+use Rattle.std.proofs.lemmas.List.{get_or-replicate, get_or-set_same, get_or-set_other, length-map, length-replicate, length-set, map-set}
 use Rattle.ix_tables.specs.Places.{place_at}
 use Rattle.ix_slottable.specs.FullTables.{HasEachPlace}
 use Rattle.ix_slottable.specs.inner.FullTables.{items_in}
@@ -24,12 +24,21 @@ module _ {T : Type 0} (other : T) where
   items_in-filled (v ∷ row) x filled =
       ap₂ ◌∷◌ (ap (λ (p : Option T). unwrap_or p other) (filled 0 (omega arith))) (items_in-filled row x (λ i below. filled (suc i) (omega arith)))
 
+  pub items_in-replicate : (n : ℕ) (x : T) → items_in other (replicate n (Some x)) ≡ replicate n x
+  items_in-replicate zero x = refl
+  items_in-replicate (suc n) x = ap (λ (items : List T). x ∷ items) (items_in-replicate n x)
+
   pub items_in-within : (row : List (Option T)) (items : List T) (place : ℕ) → items_in other row ≡ items → place < length items → place < length row
   items_in-within row items place is below = let same = length-items_in row in let as_long = ap length is in omega arith
 
 module _ {T : Type 0} where
   pub HasEachPlace-filled : (row : List (Option T)) (x : T) → ((i : ℕ) → i < length row → place_at row i ≡ Some x) → HasEachPlace row
   HasEachPlace-filled row x filled i below = subst (λ (p : Option T). IsSome p) (sym (filled i below)) refl
+
+  pub HasEachPlace-replicate : (row : List (Option T)) (n : ℕ) (x : T) → row ≡ replicate n (Some x) → HasEachPlace row
+  HasEachPlace-replicate row n x filled i below =
+      let long = ap length filled ∙ length-replicate n (Some x) in
+      subst (λ (p : Option T). IsSome p) (sym (ap (λ (places : List (Option T)). place_at places i) filled ∙ get_or-replicate n i (Some x) None (omega (arith, long, below)))) refl
 
   pub HasEachPlace-set : (row : List (Option T)) (place : ℕ) (x : T) → HasEachPlace row → HasEachPlace (set row place (Some x))
   HasEachPlace-set row place x each i below =

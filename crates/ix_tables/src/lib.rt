@@ -7,6 +7,7 @@
 pub mod cells;
 
 pub use cells::{
-    ContainerFamily, Counted, FilledHeapTable, FilledInlineTable, HeapTable, InitError, InlineTable,
-    MAX_FIXED_CAPACITY, MemorySize, RawSlots, RelocatableContainer, Table, Touches, Uninit,
+    ContainerFamily, Counted, FilledHeapTable, FilledInlineTable, HeapTable, InitError,
+    InlineTable, MAX_FIXED_CAPACITY, MemorySize, RawSlots, RelocatableContainer, Table, Touches,
+    Uninit,
 };

@@ -1,4 +1,4 @@
-//! Slot tables and slot maps for which there is not enough memory, at each of the four or six allocations: nothing stays
+//! Slot tables and slot maps for which there is not enough memory, at each of the three or four allocations: nothing stays
 //! allocated. Where there is memory, none is refused, and each takes just as much as `memory_size` returns.
 use crate::containers::{LAST, key};
 use crate::memory_tests::Kind::{Map, Table};

@@ -4,7 +4,7 @@ ghost use Rattle.ix_tables.specs.Cloning.{AreEqualClones};
 ghost use Rattle.ix_slotmap.specs.SlotMapCopies.{SlotMapIsClone, SlotMapIsInfallible};
 
 use crate::slotmap::{FixedSizeSlotMap, MetaSlotMap, SlotMap, WordTable};
-use ix_tables::{HeapTable, InlineTable};
+use ix_tables::{FilledHeapTable, FilledInlineTable};
 use std::alloc::{AllocError, Allocator};
 
 impl<T: Clone, const CAPACITY: usize> Clone for FixedSizeSlotMap<T, CAPACITY> {
@@ -22,7 +22,7 @@ impl<T: Clone, const CAPACITY: usize> Clone for FixedSizeSlotMap<T, CAPACITY> {
         match self.slots.clone() {
             Ok(slots) => Ok(MetaSlotMap {
                 slots,
-                words: WordTable::copy_of(InlineTable::default(), &self.words),
+                words: WordTable::copy_of(FilledInlineTable::new(0), &self.words),
                 retired: self.retired,
             }),
             Err(error) => Err(error),
@@ -34,7 +34,7 @@ impl<T: Clone, A: Allocator + Copy> SlotMap<T, A> {
     /// Creates a map of the same capacity that holds clones of the values in the same places, with the same keys, generations
     /// and free places, in memory of `alloc`.
     ///
-    /// O(`capacity`), with at most six allocations and `len` clones. Returns `AllocError` if an allocation or a clone fails;
+    /// O(`capacity`), with at most four allocations and `len` clones. Returns `AllocError` if an allocation or a clone fails;
     /// nothing stays allocated then.
     pub fn try_clone_in<B: Allocator + Copy>(&self, alloc: B) -> Result<SlotMap<T, B>, AllocError>
         requires { AreEqualClones T.is_clone }
@@ -42,7 +42,7 @@ impl<T: Clone, A: Allocator + Copy> SlotMap<T, A> {
         ensures memory { length self.now.slots.values ≡ 0 → IsOk result }
     {
         let slots = self.slots.try_clone_in(alloc)?;
-        let words = HeapTable::new(alloc, self.capacity())?;
+        let words = FilledHeapTable::new(alloc, self.capacity(), 0)?;
         Ok(MetaSlotMap {
             slots,
             words: WordTable::copy_of(words, &self.words),

@@ -10,7 +10,8 @@ ghost use Rattle.ix_slottable.specs.SlotTableState.{slot_table_new};
 use crate::slotmap::{MetaSlotMap, WordTable};
 use ix_slottable::slottable::{FixedSizeSlotTable, Link, SlotTable};
 use ix_tables::{
-    HeapTable, InitError, InlineTable, MAX_FIXED_CAPACITY, MemorySize, RelocatableContainer,
+    FilledHeapTable, FilledInlineTable, HeapTable, InitError, InlineTable, MAX_FIXED_CAPACITY,
+    MemorySize, RelocatableContainer,
 };
 use std::alloc::{AllocError, Allocator, Global};
 use std::fmt;
@@ -22,8 +23,8 @@ use std::marker::{Model, PhantomData};
 pub type FixedSizeSlotMap<T, const CAPACITY: usize> = MetaSlotMap<
     Option<T>,
     InlineTable<Option<T>, CAPACITY>,
-    InlineTable<Link, CAPACITY>,
-    InlineTable<u64, CAPACITY>,
+    FilledInlineTable<Link, CAPACITY>,
+    FilledInlineTable<u64, CAPACITY>,
 >;
 
 impl<T: Drop, const CAPACITY: usize> FixedSizeSlotMap<T, CAPACITY> {
@@ -46,7 +47,7 @@ impl<T: Drop, const CAPACITY: usize> FixedSizeSlotMap<T, CAPACITY> {
     {
         MetaSlotMap {
             slots: FixedSizeSlotTable::new(),
-            words: WordTable::new(InlineTable::new(), 2 * generation as u64),
+            words: WordTable::new(FilledInlineTable::full(2 * generation as u64)),
             retired: 0,
         }
     }
@@ -59,7 +60,7 @@ impl<T: Drop, const CAPACITY: usize> Default for FixedSizeSlotMap<T, CAPACITY> {
     fn default() -> Self {
         MetaSlotMap {
             slots: FixedSizeSlotTable::default(),
-            words: WordTable::new(InlineTable::default(), 0),
+            words: WordTable::new(FilledInlineTable::full(0)),
             retired: 0,
         }
     }
@@ -71,8 +72,8 @@ impl<T: Drop, const CAPACITY: usize> Default for FixedSizeSlotMap<T, CAPACITY> {
 pub type SlotMap<T, A = Global> = MetaSlotMap<
     Option<T>,
     HeapTable<Option<T>, A>,
-    HeapTable<Link, A>,
-    HeapTable<u64, A>,
+    FilledHeapTable<Link, A>,
+    FilledHeapTable<u64, A>,
 >;
 
 impl<T: Drop, A: Allocator + Copy> SlotMap<T, A> {
@@ -91,13 +92,13 @@ impl<T: Drop, A: Allocator + Copy> SlotMap<T, A> {
         ensures none { capacity ≡ 0 → result ≡ no_memory }
     {
         let slots = SlotTable::<Option<T>, A>::memory_size(capacity);
-        let words = HeapTable::<u64, A>::memory_size(capacity);
+        let words = FilledHeapTable::<u64, A>::memory_size(capacity);
         slots.saturating_add(words)
     }
 
     /// Creates an empty map with `capacity` places, which have generation 0.
     ///
-    /// O(`capacity`), with at most six allocations. Returns `AllocError` if one fails, and if the values would take more
+    /// O(`capacity`), with at most four allocations. Returns `AllocError` if one fails, and if the values would take more
     /// than `isize::MAX` bytes; nothing stays allocated then. A capacity of 0 needs no memory.
     pub fn new(alloc: A, capacity: usize) -> Result<Self, AllocError>
         ensures value { IfOk result (λ map. map ≡ slot_map_new capacity 0) }
@@ -108,17 +109,17 @@ impl<T: Drop, A: Allocator + Copy> SlotMap<T, A> {
 
     /// Creates an empty map with `capacity` places, which have this generation.
     ///
-    /// O(`capacity`), with at most six allocations. Returns `AllocError` if one fails, and if the values would take more
+    /// O(`capacity`), with at most four allocations. Returns `AllocError` if one fails, and if the values would take more
     /// than `isize::MAX` bytes; nothing stays allocated then. A capacity of 0 needs no memory.
     pub fn starting_at(alloc: A, capacity: usize, generation: u32) -> Result<Self, AllocError>
         ensures value { IfOk result (λ map. map ≡ slot_map_new capacity generation) }
         ensures memory { capacity ≡ 0 → IsOk result }
     {
         let slots = SlotTable::new(alloc, capacity)?;
-        let words = HeapTable::new(alloc, capacity)?;
+        let words = FilledHeapTable::full(alloc, capacity, 2 * generation as u64)?;
         Ok(MetaSlotMap {
             slots,
-            words: WordTable::new(words, 2 * generation as u64),
+            words: WordTable::new(words),
             retired: 0,
         })
     }
@@ -202,7 +203,7 @@ impl<T: Drop, A: Allocator + Copy> RelocatableContainer<A> for UninitSlotMap<T> 
 
     /// Allocates from `alloc` and returns the empty map.
     ///
-    /// O(capacity), with at most six allocations. Returns `self` in an [`InitError`] if one fails, and if the values would
+    /// O(capacity), with at most four allocations. Returns `self` in an [`InitError`] if one fails, and if the values would
     /// take more than `isize::MAX` bytes; nothing stays allocated then. A capacity of 0 needs no memory.
     fn init(self, alloc: A) -> Result<RelocatableSlotMap<T, A>, InitError<Self>>
         ensures value { IfOk result (λ map. map ≡ slot_map_new self.capacity self.generation) }

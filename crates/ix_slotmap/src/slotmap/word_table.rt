@@ -1,14 +1,16 @@
 //! A table with a word in each of its places.
-ghost use Rattle.std.specs.Prelude.{◌≡◌, ◌+◌, ◌<◌, ◌≤◌, length, replicate, slice_set};
+ghost use Rattle.std.specs.Prelude.{◌≡◌, ◌+◌, ◌<◌, ◌≤◌, length, slice_set};
 ghost use Rattle.ix_tables.specs.Places.{IsVacant};
-ghost use Rattle.ix_slotmap.specs.inner.Words.{word_at};
+ghost use Rattle.ix_slottable.specs.FullTables.{HasEachPlace};
+ghost use Rattle.ix_slotmap.specs.inner.Words.{word_at, words_in};
 
-use ix_slottable::full_table::{copy_items, empty, fill};
+use ix_slottable::full_table::copy_items;
 use ix_tables::{Counted, Table, Touches};
 use std::marker::Model;
 
 /// The word of each place of a slot map: twice its generation, and one more if a value is there. Contracts see the list of
 /// them.
+#[derive(Drop)]
 pub(crate) struct WordTable<G: Table<u64>> {
     words: Counted<G>,
 }
@@ -32,14 +34,15 @@ impl<G: Table<u64>> Model for WordTable<G> {
 }
 
 impl<G: Table<u64>> WordTable<G> {
-    /// Puts `word` into each place of an empty table. O(the number of places).
-    pub(crate) fn new(table: G, word: u64) -> Self
-        requires { IsVacant (G.places table) }
-        ensures { result ≡ replicate (length (G.places table)) word }
+    /// Wraps a table with a word in each place. O(1).
+    #[inline]
+    pub(crate) fn new(words: G) -> Self
+        requires { HasEachPlace (G.places words) }
+        ensures { result ≡ words_in (G.places words) }
     {
-        let mut words = Counted::new(table);
-        fill(&mut words, word);
-        WordTable { words }
+        WordTable {
+            words: Counted::new(words),
+        }
     }
 
     /// Puts the words of `other` into the places of an empty table, of which there are as many. O(the number of places).
@@ -75,14 +78,5 @@ impl<G: Table<u64>> WordTable<G> {
         let word = self.words.get_mut(place, touches);
         *word += more;
         *word
-    }
-}
-
-/// O(the number of places).
-impl<G: Table<u64>> Drop for WordTable<G> {
-    fn drop(self) {
-        let WordTable { mut words } = self;
-        empty(&mut words);
-        words.end();
     }
 }

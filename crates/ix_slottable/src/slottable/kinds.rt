@@ -7,8 +7,8 @@ ghost use Rattle.ix_slottable.specs.SlotTableState.{slot_table_new};
 
 use crate::slottable::{Link, MetaSlotTable};
 use ix_tables::{
-    ContainerFamily, FilledHeapTable, FilledInlineTable, HeapTable, InlineTable, MAX_FIXED_CAPACITY,
-    MemorySize, Uninit,
+    ContainerFamily, FilledHeapTable, FilledInlineTable, HeapTable, InlineTable,
+    MAX_FIXED_CAPACITY, MemorySize, Uninit,
 };
 use std::alloc::{AllocError, Allocator, Global};
 use std::marker::PhantomData;
@@ -30,10 +30,7 @@ impl<T: Drop, const CAPACITY: usize> FixedSizeSlotTable<T, CAPACITY> {
         requires { CAPACITY ≤ MAX_FIXED_CAPACITY }
         ensures { result ≡ slot_table_new CAPACITY }
     {
-        MetaSlotTable::from_tables(
-            InlineTable::new(),
-            FilledInlineTable::new(Link::default()),
-        )
+        MetaSlotTable::from_tables(InlineTable::new(), FilledInlineTable::new(Link::default()))
     }
 }
 

@@ -86,6 +86,7 @@ impl fmt::Debug for Touches {
 /// write the item. Contracts see the table itself.
 ///
 /// No call allocates. Each is O(1), but for [`Table::end`], which may look at each place.
+#[derive(Drop)]
 pub struct Counted<S> {
     table: S,
 }

@@ -6,9 +6,8 @@ use crate::cells::Table;
 use crate::cells::filled::Filled;
 use crate::cells::full_array::{place, place_mut, put};
 use arrayvec::ArrayVec;
-use std::array;
-use std::fmt;
 use std::marker::Model;
+use std::{array, fmt};
 
 /// A table of `CAP` places that is stored inline and does not allocate, for items that are `Copy`.
 ///
