@@ -1,7 +1,8 @@
 //! The index of flat maps.
-ghost use Rattle.std.specs.Prelude.{◌≡◌, ◌+◌, ◌<◌, ◌≤◌, ⊤, Some};
+ghost use Rattle.std.specs.Prelude.{◌≡◌, ◌+◌, ◌<◌, ◌≤◌, ⊤, length, replicate, Some, None};
 ghost use Rattle.std.specs.Result.{IfErr, result_ok};
-ghost use Rattle.ix_slottable.specs.SlotTableSteps.{SlotTableInsert};
+ghost use Rattle.ix_slottable.specs.SlotTableState.{held_count};
+ghost use Rattle.ix_slottable.specs.SlotTableSteps.{SlotTableInsert, slot_table_clear};
 ghost use Rattle.ix_flatmap.specs.MapState.{IsBound};
 ghost use Rattle.ix_flatmap.specs.inner.Bounds.{bound_with, bound_without};
 ghost use Rattle.ix_flatmap.specs.laws.Bounds.{IsBound-clone};
@@ -114,7 +115,16 @@ impl<K: Eq + Drop, V: Drop> KeyIndex<K, V> for Bound {
     fn clear<S: Table<Pair<K, V>>, L: Table<Link>>(
         &mut self,
         pairs: &mut MetaSlotTable<Pair<K, V>, S, L>,
-    ) {
+    )
+        requires { IsBound pairs.old self.old.place }
+        ensures pairs { pairs.new ≡ slot_table_clear pairs.old }
+        ensures values { pairs.new.values ≡ replicate (length pairs.old.values) None }
+        ensures count { held_count pairs.new ≡ 0 }
+        ensures room { length pairs.new.free ≡ length pairs.old.values }
+        ensures fits { IsBound pairs.new self.new.place }
+        // So that a look-up after this visits no place that was used before.
+        ensures bound { self.new.place ≡ 0 }
+    {
         pairs.clear();
         self.place = 0;
     }
