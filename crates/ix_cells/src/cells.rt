@@ -54,8 +54,8 @@ pub mod uninit {
 }
 
 pub use ix_tables::cells::{
-    ContainerFamily, Counted, HeapTable, InitError, InlineTable, MemorySize, RawSlots,
-    RelocatableContainer, Table, Touches, Uninit,
+    ContainerFamily, Counted, FilledHeapTable, FilledInlineTable, HeapTable, InitError,
+    InlineTable, MemorySize, RawSlots, RelocatableContainer, Table, Touches, Uninit,
 };
 #[doc(hidden)]
 pub use ix_tables::cells::{RowGrant, RowOwner, RowPtr, item, item_mut};

@@ -8,8 +8,8 @@ pub mod vector;
 
 pub use cells::MAX_FIXED_CAPACITY;
 pub use ix_tables::{
-    ContainerFamily, Counted, HeapTable, InitError, InlineTable, MemorySize, RawSlots,
-    RelocatableContainer, Table, Touches, Uninit,
+    ContainerFamily, Counted, FilledHeapTable, FilledInlineTable, HeapTable, InitError,
+    InlineTable, MemorySize, RawSlots, RelocatableContainer, Table, Touches, Uninit,
 };
 pub use ix_vector::{
     PolymorphicVec, RelocatableVec, StaticVec, StaticVecIntoIter, UninitVec, VecFamily, Vector,

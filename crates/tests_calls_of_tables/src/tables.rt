@@ -1,7 +1,8 @@
 //! An example of each call of a table, a counted table, a row of places, and of what is made in two steps.
 use ix_cells::{
-    ContainerFamily, Counted, HeapTable, InitError, InlineTable, MemorySize, PolymorphicVec,
-    RawSlots, RelocatableContainer, Table, Touches, Uninit, UninitVec, VecFamily, Vector,
+    ContainerFamily, Counted, FilledHeapTable, FilledInlineTable, HeapTable, InitError,
+    InlineTable, MemorySize, PolymorphicVec, RawSlots, RelocatableContainer, Table, Touches,
+    Uninit, UninitVec, VecFamily, Vector,
 };
 use ix_maps::{QueueFamily, UninitQueue};
 use ix_string::{String, StringFamily};
@@ -29,6 +30,36 @@ fn a_table_in_memory_of_an_allocator(rt: HostRuntime) -> Result<(), Fail> {
     *table.get_mut(0) = 8;
     assert_eq!(rt; table.take(0), 8);
     table.end();
+    Ok(())
+}
+
+// Shows: FilledInlineTable, FilledInlineTable::new, FilledInlineTable::full
+#[test]
+fn an_inline_table_of_copy_items(rt: HostRuntime) {
+    let mut ages = FilledInlineTable::<u16, 3>::new(0);
+    ages.put(2, 40);
+    assert_eq!(rt; ages.take(2), 40);
+    let mut ones = FilledInlineTable::<u16, 3>::full(1);
+    *ones.get_mut(0) = 7;
+    assert_eq!(rt; (*ones.get(0), *ones.get(2)), (7, 1));
+}
+
+// Shows: FilledHeapTable, FilledHeapTable::new, FilledHeapTable::full, FilledHeapTable::memory_size
+#[test]
+fn a_table_of_copy_items_in_one_block(rt: HostRuntime) -> Result<(), Fail> {
+    let mut ages = FilledHeapTable::<u16>::new(rt.alloc(), 3, 0)?;
+    ages.put(2, 40);
+    assert_eq!(rt; ages.take(2), 40);
+    let ones = FilledHeapTable::<u16>::full(rt.alloc(), 3, 1)?;
+    assert_eq!(rt; *ones.get(2), 1);
+    let size = FilledHeapTable::<u16>::memory_size(3);
+    assert_eq!(rt;
+        size,
+        MemorySize {
+            bytes: 6,
+            blocks: 1
+        }
+    );
     Ok(())
 }
 

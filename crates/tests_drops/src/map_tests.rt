@@ -244,6 +244,26 @@ fn each_kind(rt: HostRuntime) -> Result<(), Fail> {
     findings.verdict()
 }
 
+/// How many pairs are taken out of a map that is taken apart by value, and what is dropped.
+const TAKEN: &[(usize, u64)] = &[(0, 9_2211), (1, 22_9_11), (3, 2211_9)];
+
+#[test]
+fn by_value() -> Result<(), Fail> {
+    let findings = Findings::new();
+    let notes = Notes::new(0);
+    for (taken, drops) in TAKEN {
+        let mut flat = FixedSizeFlatMap::<NotedKey, Noted, 3>::new();
+        fill(&mut flat, TWO, &notes);
+        take_some(flat.into_iter(), *taken, false, &notes);
+        findings.expect_same_at(notes.take_drops(), *drops, *taken, "a flat map");
+        let mut hashed = FixedSizeHashMap::<NotedKey, Noted, 3>::new();
+        fill(&mut hashed, TWO, &notes);
+        take_some(hashed.into_iter(), *taken, false, &notes);
+        findings.expect_same_at(notes.take_drops(), *drops, *taken, "a hash map");
+    }
+    findings.verdict()
+}
+
 /// Of three keys and their values.
 const COPIES: &[CopyRow] = &[
     (0, 0, 0),

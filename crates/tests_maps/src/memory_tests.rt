@@ -1,4 +1,4 @@
-//! Maps for which there is not enough memory, at each of the four allocations of a flat map and the six of a hash map: nothing stays
+//! Maps for which there is not enough memory, at each of the three allocations of a flat map and the four of a hash map: nothing stays
 //! allocated. Where there is memory, none is refused. And how much a making takes: what `memory_size` returns, and that just so
 //! much is enough.
 use ix_flatmap::MapError::IsFull;

@@ -47,7 +47,7 @@ impl<K: Eq + Drop, V: Drop, A: Allocator + Copy> ContainerFamily<A> for FlatMapF
 
     ghost is_empty_with = { λ capacity map. map ≡ slot_table_new capacity };
 
-    /// Creates an empty map with room for `capacity` keys. O(`capacity`), with at most four allocations.
+    /// Creates an empty map with room for `capacity` keys. O(`capacity`), with at most three allocations.
     #[inline]
     fn with_capacity(alloc: A, capacity: usize) -> Result<RelocatableFlatMap<K, V, A>, AllocError> {
         FlatMap::new(alloc, capacity)

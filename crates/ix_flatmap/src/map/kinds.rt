@@ -7,7 +7,10 @@ ghost use Rattle.ix_slottable.specs.SlotTableState.{slot_table_new};
 
 use crate::map::{HeapIndex, InlineIndex, MetaMap, Pair};
 use ix_slottable::slottable::{FixedSizeSlotTable, Link, SlotTable};
-use ix_tables::{HeapTable, InlineTable, MAX_FIXED_CAPACITY, MemorySize, Uninit};
+use ix_tables::{
+    FilledHeapTable, FilledInlineTable, HeapTable, InlineTable, MAX_FIXED_CAPACITY, MemorySize,
+    Uninit,
+};
 use std::alloc::{AllocError, Allocator};
 use std::hash::BuildHasher;
 
@@ -15,12 +18,17 @@ use std::hash::BuildHasher;
 pub type InlineMap<K, V, const CAPACITY: usize, I> = MetaMap<
     Pair<K, V>,
     InlineTable<Pair<K, V>, CAPACITY>,
-    InlineTable<Link, CAPACITY>,
+    FilledInlineTable<Link, CAPACITY>,
     I,
 >;
 
 /// A map whose memory is allocated from `A` when it is made, and deallocated when it is dropped.
-pub type HeapMap<K, V, A, I> = MetaMap<Pair<K, V>, HeapTable<Pair<K, V>, A>, HeapTable<Link, A>, I>;
+pub type HeapMap<K, V, A, I> = MetaMap<
+    Pair<K, V>,
+    HeapTable<Pair<K, V>, A>,
+    FilledHeapTable<Link, A>,
+    I,
+>;
 
 impl<K: Eq + Drop, V: Drop, const CAPACITY: usize, I: InlineIndex<Pair<K, V>, CAPACITY>> InlineMap<
     K,
@@ -106,7 +114,7 @@ impl<K: Eq + Drop, V: Drop, A: Allocator + Copy, I: HeapIndex<Pair<K, V>, A>> He
     /// Creates an empty map with room for `capacity` keys. Those of a hash map are hashed by hashers that `B::default()` makes.
     /// Where strangers choose the keys, take `with_hasher` and std's `RandomState`.
     ///
-    /// O(`capacity`), with at most four allocations, and two more for a hash map. Returns `AllocError` if one fails, and if the
+    /// O(`capacity`), with at most three allocations, and one more for a hash map. Returns `AllocError` if one fails, and if the
     /// pairs would take more than `isize::MAX` bytes; nothing stays allocated then. A capacity of 0 needs no memory.
     pub fn new(alloc: A, capacity: usize) -> Result<Self, AllocError>
     where
@@ -145,7 +153,7 @@ where
 {
     /// Creates an empty hash map with room for `capacity` keys, which are hashed by hashers that `hasher` makes.
     ///
-    /// O(`capacity`), with at most six allocations. Returns `AllocError` if one fails, and if the pairs would take more
+    /// O(`capacity`), with at most four allocations. Returns `AllocError` if one fails, and if the pairs would take more
     /// than `isize::MAX` bytes; nothing stays allocated then, and `hasher` is dropped. A capacity of 0 needs no memory.
     pub fn with_hasher(alloc: A, capacity: usize, hasher: I::Setup) -> Result<Self, AllocError>
         ensures value { IfOk result (λ map. map ≡ slot_table_new capacity) }

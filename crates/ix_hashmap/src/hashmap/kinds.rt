@@ -81,7 +81,7 @@ impl<
 
     ghost is_empty_with = { λ capacity map. map ≡ slot_table_new capacity };
 
-    /// Creates an empty map with room for `capacity` keys. O(`capacity`), with at most six allocations.
+    /// Creates an empty map with room for `capacity` keys. O(`capacity`), with at most four allocations.
     #[inline]
     fn with_capacity(
         alloc: A,
