@@ -15,3 +15,5 @@ pub use bound::Bound;
 pub use kinds::{
     FixedSizeFlatMap, FlatMap, FlatMapFamily, MetaFlatMap, RelocatableFlatMap, UninitFlatMap,
 };
+#[doc(hidden)]
+pub use search::{find_bytes, find_in_order};

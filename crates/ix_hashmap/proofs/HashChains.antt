@@ -1,12 +1,11 @@
 -- The chains of a hash map's table of links, and how the write of one link changes them.
-use Rattle.std.proofs.Common.{◌≡◌, ◌≢◌, ℕ, zero, suc, ◌+◌, ◌*◌, ◌/◌, ◌%◌, ◌<◌, ◌≤◌, inl, inr, List, [], ◌∷◌, ◌++◌, length, get_or, set, Bool, true, false, refl, sym, ap, ◌∙◌, subst, arith}
-use Rattle.std.specs.Prelude.{nat_eq, nat_lt, if◌then◌else◌}
+use Rattle.std.proofs.Common.{◌≡◌, ◌≢◌, ℕ, zero, suc, ◌+◌, ◌*◌, ◌/◌, ◌%◌, ◌<◌, ◌≤◌, inl, inr, List, [], ◌∷◌, ◌++◌, length, get_or, set, true, false, refl, sym, ap, ◌∙◌, subst, arith}
+use Rattle.std.specs.Prelude.{nat_eq, if◌then◌else◌}
 use Rattle.std.proofs.lemmas.Bool.{cases_eq, cases_lt}
 use Rattle.std.proofs.lemmas.Bool.Decides.{nat_tests}
-use Rattle.std.proofs.lemmas.List.{get_or-set_same, get_or-set_other, length-set, set_past, length-append}
+use Rattle.std.proofs.lemmas.List.{get_or-set_same, get_or-set_other, get_or-replicate, length-set, set_past, length-append}
 use Rattle.ix_hashmap.specs.declared.hashmap.chain_link.ChainLink.{ChainLink}
-use Rattle.ix_hashmap.specs.declared.hashmap.chain_link.Heads.{Heads}
-use Rattle.ix_hashmap.specs.inner.HashChains.{no_place, no_heads, no_link, heads_get, heads_set, link_head, link_set_head, head_at, next_at, links_set_head, links_set_next, places_met, chain_from, chain_at, IsLinked, IsChain, IsChainFrom, IsOnChain, IsBefore, IsUnlinked}
+use Rattle.ix_hashmap.specs.inner.HashChains.{no_place, no_link, link_head, link_set_head, head_at, next_at, links_set_head, links_set_next, places_met, chain_from, chain_at, IsLinked, IsChain, IsChainFrom, IsOnChain, IsBefore, IsUnlinked}
 use Rattle.ix_slottable.proofs.FreeKeys.{key_count, key_count-cons, hit, hit_same, hit_other, key_count-append, split_at_key, first_occurs}
 
 -- a write that keeps a part of the link keeps that part of all links
@@ -19,75 +18,12 @@ part-set part links i link same other = elim (cases_eq other i) [
   | inr there ↦ ap part (get_or-set_other links i other link no_link there)
 ]
 
--- the heads of two buckets
-heads_get-set : (heads : Heads) (bucket place : ℕ) → heads_get (heads_set heads bucket place) bucket ≡ place
-heads_get-set heads bucket place = go (nat_eq (bucket % 2) 0)
-  where
-    go : (is_even : Bool) → (if is_even then (if is_even then record heads { even = place } else record heads { odd = place }).even else (if is_even then record heads { even = place } else record heads { odd = place }).odd) ≡ place
-    go true = refl
-    go false = refl
-
-heads_get-set_other : (heads : Heads) (bucket place other : ℕ) → other / 2 ≡ bucket / 2 → other ≢ bucket → heads_get (heads_set heads bucket place) other ≡ heads_get heads other
-heads_get-set_other heads bucket place other same apart = elim (cases_eq (bucket % 2) 0) [
-  | inl even ↦
-      let yes : nat_eq (bucket % 2) 0 ≡ true = grind (arith, nat_tests) in
-      let is_odd : other % 2 ≢ 0 = λ also. apart (omega (arith, same, even, also)) in
-      let no : nat_eq (other % 2) 0 ≡ false = grind (arith, nat_tests) in
-      ap (λ b. heads_get (if b then record heads { even = place } else record heads { odd = place }) other) yes
-      ∙ ap (λ b. if b then place else heads.odd) no ∙ ap (λ b. if b then heads.even else heads.odd) (sym no)
-  | inr odd ↦
-      let no : nat_eq (bucket % 2) 0 ≡ false = grind (arith, nat_tests) in
-      let is_even : other % 2 ≡ 0 = omega (arith, same, odd, apart) in
-      let yes : nat_eq (other % 2) 0 ≡ true = grind (arith, nat_tests) in
-      ap (λ b. heads_get (if b then record heads { even = place } else record heads { odd = place }) other) no
-      ∙ ap (λ b. if b then heads.even else place) yes ∙ ap (λ b. if b then heads.even else heads.odd) (sym yes)
-]
-
-heads_get-none : (bucket : ℕ) → heads_get no_heads bucket ≡ no_place
-heads_get-none bucket = go (nat_eq (bucket % 2) 0)
-  where
-    go : (is_even : Bool) → (if is_even then no_place else no_place) ≡ no_place
-    go true = refl
-    go false = refl
-
--- a link with another head: the bucket is one of the first two, or of the last two
-abbrev with_head : ChainLink → ℕ → ℕ → Bool → ChainLink
-with_head link bucket place is_low = if is_low then record link { low = heads_set link.low bucket place } else record link { high = heads_set link.high bucket place }
-
-next-set_head : (link : ChainLink) (bucket place : ℕ) → (link_set_head link bucket place).next ≡ link.next
-next-set_head link bucket place = go (nat_lt (bucket % 4) 2)
-  where
-    go : (is_low : Bool) → (with_head link bucket place is_low).next ≡ link.next
-    go true = refl
-    go false = refl
-
-head-set_head : (link : ChainLink) (bucket place : ℕ) → link_head (link_set_head link bucket place) bucket ≡ place
-head-set_head link bucket place = go (nat_lt (bucket % 4) 2)
-  where
-    go : (is_low : Bool) → (if is_low then heads_get (with_head link bucket place is_low).low bucket else heads_get (with_head link bucket place is_low).high bucket) ≡ place
-    go true = heads_get-set link.low bucket place
-    go false = heads_get-set link.high bucket place
-
 head-set_head_other : (link : ChainLink) (bucket place other : ℕ) → other / 4 ≡ bucket / 4 → other ≢ bucket → link_head (link_set_head link bucket place) other ≡ link_head link other
-head-set_head_other link bucket place other same apart = go (nat_lt (bucket % 4) 2) (nat_lt (other % 4) 2) refl refl
-  where
-    go : (is_low other_low : Bool) → nat_lt (bucket % 4) 2 ≡ is_low → nat_lt (other % 4) 2 ≡ other_low
-        → (if other_low then heads_get (with_head link bucket place is_low).low other else heads_get (with_head link bucket place is_low).high other) ≡ (if other_low then heads_get link.low other else heads_get link.high other)
-    go true true low also =
-        let near : other / 2 ≡ bucket / 2 = (let below : bucket % 4 < 2 = grind (arith, nat_tests) in let other_below : other % 4 < 2 = grind (arith, nat_tests) in omega (arith, same, below, other_below)) in
-        heads_get-set_other link.low bucket place other near apart
-    go true false low also = refl
-    go false true low also = refl
-    go false false low also =
-        let near : other / 2 ≡ bucket / 2 = (let past : 2 ≤ bucket % 4 = grind (arith, nat_tests) in let other_past : 2 ≤ other % 4 = grind (arith, nat_tests) in omega (arith, same, past, other_past)) in
-        heads_get-set_other link.high bucket place other near apart
+head-set_head_other link bucket place other same apart =
+    get_or-set_other link.heads (bucket % 4) (other % 4) place no_place (λ equal. apart (omega (arith, same, equal)))
 
 pub link_head-none : (bucket : ℕ) → link_head no_link bucket ≡ no_place
-link_head-none bucket = go (nat_lt (bucket % 4) 2)
-  where
-    go : (is_low : Bool) → (if is_low then heads_get no_heads bucket else heads_get no_heads bucket) ≡ no_place
-    go true = heads_get-none bucket
-    go false = heads_get-none bucket
+link_head-none bucket = get_or-replicate 4 (bucket % 4) no_place no_place (omega arith)
 
 pub length-set_head : (links : List ChainLink) (bucket place : ℕ) → length (links_set_head links bucket place) ≡ length links
 length-set_head links bucket place = length-set links (bucket / 4) _
@@ -97,15 +33,15 @@ length-set_next links place next = length-set links place _
 
 pub next_at-set_head : (links : List ChainLink) (bucket place other : ℕ) → next_at (links_set_head links bucket place) other ≡ next_at links other
 next_at-set_head links bucket place other =
-    part-set (λ link. link.next) links (bucket / 4) _ (next-set_head (get_or links (bucket / 4) no_link) bucket place) other
+    part-set (λ link. link.next) links (bucket / 4) _ refl other
 
 pub head_at-set_next : (links : List ChainLink) (place next other : ℕ) → head_at (links_set_next links place next) other ≡ head_at links other
 head_at-set_next links place next other = part-set (λ link. link_head link other) links place _ refl (other / 4)
 
-pub head_at-set_head : (links : List ChainLink) (bucket place : ℕ) → bucket < 4 * length links → head_at (links_set_head links bucket place) bucket ≡ place
-head_at-set_head links bucket place below =
-    ap (λ (link : ChainLink). link_head link bucket) (get_or-set_same links (bucket / 4) _ no_link (omega arith))
-    ∙ head-set_head (get_or links (bucket / 4) no_link) bucket place
+-- a link in the table that has this head
+pub head_at-set : (links : List ChainLink) (bucket place : ℕ) (link : ChainLink) → bucket < 4 * length links → link_head link bucket ≡ place → head_at (set links (bucket / 4) link) bucket ≡ place
+head_at-set links bucket place link below has =
+    ap (λ (at : ChainLink). link_head at bucket) (get_or-set_same links (bucket / 4) link no_link (omega (arith, below))) ∙ has
 
 pub head_at-set_head_other : (links : List ChainLink) (bucket place other : ℕ) → other ≢ bucket → head_at (links_set_head links bucket place) other ≡ head_at links other
 head_at-set_head_other links bucket place other apart = elim (cases_eq (other / 4) (bucket / 4)) [
@@ -262,8 +198,8 @@ on_chain-next links first place chain on apart =
     let counts = ap (key_count place) more.is ∙ key_count-cons place first (chain_from links (next_at links first)) in omega arith
 
 -- the first place leaves its chain
-pub IsUnlinked-first : (links : List ChainLink) (bucket place : ℕ) (new : List ChainLink) → bucket < 4 * length links → IsChainFrom links (head_at links bucket) → IsOnChain links (head_at links bucket) place → head_at links bucket ≡ place → new ≡ links_set_head links bucket (next_at links place) → IsUnlinked links bucket place new
-IsUnlinked-first links bucket place new below chain on is made =
+pub IsUnlinked-first : (links : List ChainLink) (bucket place : ℕ) (new : List ChainLink) → IsChainFrom links (head_at links bucket) → IsOnChain links (head_at links bucket) place → head_at links bucket ≡ place → new ≡ links_set_head links bucket (next_at links place) → head_at new bucket ≡ next_at links place → IsUnlinked links bucket place new
+IsUnlinked-first links bucket place new chain on is made head =
     let to = next_at links place in
     let more = HasRest-from links (head_at links bucket) chain (begins_at_place links (head_at links bucket) place chain on) in
     let rest = chain_from links to in
@@ -272,7 +208,7 @@ IsUnlinked-first links bucket place new below chain on is made =
     subst (IsUnlinked links bucket place) (sym made) (record {
       lengths = length-set_head links bucket to;
       rest = rest;
-      linked = subst (λ first. IsLinked (links_set_head links bucket to) first rest) (sym (head_at-set_head links bucket to below))
+      linked = subst (λ first. IsLinked (links_set_head links bucket to) first rest) (sym (ap (λ ls. head_at ls bucket) (sym made) ∙ head))
           (IsLinked-kept links _ to rest (λ other occurs. next_at-set_head links bucket to other) chained.linked);
       counts = λ other. sym (ap (key_count other) whole);
       heads = λ other apart. head_at-set_head_other links bucket to other apart;

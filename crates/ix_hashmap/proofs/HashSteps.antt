@@ -1,5 +1,5 @@
 -- The chains of a hash map after each of its steps.
-use Rattle.std.proofs.Common.{◌≡◌, ◌≢◌, ◌↔◌, ℕ, ◌+◌, ◌*◌, ◌/◌, ◌<◌, ◌≤◌, inl, inr, List, [], ◌∷◌, length, get_or, Option, Some, None, IsSome, Bool, true, false, refl, sym, ap, ◌∙◌, subst, arith}
+use Rattle.std.proofs.Common.{◌≡◌, ◌≢◌, ◌↔◌, ℕ, ◌+◌, ◌/◌, ◌<◌, ◌≤◌, inl, inr, List, [], ◌∷◌, length, get_or, Option, Some, None, IsSome, Bool, true, false, refl, sym, ap, ◌∙◌, subst, arith}
 use Rattle.std.specs.Prelude.{option_map, replicate, IfSome}
 use Rattle.std.specs.Option.{option_map_or}
 use Rattle.std.proofs.lemmas.Bool.{cases_eq, cases_lt, both_ways}
@@ -10,12 +10,12 @@ use Rattle.ix_flatmap.specs.MapState.{map_entry}
 use Rattle.ix_flatmap.specs.declared.map.Pair.{Pair}
 use Rattle.ix_hashmap.specs.declared.hashmap.chain_link.ChainLink.{ChainLink}
 use Rattle.ix_flatmap.specs.inner.FlatSearch.{is_key_at}
-use Rattle.ix_hashmap.specs.inner.HashChains.{no_place, no_link, link_head, bucket_of, head_at, next_at, links_set_next, links_insert_first, chain_from, chain_at, IsLinked, IsChain, IsOnChain, IsUnlinked, HasChain, IsHashed, LeadsToKey, IsBucket}
+use Rattle.ix_hashmap.specs.inner.HashChains.{no_place, no_link, link_head, bucket_of, head_at, next_at, links_set_next, links_insert_first, chain_from, chain_at, IsLinked, IsChain, IsOnChain, IsUnlinked, HasChain, IsHashed, IsIndexed, LeadsToKey, IsBucket}
 use Rattle.ix_slottable.proofs.FreeKeys.{key_count, key_count-cons, hit, hit_same, hit_other}
 use Rattle.ix_tables.proofs.VacantTables.{place_at-replicate}
 use Rattle.ix_slottable.proofs.SlotTableSteps.{SlotTableInsert-fills, SlotTableRemove-vacates}
 use Rattle.ix_flatmap.proofs.MapEntries.{IsEntry-map_entry}
-use Rattle.ix_hashmap.proofs.HashChains.{link_head-none, length-set_head, length-set_next, next_at-set_head, head_at-set_next, head_at-set_head, head_at-set_head_other, next_at-set_next, next_at-set_next_other, IsLinked-kept, chain_from-IsChain, IsChainFrom-of, HasRest-from, empty_chain, on_chain-first}
+use Rattle.ix_hashmap.proofs.HashChains.{link_head-none, length-set_head, length-set_next, next_at-set_head, head_at-set_next, head_at-set_head_other, next_at-set_next, next_at-set_next_other, IsLinked-kept, chain_from-IsChain, IsChainFrom-of, HasRest-from, empty_chain, on_chain-first}
 
 -- the bucket of a hash among those of so many places, which are counted
 pub bucket_of-counted : (hash bucket places n : ℕ) → bucket ≡ bucket_of hash places → places ≡ n → bucket_of hash n ≡ bucket
@@ -53,11 +53,8 @@ module _ {T : Type 0} (hash : T → ℕ) where
       })
       (λ place. (λ on. (buckets place).0 ((was.exactly place).0 on), λ is. (was.exactly place).1 ((buckets place).1 is)))
 
-  pub IsHashed-equal : (s t : SlotTableState T) (links others : List ChainLink) → t ≡ s → others ≡ links → IsHashed hash s links → IsHashed hash t others
-  IsHashed-equal s t links others same same_links hashed = subst (λ ls. IsHashed hash t ls) (sym same_links) (subst (λ u. IsHashed hash u links) (sym same) hashed)
-
   -- no value, and no chain
-  pub IsHashed-empty : (s : SlotTableState T) (links : List ChainLink) (buckets : ℕ) → links ≡ replicate buckets no_link → buckets ≡ length s.values → buckets ≤ no_place → ((place : ℕ) → value_at s place ≡ None) → IsHashed hash s links
+  IsHashed-empty : (s : SlotTableState T) (links : List ChainLink) (buckets : ℕ) → links ≡ replicate buckets no_link → buckets ≡ length s.values → buckets ≤ no_place → ((place : ℕ) → value_at s place ≡ None) → IsHashed hash s links
   IsHashed-empty s links buckets is as_many fits empty =
       let len : length links ≡ buckets = ap length is ∙ length-replicate buckets no_link in record {
         lengths = len ∙ as_many;
@@ -81,14 +78,23 @@ module _ {T : Type 0} (hash : T → ℕ) where
         | inr past ↦ get_or_past (replicate buckets no_link) i no_link (let len = length-replicate buckets no_link in omega arith)
       ]
 
-  -- the links of a new table, without a chain
-  pub IsHashed-new : (capacity : ℕ) (links : List ChainLink) → links ≡ replicate capacity no_link → length links ≤ no_place → IsHashed hash (slot_table_new capacity) links
-  IsHashed-new capacity links is fits =
-      let len : length links ≡ capacity = ap length is ∙ length-replicate capacity no_link in
-      IsHashed-empty (slot_table_new capacity) links capacity is (sym (length-replicate capacity None)) (omega (arith, len, fits)) (place_at-replicate capacity)
+  -- the same with no chains, if the table has none
+  pub IsIndexed-empty : (has_chains : Bool) (s : SlotTableState T) (links : List ChainLink) (buckets : ℕ) → links ≡ replicate buckets no_link → buckets ≡ length s.values → (has_chains ≡ true → buckets ≤ no_place) → ((place : ℕ) → value_at s place ≡ None) → IsIndexed has_chains hash s links
+  IsIndexed-empty has_chains s links buckets is as_many fits empty = record {
+    lengths = ap length is ∙ length-replicate buckets no_link ∙ as_many;
+    chains = λ yes. IsHashed-empty s links buckets is as_many (fits yes) empty;
+  }
+
+  pub IsIndexed-new : (has_chains : Bool) (capacity : ℕ) (links : List ChainLink) → links ≡ replicate capacity no_link → (has_chains ≡ true → capacity ≤ no_place) → IsIndexed has_chains hash (slot_table_new capacity) links
+  IsIndexed-new has_chains capacity links is fits =
+      IsIndexed-empty has_chains (slot_table_new capacity) links capacity is (sym (length-replicate capacity None)) fits (place_at-replicate capacity)
+
+  pub IsIndexed-equal : (has_chains : Bool) (s t : SlotTableState T) (links others : List ChainLink) → t ≡ s → others ≡ links → IsIndexed has_chains hash s links → IsIndexed has_chains hash t others
+  IsIndexed-equal has_chains s t links others same same_links index =
+      subst (λ ls. IsIndexed has_chains hash t ls) (sym same_links) (subst (λ u. IsIndexed has_chains hash u links) (sym same) index)
 
   -- a value is inserted, and its place becomes the first of its chain
-  module _ (old new : SlotTableState T) (x : T) (place bucket : ℕ) (links : List ChainLink) (hashed : IsHashed hash old links) (step : SlotTableInsert old x new (Some place)) (is : bucket_of (hash x) (length links) ≡ bucket) (below : bucket < 4 * length links) where
+  module _ (old new : SlotTableState T) (x : T) (place bucket : ℕ) (links : List ChainLink) (hashed : IsHashed hash old links) (step : SlotTableInsert old x new (Some place)) (is : bucket_of (hash x) (length links) ≡ bucket) (head_here : head_at (links_insert_first links bucket place) bucket ≡ place) where
     filled : new ≡ slot_table_fill old place x
     filled = SlotTableInsert-fills old x new place step
 
@@ -114,9 +120,6 @@ module _ {T : Type 0} (hash : T → ℕ) where
 
     as_long : length after ≡ length links
     as_long = length-set_head followed bucket place ∙ length-set_next links place (head_at links bucket)
-
-    head_here : head_at after bucket ≡ place
-    head_here = head_at-set_head followed bucket place (let same = length-set_next links place (head_at links bucket) in omega arith)
 
     head_there : (other : ℕ) → other ≢ bucket → head_at after other ≡ head_at links other
     head_there other apart = head_at-set_head_other followed bucket place other apart ∙ head_at-set_next links place (head_at links bucket) other
@@ -192,7 +195,7 @@ module _ {T : Type 0} (hash : T → ℕ) where
           | inr differs ↦ (λ was. elsewhere q differs ∙ was, λ now. sym (elsewhere q differs) ∙ now)
         ])
 
-    pub IsHashed-inserted : IsHashed hash new (links_insert_first links bucket place)
+    IsHashed-inserted : IsHashed hash new (links_insert_first links bucket place)
     IsHashed-inserted = record {
       lengths = as_long ∙ hashed.lengths ∙ sym (ap (λ (s : SlotTableState T). length s.values) filled ∙ length-set old.values place (Some x));
       fits = let same = as_long in let fits = hashed.fits in omega arith;
@@ -265,7 +268,7 @@ module _ {T : Type 0} (hash : T → ℕ) where
           | inr differs ↦ (λ was. stays q differs ∙ was, λ now. sym (stays q differs) ∙ now)
         ])
 
-    pub IsHashed-removed : IsHashed hash new after
+    IsHashed-removed : IsHashed hash new after
     IsHashed-removed = record {
       lengths = unlinked.lengths ∙ hashed.lengths ∙ sym (ap (λ (s : SlotTableState T). length s.values) (SlotTableRemove-vacates old place new x step) ∙ length-set old.values place None);
       fits = let same = unlinked.lengths in let fits = hashed.fits in omega arith;
@@ -274,6 +277,30 @@ module _ {T : Type 0} (hash : T → ℕ) where
         | inr apart ↦ other_rest other apart
       ];
     }
+
+  -- the same of a table that has no chains if `has_chains` is false
+  module _ (has_chains : Bool) (old new : SlotTableState T) (x : T) (links : List ChainLink) (index : IsIndexed has_chains hash old links) where
+    IsIndexed-kept : has_chains ≡ false → length new.values ≡ length old.values → IsIndexed has_chains hash new links
+    IsIndexed-kept none same = record { lengths = index.lengths ∙ sym same; chains = λ some. absurd (both_ways has_chains none some) }
+
+    pub IsIndexed-insert : has_chains ≡ false → (result : Option ℕ) → SlotTableInsert old x new result → IsIndexed has_chains hash new links
+    IsIndexed-insert none None step = IsIndexed-kept none (ap (λ (s : SlotTableState T). length s.values) (step.refused refl))
+    IsIndexed-insert none (Some place) step =
+        IsIndexed-kept none (ap (λ (s : SlotTableState T). length s.values) (SlotTableInsert-fills old x new place step) ∙ length-set old.values place (Some x))
+
+    pub IsIndexed-remove : has_chains ≡ false → (place : ℕ) → SlotTableRemove old place new (Some x) → IsIndexed has_chains hash new links
+    IsIndexed-remove none place step =
+        IsIndexed-kept none (ap (λ (s : SlotTableState T). length s.values) (SlotTableRemove-vacates old place new x step) ∙ length-set old.values place None)
+
+    pub IsIndexed-inserted : has_chains ≡ true → (place bucket : ℕ) → SlotTableInsert old x new (Some place) → bucket_of (hash x) (length links) ≡ bucket → head_at (links_insert_first links bucket place) bucket ≡ place → IsIndexed has_chains hash new (links_insert_first links bucket place)
+    IsIndexed-inserted some place bucket step is head =
+        let hashed = IsHashed-inserted old new x place bucket links (index.chains some) step is head in
+        record { lengths = hashed.lengths; chains = λ yes. hashed }
+
+    pub IsIndexed-removed : has_chains ≡ true → (place bucket : ℕ) (after : List ChainLink) → SlotTableRemove old place new (Some x) → bucket_of (hash x) (length links) ≡ bucket → IsUnlinked links bucket place after → IsIndexed has_chains hash new after
+    IsIndexed-removed some place bucket after step is unlinked =
+        let hashed = IsHashed-removed old new x place bucket links after (index.chains some) step is unlinked in
+        record { lengths = hashed.lengths; chains = λ yes. hashed }
 
 module _ {K Q V : Type 0} (eq : K → Q → Bool) where
   -- the chain of a key's bucket leads to it

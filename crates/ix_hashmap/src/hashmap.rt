@@ -12,7 +12,7 @@ mod kinds;
 mod search;
 
 pub use buckets::Buckets;
-pub use chain_link::ChainLink;
+pub use chain_link::{ChainLink, LinkTable};
 pub use hashed::Hashed;
 pub use ix_flatmap::map::{Drain, IntoIter};
 pub use kinds::{

@@ -2,7 +2,7 @@
 
 #[doc(hidden)]
 pub mod chain_link {
-    pub use ix_hashmap::hashmap::ChainLink;
+    pub use ix_hashmap::hashmap::{ChainLink, LinkTable};
 }
 
 #[doc(hidden)]
@@ -30,5 +30,6 @@ pub mod meta_hash_map {
 
 pub use ix_hashmap::hashmap::{
     Buckets, ChainLink, DefaultHashBuilder, Drain, FixedSizeHashMap, HashMap, HashMapFamily,
-    Hashed, IntoIter, MetaHashMap, RelocatableHashMap, UninitHashMap, hash_map_memory_law,
+    Hashed, IntoIter, LinkTable, MetaHashMap, RelocatableHashMap, UninitHashMap,
+    hash_map_memory_law,
 };

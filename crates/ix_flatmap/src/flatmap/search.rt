@@ -212,9 +212,26 @@ pub(crate) fn find_from<'a, K: Eq, V, S: Table<Pair<K, V>>, L: Table<Link>>(
     None
 }
 
-/// Returns the place of the key with these bytes, and the pair there. No place from `end` on has a pair.
+/// Returns the place of the key that equals `key`, and the pair there. No place from `end` on has a pair.
+#[doc(hidden)]
 #[inline]
-pub(crate) fn find_bytes<'a, K: AsSlice<u8>, V, S: Table<Pair<K, V>>, L: Table<Link>>(
+pub fn find_in_order<'a, K: Eq, V, S: Table<Pair<K, V>>, L: Table<Link>>(
+    pairs: &'a MetaSlotTable<Pair<K, V>, S, L>,
+    end: usize,
+    key: &K,
+) -> Option<(SlotTableKey, &'a Pair<K, V>)>
+    requires distinct { HasDistinctKeys K.eq pairs.now }
+    requires bound { IsBound pairs.now end }
+    ensures { option_map (λ entry. (entry.0, entry.1.now)) result
+        ≡ map_entry K.eq pairs.now key.now }
+{
+    find_from(pairs, 0, end, key)
+}
+
+/// Returns the place of the key with these bytes, and the pair there. No place from `end` on has a pair.
+#[doc(hidden)]
+#[inline]
+pub fn find_bytes<'a, K: AsSlice<u8>, V, S: Table<Pair<K, V>>, L: Table<Link>>(
     pairs: &'a MetaSlotTable<Pair<K, V>, S, L>,
     end: usize,
     bytes: &[u8],

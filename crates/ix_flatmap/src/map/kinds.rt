@@ -114,8 +114,9 @@ impl<K: Eq + Drop, V: Drop, A: Allocator + Copy, I: HeapIndex<Pair<K, V>, A>> He
     /// Creates an empty map with room for `capacity` keys. Those of a hash map are hashed by hashers that `B::default()` makes.
     /// Where strangers choose the keys, take `with_hasher` and std's `RandomState`.
     ///
-    /// O(`capacity`), with at most three allocations, and one more for a hash map. Returns `AllocError` if one fails, and if the
-    /// pairs would take more than `isize::MAX` bytes; nothing stays allocated then. A capacity of 0 needs no memory.
+    /// O(`capacity`), with at most three allocations, and one more for a hash map. Returns `AllocError` if one fails, if the pairs
+    /// would take more than `isize::MAX` bytes, and if a hash map would have more than [`MAX_FIXED_CAPACITY`] places; nothing stays
+    /// allocated then. A capacity of 0 needs no memory.
     pub fn new(alloc: A, capacity: usize) -> Result<Self, AllocError>
     where
         I::Setup: Default + Drop,
@@ -153,8 +154,9 @@ where
 {
     /// Creates an empty hash map with room for `capacity` keys, which are hashed by hashers that `hasher` makes.
     ///
-    /// O(`capacity`), with at most four allocations. Returns `AllocError` if one fails, and if the pairs would take more
-    /// than `isize::MAX` bytes; nothing stays allocated then, and `hasher` is dropped. A capacity of 0 needs no memory.
+    /// O(`capacity`), with at most four allocations. Returns `AllocError` if one fails, if the pairs would take more than
+    /// `isize::MAX` bytes, and if `capacity` is more than [`MAX_FIXED_CAPACITY`]; nothing stays allocated then, and `hasher` is
+    /// dropped. A capacity of 0 needs no memory.
     pub fn with_hasher(alloc: A, capacity: usize, hasher: I::Setup) -> Result<Self, AllocError>
         ensures value { IfOk result (λ map. map ≡ slot_table_new capacity) }
         ensures memory { capacity ≡ 0 → IsOk result }

@@ -1,42 +1,28 @@
 -- How a hash map finds a pair: the places whose keys have one bucket are a chain of links. No clause of a public call cites
 -- this.
-use Rattle.std.specs.Prelude.{◌≡◌, ◌≢◌, ◌↔◌, ℕ, zero, suc, ◌*◌, ◌/◌, ◌%◌, ◌^◌, ◌<◌, ◌≤◌, List, [], ◌∷◌, ◌++◌, length, nat_eq, nat_lt, count_by, if◌then◌else◌, Option, Some, option_map, slice_index_or, slice_set, Bool, true}
+use Rattle.std.specs.Prelude.{◌≡◌, ◌≢◌, ◌↔◌, ℕ, zero, suc, ◌*◌, ◌/◌, ◌%◌, ◌^◌, ◌<◌, ◌≤◌, List, [], ◌∷◌, ◌++◌, length, nat_eq, count_by, if◌then◌else◌, Option, Some, option_map, slice_index_or, slice_set, replicate, Bool, true}
 use Rattle.std.specs.List.{fold}
 use Rattle.ix_slottable.specs.SlotTableState.{SlotTableState, value_at, IsHeld}
 use Rattle.ix_flatmap.specs.inner.FlatSearch.{is_key_at}
 use Rattle.ix_slottable.specs.inner.FullTables.{items_in}
 use Rattle.ix_hashmap.specs.declared.hashmap.chain_link.ChainLink.{ChainLink}
-use Rattle.ix_hashmap.specs.declared.hashmap.chain_link.Heads.{Heads}
 use Rattle.ix_flatmap.specs.declared.map.Pair.{Pair}
 
--- the number for no place: no table has so many
+-- the number for no place: no table with chains has so many
 abbrev pub no_place : ℕ
-no_place = 18446744073709551615
-
--- the heads of two buckets without a place
-abbrev pub no_heads : Heads
-no_heads = record { even = no_place; odd = no_place }
+no_place = 4294967295
 
 -- the link of four buckets without a place, and of a place without a next one
 abbrev pub no_link : ChainLink
-no_link = record { low = no_heads; high = no_heads; next = no_place }
-
--- the first place of a bucket, of two
-abbrev pub heads_get : Heads → ℕ → ℕ
-heads_get heads bucket = if nat_eq (bucket % 2) 0 then heads.even else heads.odd
-
--- the first place of this bucket is another
-abbrev pub heads_set : Heads → ℕ → ℕ → Heads
-heads_set heads bucket place = if nat_eq (bucket % 2) 0 then record heads { even = place } else record heads { odd = place }
+no_link = record { heads = replicate 4 no_place; next = no_place }
 
 -- the first place of a bucket, of the four that a link has
 abbrev pub link_head : ChainLink → ℕ → ℕ
-link_head link bucket = if nat_lt (bucket % 4) 2 then heads_get link.low bucket else heads_get link.high bucket
+link_head link bucket = slice_index_or link.heads (bucket % 4) no_place
 
 -- the first place of this bucket is another
 abbrev pub link_set_head : ChainLink → ℕ → ℕ → ChainLink
-link_set_head link bucket place =
-    if nat_lt (bucket % 4) 2 then record link { low = heads_set link.low bucket place } else record link { high = heads_set link.high bucket place }
+link_set_head link bucket place = record link { heads = slice_set link.heads (bucket % 4) place }
 
 -- the links in the places of a table
 abbrev pub links_in : List (Option ChainLink) → List ChainLink
@@ -129,6 +115,11 @@ module _ {T : Type 0} (hash : T → ℕ) (s : SlotTableState T) (links : List Ch
     pub lengths : length links ≡ length s.values
     pub fits : length links ≤ no_place
     pub each : (bucket : ℕ) → HasChain bucket
+
+-- a map has a link for each place, and the chains of its pairs if it has chains at all
+pub record IsIndexed {T : Type 0} (has_chains : Bool) (hash : T → ℕ) (s : SlotTableState T) (links : List ChainLink) : Type 0 where
+  pub lengths : length links ≡ length s.values
+  pub chains : has_chains ≡ true → IsHashed hash s links
 
 -- the bucket of a hash has this number, and its chain begins at this place
 pub record IsBucket (hash : ℕ) (links : List ChainLink) (number first : ℕ) : Type 0 where

@@ -1,10 +1,10 @@
 -- The chains of pairs are those of others with equal keys at the same places.
-use Rattle.std.specs.Prelude.{◌≡◌, ℕ, List, length, Option, Some, None, option_map, refl}
+use Rattle.std.specs.Prelude.{◌≡◌, ℕ, List, length, Option, Some, None, option_map, Bool, refl}
 use Rattle.std.proofs.Common.{sym, ap, ◌∙◌}
 use Rattle.ix_slottable.specs.SlotTableState.{SlotTableState, value_at}
 use Rattle.ix_slottable.specs.SlotTableCopies.{IsCloneAt, SlotTableIsClone}
 use Rattle.ix_hashmap.specs.declared.hashmap.chain_link.ChainLink.{ChainLink}
-use Rattle.ix_hashmap.specs.inner.HashChains.{bucket_of, IsHashed}
+use Rattle.ix_hashmap.specs.inner.HashChains.{bucket_of, IsHashed, IsIndexed}
 
 module _ {T : Type 0} (hash : T → ℕ) where
   -- values with the buckets of others at their places have the chains of those
@@ -33,3 +33,10 @@ module _ {T : Type 0} (hash : T → ℕ) where
       same None (Some y) here = absurd here
       same (Some x) None here = absurd here
       same (Some x) (Some y) here = ap (λ (h : ℕ). Some (bucket_of h (length links))) (alike x y here)
+
+  -- clones with the hashes of their values have the index of those
+  pub IsIndexed-clone : (has_chains : Bool) (is_clone : T → T → Type 0) (s copy : SlotTableState T) (links : List ChainLink) → ((x y : T) → is_clone x y → hash y ≡ hash x) → SlotTableIsClone is_clone s copy → IsIndexed has_chains hash s links → IsIndexed has_chains hash copy links
+  IsIndexed-clone has_chains is_clone s copy links alike is index = record {
+    lengths = index.lengths ∙ sym is.capacity;
+    chains = λ yes. IsHashed-clone is_clone s copy links alike is (index.chains yes);
+  }

@@ -5,17 +5,18 @@ ghost use Rattle.std.specs.Mem.{type_size};
 ghost use Rattle.ix_tables.specs.Memory.{memory_plus, table_memory};
 ghost use Rattle.std.specs.Result.{IfErr, result_ok};
 ghost use Rattle.ix_slottable.specs.SlotTableSteps.{SlotTableInsert};
-ghost use Rattle.ix_hashmap.specs.inner.HashChains.{hash_of, IsHashed, IsBucket};
-ghost use Rattle.ix_hashmap.specs.laws.HashChains.{IsHashed-clone};
+ghost use Rattle.ix_hashmap.specs.inner.HashChains.{hash_of, IsIndexed, IsBucket};
+ghost use Rattle.ix_hashmap.specs.laws.HashChains.{IsIndexed-clone};
 
 use crate::hashmap::chain_link::NO_PLACE;
 use crate::hashmap::chain_table::ChainTable;
 use crate::hashmap::hashed::{bucket_of, bucket_of_bytes};
 use crate::hashmap::search::{find_bytes, find_from};
-use crate::hashmap::{ChainLink, HashMapFamily, Hashed};
+use crate::hashmap::{ChainLink, HashMapFamily, Hashed, LinkTable};
+use ix_flatmap::flatmap::{self, find_in_order};
 use ix_flatmap::map::{CopyIn, CopyInline, HeapIndex, InlineIndex, KeyIndex, Pair, PairIndex};
 use ix_slottable::slottable::{Link, MetaSlotTable, SlotTableKey};
-use ix_tables::{HeapTable, InlineTable, MemorySize, Table};
+use ix_tables::{HeapTable, InlineTable, MAX_FIXED_CAPACITY, MemorySize, Table};
 use std::alloc::{AllocError, Allocator};
 use std::convert::AsSlice;
 use std::hash::{BuildHasher, Hash};
@@ -36,16 +37,15 @@ pub struct Buckets<C: Table<ChainLink>, B: BuildHasher> {
 #[derive(Clone, Copy)]
 pub struct Bucket {
     number: u128,
-    first: usize,
+    first: u32,
 }
 
-impl<P: Hashed, C: Table<ChainLink>, B: BuildHasher> PairIndex<P> for Buckets<C, B> {
+impl<P: Hashed, C: LinkTable, B: BuildHasher> PairIndex<P> for Buckets<C, B> {
     ghost Fits = { λ index pairs.
-        IsHashed (λ pair. hash_of B.Hasher.finish B.Hasher.write (B.build_hasher index.hasher) (P.key_input pair)) pairs index.links };
+        IsIndexed C.has_chains (λ pair. hash_of B.Hasher.finish B.Hasher.write (B.build_hasher index.hasher) (P.key_input pair)) pairs index.links };
 }
 
-impl<K: Eq + Hash + Drop, V: Drop, C: Table<ChainLink>, B: BuildHasher> KeyIndex<K, V>
-    for Buckets<C, B> {
+impl<K: Eq + Hash + Drop, V: Drop, C: LinkTable, B: BuildHasher> KeyIndex<K, V> for Buckets<C, B> {
     type Seat = Bucket;
 
     ghost IsSeat = { λ index pairs key seat.
@@ -79,6 +79,9 @@ impl<K: Eq + Hash + Drop, V: Drop, C: Table<ChainLink>, B: BuildHasher> KeyIndex
         seat: Bucket,
         key: &K,
     ) -> Option<(SlotTableKey, &'a Pair<K, V>)> {
+        if !C::has_chains() {
+            return find_in_order(pairs, pairs.capacity(), key);
+        }
         find_from(pairs, &self.links, seat.first, key)
     }
 
@@ -94,6 +97,9 @@ impl<K: Eq + Hash + Drop, V: Drop, C: Table<ChainLink>, B: BuildHasher> KeyIndex
     where
         K: AsSlice<u8>,
     {
+        if !C::has_chains() {
+            return flatmap::find_bytes(pairs, pairs.capacity(), bytes);
+        }
         let places = self.links.len();
         if places == 0 {
             return None;
@@ -115,10 +121,13 @@ impl<K: Eq + Hash + Drop, V: Drop, C: Table<ChainLink>, B: BuildHasher> KeyIndex
         ensures returned { IfErr result (λ refused. refused ≡ pair) }
         ensures fits { ⟦<Buckets<C, B> as PairIndex<Pair<K, V>>>⟧.Fits self.new pairs.new }
     {
+        if !C::has_chains() {
+            return pairs.try_insert(pair);
+        }
         match pairs.try_insert(pair) {
             Ok(place) => {
                 self.links
-                    .insert_first(seat.number, seat.first, place.value());
+                    .insert_first(seat.number, seat.first, place.value() as u32);
                 Ok(place)
             }
             Err(pair) => Err(pair),
@@ -132,7 +141,11 @@ impl<K: Eq + Hash + Drop, V: Drop, C: Table<ChainLink>, B: BuildHasher> KeyIndex
         seat: Bucket,
         place: SlotTableKey,
     ) -> Pair<K, V> {
-        self.links.remove(seat.number, seat.first, place.value());
+        if !C::has_chains() {
+            return pairs.remove_unchecked(place);
+        }
+        self.links
+            .remove(seat.number, seat.first, place.value() as u32);
         pairs.remove_unchecked(place)
     }
 
@@ -154,7 +167,7 @@ impl<K: Eq + Hash + Drop, V: Drop, C: Table<ChainLink>, B: BuildHasher> KeyIndex
     }
 
     ghost Fits_equal_keys = { λ index pairs others same fits.
-        IsHashed-clone (λ pair. hash_of B.Hasher.finish B.Hasher.write (B.build_hasher index.hasher) (K.hash_input pair.key))
+        IsIndexed-clone (λ pair. hash_of B.Hasher.finish B.Hasher.write (B.build_hasher index.hasher) (K.hash_input pair.key)) C.has_chains
         (λ pair other. K.eq other.key pair.key ≡ true) pairs others index.links
         (λ pair other equal. ap (hash_of B.Hasher.finish B.Hasher.write (B.build_hasher index.hasher)) (K.respects_eq other.key pair.key equal))
         same fits };
@@ -166,8 +179,6 @@ impl<P: Hashed, const CAPACITY: usize, B: BuildHasher> InlineIndex<P, CAPACITY>
 
     fn new_inline(setup: B) -> Self {
         let links = ChainTable::new(InlineTable::default());
-        // Names the number of places, by which the check knows that it is below the number for no place.
-        let _places = links.len();
         Buckets {
             links,
             hasher: setup,
@@ -205,9 +216,11 @@ impl<K: Eq + Hash + Drop, V: Drop, A: Allocator + Copy, B: BuildHasher + Drop> H
     }
 
     fn new_in(alloc: A, capacity: usize, setup: B) -> Result<Self, AllocError> {
+        // Links number no more places.
+        if capacity > MAX_FIXED_CAPACITY {
+            return Err(AllocError);
+        }
         let links = ChainTable::new(HeapTable::new(alloc, capacity)?);
-        // Names the number of places, by which the check knows that it is below the number for no place.
-        let _places = links.len();
         Ok(Buckets {
             links,
             hasher: setup,

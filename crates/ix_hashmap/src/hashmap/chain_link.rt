@@ -1,5 +1,9 @@
-//! Links of the chains of a hash map.
-ghost use Rattle.std.specs.Prelude.{◌≡◌};
+//! Links of the chains of a hash map, and tables of them.
+ghost use Rattle.std.specs.Prelude.{◌≡◌, Bool, true, nat_le};
+ghost use Rattle.ix_tables.specs.declared.cells.table.TheConstants.{MAX_FIXED_CAPACITY};
+
+use ix_tables::{HeapTable, InlineTable, MAX_FIXED_CAPACITY, Table};
+use std::alloc::Allocator;
 
 /// What a hash map keeps for each of its places: the first places of four buckets, those with four times the number of the place
 /// and up to three more, and the place after that place in its chain.
@@ -8,87 +12,68 @@ ghost use Rattle.std.specs.Prelude.{◌≡◌};
 /// [`MetaHashMap`](crate::hashmap::MetaHashMap).
 #[derive(Clone, Copy, Debug)]
 pub struct ChainLink {
-    /// Of the first two buckets.
-    pub(crate) low: Heads,
-    /// Of the last two buckets.
-    pub(crate) high: Heads,
+    /// The first places in the chains of the four buckets, or [`NO_PLACE`] where a chain is empty.
+    pub(crate) heads: [u32; 4],
     /// The next place in the chain of the place, or [`NO_PLACE`].
-    pub(crate) next: usize,
+    pub(crate) next: u32,
 }
 
-/// The first places of two buckets.
-#[derive(Clone, Copy, Debug)]
-pub struct Heads {
-    /// The first place in the chain of the even bucket, or [`NO_PLACE`].
-    pub(crate) even: usize,
-    /// The first place in the chain of the odd bucket, or [`NO_PLACE`].
-    pub(crate) odd: usize,
-}
-
-/// The number for no place. No table has so many.
-pub(crate) const NO_PLACE: usize = usize::MAX;
-
-/// The heads of two buckets without a place.
-const NO_HEADS: Heads = Heads {
-    even: NO_PLACE,
-    odd: NO_PLACE,
-};
+/// The number for no place. No map with chains has so many places.
+pub(crate) const NO_PLACE: u32 = 4_294_967_295;
 
 /// The link of four buckets without a place, and of a place without a next one.
 pub(crate) const NO_LINK: ChainLink = ChainLink {
-    low: NO_HEADS,
-    high: NO_HEADS,
+    heads: [NO_PLACE; 4],
     next: NO_PLACE,
 };
-
-impl Heads {
-    ghost use Rattle.ix_hashmap.specs.inner.HashChains.{heads_get, heads_set};
-
-    /// Returns the first place of a bucket, of the two.
-    #[inline]
-    fn get(&self, bucket: u128) -> usize
-        ensures { result ≡ heads_get self.now bucket }
-    {
-        if bucket % 2 == 0 { self.even } else { self.odd }
-    }
-
-    /// Makes `place` the first place of a bucket, of the two.
-    #[inline]
-    fn set(&mut self, bucket: u128, place: usize)
-        ensures { self.new ≡ heads_set self.old bucket place }
-    {
-        if bucket % 2 == 0 {
-            self.even = place;
-        } else {
-            self.odd = place;
-        }
-    }
-}
 
 impl ChainLink {
     ghost use Rattle.ix_hashmap.specs.inner.HashChains.{link_head, link_set_head};
 
     /// Returns the first place of a bucket, of the four that the link has.
     #[inline]
-    pub(crate) fn head(&self, bucket: u128) -> usize
+    pub(crate) fn head(&self, bucket: u128) -> u32
         ensures { result ≡ link_head self.now bucket }
     {
-        if bucket % 4 < 2 {
-            self.low.get(bucket)
-        } else {
-            self.high.get(bucket)
-        }
+        self.heads[(bucket % 4) as usize]
     }
 
     /// Makes `place` the first place of a bucket, of the four that the link has.
     #[inline]
-    pub(crate) fn set_head(&mut self, bucket: u128, place: usize)
-        ensures { self.new ≡ link_set_head self.old bucket place }
+    pub(crate) fn set_head(&mut self, bucket: u128, place: u32)
+        ensures link { self.new ≡ link_set_head self.old bucket place }
+        ensures head { link_head self.new bucket ≡ place }
     {
-        if bucket % 4 < 2 {
-            self.low.set(bucket, place);
-        } else {
-            self.high.set(bucket, place);
-        }
+        let index = (bucket % 4) as usize;
+        self.heads[index] = place;
+    }
+}
+
+/// A table of the links of a hash map. Links number places by 32 bits. A map whose type gives it more places than
+/// [`MAX_FIXED_CAPACITY`] has no chains, and compares its keys one by one.
+pub trait LinkTable: Table<ChainLink> {
+    /// Whether a map with such a table has chains.
+    ghost has_chains: { Bool };
+
+    /// Returns `true` if a map with such a table has chains. O(1).
+    fn has_chains() -> bool
+        ensures { result ≡ has_chains };
+}
+
+impl<const CAPACITY: usize> LinkTable for InlineTable<ChainLink, CAPACITY> {
+    ghost has_chains = { nat_le CAPACITY MAX_FIXED_CAPACITY };
+
+    #[inline]
+    fn has_chains() -> bool {
+        CAPACITY <= MAX_FIXED_CAPACITY
+    }
+}
+
+impl<A: Allocator + Copy> LinkTable for HeapTable<ChainLink, A> {
+    ghost has_chains = { true };
+
+    #[inline]
+    fn has_chains() -> bool {
+        true
     }
 }

@@ -60,7 +60,7 @@ impl<C: Table<ChainLink>> ChainTable<C> {
 
     /// Returns the first place in the chain of a bucket, or the number for no place.
     #[inline]
-    pub(crate) fn head(&self, bucket: u128) -> usize
+    pub(crate) fn head(&self, bucket: u128) -> u32
         requires { bucket < 4 * length self.now }
         ensures { result ≡ head_at self.now bucket }
     {
@@ -73,20 +73,21 @@ impl<C: Table<ChainLink>> ChainTable<C> {
 
     /// Returns the next place of a place in its chain, or the number for no place.
     #[inline]
-    pub(crate) fn next(&self, place: usize) -> usize
+    pub(crate) fn next(&self, place: u32) -> u32
         requires { place < length self.now }
         ensures { result ≡ next_at self.now place }
     {
-        self.links.get(place, &mut Touches::new()).next
+        self.links.get(place as usize, &mut Touches::new()).next
     }
 
     /// Makes `place` the first in the chain of a bucket, before those that are in it, the first of which is `first`.
     #[inline]
-    pub(crate) fn insert_first(&mut self, bucket: u128, first: usize, place: usize)
+    pub(crate) fn insert_first(&mut self, bucket: u128, first: u32, place: u32)
         requires bucket { bucket < 4 * length self.old }
         requires first { first ≡ head_at self.old bucket }
         requires place { place < length self.old }
-        ensures { self.new ≡ links_insert_first self.old bucket place }
+        ensures links { self.new ≡ links_insert_first self.old bucket place }
+        ensures head { head_at self.new bucket ≡ place }
     {
         self.set_next(place, first);
         self.set_head(bucket, place);
@@ -94,7 +95,7 @@ impl<C: Table<ChainLink>> ChainTable<C> {
 
     /// Takes a place out of the chain of a bucket, which begins at `first`. O(the number of places before it).
     #[inline]
-    pub(crate) fn remove(&mut self, bucket: u128, first: usize, place: usize)
+    pub(crate) fn remove(&mut self, bucket: u128, first: u32, place: u32)
         requires bucket { bucket < 4 * length self.old }
         requires first { first ≡ head_at self.old bucket }
         requires chain { IsChainFrom self.old (head_at self.old bucket) }
@@ -121,7 +122,7 @@ impl<C: Table<ChainLink>> ChainTable<C> {
 
     /// Returns the place before another one, on the chain that begins at `first`.
     #[inline]
-    fn before(&self, first: usize, place: usize) -> usize
+    fn before(&self, first: u32, place: u32) -> u32
         requires chain { IsChainFrom self.now first }
         requires has { IsOnChain self.now first place }
         requires later { first ≢ place }
@@ -137,9 +138,10 @@ impl<C: Table<ChainLink>> ChainTable<C> {
     }
 
     #[inline]
-    fn set_head(&mut self, bucket: u128, place: usize)
+    fn set_head(&mut self, bucket: u128, place: u32)
         requires { bucket < 4 * length self.old }
-        ensures { self.new ≡ links_set_head self.old bucket place }
+        ensures links { self.new ≡ links_set_head self.old bucket place }
+        ensures head { head_at self.new bucket ≡ place }
     {
         // Names the number of places, by which the check knows that a quarter of a bucket's fits.
         let _places = self.len();
@@ -149,11 +151,11 @@ impl<C: Table<ChainLink>> ChainTable<C> {
     }
 
     #[inline]
-    fn set_next(&mut self, place: usize, next: usize)
+    fn set_next(&mut self, place: u32, next: u32)
         requires { place < length self.old }
         ensures { self.new ≡ links_set_next self.old place next }
     {
-        self.links.get_mut(place, &mut Touches::new()).next = next;
+        self.links.get_mut(place as usize, &mut Touches::new()).next = next;
     }
 }
 

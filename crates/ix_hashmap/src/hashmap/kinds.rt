@@ -26,6 +26,9 @@ pub type DefaultHashBuilder = BuildHasherDefault<FoldHasher>;
 pub type MetaHashMap<P, S, L, C, B> = MetaMap<P, S, L, Buckets<C, B>>;
 
 /// A hash map with room for `CAPACITY` keys that is stored inline and does not allocate.
+///
+/// One of more than [`MAX_FIXED_CAPACITY`](ix_tables::MAX_FIXED_CAPACITY) keys, which `default` alone makes, has no chains: a call
+/// compares a key with all others.
 pub type FixedSizeHashMap<K, V, const CAPACITY: usize, B = DefaultHashBuilder> = InlineMap<
     K,
     V,
@@ -33,7 +36,8 @@ pub type FixedSizeHashMap<K, V, const CAPACITY: usize, B = DefaultHashBuilder> =
     Buckets<InlineTable<ChainLink, CAPACITY>, B>,
 >;
 
-/// A hash map whose memory is allocated from `A` when it is made, and deallocated when it is dropped.
+/// A hash map whose memory is allocated from `A` when it is made, and deallocated when it is dropped. Its capacity is at most
+/// [`MAX_FIXED_CAPACITY`](ix_tables::MAX_FIXED_CAPACITY), since links number places by 32 bits.
 pub type HashMap<K, V, A = Global, B = DefaultHashBuilder> = HeapMap<
     K,
     V,

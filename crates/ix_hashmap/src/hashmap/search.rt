@@ -17,7 +17,7 @@ use std::convert::AsSlice;
 pub(crate) fn find_from<'a, K: Eq, V, S: Table<Pair<K, V>>, L: Table<Link>, C: Table<ChainLink>>(
     pairs: &'a MetaSlotTable<Pair<K, V>, S, L>,
     chains: &ChainTable<C>,
-    first: usize,
+    first: u32,
     key: &K,
 ) -> Option<(SlotTableKey, &'a Pair<K, V>)>
     requires leads { LeadsToKey K.eq pairs.now chains.now key.now first }
@@ -27,7 +27,7 @@ pub(crate) fn find_from<'a, K: Eq, V, S: Table<Pair<K, V>>, L: Table<Link>, C: T
 {
     let mut place = first;
     while place != NO_PLACE {
-        let number = SlotTableKey::new(place);
+        let number = SlotTableKey::new(place as usize);
         let pair = pairs.get_unchecked(number);
         if pair.key == *key {
             return Some((number, pair));
@@ -50,7 +50,7 @@ pub(crate) fn find_bytes<
 >(
     pairs: &'a MetaSlotTable<Pair<K, V>, S, L>,
     chains: &ChainTable<C>,
-    first: usize,
+    first: u32,
     bytes: &[u8],
 ) -> Option<(SlotTableKey, &'a Pair<K, V>)>
     requires leads { LeadsToKey (has_bytes K.items) pairs.now chains.now bytes.now first }
@@ -61,7 +61,7 @@ pub(crate) fn find_bytes<
 {
     let mut place = first;
     while place != NO_PLACE {
-        let number = SlotTableKey::new(place);
+        let number = SlotTableKey::new(place as usize);
         let pair = pairs.get_unchecked(number);
         if pair.key.as_slice() == bytes {
             return Some((number, pair));

@@ -2,12 +2,11 @@ use Rattle.std.proofs.Common.{length, None, ap, ◌∙◌, arith}
 use Rattle.std.proofs.lemmas.List.{length-replicate}
 use Rattle.std.specs.Prelude.{replicate}
 use Rattle.ix_hashmap.specs.inner.HashChains.{no_link}
-use Rattle.ix_hashmap.proofs.HashSteps.{IsHashed-new}
+use Rattle.ix_hashmap.proofs.HashSteps.{IsIndexed-new}
 use Rattle.ix_hashmap.proofs.hashmap.buckets.BucketsHeapTableChainLinkHeapIndexPair.new_in.Goals as goal
 
 pub returns-clause-value : goal.returns-clause-value
 returns-clause-value g c =
-    let all = c.len-places.ensures.value in
-    let most = c.len-places.type_inv in
+    let few = c.if-capacity-gt-MAX_FIXED_CAPACITY.false in
     let places = ap length c.in_ok-new.ensures.value ∙ length-replicate c.args.capacity None in
-    IsHashed-new _ c.args.capacity c.new-links.result (c.new-links.ensures ∙ ap (λ n. replicate n no_link) places) (omega (arith, all, most))
+    IsIndexed-new _ _ c.args.capacity c.new-links.result (c.new-links.ensures ∙ ap (λ n. replicate n no_link) places) (λ yes. omega (arith, few))

@@ -1,13 +1,12 @@
 use Rattle.std.proofs.Common.{length, None, ap, ◌∙◌, arith}
+use Rattle.std.proofs.lemmas.Bool.Decides.{nat_tests}
 use Rattle.std.proofs.lemmas.List.{length-replicate}
 use Rattle.std.specs.Prelude.{replicate}
 use Rattle.ix_hashmap.specs.inner.HashChains.{no_link}
-use Rattle.ix_hashmap.proofs.HashSteps.{IsHashed-new}
+use Rattle.ix_hashmap.proofs.HashSteps.{IsIndexed-new}
 use Rattle.ix_hashmap.proofs.hashmap.buckets.BucketsInlineTableChainLinkInlineIndex.new_inline.Goals as goal
 
 pub returns : goal.returns
 returns g c =
-    let all = c.len-places.ensures.value in
-    let most = c.len-places.type_inv in
     let places = ap length c.default.ensures ∙ length-replicate g.row.CAPACITY None in
-    IsHashed-new _ g.row.CAPACITY c.new-links.result (c.new-links.ensures ∙ ap (λ n. replicate n no_link) places) (omega (arith, all, most))
+    IsIndexed-new _ _ g.row.CAPACITY c.new-links.result (c.new-links.ensures ∙ ap (λ n. replicate n no_link) places) (λ few. grind (arith, nat_tests))

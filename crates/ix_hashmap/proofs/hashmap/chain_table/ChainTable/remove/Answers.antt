@@ -8,8 +8,8 @@ next-next-requires g c = c.requires.chain.within c.args.place c.requires.has
 
 pub returns-then-first-place : goal.returns-then-first-place
 returns-then-first-place g c =
-    IsUnlinked-first c.args.self.now c.args.bucket c.args.place _ c.requires.bucket c.requires.chain c.requires.has (sym c.requires.first ∙ c.if-first-place.true)
-    (c.set_head.ensures ∙ ap (λ (next : ℕ). links_set_head c.args.self.now c.args.bucket next) c.next-next.ensures)
+    IsUnlinked-first c.args.self.now c.args.bucket c.args.place _ c.requires.chain c.requires.has (sym c.requires.first ∙ c.if-first-place.true)
+    (c.set_head.ensures.links ∙ ap (λ (next : ℕ). links_set_head c.args.self.now c.args.bucket next) c.next-next.ensures) (c.set_head.ensures.head ∙ c.next-next.ensures)
 
 pub set_next-requires : goal.set_next-requires
 set_next-requires g c =

@@ -7,7 +7,7 @@ use Rattle.ix_hashmap.proofs.hashmap.chain_table.ChainTable.set_next.Goals as go
 pub returns : goal.returns
 returns g c =
     let place = c.args.place in
-    let link : ChainLink = record { low = c.get_mut.result.now.low; high = c.get_mut.result.now.high; next = c.args.next } in
+    let link : ChainLink = record { heads = c.get_mut.result.now.heads; next = c.args.next } in
     ap links_in (g.met.C.Table.places_with_item c.self.inside.links place link)
     ∙ items_in-set no_link _ place link
     ∙ ap (λ (links : List ChainLink). set links place link) c.self.view_is
