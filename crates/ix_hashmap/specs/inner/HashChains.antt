@@ -6,6 +6,7 @@ use Rattle.ix_slottable.specs.SlotTableState.{SlotTableState, value_at, IsHeld}
 use Rattle.ix_flatmap.specs.inner.FlatSearch.{is_key_at}
 use Rattle.ix_slottable.specs.inner.FullTables.{items_in}
 use Rattle.ix_hashmap.specs.declared.hashmap.chain_link.ChainLink.{ChainLink}
+use Rattle.ix_hashmap.specs.declared.hashmap.hashed.TheConstants.{FACTOR}
 use Rattle.ix_flatmap.specs.declared.map.Pair.{Pair}
 
 -- the number for no place: no table with chains has so many
@@ -28,9 +29,13 @@ link_set_head link bucket place = record link { heads = slice_set link.heads (bu
 abbrev pub links_in : List (Option ChainLink) → List ChainLink
 links_in places = items_in no_link places
 
--- the bucket of a hash, of four for each place: as far from the first one as the hash is from 0
+-- the upper bits of this number depend on most bits of the hash
+abbrev pub scrambled : ℕ → ℕ
+scrambled hash = hash * FACTOR % 2 ^ 64
+
+-- the bucket of a hash, of four for each place: as far from the first one as the scrambled hash is from 0
 abbrev pub bucket_of : ℕ → ℕ → ℕ
-bucket_of hash places = hash * places / 2 ^ 62
+bucket_of hash places = scrambled hash * places / 2 ^ 62
 
 -- what a hasher answers that is fed this
 abbrev pub hash_of : {H : Type 0} → (H → ℕ) → (H → List ℕ → H) → H → List (List ℕ) → ℕ

@@ -40,6 +40,10 @@ pub(crate) fn bucket_of_bytes<B: BuildHasher>(hasher: &B, bytes: &[u8], places: 
     bucket_of_hash(state.finish(), places)
 }
 
+/// A factor of hashes. The upper bits of the product choose the bucket, and depend on most bits of the hash. Those of the hash alone
+/// are alike for keys of some steps, as `FoldHasher` makes them.
+const FACTOR: u64 = 1_647_494_261;
+
 /// Returns the bucket of a hash in a map of so many places, of which there is at least one.
 #[inline]
 fn bucket_of_hash(hash: u64, places: usize) -> u128
@@ -47,5 +51,5 @@ fn bucket_of_hash(hash: u64, places: usize) -> u128
     ensures value { result ≡ bucket_of hash places }
     ensures below { result < 4 * places }
 {
-    (hash as u128 * places as u128) >> 62
+    (hash.wrapping_mul(FACTOR) as u128 * places as u128) >> 62
 }
