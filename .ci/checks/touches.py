@@ -27,11 +27,11 @@ WALKS = {
     "values": ("next", "fmt"),
     "retain": ("clear", "for_each_mut", "retain"),
     "meta_slot_map": ("held_from", "fmt"),
-    "word_table": ("new", "copy_of", "drop"),
-    "full_table": ("fill", "copy_items", "empty"),
+    "word_table": ("copy_of",),
+    "full_table": ("copy_items",),
 }
 # Calls of a single step: those of counted tables, of new values, of a value's part, and of std.
-CALLS = {"item", "item_mut", ".put", ".take", ".get", ".get_mut", ".len", ".as_ref", ".is_some", ".ok", "Touches::new", "SlotTableKey::new", "SlotMapKey::new",
+CALLS = {"item", "item_mut", ".put", ".take", ".get", ".get_mut", ".len", ".as_ref", ".is_some", ".ok", "Counted::new", "Touches::new", "SlotTableKey::new", "SlotMapKey::new",
          "Link::held", "Iter::new", "Keys::new", "Values::new", "P::of", "mem::replace", "write!", "Some", "Ok", "Err"}
 COUNTER = "touches: &mut Touches"
 FUNCTION = re.compile(r"( *)(?:pub(?:\(crate\))? )?fn (\w+)")

@@ -32,9 +32,6 @@ module _ {T : Type 0} (other : T) where
   items_in-within row items place is below = let same = length-items_in row in let as_long = ap length is in omega arith
 
 module _ {T : Type 0} where
-  pub HasEachPlace-filled : (row : List (Option T)) (x : T) → ((i : ℕ) → i < length row → place_at row i ≡ Some x) → HasEachPlace row
-  HasEachPlace-filled row x filled i below = subst (λ (p : Option T). IsSome p) (sym (filled i below)) refl
-
   pub HasEachPlace-replicate : (row : List (Option T)) (n : ℕ) (x : T) → row ≡ replicate n (Some x) → HasEachPlace row
   HasEachPlace-replicate row n x filled i below =
       let long = ap length filled ∙ length-replicate n (Some x) in
