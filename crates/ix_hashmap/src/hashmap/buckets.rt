@@ -2,13 +2,13 @@
 ghost use Rattle.std.specs.Prelude.{◌≡◌, [], ◌∷◌, true};
 ghost use Rattle.std.proofs.Common.{ap};
 ghost use Rattle.std.specs.Mem.{type_size};
-ghost use Rattle.ix_tables.specs.Memory.{memory_plus, table_memory};
+ghost use Rattle.ix_tables.specs.Memory.{memory_plus, items_memory};
 ghost use Rattle.std.specs.Result.{IfErr, result_ok};
 ghost use Rattle.ix_slottable.specs.SlotTableSteps.{SlotTableInsert};
 ghost use Rattle.ix_hashmap.specs.inner.HashChains.{hash_of, IsIndexed, IsBucket};
 ghost use Rattle.ix_hashmap.specs.laws.HashChains.{IsIndexed-clone};
 
-use crate::hashmap::chain_link::NO_PLACE;
+use crate::hashmap::chain_link::{NO_LINK, NO_PLACE};
 use crate::hashmap::chain_table::ChainTable;
 use crate::hashmap::hashed::{bucket_of, bucket_of_bytes};
 use crate::hashmap::search::{find_bytes, find_from};
@@ -16,7 +16,7 @@ use crate::hashmap::{ChainLink, HashMapFamily, Hashed, LinkTable};
 use ix_flatmap::flatmap::{self, find_in_order};
 use ix_flatmap::map::{CopyIn, CopyInline, HeapIndex, InlineIndex, KeyIndex, Pair, PairIndex};
 use ix_slottable::slottable::{Link, MetaSlotTable, SlotTableKey};
-use ix_tables::{HeapTable, InlineTable, MAX_FIXED_CAPACITY, MemorySize, Table};
+use ix_tables::{FilledHeapTable, FilledInlineTable, MAX_FIXED_CAPACITY, MemorySize, Table};
 use std::alloc::{AllocError, Allocator};
 use std::convert::AsSlice;
 use std::hash::{BuildHasher, Hash};
@@ -174,11 +174,11 @@ impl<K: Eq + Hash + Drop, V: Drop, C: LinkTable, B: BuildHasher> KeyIndex<K, V> 
 }
 
 impl<P: Hashed, const CAPACITY: usize, B: BuildHasher> InlineIndex<P, CAPACITY>
-    for Buckets<InlineTable<ChainLink, CAPACITY>, B> {
+    for Buckets<FilledInlineTable<ChainLink, CAPACITY>, B> {
     type Setup = B;
 
     fn new_inline(setup: B) -> Self {
-        let links = ChainTable::new(InlineTable::default());
+        let links = ChainTable::new(FilledInlineTable::full(NO_LINK));
         Buckets {
             links,
             hasher: setup,
@@ -187,12 +187,12 @@ impl<P: Hashed, const CAPACITY: usize, B: BuildHasher> InlineIndex<P, CAPACITY>
 }
 
 impl<P: Hashed, const CAPACITY: usize, B: BuildHasher + Copy> CopyInline<P, CAPACITY>
-    for Buckets<InlineTable<ChainLink, CAPACITY>, B> {
+    for Buckets<FilledInlineTable<ChainLink, CAPACITY>, B> {
     fn copy_inline(&self) -> Self {
         // Names the number of places, by which the check knows that the tables have as many.
         let _places = self.links.len();
         Buckets {
-            links: ChainTable::copy_of(InlineTable::default(), &self.links),
+            links: ChainTable::copy_of(FilledInlineTable::new(NO_LINK), &self.links),
             hasher: self.hasher,
         }
     }
@@ -201,18 +201,18 @@ impl<P: Hashed, const CAPACITY: usize, B: BuildHasher + Copy> CopyInline<P, CAPA
 impl<K: Eq + Hash + Drop, V: Drop, A: Allocator + Copy, B: BuildHasher + Drop> HeapIndex<
     Pair<K, V>,
     A,
-> for Buckets<HeapTable<ChainLink, A>, B> {
+> for Buckets<FilledHeapTable<ChainLink, A>, B> {
     ghost use Rattle.ix_hashmap.specs.contracts.hashmap.chain_link.ChainLink as chain_link;
 
     type Setup = B;
 
     type Family = HashMapFamily<K, V, B>;
 
-    ghost memory = { λ pairs capacity. memory_plus pairs (table_memory (type_size chain_link.the_row) capacity) };
+    ghost memory = { λ pairs capacity. memory_plus pairs (items_memory (type_size chain_link.the_row) capacity) };
 
     #[inline]
     fn memory_size(pairs: MemorySize, capacity: usize) -> MemorySize {
-        pairs.saturating_add(HeapTable::<ChainLink, A>::memory_size(capacity))
+        pairs.saturating_add(FilledHeapTable::<ChainLink, A>::memory_size(capacity))
     }
 
     fn new_in(alloc: A, capacity: usize, setup: B) -> Result<Self, AllocError> {
@@ -220,7 +220,7 @@ impl<K: Eq + Hash + Drop, V: Drop, A: Allocator + Copy, B: BuildHasher + Drop> H
         if capacity > MAX_FIXED_CAPACITY {
             return Err(AllocError);
         }
-        let links = ChainTable::new(HeapTable::new(alloc, capacity)?);
+        let links = ChainTable::new(FilledHeapTable::full(alloc, capacity, NO_LINK)?);
         Ok(Buckets {
             links,
             hasher: setup,
@@ -229,11 +229,11 @@ impl<K: Eq + Hash + Drop, V: Drop, A: Allocator + Copy, B: BuildHasher + Drop> H
 }
 
 impl<P: Hashed, A: Allocator + Copy, D: Allocator + Copy, B: BuildHasher + Copy> CopyIn<P, D>
-    for Buckets<HeapTable<ChainLink, A>, B> {
-    type Made = Buckets<HeapTable<ChainLink, D>, B>;
+    for Buckets<FilledHeapTable<ChainLink, A>, B> {
+    type Made = Buckets<FilledHeapTable<ChainLink, D>, B>;
 
-    fn copy_in(&self, alloc: D) -> Result<Buckets<HeapTable<ChainLink, D>, B>, AllocError> {
-        let table = HeapTable::new(alloc, self.links.len())?;
+    fn copy_in(&self, alloc: D) -> Result<Buckets<FilledHeapTable<ChainLink, D>, B>, AllocError> {
+        let table = FilledHeapTable::new(alloc, self.links.len(), NO_LINK)?;
         Ok(Buckets {
             links: ChainTable::copy_of(table, &self.links),
             hasher: self.hasher,

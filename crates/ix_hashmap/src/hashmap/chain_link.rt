@@ -2,7 +2,7 @@
 ghost use Rattle.std.specs.Prelude.{◌≡◌, Bool, true, nat_le};
 ghost use Rattle.ix_tables.specs.declared.cells.table.TheConstants.{MAX_FIXED_CAPACITY};
 
-use ix_tables::{HeapTable, InlineTable, MAX_FIXED_CAPACITY, Table};
+use ix_tables::{FilledHeapTable, FilledInlineTable, MAX_FIXED_CAPACITY, Table};
 use std::alloc::Allocator;
 
 /// What a hash map keeps for each of its places: the first places of four buckets, those with four times the number of the place
@@ -60,7 +60,7 @@ pub trait LinkTable: Table<ChainLink> {
         ensures { result ≡ has_chains };
 }
 
-impl<const CAPACITY: usize> LinkTable for InlineTable<ChainLink, CAPACITY> {
+impl<const CAPACITY: usize> LinkTable for FilledInlineTable<ChainLink, CAPACITY> {
     ghost has_chains = { nat_le CAPACITY MAX_FIXED_CAPACITY };
 
     #[inline]
@@ -69,7 +69,7 @@ impl<const CAPACITY: usize> LinkTable for InlineTable<ChainLink, CAPACITY> {
     }
 }
 
-impl<A: Allocator + Copy> LinkTable for HeapTable<ChainLink, A> {
+impl<A: Allocator + Copy> LinkTable for FilledHeapTable<ChainLink, A> {
     ghost has_chains = { true };
 
     #[inline]

@@ -1,15 +1,16 @@
 //! A table of links, which are chains of places.
-ghost use Rattle.std.specs.Prelude.{◌≡◌, ◌≢◌, ◌*◌, ◌<◌, ◌≤◌, length, replicate};
+ghost use Rattle.std.specs.Prelude.{◌≡◌, ◌≢◌, ◌*◌, ◌<◌, ◌≤◌, length, replicate, Some};
 ghost use Rattle.ix_tables.specs.Places.{IsVacant};
 ghost use Rattle.ix_hashmap.specs.inner.HashChains.{no_link, head_at, next_at, links_set_head, links_set_next, links_insert_first, IsChainFrom, IsOnChain, IsBefore, IsUnlinked};
 
 use crate::hashmap::ChainLink;
 use crate::hashmap::chain_link::NO_LINK;
-use ix_slottable::full_table::{copy_items, empty, fill};
+use ix_slottable::full_table::copy_items;
 use ix_tables::{Counted, Table, Touches};
 use std::marker::Model;
 
 /// A link in each place of a table. Contracts see the list of them.
+#[derive(Drop)]
 pub(crate) struct ChainTable<C: Table<ChainLink>> {
     links: Counted<C>,
 }
@@ -28,14 +29,15 @@ impl<C: Table<ChainLink>> Model for ChainTable<C> {
 }
 
 impl<C: Table<ChainLink>> ChainTable<C> {
-    /// Makes the chains of an empty table, all without a place. O(the number of places).
-    pub(crate) fn new(table: C) -> Self
-        requires { IsVacant (C.places table) }
-        ensures { result ≡ replicate (length (C.places table)) no_link }
+    /// Makes chains of a table with a link in each place, none of which has a place. O(1).
+    #[inline]
+    pub(crate) fn new(links: C) -> Self
+        requires { C.places links ≡ replicate (length (C.places links)) (Some no_link) }
+        ensures { result ≡ replicate (length (C.places links)) no_link }
     {
-        let mut links = Counted::new(table);
-        fill(&mut links, NO_LINK);
-        ChainTable { links }
+        ChainTable {
+            links: Counted::new(links),
+        }
     }
 
     /// Makes the chains of `other` in an empty table of as many places. O(the number of places).
@@ -156,14 +158,5 @@ impl<C: Table<ChainLink>> ChainTable<C> {
         ensures { self.new ≡ links_set_next self.old place next }
     {
         self.links.get_mut(place as usize, &mut Touches::new()).next = next;
-    }
-}
-
-/// O(the number of places).
-impl<C: Table<ChainLink>> Drop for ChainTable<C> {
-    fn drop(self) {
-        let ChainTable { mut links } = self;
-        empty(&mut links);
-        links.end();
     }
 }

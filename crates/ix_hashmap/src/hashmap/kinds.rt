@@ -9,7 +9,7 @@ ghost use Rattle.ix_hashmap.specs.contracts.hashmap.chain_link.ChainLink as chai
 
 use crate::hashmap::{Buckets, ChainLink};
 use ix_flatmap::map::{HeapMap, InlineMap, MetaMap};
-use ix_tables::{ContainerFamily, HeapTable, InlineTable, MemorySize, Uninit};
+use ix_tables::{ContainerFamily, FilledHeapTable, FilledInlineTable, MemorySize, Uninit};
 use std::alloc::{AllocError, Allocator, Global};
 use std::hash::{BuildHasher, BuildHasherDefault, FoldHasher, Hash};
 use std::marker::PhantomData;
@@ -33,7 +33,7 @@ pub type FixedSizeHashMap<K, V, const CAPACITY: usize, B = DefaultHashBuilder> =
     K,
     V,
     CAPACITY,
-    Buckets<InlineTable<ChainLink, CAPACITY>, B>,
+    Buckets<FilledInlineTable<ChainLink, CAPACITY>, B>,
 >;
 
 /// A hash map whose memory is allocated from `A` when it is made, and deallocated when it is dropped. Its capacity is at most
@@ -42,7 +42,7 @@ pub type HashMap<K, V, A = Global, B = DefaultHashBuilder> = HeapMap<
     K,
     V,
     A,
-    Buckets<HeapTable<ChainLink, A>, B>,
+    Buckets<FilledHeapTable<ChainLink, A>, B>,
 >;
 
 /// Returns what [`MetaMap::memory_size`](ix_flatmap::map::MetaMap) of a hash map returns: what a table of pairs, one of links and one of
