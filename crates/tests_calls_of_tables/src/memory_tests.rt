@@ -13,41 +13,74 @@ use std::mem::size_of;
 use std::test::Fail;
 use test_support::Findings;
 
-/// Checks the bytes that each of 8 more places takes.
-fn check_place<One, Nine>(findings: &Findings, wanted: usize, container: &str) {
-    let more = size_of::<Nine>().wrapping_sub(size_of::<One>());
-    findings.expect_same(more, wanted.wrapping_mul(8), container);
-}
-
 #[test]
 fn inline() -> Result<(), Fail> {
     let findings = Findings::new();
-    check_place::<StaticVec<u64, 1>, StaticVec<u64, 9>>(&findings, 8, "a vector");
-    check_place::<StaticString<8>, StaticString<16>>(&findings, 1, "a string");
-    check_place::<InlineTable<u64, 1>, InlineTable<u64, 9>>(&findings, 16, "a table");
-    check_place::<FilledInlineTable<u64, 1>, FilledInlineTable<u64, 9>>(
-        &findings,
-        8,
-        "a filled table",
-    );
-    check_place::<FixedSizeQueue<u64, 1>, FixedSizeQueue<u64, 9>>(&findings, 16, "a queue");
-    check_place::<FixedSizeQueue<u8, 8>, FixedSizeQueue<u8, 16>>(&findings, 2, "a queue of bytes");
-    check_place::<FixedSizeSlotTable<u64, 1>, FixedSizeSlotTable<u64, 9>>(
-        &findings,
-        32,
-        "a slot table",
-    );
-    check_place::<FixedSizeSlotMap<u64, 1>, FixedSizeSlotMap<u64, 9>>(&findings, 40, "a slot map");
-    check_place::<FixedSizeFlatMap<u64, u64, 1>, FixedSizeFlatMap<u64, u64, 9>>(
-        &findings,
-        40,
-        "a flat map",
-    );
-    check_place::<FixedSizeHashMap<u64, u64, 2>, FixedSizeHashMap<u64, u64, 10>>(
-        &findings,
-        60,
-        "a hash map",
-    );
+    // The second container has 8 places more than the first.
+    for (few, more, bytes, container) in [
+        (
+            size_of::<StaticVec<u64, 1>>(),
+            size_of::<StaticVec<u64, 9>>(),
+            8,
+            "a vector",
+        ),
+        (
+            size_of::<StaticString<8>>(),
+            size_of::<StaticString<16>>(),
+            1,
+            "a string",
+        ),
+        (
+            size_of::<InlineTable<u64, 1>>(),
+            size_of::<InlineTable<u64, 9>>(),
+            16,
+            "a table",
+        ),
+        (
+            size_of::<FilledInlineTable<u64, 1>>(),
+            size_of::<FilledInlineTable<u64, 9>>(),
+            8,
+            "a filled table",
+        ),
+        (
+            size_of::<FixedSizeQueue<u64, 1>>(),
+            size_of::<FixedSizeQueue<u64, 9>>(),
+            16,
+            "a queue",
+        ),
+        (
+            size_of::<FixedSizeQueue<u8, 8>>(),
+            size_of::<FixedSizeQueue<u8, 16>>(),
+            2,
+            "a queue of bytes",
+        ),
+        (
+            size_of::<FixedSizeSlotTable<u64, 1>>(),
+            size_of::<FixedSizeSlotTable<u64, 9>>(),
+            32,
+            "a slot table",
+        ),
+        (
+            size_of::<FixedSizeSlotMap<u64, 1>>(),
+            size_of::<FixedSizeSlotMap<u64, 9>>(),
+            40,
+            "a slot map",
+        ),
+        (
+            size_of::<FixedSizeFlatMap<u64, u64, 1>>(),
+            size_of::<FixedSizeFlatMap<u64, u64, 9>>(),
+            40,
+            "a flat map",
+        ),
+        (
+            size_of::<FixedSizeHashMap<u64, u64, 2>>(),
+            size_of::<FixedSizeHashMap<u64, u64, 10>>(),
+            60,
+            "a hash map",
+        ),
+    ] {
+        findings.expect_same(few.wrapping_add(8 * bytes), more, container);
+    }
     findings.verdict()
 }
 
