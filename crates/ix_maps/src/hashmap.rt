@@ -2,7 +2,7 @@
 
 #[doc(hidden)]
 pub mod chain_link {
-    pub use ix_hashmap::hashmap::{ChainLink, LinkTable};
+    pub use ix_hashmap::hashmap::ChainLink;
 }
 
 #[doc(hidden)]
