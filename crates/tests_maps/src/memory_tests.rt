@@ -109,15 +109,15 @@ const FLAT_SIZES: &[(usize, u16)] = &[
     (200, 200 + 13 + 200 + 13),
 ];
 
-/// The capacity of a hash map, and the number of blocks of 16 bytes that it takes: 16 bytes for each pair and for each link, 40 for each
+/// The capacity of a hash map, and the number of blocks of 16 bytes that it takes: 16 bytes for each pair and for each link, 20 for each
 /// link of a chain, and one for the mark of each. An allocation takes whole blocks, so a seventh one would take one more.
 pub(crate) const HASH_SIZES: &[(usize, u16)] = &[
     (0, 0),
-    (1, 2 * (1 + 1) + 3 + 1),
-    (3, 2 * (3 + 1) + 8 + 1),
-    (8, 2 * (8 + 1) + 20 + 1),
-    (16, 2 * (16 + 1) + 40 + 1),
-    (33, 2 * (33 + 3) + 83 + 3),
+    (1, 2 * (1 + 1) + 2 + 1),
+    (3, 2 * (3 + 1) + 4 + 1),
+    (8, 2 * (8 + 1) + 10 + 1),
+    (16, 2 * (16 + 1) + 20 + 1),
+    (33, 2 * (33 + 3) + 42 + 3),
 ];
 
 #[test]
@@ -147,7 +147,7 @@ fn each_making(rt: HostRuntime) -> Result<(), Fail> {
     findings.verdict()
 }
 
-/// Checks the sizes of flat maps and of hash maps whose pairs take `size` bytes each. A hash map takes 41 bytes a place more.
+/// Checks the sizes of flat maps and of hash maps whose pairs take `size` bytes each. A hash map takes 21 bytes a place more.
 fn check_item<T: Drop>(findings: &Findings, alloc: Global, size: usize) {
     let blocks = usize::from(size > 0).saturating_add(3);
     check_memory_sizes(
@@ -172,7 +172,7 @@ fn check_item<T: Drop>(findings: &Findings, alloc: Global, size: usize) {
     check_memory_sizes(
         findings,
         alloc,
-        size.saturating_add(59),
+        size.saturating_add(39),
         blocks.saturating_add(2),
         |n| {
             let size = HashMap::<u64, T, &LocalHeap>::memory_size(n);
