@@ -6,6 +6,7 @@ ghost use Rattle.ix_maps.specs.MapState.{map_value};
 ghost use Rattle.ix_maps.specs.declared.flatmap.MapError.TheVariants.{KeyAlreadyExists, IsFull};
 
 use ix_maps::{BoundedMap, FixedSizeFlatMap, FixedSizeHashMap, MapError};
+use std::hash::RandomState;
 
 /// What is known of a session.
 #[derive(Clone, Copy, PartialEq, Eq, Debug)]
@@ -18,7 +19,11 @@ pub struct Seen {
 pub type FewSessions<N> = FixedSizeFlatMap<N, Seen, 16>;
 
 /// At most 1,024 sessions. A look-up compares the name with those whose hashes lie near its own.
-pub type ManySessions<N> = FixedSizeHashMap<N, Seen, 1024>;
+///
+/// Peers choose their names, so the hasher is std's `RandomState`, which draws a seed: a map is made by
+/// `ManySessions::with_hasher(RandomState::new(&rt)?)`. By a seed that is known, as that of the default hasher, a stranger finds 1,024
+/// names with one bucket, and each look-up compares a name with all of them. No contract here depends on the hasher.
+pub type ManySessions<N> = FixedSizeHashMap<N, Seen, 1024, RandomState>;
 
 /// Opens the session of a peer at `time`. Returns an error if the peer has one, or if there is no room.
 pub fn open<N: Eq, M: BoundedMap<N, Seen>>(

@@ -17,5 +17,5 @@ pub use hashed::Hashed;
 pub use ix_flatmap::map::{Drain, IntoIter};
 pub use kinds::{
     DefaultHashBuilder, FixedSizeHashMap, HashMap, HashMapFamily, MetaHashMap, RelocatableHashMap,
-    UninitHashMap, hash_map_memory_law,
+    UninitHashMap, WithHasher, hash_map_memory_law,
 };

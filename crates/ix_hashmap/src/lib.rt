@@ -6,5 +6,5 @@ pub mod hashmap;
 
 pub use hashmap::{
     Buckets, ChainLink, DefaultHashBuilder, FixedSizeHashMap, HashMap, HashMapFamily, Hashed,
-    LinkTable, MetaHashMap, RelocatableHashMap, UninitHashMap,
+    LinkTable, MetaHashMap, RelocatableHashMap, UninitHashMap, WithHasher,
 };

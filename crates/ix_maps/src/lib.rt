@@ -18,7 +18,7 @@ pub use ix_flatmap::{
 };
 pub use ix_hashmap::{
     Buckets, ChainLink, DefaultHashBuilder, FixedSizeHashMap, HashMap, HashMapFamily, Hashed,
-    LinkTable, MetaHashMap, RelocatableHashMap, UninitHashMap,
+    LinkTable, MetaHashMap, RelocatableHashMap, UninitHashMap, WithHasher,
 };
 pub use ix_queue::{FixedSizeQueue, MetaQueue, Queue, QueueFamily, RelocatableQueue, UninitQueue};
 pub use ix_slotmap::{

@@ -1,10 +1,12 @@
 //! Examples of hash maps: how they are made. Their calls are those of flat maps.
-use ix_cells::{ContainerFamily, RelocatableContainer};
+use ix_cells::{ContainerFamily, InlineTable, RelocatableContainer};
 use ix_maps::MapError::{IsFull, KeyAlreadyExists};
 use ix_maps::{
-    DefaultHashBuilder, FixedSizeHashMap, HashMap, HashMapFamily, RelocatableHashMap, UninitHashMap,
+    ChainLink, DefaultHashBuilder, FixedSizeHashMap, HashMap, HashMapFamily, LinkTable,
+    RelocatableHashMap, UninitHashMap, WithHasher,
 };
 use std::alloc::Global;
+use std::hash::RandomState;
 use std::test::Fail;
 
 // Shows: FixedSizeHashMap
@@ -65,4 +67,25 @@ fn a_map_is_allocated_in_one_step_or_two(rt: HostRuntime) -> Result<(), Fail> {
     let of_family = HashMapFamily::<u64, u8, DefaultHashBuilder>::with_capacity(rt.alloc(), 3)?;
     assert_eq!(rt; of_family.capacity(), 3);
     Ok(())
+}
+
+// Shows: WithHasher
+#[test]
+fn a_map_made_in_two_steps_has_a_seed_that_is_drawn(rt: HostRuntime) -> Result<(), Fail> {
+    let uninit = UninitHashMap::<u64, u8, RandomState>::new_uninit(3);
+    let memory = WithHasher {
+        alloc: rt.alloc(),
+        hasher: RandomState::new(&rt)?,
+    };
+    let mut ages = uninit.init(memory)?;
+    assert_eq!(rt; ages.insert(1001, 30), Ok(()));
+    Ok(())
+}
+
+// Shows: LinkTable, LinkTable::has_chains
+// Shows: LinkTable for InlineTable
+#[test]
+fn a_map_has_chains_up_to_the_greatest_capacity(rt: HostRuntime) {
+    assert!(rt; InlineTable::<ChainLink, 4_294_967_295>::has_chains());
+    assert!(rt; !InlineTable::<ChainLink, 4_294_967_296>::has_chains());
 }

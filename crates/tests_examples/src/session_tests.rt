@@ -2,6 +2,7 @@
 use examples::sessions_by_name::{FewSessions, ManySessions, Seen, close, note_heard, open};
 use ix_maps::{BoundedMap, MapError};
 use ix_string::StaticString;
+use std::hash::RandomState;
 
 type Name = StaticString<16>;
 
@@ -33,7 +34,8 @@ fn a_session_is_opened_heard_and_closed_in_either_map(rt: HostRuntime) {
     let mut few = FewSessions::new();
     assert_eq!(rt; closed_after_a_visit(&mut few, camera, radar), wanted);
     assert_eq!(rt; close(&mut few, &camera), None);
-    let mut many = ManySessions::new();
+    let state = RandomState::new(&rt).expect(&rt, "a seed is drawn");
+    let mut many = ManySessions::with_hasher(state);
     assert_eq!(rt; closed_after_a_visit(&mut many, camera, radar), wanted);
     assert_eq!(rt; close(&mut many, &camera), None);
 }

@@ -9,7 +9,7 @@ use ix_flatmap::{
     RelocatableFlatMap, UninitFlatMap,
 };
 use ix_hashmap::{
-    DefaultHashBuilder, FixedSizeHashMap, HashMap, RelocatableHashMap, UninitHashMap,
+    DefaultHashBuilder, FixedSizeHashMap, HashMap, RelocatableHashMap, UninitHashMap, WithHasher,
 };
 use ix_slottable::Link;
 use ix_tables::{InitError, RelocatableContainer, Table};
@@ -119,6 +119,11 @@ impl RandomSource for Sevens {
     }
 }
 
+/// Makes a container of 3 in two steps.
+fn init_of_three<M, U: RelocatableContainer<M>>(memory: M) -> Result<U::Ready, InitError<U>> {
+    U::new_uninit(3).init(memory)
+}
+
 /// Checks maps whose hashers are made by `state`.
 fn check_state(findings: &Findings, alloc: Global, state: RandomState) {
     let mut fixed = FixedSizeHashMap::<u64, u64, 3, RandomState>::with_hasher(state);
@@ -126,6 +131,18 @@ fn check_state(findings: &Findings, alloc: Global, state: RandomState) {
     match HashMap::<u64, u64, Global, RandomState>::with_hasher(alloc, 3, state) {
         Ok(mut map) => check_calls(findings, &mut map),
         Err(AllocError) => findings.miss("there is memory"),
+    }
+    let memory = WithHasher {
+        alloc,
+        hasher: state,
+    };
+    match UninitHashMap::<u64, u64, RandomState>::new_uninit(3).init(memory) {
+        Ok(mut map) => check_calls(findings, &mut map),
+        Err(_) => findings.miss("there is memory"),
+    }
+    match init_of_three::<_, UninitHashMap<u64, u64, RandomState>>(memory) {
+        Ok(mut map) => check_calls(findings, &mut map),
+        Err(_) => findings.miss("there is memory"),
     }
 }
 

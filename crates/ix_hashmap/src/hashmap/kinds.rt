@@ -65,8 +65,8 @@ pub fn hash_map_memory_law<
 pub type RelocatableHashMap<K, V, A = Global, B = DefaultHashBuilder> = HashMap<K, V, A, B>;
 
 /// An uninitialised hash map: a capacity without memory.
-/// [`RelocatableContainer::init`](ix_tables::RelocatableContainer::init) makes it a [`RelocatableHashMap`], whose hasher is
-/// `B::default()`.
+/// [`RelocatableContainer::init`](ix_tables::RelocatableContainer::init) makes it a [`RelocatableHashMap`]: from an allocator one
+/// whose hashers `B::default()` makes, and from [`WithHasher`] one whose hashers are made by what came with the allocator.
 pub type UninitHashMap<K, V, B = DefaultHashBuilder> = Uninit<HashMapFamily<K, V, B>>;
 
 /// The relocatable hash maps from `K` to `V`, one type for each allocator. Hashers are made by a `B`.
@@ -92,5 +92,34 @@ impl<
         capacity: usize,
     ) -> Result<RelocatableHashMap<K, V, A, B>, AllocError> {
         HashMap::with_hasher(alloc, capacity, B::default())
+    }
+}
+
+/// An allocator, and what makes the hashers of the map that an [`UninitHashMap`] becomes in its memory. Where strangers choose the
+/// keys, that is std's `RandomState`, which has no default: it draws its seed.
+#[derive(Clone, Copy, Drop)]
+pub struct WithHasher<A, B> {
+    /// The memory is allocated from this.
+    pub alloc: A,
+    /// Makes the hashers.
+    pub hasher: B,
+}
+
+impl<K: Eq + Hash + Drop, V: Drop, A: Allocator + Copy, B: BuildHasher + Drop> ContainerFamily<
+    WithHasher<A, B>,
+> for HashMapFamily<K, V, B> {
+    type Container = RelocatableHashMap<K, V, A, B>;
+
+    ghost is_empty_with = { λ capacity map. map ≡ slot_table_new capacity };
+
+    /// Creates an empty map with room for `capacity` keys. O(`capacity`), with at most six allocations. If one fails, what makes the
+    /// hashers is dropped.
+    #[inline]
+    fn with_capacity(
+        with_hasher: WithHasher<A, B>,
+        capacity: usize,
+    ) -> Result<RelocatableHashMap<K, V, A, B>, AllocError> {
+        let WithHasher { alloc, hasher } = with_hasher;
+        HashMap::with_hasher(alloc, capacity, hasher)
     }
 }
