@@ -4,6 +4,7 @@ pub mod Draining
 pub mod Entries
 pub mod FreeKeys
 pub mod FullTables
+pub mod KeyRanges
 pub mod Memory
 pub mod Outcomes
 pub mod SlotTableCalls

@@ -1,3 +1,4 @@
 -- What no public contract cites: what the code behind it means.
 pub mod FreeList
 pub mod FullTables
+pub mod KeyRange

@@ -1,6 +1,6 @@
 //! The iterator that removes the values of a slot table.
 ghost use Rattle.std.specs.Prelude.{◌≡◌, length, Some, IfSome};
-ghost use Rattle.std.specs.Iterator.{YieldsFirst, UpTo, at_most, item_count};
+ghost use Rattle.std.specs.Iterator.{YieldsFirst, YieldsLast, UpTo, at_most, item_count};
 ghost use Rattle.std.specs.Iterator.SizeHint.{IsWithinCount};
 ghost use Rattle.ix_slottable.specs.SlotTableState.{entries};
 
@@ -20,18 +20,21 @@ pub struct IntoIter<T, S: Table<T>, L: Table<Link>> {
     map: MetaSlotTable<T, S, L>,
     /// The least key that is still to be visited.
     key: usize,
+    /// The key after the greatest one that is still to be visited.
+    end: usize,
 }
 
 impl<T, S: Table<T>, L: Table<Link>> Model for IntoIter<T, S, L> {
-    ghost use Rattle.std.specs.Prelude.{◌≡◌, ℕ, List, length, drop};
+    ghost use Rattle.std.specs.Prelude.{ℕ, List, length, slice_range};
     ghost use Rattle.ix_slottable.specs.SlotTableState.{held_count, entries_from};
+    ghost use Rattle.ix_slottable.specs.inner.KeyRange.{IsKeyRange};
 
     ghost Value = { List (ℕ × T) };
 
-    ghost view = { λ iter. entries_from iter.key (drop iter.key iter.map.values) };
+    ghost view = { λ iter. entries_from iter.key (slice_range iter.map.values iter.key iter.end) };
 
-    ghost invariant = { λ iter.
-        held_count iter.map ≡ length (entries_from iter.key (drop iter.key iter.map.values)) };
+    ghost invariant = { λ iter. IsKeyRange (length iter.map.values) iter.key iter.end (held_count iter.map)
+        (entries_from iter.key (slice_range iter.map.values iter.key iter.end)) };
 }
 
 impl<T: Drop, S: Table<T>, L: Table<Link>> Iterator for IntoIter<T, S, L> {
@@ -66,6 +69,23 @@ impl<T: Drop, S: Table<T>, L: Table<Link>> Iterator for IntoIter<T, S, L> {
     }
 }
 
+impl<T: Drop, S: Table<T>, L: Table<Link>> DoubleEndedIterator for IntoIter<T, S, L> {
+    ghost next_back_gives = { YieldsLast (λ rest. rest) };
+
+    /// Removes the value of the last held key that is still to come and returns both, or `None` if there is none. O(the number
+    /// of free keys after it).
+    #[inline]
+    fn next_back(&mut self) -> Option<(SlotTableKey, T)> {
+        if self.map.is_empty() {
+            return None;
+        }
+        let number = self.map.held_before(self.end);
+        self.end = number;
+        let key = SlotTableKey::new(number);
+        Some((key, self.map.remove_unchecked(key)))
+    }
+}
+
 impl<T: Drop, S: Table<T>, L: Table<Link>> ExactSizeIterator for IntoIter<T, S, L> {
     /// Returns the number of items that are still to come. O(1).
     #[inline]
@@ -93,6 +113,11 @@ impl<T: Drop, S: Table<T>, L: Table<Link>> IntoIterator for MetaSlotTable<T, S, 
     /// Returns an iterator that removes the values, each with its key, in rising order of the keys. O(1).
     #[inline]
     fn into_iter(self) -> IntoIter<T, S, L> {
-        IntoIter { map: self, key: 0 }
+        let end = self.capacity();
+        IntoIter {
+            map: self,
+            key: 0,
+            end,
+        }
     }
 }

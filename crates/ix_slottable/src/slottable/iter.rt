@@ -1,6 +1,6 @@
 //! The iterator of slot tables.
 ghost use Rattle.std.specs.Prelude.{◌≡◌, length, Some, IfSome, ⊤};
-ghost use Rattle.std.specs.Iterator.{YieldsFirstBy, UpTo, at_most, item_count};
+ghost use Rattle.std.specs.Iterator.{YieldsFirstBy, YieldsLastBy, UpTo, at_most, item_count};
 ghost use Rattle.std.specs.Iterator.SizeHint.{IsWithinCount};
 ghost use Rattle.ix_slottable.specs.SlotTableState.{entries};
 
@@ -20,20 +20,23 @@ pub struct Iter<'a, T, S: Table<T>, L: Table<Link>> {
     map: &'a MetaSlotTable<T, S, L>,
     /// The least key that is still to be visited.
     key: usize,
+    /// The key after the greatest one that is still to be visited.
+    end: usize,
     /// The number of items that are still to come.
     left: usize,
 }
 
 impl<'a, T, S: Table<T>, L: Table<Link>> Model for Iter<'a, T, S, L> {
-    ghost use Rattle.std.specs.Prelude.{◌≡◌, ℕ, List, length, drop};
+    ghost use Rattle.std.specs.Prelude.{ℕ, List, length, slice_range};
     ghost use Rattle.ix_slottable.specs.SlotTableState.{entries_from};
+    ghost use Rattle.ix_slottable.specs.inner.KeyRange.{IsKeyRange};
 
     ghost Value = { List (ℕ × T) };
 
-    ghost view = { λ iter. entries_from iter.key (drop iter.key iter.map.now.values) };
+    ghost view = { λ iter. entries_from iter.key (slice_range iter.map.now.values iter.key iter.end) };
 
-    ghost invariant = { λ iter.
-        iter.left ≡ length (entries_from iter.key (drop iter.key iter.map.now.values)) };
+    ghost invariant = { λ iter. IsKeyRange (length iter.map.now.values) iter.key iter.end iter.left
+        (entries_from iter.key (slice_range iter.map.now.values iter.key iter.end)) };
 }
 
 impl<'a, T, S: Table<T>, L: Table<Link>> Iter<'a, T, S, L> {
@@ -45,6 +48,7 @@ impl<'a, T, S: Table<T>, L: Table<Link>> Iter<'a, T, S, L> {
         Iter {
             map,
             key: 0,
+            end: map.capacity(),
             left: map.len(),
         }
     }
@@ -57,6 +61,7 @@ impl<'a, T, S: Table<T>, L: Table<Link>> Iter<'a, T, S, L> {
         Iter {
             map: self.map,
             key: self.key,
+            end: self.end,
             left: self.left,
         }
     }
@@ -90,6 +95,24 @@ impl<'a, T, S: Table<T>, L: Table<Link>> Iterator for Iter<'a, T, S, L> {
         ensures upper { IfSome result.1 (UpTo (at_most (length self.now))) }
     {
         (self.left, Some(self.left))
+    }
+}
+
+impl<'a, T, S: Table<T>, L: Table<Link>> DoubleEndedIterator for Iter<'a, T, S, L> {
+    ghost next_back_gives = { YieldsLastBy (λ item. (item.0, item.1.now)) (λ rest. rest) };
+
+    /// Returns the last held key that is still to come with its value, or `None` if there is none. O(the number of free keys
+    /// after it).
+    #[inline]
+    fn next_back(&mut self) -> Option<(SlotTableKey, &'a T)> {
+        if self.left == 0 {
+            return None;
+        }
+        let key = self.map.held_before(self.end);
+        self.end = key;
+        self.left -= 1;
+        let key = SlotTableKey::new(key);
+        Some((key, self.map.get_unchecked(key)))
     }
 }
 

@@ -1,6 +1,6 @@
 //! The iterator over the keys of slot tables.
 ghost use Rattle.std.specs.Prelude.{◌≡◌, length, Some, IfSome, ⊤};
-ghost use Rattle.std.specs.Iterator.{YieldsFirstBy, UpTo, at_most, item_count};
+ghost use Rattle.std.specs.Iterator.{YieldsFirstBy, YieldsLastBy, UpTo, at_most, item_count};
 ghost use Rattle.std.specs.Iterator.SizeHint.{IsWithinCount};
 ghost use Rattle.std.specs.Map.{keys_of};
 
@@ -61,6 +61,19 @@ impl<'a, T, S: Table<T>, L: Table<Link>> Iterator for Keys<'a, T, S, L> {
         ensures upper { IfSome result.1 (UpTo (at_most (length self.now))) }
     {
         self.items.size_hint()
+    }
+}
+
+impl<'a, T, S: Table<T>, L: Table<Link>> DoubleEndedIterator for Keys<'a, T, S, L> {
+    ghost next_back_gives = { YieldsLastBy (λ key. key) (λ rest. rest) };
+
+    /// Returns the last held key that is still to come, or `None` if there is none. O(the number of free keys after it).
+    #[inline]
+    fn next_back(&mut self) -> Option<SlotTableKey> {
+        match self.items.next_back() {
+            Some((key, _)) => Some(key),
+            None => None,
+        }
     }
 }
 

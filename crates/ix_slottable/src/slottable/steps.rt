@@ -1,5 +1,5 @@
 //! The steps of which the calls of a slot table are made.
-ghost use Rattle.std.specs.Prelude.{◌≡◌, ◌≢◌, ◌+◌, ◌<◌, ◌≤◌, [], length, drop, true, false};
+ghost use Rattle.std.specs.Prelude.{◌≡◌, ◌≢◌, ◌+◌, ◌<◌, ◌≤◌, [], length, take, drop, true, false};
 ghost use Rattle.ix_slottable.specs.SlotTableState.{IsHeld, IsKey, IsFree, held_count, entries_from};
 ghost use Rattle.ix_slottable.specs.SlotTableSteps.{slot_table_fill, slot_table_insert};
 ghost use Rattle.ix_slottable.specs.inner.FreeList.{IsLinkOf};
@@ -52,6 +52,30 @@ impl<T, S: Table<T>, L: Table<Link>> MetaSlotTable<T, S, L> {
         let mut key = start + 1;
         while self.is_free(key, &mut touches) {
             key += 1;
+        }
+        key
+    }
+
+    /// Returns the greatest held key that is less than `end`; there is one.
+    #[doc(hidden)]
+    #[inline]
+    pub fn held_before(&self, end: usize) -> usize
+        requires within { end ≤ length self.now.values }
+        requires some { 0 < length (entries_from 0 (take end self.now.values)) }
+        ensures held { IsHeld self.now result }
+        ensures below { result < end }
+        ensures entries { entries_from 0 (take (result + 1) self.now.values)
+            ≡ entries_from 0 (take end self.now.values) }
+    {
+        let mut touches = Touches::new();
+        let last = end - 1;
+        // Asked once before the loop, as `held_from` does.
+        if !self.is_free(last, &mut touches) {
+            return last;
+        }
+        let mut key = last - 1;
+        while self.is_free(key, &mut touches) {
+            key -= 1;
         }
         key
     }

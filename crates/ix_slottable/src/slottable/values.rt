@@ -1,6 +1,6 @@
 //! The iterator over the values of slot tables, or over a part of each.
 ghost use Rattle.std.specs.Prelude.{◌≡◌, length, map, Some, IfSome, ⊤};
-ghost use Rattle.std.specs.Iterator.{YieldsFirstBy, UpTo, at_most, item_count};
+ghost use Rattle.std.specs.Iterator.{YieldsFirstBy, YieldsLastBy, UpTo, at_most, item_count};
 ghost use Rattle.std.specs.Iterator.SizeHint.{IsWithinCount};
 
 use crate::slottable::{Iter, Link, Part, Whole};
@@ -82,6 +82,23 @@ where
         ensures upper { IfSome result.1 (UpTo (at_most (length self.now))) }
     {
         self.items.size_hint()
+    }
+}
+
+impl<'a, T, S: Table<T>, L: Table<Link>, P: Part<T>> DoubleEndedIterator for Parts<'a, T, S, L, P>
+where
+    P::Of: 'a,
+{
+    ghost next_back_gives = { YieldsLastBy (λ part. part.now) (λ rest. rest) };
+
+    /// Returns the part of the last value that is still to come, or `None` if there is none. O(the number of free keys after
+    /// it).
+    #[inline]
+    fn next_back(&mut self) -> Option<&'a P::Of> {
+        match self.items.next_back() {
+            Some((_, value)) => Some(P::of(value)),
+            None => None,
+        }
     }
 }
 
