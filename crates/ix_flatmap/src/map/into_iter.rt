@@ -1,6 +1,6 @@
 //! The iterator that takes a map apart.
 ghost use Rattle.std.specs.Prelude.{◌≡◌, length, map, Some, IfSome};
-ghost use Rattle.std.specs.Iterator.{YieldsFirst, UpTo, at_most, item_count};
+ghost use Rattle.std.specs.Iterator.{YieldsFirst, YieldsLast, UpTo, at_most, item_count};
 ghost use Rattle.std.specs.Iterator.SizeHint.{IsWithinCount};
 ghost use Rattle.ix_slottable.specs.SlotTableState.{entries};
 
@@ -54,6 +54,20 @@ impl<P: IntoItem + Drop, S: Table<P>, L: Table<Link>> Iterator for IntoIter<P, S
         ensures upper { IfSome result.1 (UpTo (at_most (length self.now))) }
     {
         self.pairs.size_hint()
+    }
+}
+
+impl<P: IntoItem + Drop, S: Table<P>, L: Table<Link>> DoubleEndedIterator for IntoIter<P, S, L> {
+    ghost next_back_gives = { YieldsLast (λ rest. rest) };
+
+    /// Removes the last key that is still to come and returns it with its value, or `None` if there is none. O(the number of
+    /// free places after it).
+    #[inline]
+    fn next_back(&mut self) -> Option<(P::Key, P::Value)> {
+        match self.pairs.next_back() {
+            Some((_, pair)) => Some(pair.into_item()),
+            None => None,
+        }
     }
 }
 

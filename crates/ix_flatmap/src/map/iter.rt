@@ -1,6 +1,6 @@
 //! The iterator of maps.
 ghost use Rattle.std.specs.Prelude.{◌≡◌, length, map, Some, IfSome, ⊤};
-ghost use Rattle.std.specs.Iterator.{YieldsFirstBy, UpTo, at_most, item_count};
+ghost use Rattle.std.specs.Iterator.{YieldsFirstBy, YieldsLastBy, UpTo, at_most, item_count};
 ghost use Rattle.std.specs.Iterator.SizeHint.{IsWithinCount};
 ghost use Rattle.ix_flatmap.specs.MapState.{map_item};
 
@@ -63,6 +63,20 @@ impl<'a, K, V, S: Table<Pair<K, V>>, L: Table<Link>> Iterator for Iter<'a, K, V,
         ensures upper { IfSome result.1 (UpTo (at_most (length self.now))) }
     {
         self.pairs.size_hint()
+    }
+}
+
+impl<'a, K, V, S: Table<Pair<K, V>>, L: Table<Link>> DoubleEndedIterator for Iter<'a, K, V, S, L> {
+    ghost next_back_gives = { YieldsLastBy (λ item. (item.0.now, item.1.now)) (λ rest. rest) };
+
+    /// Returns the last key that is still to come with its value, or `None` if there is none. O(the number of free places after
+    /// it).
+    #[inline]
+    fn next_back(&mut self) -> Option<(&'a K, &'a V)> {
+        match self.pairs.next_back() {
+            Some((_, pair)) => Some((&pair.key, &pair.value)),
+            None => None,
+        }
     }
 }
 
