@@ -3,28 +3,38 @@
 --     item_place              the offset of the item
 --     item_apart, item_back   the item is taken out of the struct, and one is put back
 --     item_gone               what is left of the struct is one whose item was moved out
+--     bytes_out, bytes_in     a share of a struct whose item was moved out is one of its bytes, and back
+--     bytes_halves            two shares of it are cut and joined
 --     moved_send, moved_sync  it goes to another thread where an item may
-use Rattle.std.proofs.Common.{ℕ, ◌+◌, List, [], ◌∷◌, Option, Some, None, refl, ap}
+use Rattle.std.proofs.Common.{◌≡◌, ℕ, ◌+◌, List, [], ◌∷◌, Option, Some, None, refl, sym, ap}
 use seplogic.Ra.Ura.{Ura}
 use base.Fraction.{full_share}
-use base.Logic.{SProp, ent, sep, ex, all, all_e, guard, wand, apply∗}
-use base.Fml.{Lft, ftrue, fat}
+use base.Logic.{SProp, ent, sep, ex, all, all_e, guard, wand, apply∗, via, fst∗, snd∗}
+use base.Fml.{Lft, Share, Fml, ftrue, fat}
+use base.Share
+use contract.Conj.{conj, conj_i}
+use contract.Fact.{fact_use}
+use ghost.Rules.{Halves}
+use mathlib.Mathlib.Data.Part.{◌∈◌}
+use prog.Model.{Model}
 use base.Shift.{Keyless}
 use mir.Syntax.{Ty}
 use mir.Val.{Val, vcons, vnil}
+use types.Run.{well_typed}
+use denote.Opens.{Cuts-Halves}
 use prog.Memory.{align, up}
 use types.Logic.{Logic, sem}
 use types.Kit.{‵, raw, some, given, ◌⊛◌, ◌$◌, ◌∵◌, !, qed, by, move, drop, use1, use2, split, pick, learn, check, show, rewrite, fsplit, fjoin, fpack, done}
 use denote.Laws.{Typed}
-use denote.Memory.{part_at, lone}
+use denote.Memory.{part_at, part_of, raw_all, lone}
 use denote.Param.Laws.{Laws, param_laws}
-use denote.Param.Send.{IsSend, IsSync, struct_send, struct_sync}
+use denote.Param.Send.{IsSend, IsSync, struct_send, struct_sync, cell_keyless}
 use denote.RattleType.{RattleType}
 use denote.Steps.{only, nothing}
 use denote.Struct.Declared as Declared
 use denote.Struct.Members.{Member}
 use borrow.Table.OneValue.{part_in, part_out}
-use Rattle.core.proofs.cell.Inside.{round, wraps, unwraps, Good-round}
+use Rattle.core.proofs.cell.Inside.{round, wraps, unwraps, Good-round, Good as WellTyped}
 use Rattle.core.proofs.mem.Param.{Good}
 use Rattle.ix_tables.specs.contracts.cells.maybe_moved.MaybeMoved as moved
 use Rattle.ix_tables.specs.contracts.cells.maybe_moved.MaybeMoved.TheInside as inside
@@ -42,6 +52,10 @@ module _ (T : RattleType) where
 
   abbrev pub item_place : ℕ → ℕ
   item_place o = o + up (align (τ T)) 0
+
+  -- the same, where no type is stated of the bytes
+  abbrev Bare : RattleType
+  Bare = moved.the_written (P T)
 
   abbrev member : Member
   member = record { row = P T; ty = τ T }
@@ -93,6 +107,43 @@ module _ (T : RattleType) where
           fpack ! (Typed Moved.mir (round u ∷ [])) (λ _. ftrue) (Good-round [] (τ T) u good, tt) $ nothing ! $ move ! (1 ∷ 0 ∷ []) $ fjoin ! $ move ! (1 ∷ 0 ∷ []) $
           by ! (part_in 𝓛 Moved refl full_share None b o (round u))
 
+      -- a share of the bytes that an item left
+      abbrev pub Bytes : Share → Fml
+      Bytes q = part_at Bare q None b o
+
+      abbrev At : Share → Val → SProp 𝓤
+      At q w = H.at q moved_type b o w
+
+      pub bytes_out : (q : Share) → ent 𝓤 (sem 𝓛 (Bytes q)) (ex 𝓤 (λ (w : Val). guard 𝓤 (WellTyped moved_type w) (At q w)))
+      bytes_out q = qed 𝓛 (‵ (Bytes q) ∷ []) ∵
+          use1 𝓛 (some (λ (w : Val). ‵ (fat q moved_type b o w) ⊛ ‵ ftrue)) (part_out 𝓛 Bare refl q None b o) $
+          pick ! (λ w. split ! $ move ! (1 ∷ []) $ drop ! $ well_typed ! (λ t.
+          show ! (λ (u : Val). guard 𝓤 (WellTyped moved_type u) (At q u)) w $ check ! t $ done !))
+
+      pub bytes_in : (q : Share) (w : Val) → ent 𝓤 (At q w) (sem 𝓛 (Bytes q))
+      bytes_in q w = qed 𝓛 (‵ (fat q moved_type b o w) ∷ []) ∵ nothing ! $ move ! (1 ∷ 0 ∷ []) $ by ! (part_in 𝓛 Bare refl q None b o w)
+
+      module _ (𝓜 : Model 𝓤 H) where
+        joined : (q q₁ q₂ : Share) → q ∈ Share.op q₁ q₂ → (w w' : Val) → ent 𝓤 (sep 𝓤 (At q₁ w) (At q₂ w')) (sem 𝓛 (Bytes q))
+        joined q q₁ q₂ m w w' =
+            fact_use 𝓤 (w ≡ w') (via 𝓤 (conj 𝓤 (At q₁ w) (At q₂ w')) (conj_i 𝓤 (At q₁ w) (At q₂ w') (fst∗ 𝓤 (At q₁ w) (At q₂ w')) (snd∗ 𝓤 (At q₁ w) (At q₂ w'))) (𝓜.at_agree q₁ q₂ moved_type b o w w'))
+            (λ same. qed 𝓛 (‵ (fat q₁ moved_type b o w) ∷ ‵ (fat q₂ moved_type b o w') ∷ []) ∵
+            rewrite ! 1 (λ (u : Val). ‵ (fat q₂ moved_type b o u)) (sym same) refl $
+            use2 𝓛 (‵ (fat q moved_type b o w)) (𝓛.laws.at_join q q₁ q₂ m moved_type b o w) $ by ! (bytes_in q w))
+
+        pub bytes_halves : Halves 𝓤 H 𝓛.A Bytes
+        bytes_halves = Cuts-Halves 𝓛 Bytes (record {
+          cut = λ q q₁ q₂ m. qed 𝓛 (‵ (Bytes q) ∷ []) ∵
+              use1 𝓛 (some (λ (w : Val). given (WellTyped moved_type w) (‵ (fat q moved_type b o w)))) (bytes_out q) $
+              pick ! (λ w. learn ! (λ t. use1 𝓛 (‵ (fat q₁ moved_type b o w) ⊛ ‵ (fat q₂ moved_type b o w)) (𝓛.laws.at_split q q₁ q₂ m moved_type b o w) $
+              split ! $ use1 𝓛 (‵ (Bytes q₁)) (bytes_in q₁ w) $ move ! (1 ∷ 0 ∷ []) $ use1 𝓛 (‵ (Bytes q₂)) (bytes_in q₂ w) $ move ! (1 ∷ 0 ∷ []) $ done !));
+          join = λ q q₁ q₂ m. qed 𝓛 (‵ (Bytes q₁) ∷ ‵ (Bytes q₂) ∷ []) ∵
+              use1 𝓛 (some (λ (w : Val). given (WellTyped moved_type w) (‵ (fat q₁ moved_type b o w)))) (bytes_out q₁) $
+              pick ! (λ w. learn ! (λ t. move ! (1 ∷ 0 ∷ []) $
+              use1 𝓛 (some (λ (w' : Val). given (WellTyped moved_type w') (‵ (fat q₂ moved_type b o w')))) (bytes_out q₂) $
+              pick ! (λ w'. learn ! (λ t'. move ! (1 ∷ 0 ∷ []) $ by ! (joined q q₁ q₂ m w w')))));
+        })
+
 pub moved_send : (T : RattleType) → IsSend T → IsSend (moved.the_row T)
 moved_send T send = record { owned = λ held vs. (λ _. tt, owned held vs); leaving = λ k x w. tt }
   where
@@ -100,9 +151,13 @@ moved_send T send = record { owned = λ held vs. (λ _. tt, owned held vs); leav
     owned (Some x) vs = (struct_send (Declared.shape (inside.the_type T)) (send, tt)).owned (x, tt) vs
     owned None vs = tt
 
+bytes_keyless : (T : RattleType) (q : Share) (b o : ℕ) → Keyless (part_at (moved.the_written T) q None b o)
+unfolding part_of
+bytes_keyless T q b o = λ vs. (cell_keyless q (raw_all (inside.the_row T).mir) vs b o, tt)
+
 pub moved_sync : (T : RattleType) → IsSync T → IsSync (moved.the_row T)
 moved_sync T sync = record { shared = shared }
   where
     shared : (held : Option T.Denot) (b o : ℕ) (κ : Lft) → Keyless ((moved.the_row T).shr_at held b o κ)
     shared (Some x) b o κ = (struct_sync (Declared.shape (inside.the_type T)) (sync, tt)).shared (x, tt) b o κ
-    shared None b o κ = tt
+    shared None b o κ = λ q. bytes_keyless T q b o

@@ -2,7 +2,6 @@
 pub mod Filled
 pub mod FilledLending
 pub mod FullArrays
-pub mod HeldItem
 pub mod MaybeMoved
 pub mod RawLending
 pub mod RawMemory

@@ -24,6 +24,7 @@ pub use heap_table::HeapTable;
 #[doc(hidden)]
 pub use held_item::{item, item_mut};
 pub use inline_table::InlineTable;
+pub use maybe_moved::MaybeMoved;
 pub use memory_size::MemorySize;
 #[doc(hidden)]
 pub use raw_row::{RowGrant, RowOwner, RowPtr};

@@ -8,6 +8,6 @@ pub mod cells;
 
 pub use cells::{
     ContainerFamily, Counted, FilledHeapTable, FilledInlineTable, HeapTable, InitError,
-    InlineTable, MAX_FIXED_CAPACITY, MemorySize, RawSlots, RelocatableContainer, Table, Touches,
-    Uninit,
+    InlineTable, MAX_FIXED_CAPACITY, MaybeMoved, MemorySize, RawSlots, RelocatableContainer, Table,
+    Touches, Uninit,
 };

@@ -1,14 +1,18 @@
 //! An item that may have been moved out of its place.
 ghost use Rattle.std.specs.Prelude.{◌≡◌, Some, None, IsSome};
 ghost use Rattle.std.specs.Borrow.{sem};
-ghost use Rattle.ix_tables.specs.inner.HeldItem.{moved_lends};
+ghost use Rattle.ix_tables.specs.HeldItem.{moved_lends};
 
 use std::marker::{Move, Owns, Send, Sync};
 use std::mem::ManuallyDrop;
 
-/// An item, or the bytes of one that was moved out. Nothing at run time says which.
+/// An item, or the bytes of one that was moved out. Nothing at run time says which: whoever owns it knows. Contracts see
+/// the item, or nothing.
+///
+/// It takes the bytes of an item. An item that is in it when it is dropped is leaked, so its owner moves the item out before.
+/// Each call is O(1).
 // An `Option` would have to be cleared where its item is taken. Here nothing is written.
-pub(crate) struct MaybeMoved<T> {
+pub struct MaybeMoved<T> {
     item: T,
 }
 
@@ -16,12 +20,14 @@ impl<T> Owns for MaybeMoved<T> {
     ghost use Rattle.std.specs.Prelude.{Option};
     ghost use denote.Memory.{shared_of};
     ghost use denote.RawPtr.{block_of, count_of};
-    ghost use Rattle.ix_tables.specs.inner.MaybeMoved.{shares_item};
+    ghost use Rattle.ix_tables.specs.inner.MaybeMoved.{shares_item, shares_bytes};
 
     ghost Value = { Option T };
 
     ghost shr_at = { λ held p κ. shares_item
-        (λ x. shared_of Fields (record { item = x }) (block_of p) (count_of p)) held κ };
+        (λ x. shared_of Fields (record { item = x }) (block_of p) (count_of p))
+        (shares_bytes Fields.mir (λ x vs. Fields.own_val (record { item = x }) vs) (block_of p) (count_of p))
+        held κ };
 }
 
 impl<T> Move for MaybeMoved<T> {
@@ -33,20 +39,21 @@ impl<T> Move for MaybeMoved<T> {
 // SAFETY: it owns an item, which may be sent, or nothing.
 unsafe impl<T: Send> Send for MaybeMoved<T> {}
 
-// SAFETY: a `&` to it is a `&` to an item, which may be shared, or nothing.
+// SAFETY: a `&` to it is a `&` to an item, which may be shared, or to bytes that no one writes.
 unsafe impl<T: Sync> Sync for MaybeMoved<T> {}
 
 impl<T> MaybeMoved<T> {
+    /// Creates a place that holds `item`.
     #[inline]
-    pub(crate) fn new(item: T) -> Self
+    pub fn new(item: T) -> Self
         ensures { result ≡ Some item }
     {
         MaybeMoved { item }
     }
 
-    /// Moves the item out.
+    /// Moves the item out and returns it. Its bytes stay.
     #[inline]
-    pub(crate) fn take(&mut self) -> T
+    pub fn take(&mut self) -> T
         requires { IsSome self.old }
         ensures value { self.old ≡ Some result }
         ensures place { self.new ≡ None }
@@ -55,16 +62,41 @@ impl<T> MaybeMoved<T> {
         unsafe { (&raw const self.item).read() }
     }
 
+    /// Returns the item.
     #[inline]
-    pub(crate) fn get(&self) -> &T
+    pub fn into_item(self) -> T
+        requires { IsSome self }
+        ensures { self ≡ Some result }
+    {
+        let mut place = self;
+        let item = place.take();
+        // SAFETY: there is no item that could be leaked.
+        let _left = unsafe { ManuallyDrop::new_unchecked(place) };
+        item
+    }
+
+    /// Returns a copy of the bytes of an item that was moved out.
+    #[inline]
+    pub fn copy_moved(&self) -> Self
+        requires { self.now ≡ None }
+        ensures { result ≡ None }
+    {
+        // SAFETY: there is no item that could be had twice.
+        unsafe { (self as *const MaybeMoved<T>).read() }
+    }
+
+    /// Returns a reference to the item.
+    #[inline]
+    pub fn get(&self) -> &T
         requires { IsSome self.now }
         ensures { self.now ≡ Some result.now }
     {
         &self.item
     }
 
+    /// Returns a mutable reference to the item.
     #[inline]
-    pub(crate) fn get_mut(&mut self) -> &mut T
+    pub fn get_mut(&mut self) -> &mut T
         requires { IsSome self.old }
         ensures* writes_back { sem 𝓛 (moved_lends T.row self.entry result) }
         ensures value { self.old ≡ Some result.now }
@@ -73,7 +105,7 @@ impl<T> MaybeMoved<T> {
     }
 }
 
-// What owns it has moved the item out before. If not, the item is leaked.
+/// Drops the bytes. An item that was not moved out is leaked.
 impl<T: Drop> Drop for MaybeMoved<T> {
     #[inline]
     fn drop(self) {
