@@ -21,6 +21,11 @@ pub mod inline_table {
 }
 
 #[doc(hidden)]
+pub mod maybe_moved {
+    pub use ix_tables::cells::MaybeMoved;
+}
+
+#[doc(hidden)]
 pub mod memory_size {
     pub use ix_tables::cells::MemorySize;
 }
@@ -55,7 +60,7 @@ pub mod uninit {
 
 pub use ix_tables::cells::{
     ContainerFamily, Counted, FilledHeapTable, FilledInlineTable, HeapTable, InitError,
-    InlineTable, MemorySize, RawSlots, RelocatableContainer, Table, Touches, Uninit,
+    InlineTable, MaybeMoved, MemorySize, RawSlots, RelocatableContainer, Table, Touches, Uninit,
 };
 #[doc(hidden)]
 pub use ix_tables::cells::{RowGrant, RowOwner, RowPtr, item, item_mut};

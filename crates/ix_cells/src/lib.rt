@@ -9,7 +9,7 @@ pub mod vector;
 pub use cells::MAX_FIXED_CAPACITY;
 pub use ix_tables::{
     ContainerFamily, Counted, FilledHeapTable, FilledInlineTable, HeapTable, InitError,
-    InlineTable, MemorySize, RawSlots, RelocatableContainer, Table, Touches, Uninit,
+    InlineTable, MaybeMoved, MemorySize, RawSlots, RelocatableContainer, Table, Touches, Uninit,
 };
 pub use ix_vector::{
     PolymorphicVec, RelocatableVec, StaticVec, StaticVecIntoIter, UninitVec, VecFamily, Vector,

@@ -5,6 +5,8 @@ pub mod SlotMapEntries
 pub mod SlotMapOutcomes
 pub mod SlotMapCalls
 pub mod SlotMapCopies
+pub mod PlaceSizes
 pub mod WordTables
+pub mod WordedValues
 pub mod Words
 mod WorkedSlotMaps

@@ -5,5 +5,5 @@
 pub mod slotmap;
 
 pub use slotmap::{
-    Content, FixedSizeSlotMap, MetaSlotMap, RelocatableSlotMap, SlotMap, SlotMapKey, UninitSlotMap,
+    FixedSizeSlotMap, MetaSlotMap, RelocatableSlotMap, SlotMap, SlotMapKey, UninitSlotMap,
 };

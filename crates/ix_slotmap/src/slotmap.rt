@@ -4,7 +4,6 @@
 //! [`FixedSizeSlotMap`] is stored inline, [`SlotMap`] and [`RelocatableSlotMap`] allocate only when they are made.
 
 mod clone;
-mod content;
 mod drain;
 mod eq;
 mod index;
@@ -18,11 +17,11 @@ mod try_insert;
 mod values;
 mod word_table;
 
-pub use content::Content;
 pub use drain::Drain;
 pub use iter::Iter;
 pub use keys::Keys;
 pub use kinds::{FixedSizeSlotMap, RelocatableSlotMap, SlotMap, UninitSlotMap};
+pub(crate) use meta_slot_map::drop_values;
 pub use meta_slot_map::{MetaSlotMap, cleared_keys_law, dead_keys_law};
 pub use slot_map_key::{SlotMapKey, default_key_law, key_order_law};
 pub use values::Values;

@@ -9,7 +9,7 @@ use ix_slotmap::{FixedSizeSlotMap, MetaSlotMap, SlotMap, SlotMapKey, UninitSlotM
 use ix_slottable::{
     FixedSizeSlotTable, Link, MetaSlotTable, SlotTable, SlotTableKey, UninitSlotTable,
 };
-use ix_tables::{RelocatableContainer, Table};
+use ix_tables::{MaybeMoved, RelocatableContainer, Table};
 use linked_list_allocator::LocalHeap;
 use std::alloc::{AllocError, Global};
 use std::test::Fail;
@@ -80,8 +80,8 @@ impl<'a, S: Table<Noted<'a>>, L: Table<Link>> Holder<'a, Call> for MetaSlotTable
     }
 }
 
-fn drain_map<T: Drop, S: Table<Option<T>>, L: Table<Link>, G: Table<u64>>(
-    map: &mut MetaSlotMap<Option<T>, S, L, G>,
+fn drain_map<T: Drop, S: Table<MaybeMoved<T>>, L: Table<Link>, G: Table<u64>>(
+    map: &mut MetaSlotMap<T, S, L, G>,
     taken: usize,
     is_forgotten: bool,
     notes: &Notes,
@@ -89,8 +89,8 @@ fn drain_map<T: Drop, S: Table<Option<T>>, L: Table<Link>, G: Table<u64>>(
     take_some(map.drain(), taken, is_forgotten, notes);
 }
 
-impl<'a, S: Table<Option<Noted<'a>>>, L: Table<Link>, G: Table<u64>> Holder<'a, Call>
-    for MetaSlotMap<Option<Noted<'a>>, S, L, G> {
+impl<'a, S: Table<MaybeMoved<Noted<'a>>>, L: Table<Link>, G: Table<u64>> Holder<'a, Call>
+    for MetaSlotMap<Noted<'a>, S, L, G> {
     type Back = Option<Noted<'a>>;
 
     fn make(&mut self, call: Call, notes: &'a Notes) -> Option<Noted<'a>> {
@@ -179,6 +179,17 @@ const RETIRED_ROWS: &[Row<Call>] = &[
     (RETIRED, Clear, (13, 0, 0)),
     (RETIRED, KeepOdd, (99, 0, 13)),
     (RETIRED, Drain(1), (1_9_3, 0, 0)),
+    (RETIRED, Drain(3), (13_9, 0, 0)),
+    (RETIRED, Forget(1), (1_9, 0, 3)),
+    (RETIRED, TryInsertAt(0, 4), (0, 4, 13)),
+    (&[Insert(1), Remove(0, LAST)], Clear, (0, 0, 0)),
+    (
+        &[Insert(1), Insert(2), Remove(0, LAST)],
+        KeepOdd,
+        (9_2, 0, 0),
+    ),
+    (THREE, Clear, (123, 0, 0)),
+    (THREE, KeepOdd, (99_2_9, 0, 13)),
 ];
 
 /// Checks slot tables of each kind.
@@ -226,6 +237,12 @@ fn each_kind(rt: HostRuntime) -> Result<(), Fail> {
 /// Of the values 1, 2 and 3.
 const COPIES: &[CopyRow] = &[(0, 0, 0), (1, 1, 0), (2, 12, 0), (3, 0, 123)];
 
+/// Of the values 1 and 3, between which a place is retired.
+const RETIRED_COPIES: &[CopyRow] = &[(0, 0, 0), (1, 1, 0), (2, 0, 13)];
+
+/// Of a map whose first place is retired, and which has no value.
+const EMPTY_COPIES: &[CopyRow] = &[(0, 0, 0)];
+
 fn check_table_copies(findings: &Findings, alloc: Global, heap: &LocalHeap) {
     let notes = Notes::new(0);
     let mut fixed = FixedSizeSlotTable::<Noted, 4>::new();
@@ -244,15 +261,23 @@ fn check_table_copies(findings: &Findings, alloc: Global, heap: &LocalHeap) {
     }
 }
 
-fn check_map_copies(findings: &Findings, alloc: Global, heap: &LocalHeap) {
+/// Checks copies of slot maps, whose places start at `generation` and whose values are those that `calls` leave.
+fn check_map_copies(
+    findings: &Findings,
+    alloc: Global,
+    heap: &LocalHeap,
+    generation: u32,
+    calls: &[Call],
+    rows: &[CopyRow],
+) {
     let notes = Notes::new(0);
-    let mut fixed = FixedSizeSlotMap::<Noted, 4>::new();
-    fill(&mut fixed, THREE, &notes);
-    check_clones(findings, &fixed, &notes, COPIES, "a fixed map");
-    match SlotMap::<Noted, Global>::new(alloc, 4) {
+    let mut fixed = FixedSizeSlotMap::<Noted, 4>::starting_at(generation);
+    fill(&mut fixed, calls, &notes);
+    check_clones(findings, &fixed, &notes, rows, "a fixed map");
+    match SlotMap::<Noted, Global>::starting_at(alloc, 4, generation) {
         Ok(mut map) => {
-            fill(&mut map, THREE, &notes);
-            for row in COPIES {
+            fill(&mut map, calls, &notes);
+            for row in rows {
                 notes.allow_clones(row.0);
                 check_copy(findings, map.try_clone_in(heap), &notes, row, "a map");
                 findings.expect_same(heap.used(), 0, "bytes in use");
@@ -268,7 +293,10 @@ fn copies(rt: HostRuntime) -> Result<(), Fail> {
     match LocalHeap::new(rt.alloc(), 4096) {
         Ok(heap) => {
             check_table_copies(&findings, rt.alloc(), &heap);
-            check_map_copies(&findings, rt.alloc(), &heap);
+            check_map_copies(&findings, rt.alloc(), &heap, 0, THREE, COPIES);
+            check_map_copies(&findings, rt.alloc(), &heap, LAST, RETIRED, RETIRED_COPIES);
+            let empty = &[Insert(1), Remove(0, LAST)];
+            check_map_copies(&findings, rt.alloc(), &heap, LAST, empty, EMPTY_COPIES);
         }
         Err(_) => findings.miss("a heap"),
     }

@@ -6,10 +6,10 @@ ghost use Rattle.ix_slotmap.specs.SlotMapSteps.{slot_map_replace, SlotMapInsert,
 
 use crate::slotmap::{MetaSlotMap, SlotMapKey};
 use ix_slottable::slottable::{Link, SlotTableKey};
-use ix_tables::{Table, Touches};
+use ix_tables::{MaybeMoved, Table, Touches};
 use std::mem;
 
-impl<T, S: Table<Option<T>>, L: Table<Link>, G: Table<u64>> MetaSlotMap<Option<T>, S, L, G> {
+impl<T, S: Table<MaybeMoved<T>>, L: Table<Link>, G: Table<u64>> MetaSlotMap<T, S, L, G> {
     /// Inserts `value` in the first free place and returns the key of that place. Drops nothing.
     ///
     /// Returns `value` as the error if no place is free.
@@ -84,11 +84,9 @@ impl<T, S: Table<Option<T>>, L: Table<Link>, G: Table<u64>> MetaSlotMap<Option<T
         ensures touches { touches.new ≡ touches.old + 4 }
     {
         let place = SlotTableKey::new(index);
-        let replaced = mem::replace(
-            self.slots.get_unchecked_mut_counted(place, touches),
-            Some(value),
-        );
+        let content = self.slots.get_unchecked_mut_counted(place, touches);
+        let replaced = mem::replace(content.get_mut(), value);
         let word = self.words.raise(index, 2, touches);
-        ((word / 2) as u32, replaced)
+        ((word / 2) as u32, Some(replaced))
     }
 }

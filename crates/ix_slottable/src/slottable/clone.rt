@@ -51,8 +51,9 @@ impl<T, S: Table<T>, L: Table<Link>> MetaSlotTable<T, S, L> {
         Ok(())
     }
 
-    /// Takes over the order of the free keys of `other`, which are the same.
-    fn copy_free_keys<R: Table<T>, M: Table<Link>>(&mut self, other: &MetaSlotTable<T, R, M>)
+    /// Takes over the order of the free keys of `other`, which are the same. O(capacity).
+    #[doc(hidden)]
+    pub fn copy_free_keys<R: Table<T>, M: Table<Link>>(&mut self, other: &MetaSlotTable<T, R, M>)
         requires capacity { length self.old.values ≡ length other.now.values }
         requires keys { (key : ℕ) → IsHeld self.old key ↔ IsHeld other.now key }
         ensures values { self.new.values ≡ self.old.values }
