@@ -26,7 +26,7 @@ WALKS = {
     "steps": ("held_from", "held_before"),
     "values": ("next", "next_back", "fmt"),
     "retain": ("clear", "for_each_mut", "retain"),
-    "meta_slot_map": ("held_from", "fmt"),
+    "meta_slot_map": ("held_from", "held_before", "fmt"),
     "word_table": ("copy_of",),
     "full_table": ("copy_items",),
 }

@@ -1,4 +1,5 @@
 pub mod Generations
+pub mod HeldRanges
 pub mod SlotMapCounts
 pub mod SlotMapDrains
 pub mod SlotMapEntries

@@ -120,7 +120,7 @@ module _ {T : Type 0} where
   SettlesPlace-retained s place left false new is = SettlesPlace-slot_map_remove_at s place new is
 
   module _ (s : SlotMapState T) where
-    held_entries-append : (front back : List (ℕ × Option T)) → held_entries s (front ++ back) ≡ held_entries s front ++ held_entries s back
+    pub held_entries-append : (front back : List (ℕ × Option T)) → held_entries s (front ++ back) ≡ held_entries s front ++ held_entries s back
     held_entries-append [] back = refl
     held_entries-append ((place, None) ∷ front) back = held_entries-append front back
     held_entries-append ((place, Some value) ∷ front) back = ap (λ items. (key_at s place, value) ∷ items) (held_entries-append front back)

@@ -1,6 +1,6 @@
 //! The iterator of slot maps.
 ghost use Rattle.std.specs.Prelude.{◌≡◌, length, Some, IfSome, ⊤};
-ghost use Rattle.std.specs.Iterator.{YieldsFirstBy, UpTo, at_most, item_count};
+ghost use Rattle.std.specs.Iterator.{YieldsFirstBy, YieldsLastBy, UpTo, at_most, item_count};
 ghost use Rattle.std.specs.Iterator.SizeHint.{IsWithinCount};
 ghost use Rattle.ix_slotmap.specs.Generations.{slot_map_entries};
 
@@ -21,22 +21,26 @@ pub struct Iter<'a, T, S: Table<MaybeMoved<T>>, L: Table<Link>, G: Table<u64>> {
     map: &'a MetaSlotMap<T, S, L, G>,
     /// The least index that is still to be visited.
     index: usize,
+    /// The index after the greatest one that is still to be visited.
+    end: usize,
     /// The number of items that are still to come.
     left: usize,
 }
 
 impl<'a, T, S: Table<MaybeMoved<T>>, L: Table<Link>, G: Table<u64>> Model for Iter<'a, T, S, L, G> {
-    ghost use Rattle.std.specs.Prelude.{◌≡◌, List, length, drop};
+    ghost use Rattle.std.specs.Prelude.{List, length, slice_range};
     ghost use Rattle.ix_slottable.specs.SlotTableState.{entries_from};
+    ghost use Rattle.ix_slottable.specs.inner.KeyRange.{IsKeyRange};
     ghost use Rattle.ix_slotmap.specs.Generations.{SlotKey, held_entries};
 
     ghost Value = { List (SlotKey × T) };
 
     ghost view = { λ iter. held_entries iter.map.now
-        (entries_from iter.index (drop iter.index iter.map.now.slots.values)) };
+        (entries_from iter.index (slice_range iter.map.now.slots.values iter.index iter.end)) };
 
-    ghost invariant = { λ iter. iter.left ≡ length (held_entries iter.map.now
-        (entries_from iter.index (drop iter.index iter.map.now.slots.values))) };
+    ghost invariant = { λ iter. IsKeyRange (length iter.map.now.slots.values) iter.index iter.end iter.left
+        (held_entries iter.map.now
+        (entries_from iter.index (slice_range iter.map.now.slots.values iter.index iter.end))) };
 }
 
 impl<'a, T, S: Table<MaybeMoved<T>>, L: Table<Link>, G: Table<u64>> Iter<'a, T, S, L, G> {
@@ -48,6 +52,7 @@ impl<'a, T, S: Table<MaybeMoved<T>>, L: Table<Link>, G: Table<u64>> Iter<'a, T, 
         Iter {
             map,
             index: 0,
+            end: map.capacity(),
             left: map.len(),
         }
     }
@@ -60,6 +65,7 @@ impl<'a, T, S: Table<MaybeMoved<T>>, L: Table<Link>, G: Table<u64>> Iter<'a, T, 
         Iter {
             map: self.map,
             index: self.index,
+            end: self.end,
             left: self.left,
         }
     }
@@ -95,6 +101,25 @@ impl<'a, T, S: Table<MaybeMoved<T>>, L: Table<Link>, G: Table<u64>> Iterator
         ensures upper { IfSome result.1 (UpTo (at_most (length self.now))) }
     {
         (self.left, Some(self.left))
+    }
+}
+
+impl<'a, T, S: Table<MaybeMoved<T>>, L: Table<Link>, G: Table<u64>> DoubleEndedIterator
+    for Iter<'a, T, S, L, G> {
+    ghost next_back_gives = { YieldsLastBy (λ item. (item.0, item.1.now)) (λ rest. rest) };
+
+    /// Returns the last held key that is still to come with its value, or `None` if there is none. O(the number of places after
+    /// it that are not held).
+    #[inline]
+    fn next_back(&mut self) -> Option<(SlotMapKey, &'a T)> {
+        if self.left == 0 {
+            return None;
+        }
+        let index = self.map.held_before(self.end);
+        self.end = index;
+        self.left -= 1;
+        let key = self.map.key_of(index, &mut Touches::new());
+        Some((key, self.map.value_at(index)))
     }
 }
 

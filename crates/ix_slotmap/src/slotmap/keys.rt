@@ -1,6 +1,6 @@
 //! The iterator over the keys of slot maps.
 ghost use Rattle.std.specs.Prelude.{◌≡◌, length, Some, IfSome, ⊤};
-ghost use Rattle.std.specs.Iterator.{YieldsFirstBy, UpTo, at_most, item_count};
+ghost use Rattle.std.specs.Iterator.{YieldsFirstBy, YieldsLastBy, UpTo, at_most, item_count};
 ghost use Rattle.std.specs.Iterator.SizeHint.{IsWithinCount};
 ghost use Rattle.std.specs.Map.{keys_of};
 
@@ -64,6 +64,21 @@ impl<'a, T, S: Table<MaybeMoved<T>>, L: Table<Link>, G: Table<u64>> Iterator
         ensures upper { IfSome result.1 (UpTo (at_most (length self.now))) }
     {
         self.items.size_hint()
+    }
+}
+
+impl<'a, T, S: Table<MaybeMoved<T>>, L: Table<Link>, G: Table<u64>> DoubleEndedIterator
+    for Keys<'a, T, S, L, G> {
+    ghost next_back_gives = { YieldsLastBy (λ key. key) (λ rest. rest) };
+
+    /// Returns the last held key that is still to come, or `None` if there is none. O(the number of places without a value after
+    /// it).
+    #[inline]
+    fn next_back(&mut self) -> Option<SlotMapKey> {
+        match self.items.next_back() {
+            Some((key, _)) => Some(key),
+            None => None,
+        }
     }
 }
 

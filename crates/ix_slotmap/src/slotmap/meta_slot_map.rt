@@ -1,5 +1,5 @@
 //! The slot map over any three tables.
-ghost use Rattle.std.specs.Prelude.{◌≡◌, ◌≢◌, false, ◌+◌, ◌<◌, ◌≤◌, ◌↔◌, [], length, drop, Some, None, IsTrue, IsSome, IsNone, IfSome, option_copied, option_map, slice_get};
+ghost use Rattle.std.specs.Prelude.{◌≡◌, ◌≢◌, false, ◌+◌, ◌<◌, ◌≤◌, ◌↔◌, [], length, take, drop, Some, None, IsTrue, IsSome, IsNone, IfSome, option_copied, option_map, slice_get};
 ghost use Rattle.std.specs.Borrow.{sem, Lends, LendsIf};
 ghost use Rattle.std.specs.Map.{lookup};
 ghost use Rattle.std.specs.Option.{option_copied_mut};
@@ -340,6 +340,29 @@ impl<T, S: Table<MaybeMoved<T>>, L: Table<Link>, G: Table<u64>> MetaSlotMap<T, S
             index += 1;
         }
         index
+    }
+
+    /// Returns the greatest place before `end` that has a value; there is one.
+    #[inline]
+    pub(crate) fn held_before(&self, end: usize) -> usize
+        requires within { end ≤ length self.now.slots.values }
+        requires some { 0 < length (held_entries self.now (entries_from 0 (take end self.now.slots.values))) }
+        ensures held { IsSome (place_value self.now result) }
+        ensures below { result < end }
+        ensures entries { held_entries self.now (entries_from 0 (take (result + 1) self.now.slots.values))
+            ≡ held_entries self.now (entries_from 0 (take end self.now.slots.values)) }
+    {
+        let mut touches = Touches::new();
+        let last = end - 1;
+        // Asked once before the loop, as a slot table does.
+        if self.has_value(last, &mut touches) {
+            return last;
+        }
+        let mut place = last - 1;
+        while !self.has_value(place, &mut touches) {
+            place -= 1;
+        }
+        place
     }
 
     /// Returns the value in a place.
