@@ -388,7 +388,9 @@ impl<T, S: Table<MaybeMoved<T>>, L: Table<Link>, G: Table<u64>> MetaSlotMap<T, S
         ensures rises { touches.old ≤ touches.new }
     {
         // The value is dropped here if there is no room. A `MaybeMoved` does not drop it.
-        let _first = self.slots.next_free_key()?;
+        if self.slots.is_full() {
+            return None;
+        }
         let place = self.slots.insert_counted(MaybeMoved::new(value), touches)?;
         let word = self.words.raise(place.value(), 1, touches);
         Some((place, (word / 2) as u32))
