@@ -466,7 +466,7 @@ impl<T, S: Table<MaybeMoved<T>>, L: Table<Link>, G: Table<u64>> MetaSlotMap<T, S
 }
 
 /// Drops the values, that of the least index first. O(capacity).
-impl<T: Drop, S: Table<MaybeMoved<T>>, L: Table<Link>, G: Table<u64>> Drop
+impl<T: Drop, S: Table<MaybeMoved<T>>, L: Table<Link>, G: Table<u64> + Drop> Drop
     for MetaSlotMap<T, S, L, G> {
     fn drop(self) {
         let MetaSlotMap {
