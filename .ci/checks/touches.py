@@ -16,7 +16,7 @@ FILES = {room: [path for path in paths(*room) if not path.endswith("/kinds.rt")]
 # By file, the functions that go through places, as their documentation says: those that make, end, walk or print a container.
 WALKS = {
     "eq": ("eq",),
-    "clone": ("fill_with_clones", "put_clones", "copy_free_keys", "clone", "try_clone_in", "clone_contents", "put_contents", "clone_content"),
+    "clone": ("fill_with_clones", "put_clones", "copy_free_keys", "clone", "try_clone_in", "clone_contents", "put_contents"),
     "drain": ("drop", "next", "fmt"),
     "free_list": ("link_all", "copy_links"),
     "into_iter": ("next", "next_back"),
@@ -26,12 +26,13 @@ WALKS = {
     "steps": ("held_from", "held_before"),
     "values": ("next", "next_back", "fmt"),
     "retain": ("clear", "for_each_mut", "retain"),
-    "meta_slot_map": ("held_from", "held_before", "drop", "drop_values", "fmt"),
+    "meta_slot_map": ("held_from", "held_before", "drop", "fmt"),
+    "teardown": ("drop_values",),
     "word_table": ("copy_of",),
     "full_table": ("copy_items",),
 }
-# Calls of a single step: those of counted tables, of new values, of a value's part, and of std.
-CALLS = {"item", "item_mut", ".put", ".take", ".get", ".get_mut", ".len", ".as_ref", ".is_some", ".ok", "Counted::new", "MaybeMoved::new", ".into_item", "Touches::new", "SlotTableKey::new", "SlotMapKey::new",
+# Calls of a single step: those of counted tables, of new values, of what a place holds, of a value's part, and of std.
+CALLS = {".put", ".take", ".get", ".get_mut", ".len", ".as_ref", ".is_some", ".ok", "Counted::new", "MaybeMoved::new", ".into_item", ".copy_moved", "Touches::new", "SlotTableKey::new", "SlotMapKey::new",
          "Link::held", "Iter::new", "Keys::new", "Values::new", "P::of", "mem::replace", "write!", "Some", "Ok", "Err"}
 COUNTER = "touches: &mut Touches"
 FUNCTION = re.compile(r"( *)(?:pub(?:\(crate\))? )?fn (\w+)")
@@ -80,8 +81,7 @@ def functions(path, text):
 def uncounted_calls(body):
     """Returns the names of the methods that a body calls without passing its counter."""
     names = set()
-    # A `content` is what a counted call lent.
-    for call in re.finditer(r"(?<!\bcontent)\.(\w+)\(", body):
+    for call in re.finditer(r"\.(\w+)\(", body):
         depth, end = 1, call.end()
         while depth and end < len(body):
             depth += {"(": 1, ")": -1}.get(body[end], 0)

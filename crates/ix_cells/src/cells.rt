@@ -11,11 +11,6 @@ pub mod heap_table {
 }
 
 #[doc(hidden)]
-pub mod held_item {
-    pub use ix_tables::cells::{item, item_mut};
-}
-
-#[doc(hidden)]
 pub mod inline_table {
     pub use ix_tables::cells::InlineTable;
 }
@@ -63,5 +58,5 @@ pub use ix_tables::cells::{
     InlineTable, MaybeMoved, MemorySize, RawSlots, RelocatableContainer, Table, Touches, Uninit,
 };
 #[doc(hidden)]
-pub use ix_tables::cells::{RowGrant, RowOwner, RowPtr, item, item_mut};
+pub use ix_tables::cells::{RowGrant, RowOwner, RowPtr};
 pub use table::MAX_FIXED_CAPACITY;

@@ -4,6 +4,7 @@ pub mod Cloning
 pub mod FullArrays
 pub mod HeldItem
 pub mod Lending
+pub mod MaybeMoved
 pub mod Memory
 pub mod Places
 pub mod inner

@@ -2,7 +2,7 @@
 pub mod Filled
 pub mod FilledLending
 pub mod FullArrays
-pub mod MaybeMoved
+pub mod HeldItem
 pub mod RawLending
 pub mod RawMemory
 pub mod RawRows

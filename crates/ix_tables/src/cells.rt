@@ -21,8 +21,6 @@ pub use counted::{Counted, Touches};
 pub use filled_heap_table::FilledHeapTable;
 pub use filled_inline_table::FilledInlineTable;
 pub use heap_table::HeapTable;
-#[doc(hidden)]
-pub use held_item::{item, item_mut};
 pub use inline_table::InlineTable;
 pub use maybe_moved::MaybeMoved;
 pub use memory_size::MemorySize;

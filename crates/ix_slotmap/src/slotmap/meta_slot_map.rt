@@ -6,10 +6,9 @@ ghost use Rattle.std.specs.Option.{option_copied_mut};
 ghost use Rattle.ix_slottable.specs.SlotTableState.{IsFree, entries_from};
 ghost use Rattle.ix_slottable.specs.SlotTableSteps.{SlotTableInsert};
 ghost use Rattle.ix_slotmap.specs.Generations.{SlotKey, SlotMapState, greatest_generation, generation_at, key_at, slot_key_eq, place_value, slot_map_value, IsRetired, IsDead, retired_count, slot_map_len, held_entries, slot_map_entries, IsSlotMapFormed, DeadAreNotHeld, KeysRise, ListsExactly};
-ghost use Rattle.ix_slotmap.specs.inner.Words.{MatchesWords};
 ghost use Rattle.ix_slotmap.specs.SlotMapSteps.{slot_map_set, slot_map_set_at, slot_map_fill, slot_map_replace, slot_map_vacate, slot_map_retire, slot_map_clear, SlotMapInsert, SlotMapInsertAt, SlotMapRemove};
 
-use crate::slotmap::{Iter, RETIRED, SlotMapKey, WordTable};
+use crate::slotmap::{Iter, RETIRED, SlotMapKey, WordTable, drop_values};
 use ix_slottable::slottable::{Link, MetaSlotTable, SlotTableKey};
 use ix_tables::{MaybeMoved, Table, Touches};
 use std::fmt::{self, Debug, Formatter, Write};
@@ -476,23 +475,6 @@ impl<T: Drop, S: Table<MaybeMoved<T>>, L: Table<Link>, G: Table<u64> + Drop> Dro
         } = self;
         let capacity = slots.capacity();
         drop_values(&mut slots, &words, capacity);
-    }
-}
-
-/// Drops the values in the places before `end`, that of the least index first. Only the bytes of these places are left then.
-/// O(`end`).
-pub(crate) fn drop_values<T: Drop, S: Table<MaybeMoved<T>>, L: Table<Link>, G: Table<u64>>(
-    slots: &mut MetaSlotTable<MaybeMoved<T>, S, L>,
-    words: &WordTable<G>,
-    end: usize,
-)
-    requires { MatchesWords slots.old words.now end }
-{
-    for index in 0..end {
-        if words.get(index, &mut Touches::new()) % 2 == 1 {
-            let place = SlotTableKey::new(index);
-            drop(slots.get_unchecked_mut(place).take());
-        }
     }
 }
 

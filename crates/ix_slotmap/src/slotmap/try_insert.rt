@@ -84,9 +84,11 @@ impl<T, S: Table<MaybeMoved<T>>, L: Table<Link>, G: Table<u64>> MetaSlotMap<T, S
         ensures touches { touches.new ≡ touches.old + 4 }
     {
         let place = SlotTableKey::new(index);
-        let content = self.slots.get_unchecked_mut_counted(place, touches);
-        let replaced = mem::replace(content.get_mut(), value);
+        let replaced = mem::replace(
+            self.slots.get_unchecked_mut_counted(place, touches),
+            MaybeMoved::new(value),
+        );
         let word = self.words.raise(index, 2, touches);
-        ((word / 2) as u32, Some(replaced))
+        ((word / 2) as u32, Some(replaced.into_item()))
     }
 }

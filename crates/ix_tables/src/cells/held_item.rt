@@ -1,13 +1,13 @@
 //! The value of an option that is known to have one.
 ghost use Rattle.std.specs.Prelude.{◌≡◌, Some, IsSome};
 ghost use Rattle.std.specs.Borrow.{sem};
-ghost use Rattle.ix_tables.specs.HeldItem.{option_lends};
+ghost use Rattle.ix_tables.specs.inner.HeldItem.{option_lends};
 
 use std::mem::align_of;
 
 /// Returns a reference to the value of a `Some`, without a look at which variant it is. O(1).
 #[inline]
-pub fn item<T>(place: &Option<T>) -> &T
+pub(crate) fn item<T>(place: &Option<T>) -> &T
     requires { IsSome place.now }
     ensures { place.now ≡ Some result.now }
 {
@@ -20,7 +20,7 @@ pub fn item<T>(place: &Option<T>) -> &T
 
 /// Returns a mutable reference to the value of a `Some`, without a look at which variant it is. O(1).
 #[inline]
-pub fn item_mut<T>(place: &mut Option<T>) -> &mut T
+pub(crate) fn item_mut<T>(place: &mut Option<T>) -> &mut T
     requires { IsSome place.old }
     ensures* writes_back { sem 𝓛 (option_lends T.row place.entry result) }
     ensures value { place.old ≡ Some result.now }

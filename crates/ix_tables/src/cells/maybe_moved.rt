@@ -20,7 +20,7 @@ impl<T> Owns for MaybeMoved<T> {
     ghost use Rattle.std.specs.Prelude.{Option};
     ghost use denote.Memory.{shared_of};
     ghost use denote.RawPtr.{block_of, count_of};
-    ghost use Rattle.ix_tables.specs.inner.MaybeMoved.{shares_item, shares_bytes};
+    ghost use Rattle.ix_tables.specs.MaybeMoved.{shares_item, shares_bytes};
 
     ghost Value = { Option T };
 
@@ -31,7 +31,7 @@ impl<T> Owns for MaybeMoved<T> {
 }
 
 impl<T> Move for MaybeMoved<T> {
-    ghost use Rattle.ix_tables.specs.inner.MaybeMoved.{owns_item};
+    ghost use Rattle.ix_tables.specs.MaybeMoved.{owns_item};
 
     ghost own_val = { λ held vs. owns_item (λ x. Fields.own_val (record { item = x }) vs) held };
 }

@@ -1,9 +1,9 @@
 -- A `&` to it reaches the item, or the bytes that it left. Assumes `Logic`.
-use Rattle.std.specs.Prelude.{ℕ, List, [], ◌∷◌, Option, Some, None}
+use Rattle.std.specs.Prelude.{ℕ, [], ◌∷◌, Option, Some, None}
 use seplogic.Ra.Ura.{Ura}
 use base.Fraction.{full_share}
 use base.Fml.{fbor}
-use types.Logic.{Logic, sem, lfts}
+use types.Logic.{Logic, lfts}
 use types.Kit.{‵, raw, ◌$◌, !, qed, updating, now, done}
 use types.Tokens.{bor_fracture}
 use denote.Memory.{part_at, part_of}

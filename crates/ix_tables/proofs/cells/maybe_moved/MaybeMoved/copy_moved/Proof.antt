@@ -1,6 +1,6 @@
 -- `copy_moved` reads the bytes, which own nothing. Assumes `Logic`.
-use Rattle.ix_tables.proofs.RawNames.{◌≡◌, List, [], ◌∷◌, None, refl, proved, leaves, SProp, emp, ftrue, fat, flft, Fn, named, inst_fn, Val}
-use Rattle.ix_tables.proofs.RawNames.{vptr, ◌⊑◌, fact, fact_i, tables, ‵, raw, ◌⊛◌, some, given, at_ret, ◌$◌, ◌∵◌, !, qed, by, move, keep, drop, pick, learn, use0, use1}
+use Rattle.ix_tables.proofs.RawNames.{◌≡◌, [], ◌∷◌, None, refl, proved, leaves, SProp, emp, ftrue, fat, flft, Fn, named, inst_fn, Val}
+use Rattle.ix_tables.proofs.RawNames.{◌⊑◌, fact, fact_i, tables, ‵, raw, ◌⊛◌, some, given, at_ret, ◌$◌, ◌∵◌, !, qed, by, move, keep, drop, pick, learn, use0, use1}
 use Rattle.ix_tables.proofs.RawNames.{split, split3, join, rewrite, fsplit, fjoin, fpack, stop, addr, load, look, of_opd, first, blocks, exec, returns, enter, alloc_all, pass_all}
 use Rattle.ix_tables.proofs.RawNames.{free_all, look_at, get, through, sets, sets_last, env, RefOf, yes, unhide, owns, shr_vals, shr_Tells, plain}
 use Rattle.ix_tables.proofs.RawNames.{types_at, nothing, heard, Stays, stay_dropped, walk_of, Goes-dropped, after}

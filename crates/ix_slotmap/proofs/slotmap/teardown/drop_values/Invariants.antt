@@ -1,5 +1,5 @@
 use Rattle.ix_slotmap.proofs.WordedValues.{MatchesFrom}
-use Rattle.ix_slotmap.proofs.slotmap.meta_slot_map.drop_values.Given as goal
+use Rattle.ix_slotmap.proofs.slotmap.teardown.drop_values.Given as goal
 
 abbrev pub invariant-loop-index : goal.invariant-loop-index
 invariant-loop-index g l = MatchesFrom l.slots l.words l.index l.end
