@@ -1,5 +1,5 @@
 //! Names as keys: clauses about maps from strings.
-ghost use Rattle.std.specs.Prelude.{◌≡◌, ◌↔◌, ℕ, List, Some, IsSome, IsTrue, false, slice_get};
+ghost use Rattle.std.specs.Prelude.{◌≡◌, ◌↔◌, ℕ, ◌-◌, List, [], length, Some, IsSome, IsNone, IfSome, IsTrue, false, slice_get};
 ghost use Rattle.ix_tables.specs.Bounded.{Bounded};
 ghost use Rattle.ix_flatmap.specs.MapState.{map_items, map_value};
 ghost use Rattle.ix_string.specs.Text.{text_eq};
@@ -55,6 +55,15 @@ pub fn has_name<A: Allocator + Copy>(
         → (IsTrue result ↔ IsSome (map_value (λ (own other : Bounded ℕ). text_eq own.items other.items) handles.now key)) }
 {
     handles.get_bytes(name).is_some()
+}
+
+/// Returns the last name in slot order with its handle, or `None` if there is no service.
+pub fn last_of(handles: &Handles) -> Option<(&StaticString<32>, &SlotMapKey)>
+    ensures none { IsNone result → map_items handles.now ≡ [] }
+    ensures last { IfSome result (λ item.
+        slice_get (map_items handles.now) (length (map_items handles.now) - 1) ≡ Some (item.0.now, item.1.now)) }
+{
+    handles.iter().rev().next()
 }
 
 /// Takes a map apart, and returns its first name with its handle.

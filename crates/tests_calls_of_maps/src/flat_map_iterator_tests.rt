@@ -87,6 +87,24 @@ fn values_come_in_slot_order_of_their_keys(rt: HostRuntime) -> Result<(), Fail> 
     Ok(())
 }
 
+// Shows: DoubleEndedIterator for Iter, DoubleEndedIterator for IntoIter
+#[test]
+fn a_map_is_gone_through_from_both_ends(rt: HostRuntime) -> Result<(), Fail> {
+    let mut map = FixedSizeFlatMap::<u16, char, 3>::new();
+    map.insert(80, 'a')?;
+    map.insert(22, 'b')?;
+    map.insert(443, 'c')?;
+    let mut items = map.iter();
+    assert_eq!(rt; items.next_back(), Some((&443, &'c')));
+    assert_eq!(rt; items.next(), Some((&80, &'a')));
+    assert_eq!(rt; items.next_back(), Some((&22, &'b')));
+    assert_eq!(rt; items.next(), None);
+    assert_eq!(rt; map.keys().rev().next(), Some(&443));
+    assert_eq!(rt; map.values().next_back(), Some(&'c'));
+    assert_eq!(rt; map.into_iter().rev().next(), Some((443, 'c')));
+    Ok(())
+}
+
 // Shows: Debug for Iter
 // Shows: Clone for Iter
 #[test]

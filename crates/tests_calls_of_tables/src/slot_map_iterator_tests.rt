@@ -35,6 +35,22 @@ fn keys_and_values_come_alone(rt: HostRuntime) {
     assert_eq!(rt; (values.len(), values.last().copied()), (1, Some(443)));
 }
 
+// Shows: DoubleEndedIterator for Iter, DoubleEndedIterator for Keys, DoubleEndedIterator for Values
+#[test]
+fn a_map_is_gone_through_from_both_ends(rt: HostRuntime) {
+    let mut ports = FixedSizeSlotMap::<u16, 3>::new();
+    ports.insert(80);
+    ports.insert(443);
+    ports.insert(22);
+    let mut items = ports.iter();
+    assert_eq!(rt; items.next_back(), Some((SlotMapKey::new(2, 0), &22)));
+    assert_eq!(rt; items.next(), Some((SlotMapKey::new(0, 0), &80)));
+    assert_eq!(rt; items.next_back(), Some((SlotMapKey::new(1, 0), &443)));
+    assert_eq!(rt; items.next(), None);
+    assert_eq!(rt; ports.keys().rev().next(), Some(SlotMapKey::new(2, 0)));
+    assert_eq!(rt; ports.values().next_back(), Some(&22));
+}
+
 // Shows: MetaSlotMap::drain, Drain, Iterator for Drain, ExactSizeIterator for Drain
 // Shows: Drop for Drain
 #[test]

@@ -83,6 +83,26 @@ fn values_come_in_rising_order_of_their_keys(rt: HostRuntime) {
     assert_eq!(rt; values.next(), None);
 }
 
+// Shows: DoubleEndedIterator for Iter, DoubleEndedIterator for IntoIter
+// Shows: DoubleEndedIterator for Keys, DoubleEndedIterator for Parts
+#[test]
+fn a_table_is_gone_through_from_both_ends(rt: HostRuntime) {
+    let mut table = FixedSizeSlotTable::<char, 3>::new();
+    table.insert('a');
+    table.insert('b');
+    table.insert('c');
+    let mut items = table.iter();
+    assert_eq!(rt; items.next_back(), Some((SlotTableKey::new(2), &'c')));
+    assert_eq!(rt; items.next(), Some((SlotTableKey::new(0), &'a')));
+    assert_eq!(rt; items.next_back(), Some((SlotTableKey::new(1), &'b')));
+    assert_eq!(rt; items.next(), None);
+    assert_eq!(rt; table.keys().rev().next(), Some(SlotTableKey::new(2)));
+    assert_eq!(rt; table.values().next_back(), Some(&'c'));
+    let mut items = table.into_iter().rev();
+    assert_eq!(rt; items.next(), Some((SlotTableKey::new(2), 'c')));
+    assert_eq!(rt; items.next(), Some((SlotTableKey::new(1), 'b')));
+}
+
 // Shows: Debug for Iter, Debug for Keys, Debug for Parts
 // Shows: Clone for Iter, Clone for Keys, Clone for Parts
 #[test]

@@ -37,6 +37,7 @@ fn check_iterators<S: Table<Pair<u64, u64>>, L: Table<Link>, I: KeyIndex<u64, u6
     let len = slow.len();
     let mut keys = map.keys();
     let mut items = map.iter();
+    let (mut back, mut last_keys) = (map.iter().rev(), map.keys());
     for number in 0..len {
         let left = len - number;
         findings.expect_same((keys.len(), items.len()), (left, left), "items to come");
@@ -48,8 +49,15 @@ fn check_iterators<S: Table<Pair<u64, u64>>, L: Table<Link>, I: KeyIndex<u64, u6
         let item = items.next().map(|(key, value)| (*key, Some(*value)));
         let wanted = key.map(|key| (key, slow.get(key)));
         findings.expect_same(item, wanted, "an item of the iterator");
+        let last = slow.nth_key(left - 1);
+        let found = back.next().map(|(key, _)| *key);
+        findings.expect_same(
+            (found, last_keys.next_back().copied()),
+            (last, last),
+            "a last key",
+        );
     }
-    let is_end = keys.next().is_none() && items.next().is_none();
+    let is_end = keys.next().is_none() && items.next().is_none() && back.next().is_none();
     findings.expect(is_end, "the end of the iterators");
     findings.expect(map.nth_key(len).is_none(), "no more key by its number");
 }

@@ -96,6 +96,48 @@ fn clones_of_iterators() -> Result<(), Fail> {
     findings.verdict()
 }
 
+/// Goes through a map with the keys 40, 20 and 60, in slot order, of the values 7, 3 and 2, from both ends until these meet.
+fn check_both_ends<S, L, I>(findings: &Findings, map: &MetaMap<Pair<u64, u64>, S, L, I>)
+where
+    S: Table<Pair<u64, u64>>,
+    L: Table<Link>,
+    I: KeyIndex<u64, u64>,
+{
+    let mut items = map.iter();
+    findings.expect(items.next_back() == Some((&60, &2)), "the last item");
+    findings.expect(items.next() == Some((&40, &7)), "the first item");
+    findings.expect_same(items.len(), 1, "one item between");
+    findings.expect(items.next_back() == Some((&20, &3)), "the item between");
+    findings.expect(
+        items.next().is_none() && items.next_back().is_none(),
+        "no more",
+    );
+    let mut values = map.values();
+    let found = (
+        values.next(),
+        values.next_back(),
+        values.next_back(),
+        values.next(),
+    );
+    findings.expect_same(found, (Some(&7), Some(&2), Some(&3), None), "values");
+}
+
+#[test]
+fn iterators_go_on_at_either_end() -> Result<(), Fail> {
+    let findings = Findings::new();
+    let mut flat = FixedSizeFlatMap::<u64, u64, 5>::new();
+    let mut hashed = FixedSizeHashMap::<u64, u64, 5>::new();
+    for (key, value) in [(30, 1), (10, 5), (20, 3), (60, 2)] {
+        let _ = (flat.insert(key, value), hashed.insert(key, value));
+    }
+    let _ = (flat.remove(&30), hashed.remove(&30));
+    let _ = (flat.insert(40, 7), hashed.insert(40, 7));
+    let _ = (flat.remove(&10), hashed.remove(&10));
+    check_both_ends(&findings, &flat);
+    check_both_ends(&findings, &hashed);
+    findings.verdict()
+}
+
 #[test]
 fn a_drain_counts_and_prints_what_is_left() -> Result<(), Fail> {
     let findings = Findings::new();
@@ -113,10 +155,12 @@ fn a_drain_counts_and_prints_what_is_left() -> Result<(), Fail> {
     findings.expect(map.is_empty(), "the rest is dropped");
     let _ = (map.insert(30, 1), map.insert(10, 5), map.insert(20, 3));
     let _ = map.remove(&10);
+    let _ = map.insert(40, 7);
     let mut items = map.into_iter();
-    findings.expect_same(items.len(), 2, "by value");
+    findings.expect_same(items.len(), 3, "by value");
+    findings.expect_same(items.next_back(), Some((30, 1)), "the greatest place");
     findings.expect_same(items.next(), Some((20, 3)), "the least place");
-    findings.expect_same(items.next(), Some((30, 1)), "a later place");
-    findings.expect_same(items.next(), None, "no more");
+    findings.expect_same(items.next_back(), Some((40, 7)), "the place between");
+    findings.expect_same((items.next(), items.next_back()), (None, None), "no more");
     findings.verdict()
 }

@@ -4,6 +4,8 @@
 #![tactic(auto)]
 
 #[cfg(test)]
+mod both_ends_tests;
+#[cfg(test)]
 mod containers;
 #[cfg(test)]
 mod equality_tests;

@@ -251,6 +251,20 @@ fn taken_apart() -> Result<(), Fail> {
         seen = with_item(seen, key.value(), value);
     }
     findings.expect_same(seen, (2, 1537), "in rising order");
+    let mut map = FixedSizeSlotTable::<u64, 4>::new();
+    let _ = (map.insert(4), map.insert(5), map.insert(6), map.insert(7));
+    let _ = map.remove(SlotTableKey::new(2));
+    let mut items = map.into_iter();
+    let last = items.next_back();
+    findings.expect_same(last, Some((SlotTableKey::new(3), 7)), "from the back");
+    findings.expect_same(
+        items.next(),
+        Some((SlotTableKey::new(0), 4)),
+        "from the front",
+    );
+    let last = items.next_back();
+    findings.expect_same(last, Some((SlotTableKey::new(1), 5)), "over a free key");
+    findings.expect_same((items.next(), items.next_back()), (None, None), "no more");
     let mut unit = FixedSizeSlotTable::<(), 2>::new();
     let _ = unit.try_insert(());
     unit.clear();

@@ -99,6 +99,17 @@ fn check_table<S: Table<u64>, L: Table<Link>>(
     }
     findings.expect_same(items.len(), 0, "no item to come");
     findings.expect_same((map.len(), count), (len, len), "the number of entries");
+    for (key, value) in map.iter().rev() {
+        findings.expect(key.value() < least, "the keys fall");
+        findings.expect_same(
+            slow.get(key.value()),
+            Some(*value),
+            "a held key from the back",
+        );
+        least = key.value();
+        count = count.wrapping_sub(1);
+    }
+    findings.expect_same(count, 0, "as many entries from the back");
 }
 
 /// Compares the entries of both maps, and the numbers of held and of retired places.
@@ -124,6 +135,13 @@ fn check_map<S: Table<MaybeMoved<u64>>, L: Table<Link>, G: Table<u64>>(
     findings.expect_same(items.len(), 0, "no item to come");
     let found = (count, map.len(), map.retired());
     findings.expect_same(found, (held, held, retired), "the numbers of places");
+    for (key, value) in map.iter().rev() {
+        findings.expect(key.index() < least, "the indexes fall");
+        findings.expect_same(slow.get(key), Some(*value), "a held key from the back");
+        least = key.index();
+        count = count.wrapping_sub(1);
+    }
+    findings.expect_same(count, 0, "as many entries from the back");
 }
 
 /// Checks that no dead key is held: no one of a retired place, and else no one whose generation its place had before.
