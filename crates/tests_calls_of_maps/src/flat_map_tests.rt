@@ -275,7 +275,7 @@ fn the_default_map_is_empty(rt: HostRuntime) {
 #[test]
 fn a_map_is_allocated_in_one_call(rt: HostRuntime) -> Result<(), Fail> {
     let size = FlatMap::<u64, u64, Global>::memory_size(100);
-    assert_eq!(rt; (size.bytes, size.blocks), (3400, 4));
+    assert_eq!(rt; (size.bytes, size.blocks), (3300, 3));
     let mut map = FlatMap::<u64, u64>::new(rt.alloc(), 100)?; // takes as much
     assert_eq!(rt; map.insert(80, 1), Ok(()));
     Ok(())

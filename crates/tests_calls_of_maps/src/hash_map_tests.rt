@@ -1,5 +1,5 @@
 //! Examples of hash maps: how they are made. Their calls are those of flat maps.
-use ix_cells::{ContainerFamily, InlineTable, RelocatableContainer};
+use ix_cells::{ContainerFamily, FilledInlineTable, RelocatableContainer};
 use ix_maps::MapError::{IsFull, KeyAlreadyExists};
 use ix_maps::{
     ChainLink, DefaultHashBuilder, FixedSizeHashMap, HashMap, HashMapFamily, LinkTable,
@@ -83,9 +83,9 @@ fn a_map_made_in_two_steps_has_a_seed_that_is_drawn(rt: HostRuntime) -> Result<(
 }
 
 // Shows: LinkTable, LinkTable::has_chains
-// Shows: LinkTable for InlineTable
+// Shows: LinkTable for FilledInlineTable
 #[test]
 fn a_map_has_chains_up_to_the_greatest_capacity(rt: HostRuntime) {
-    assert!(rt; InlineTable::<ChainLink, 4_294_967_295>::has_chains());
-    assert!(rt; !InlineTable::<ChainLink, 4_294_967_296>::has_chains());
+    assert!(rt; FilledInlineTable::<ChainLink, 4_294_967_295>::has_chains());
+    assert!(rt; !FilledInlineTable::<ChainLink, 4_294_967_296>::has_chains());
 }

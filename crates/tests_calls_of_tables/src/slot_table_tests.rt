@@ -220,7 +220,7 @@ fn the_default_table_is_empty(rt: HostRuntime) {
 #[test]
 fn a_table_is_allocated_in_one_call(rt: HostRuntime) -> Result<(), Fail> {
     let size = SlotTable::<u64, Global>::memory_size(100);
-    assert_eq!(rt; (size.bytes, size.blocks), (2600, 4));
+    assert_eq!(rt; (size.bytes, size.blocks), (2500, 3));
     let mut table = SlotTable::<u64>::new(rt.alloc(), 100)?; // takes as much
     assert_eq!(rt; table.insert(5), Some(SlotTableKey::new(0)));
     Ok(())

@@ -1,8 +1,8 @@
 //! An example of each call of a table, a counted table, a row of places, and of what is made in two steps.
 use ix_cells::{
     ContainerFamily, Counted, FilledHeapTable, FilledInlineTable, HeapTable, InitError,
-    InlineTable, MemorySize, PolymorphicVec, RawSlots, RelocatableContainer, Table, Touches,
-    Uninit, UninitVec, VecFamily, Vector,
+    InlineTable, MaybeMoved, MemorySize, PolymorphicVec, RawSlots, RelocatableContainer, Table,
+    Touches, Uninit, UninitVec, VecFamily, Vector,
 };
 use ix_maps::{QueueFamily, UninitQueue};
 use ix_string::{String, StringFamily};
@@ -33,13 +33,27 @@ fn a_table_in_memory_of_an_allocator(rt: HostRuntime) -> Result<(), Fail> {
     Ok(())
 }
 
-// Shows: FilledInlineTable, FilledInlineTable::new, FilledInlineTable::full
+// Shows: MaybeMoved, MaybeMoved::new, MaybeMoved::get, MaybeMoved::get_mut
+// Shows: MaybeMoved::take, MaybeMoved::copy_moved, MaybeMoved::into_item
+#[test]
+fn an_item_that_is_moved_out_leaves_its_bytes(rt: HostRuntime) {
+    let mut place = MaybeMoved::new(7u64);
+    assert_eq!(rt; *place.get(), 7);
+    *place.get_mut() = 8;
+    assert_eq!(rt; place.take(), 8);
+    let _bytes = place.copy_moved();
+    assert_eq!(rt; MaybeMoved::new(9u64).into_item(), 9);
+}
+
+// Shows: FilledInlineTable, FilledInlineTable::len
+// Shows: FilledInlineTable::new, FilledInlineTable::full
 #[test]
 fn an_inline_table_of_copy_items(rt: HostRuntime) {
     let mut ages = FilledInlineTable::<u16, 3>::new(0);
     ages.put(2, 40);
     assert_eq!(rt; ages.take(2), 40);
     let mut ones = FilledInlineTable::<u16, 3>::full(1);
+    assert_eq!(rt; ones.len(), 3);
     *ones.get_mut(0) = 7;
     assert_eq!(rt; (*ones.get(0), *ones.get(2)), (7, 1));
 }

@@ -147,13 +147,13 @@ fn each_making(rt: HostRuntime) -> Result<(), Fail> {
     findings.verdict()
 }
 
-/// Checks the sizes of flat maps and of hash maps whose pairs take `size` bytes each. A hash map takes 21 bytes a place more.
+/// Checks the sizes of flat maps and of hash maps whose pairs take `size` bytes each. A hash map takes 20 bytes a place more.
 fn check_item<T: Drop>(findings: &Findings, alloc: Global, size: usize) {
-    let blocks = usize::from(size > 0).saturating_add(3);
+    let blocks = usize::from(size > 0).saturating_add(2);
     check_memory_sizes(
         findings,
         alloc,
-        size.saturating_add(18),
+        size.saturating_add(17),
         blocks,
         |n| {
             let size = FlatMap::<u64, T, &LocalHeap>::memory_size(n);
@@ -172,8 +172,8 @@ fn check_item<T: Drop>(findings: &Findings, alloc: Global, size: usize) {
     check_memory_sizes(
         findings,
         alloc,
-        size.saturating_add(39),
-        blocks.saturating_add(2),
+        size.saturating_add(37),
+        blocks.saturating_add(1),
         |n| {
             let size = HashMap::<u64, T, &LocalHeap>::memory_size(n);
             (size.bytes, size.blocks)

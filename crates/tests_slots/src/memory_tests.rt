@@ -167,8 +167,8 @@ fn check_tables<T: Drop>(findings: &Findings, alloc: Global, size: usize) {
     check_memory_sizes(
         findings,
         alloc,
-        size.saturating_add(18),
-        usize::from(size > 0).saturating_add(3),
+        size.saturating_add(17),
+        usize::from(size > 0).saturating_add(2),
         |n| {
             let size = SlotTable::<T, &LocalHeap>::memory_size(n);
             findings.expect_same(SlotTable::<T, Global>::memory_size(n), size, "any memory");
@@ -186,8 +186,8 @@ fn check_maps<T: Drop>(findings: &Findings, alloc: Global, size: usize) {
     check_memory_sizes(
         findings,
         alloc,
-        size.saturating_add(27),
-        usize::from(size > 0).saturating_add(5),
+        size.saturating_add(25),
+        usize::from(size > 0).saturating_add(3),
         |n| {
             let size = SlotMap::<T, &LocalHeap>::memory_size(n);
             findings.expect_same(SlotMap::<T, Global>::memory_size(n), size, "any memory");
