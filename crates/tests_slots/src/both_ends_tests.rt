@@ -96,7 +96,7 @@ fn check_table<S: Table<u64>, L: Table<Link>, E: Drop>(
 }
 
 /// Does what [`check_table`] does, of a map. The places of keys that the walk does not have are free again, or retired.
-fn check_map<S: Table<MaybeMoved<u64>>, L: Table<Link>, G: Table<u64>, E: Drop>(
+fn check_map<S: Table<MaybeMoved<u64>>, L: Table<Link>, G: Table<u64> + Drop, E: Drop>(
     findings: &Findings,
     made: Result<MetaSlotMap<u64, S, L, G>, E>,
     (_, values, steps): &Walk,

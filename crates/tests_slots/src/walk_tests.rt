@@ -191,7 +191,7 @@ fn walk_table<S: Table<u64>, L: Table<Link>, E: Drop>(
 }
 
 /// Runs random commands on an empty map, whose making did not fail, and on a slow one. At the end places are retired.
-fn walk_map<S: Table<MaybeMoved<u64>>, L: Table<Link>, G: Table<u64>, E: Drop>(
+fn walk_map<S: Table<MaybeMoved<u64>>, L: Table<Link>, G: Table<u64> + Drop, E: Drop>(
     findings: &Findings,
     alloc: Global,
     made: Result<MetaSlotMap<u64, S, L, G>, E>,
