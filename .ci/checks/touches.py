@@ -16,7 +16,7 @@ FILES = {room: [path for path in paths(*room) if not path.endswith("/kinds.rt")]
 # By file, the functions that go through places, as their documentation says: those that make, end, walk or print a container.
 WALKS = {
     "eq": ("eq",),
-    "clone": ("fill_with_clones", "put_clones", "copy_free_keys", "clone", "try_clone_in", "clone_contents", "put_contents"),
+    "clone": ("fill_with_clones", "put_clones", "copy_free_keys", "clone", "try_clone_in"),
     "drain": ("drop", "next", "fmt"),
     "free_list": ("link_all", "copy_links"),
     "into_iter": ("next", "next_back"),
@@ -26,13 +26,12 @@ WALKS = {
     "steps": ("held_from", "held_before"),
     "values": ("next", "next_back", "fmt"),
     "retain": ("clear", "for_each_mut", "retain"),
-    "meta_slot_map": ("held_from", "held_before", "drop", "fmt"),
-    "teardown": ("drop_values",),
+    "meta_slot_map": ("held_from", "held_before", "fmt"),
     "word_table": ("copy_of",),
     "full_table": ("copy_items",),
 }
-# Calls of a single step: those of counted tables, of new values, of what a place holds, of a value's part, and of std.
-CALLS = {".put", ".take", ".get", ".get_mut", ".len", ".as_ref", ".is_some", ".ok", "Counted::new", "MaybeMoved::new", ".into_item", ".copy_moved", "Touches::new", "SlotTableKey::new", "SlotMapKey::new",
+# Calls of a single step: those of counted tables, of new values, of a value's part, and of std.
+CALLS = {"item", "item_mut", ".put", ".take", ".get", ".get_mut", ".len", ".as_ref", ".is_some", ".ok", "Counted::new", "Touches::new", "SlotTableKey::new", "SlotMapKey::new",
          "Link::held", "Iter::new", "Keys::new", "Values::new", "P::of", "mem::replace", "write!", "Some", "Ok", "Err"}
 COUNTER = "touches: &mut Touches"
 FUNCTION = re.compile(r"( *)(?:pub(?:\(crate\))? )?fn (\w+)")

@@ -22,7 +22,7 @@ pub use ix_hashmap::{
 };
 pub use ix_queue::{FixedSizeQueue, MetaQueue, Queue, QueueFamily, RelocatableQueue, UninitQueue};
 pub use ix_slotmap::{
-    FixedSizeSlotMap, MetaSlotMap, RelocatableSlotMap, SlotMap, SlotMapKey, UninitSlotMap,
+    Content, FixedSizeSlotMap, MetaSlotMap, RelocatableSlotMap, SlotMap, SlotMapKey, UninitSlotMap,
 };
 pub use ix_slottable::{
     FixedSizeSlotTable, Link, MetaSlotTable, RelocatableSlotTable, SlotTable, SlotTableFamily,

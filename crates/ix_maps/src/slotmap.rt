@@ -1,6 +1,11 @@
 //! Slot maps, as [`ix_slotmap::slotmap`] has them.
 
 #[doc(hidden)]
+pub mod content {
+    pub use ix_slotmap::slotmap::Content;
+}
+
+#[doc(hidden)]
 pub mod drain {
     pub use ix_slotmap::slotmap::Drain;
 }
@@ -36,6 +41,7 @@ pub mod values {
 }
 
 pub use ix_slotmap::slotmap::{
-    Drain, FixedSizeSlotMap, Iter, Keys, MetaSlotMap, RelocatableSlotMap, SlotMap, SlotMapKey,
-    UninitSlotMap, Values, cleared_keys_law, dead_keys_law, default_key_law, key_order_law,
+    Content, Drain, FixedSizeSlotMap, Iter, Keys, MetaSlotMap, RelocatableSlotMap, SlotMap,
+    SlotMapKey, UninitSlotMap, Values, cleared_keys_law, dead_keys_law, default_key_law,
+    key_order_law,
 };

@@ -6,8 +6,6 @@ pub mod SlotMapEntries
 pub mod SlotMapOutcomes
 pub mod SlotMapCalls
 pub mod SlotMapCopies
-pub mod PlaceSizes
 pub mod WordTables
-pub mod WordedValues
 pub mod Words
 mod WorkedSlotMaps

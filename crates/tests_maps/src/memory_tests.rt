@@ -97,27 +97,27 @@ fn read_hashed<A: Allocator + Copy, F: Fn() -> usize>(
     }
 }
 
-/// The capacity of a flat map, and the number of blocks of 16 bytes that it takes: 16 bytes for each pair and 16 for each link,
-/// and one for the mark of either. An allocation takes whole blocks, so a fifth one would take one more.
+/// The capacity of a flat map, and the number of blocks of 16 bytes that it takes: 16 bytes for each pair, one for its mark, and
+/// 16 for each link. An allocation takes whole blocks, so a fourth one would take one more.
 const FLAT_SIZES: &[(usize, u16)] = &[
     (0, 0),
-    (1, 1 + 1 + 1 + 1),
-    (3, 3 + 1 + 3 + 1),
-    (8, 8 + 1 + 8 + 1),
-    (16, 16 + 1 + 16 + 1),
-    (33, 33 + 3 + 33 + 3),
-    (200, 200 + 13 + 200 + 13),
+    (1, 1 + 1 + 1),
+    (3, 3 + 1 + 3),
+    (8, 8 + 1 + 8),
+    (16, 16 + 1 + 16),
+    (33, 33 + 3 + 33),
+    (200, 200 + 13 + 200),
 ];
 
-/// The capacity of a hash map, and the number of blocks of 16 bytes that it takes: 16 bytes for each pair and for each link, 20 for each
-/// link of a chain, and one for the mark of each. An allocation takes whole blocks, so a seventh one would take one more.
+/// The capacity of a hash map, and the number of blocks of 16 bytes that it takes: 16 bytes for each pair, one for its mark, 16 for
+/// each link, and 20 for each link of a chain. An allocation takes whole blocks, so a fifth one would take one more.
 pub(crate) const HASH_SIZES: &[(usize, u16)] = &[
     (0, 0),
-    (1, 2 * (1 + 1) + 2 + 1),
-    (3, 2 * (3 + 1) + 4 + 1),
-    (8, 2 * (8 + 1) + 10 + 1),
-    (16, 2 * (16 + 1) + 20 + 1),
-    (33, 2 * (33 + 3) + 42 + 3),
+    (1, 1 + 1 + 1 + 2),
+    (3, 3 + 1 + 3 + 4),
+    (8, 8 + 1 + 8 + 10),
+    (16, 16 + 1 + 16 + 20),
+    (33, 33 + 3 + 33 + 42),
 ];
 
 #[test]

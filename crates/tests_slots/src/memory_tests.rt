@@ -110,27 +110,27 @@ fn read_map<A: Allocator + Copy, F: Fn() -> usize>(
     }
 }
 
-/// The capacity of a table, and the number of blocks of 16 bytes that it takes: 8 bytes for each value and 16 for each link,
-/// and one for the mark of either.
+/// The capacity of a table, and the number of blocks of 16 bytes that it takes: 8 bytes for each value, one for its mark, and
+/// 16 for each link.
 const TABLES: &[(usize, u16)] = &[
     (0, 0),
-    (1, 1 + 1 + 1 + 1),
-    (3, 2 + 1 + 3 + 1),
-    (8, 4 + 1 + 8 + 1),
-    (16, 8 + 1 + 16 + 1),
-    (33, 17 + 3 + 33 + 3),
-    (200, 100 + 13 + 200 + 13),
+    (1, 1 + 1 + 1),
+    (3, 2 + 1 + 3),
+    (8, 4 + 1 + 8),
+    (16, 8 + 1 + 16),
+    (33, 17 + 3 + 33),
+    (200, 100 + 13 + 200),
 ];
 
-/// The capacity of a map, and the number of blocks of 16 bytes that it takes: 8 bytes for each value, 16 for each link and 8
-/// for each generation, and one for the mark of each of the three.
+/// The capacity of a map, and the number of blocks of 16 bytes that it takes: 16 bytes for each value, one for its mark, 16
+/// for each link and 8 for each generation.
 const MAPS: &[(usize, u16)] = &[
     (0, 0),
-    (1, 1 + 1 + 1 + 1 + 1 + 1),
-    (3, 2 + 1 + 3 + 1 + 2 + 1),
-    (8, 4 + 1 + 8 + 1 + 4 + 1),
-    (16, 8 + 1 + 16 + 1 + 8 + 1),
-    (33, 17 + 3 + 33 + 3 + 17 + 3),
+    (1, 1 + 1 + 1 + 1),
+    (3, 3 + 1 + 3 + 2),
+    (8, 8 + 1 + 8 + 4),
+    (16, 16 + 1 + 16 + 8),
+    (33, 33 + 3 + 33 + 17),
 ];
 
 /// Checks the containers of a kind, which take so many blocks as `sizes` say.
@@ -181,13 +181,13 @@ fn check_tables<T: Drop>(findings: &Findings, alloc: Global, size: usize) {
     );
 }
 
-/// Checks the sizes of maps of values that take `size` bytes each.
+/// Checks the sizes of maps of values that take `size` bytes each, with the mark of the place.
 fn check_maps<T: Drop>(findings: &Findings, alloc: Global, size: usize) {
     check_memory_sizes(
         findings,
         alloc,
         size.saturating_add(25),
-        usize::from(size > 0).saturating_add(3),
+        4,
         |n| {
             let size = SlotMap::<T, &LocalHeap>::memory_size(n);
             findings.expect_same(SlotMap::<T, Global>::memory_size(n), size, "any memory");
@@ -200,19 +200,19 @@ fn check_maps<T: Drop>(findings: &Findings, alloc: Global, size: usize) {
     );
 }
 
-/// Checks the sizes of tables and of maps of values that take `size` bytes each.
-fn check_item<T: Drop>(findings: &Findings, alloc: Global, size: usize) {
+/// Checks the sizes of tables and of maps of values that take `size` bytes each, and `marked` bytes with the mark of the place.
+fn check_item<T: Drop>(findings: &Findings, alloc: Global, size: usize, marked: usize) {
     check_tables::<T>(findings, alloc, size);
-    check_maps::<T>(findings, alloc, size);
+    check_maps::<T>(findings, alloc, marked);
 }
 
 #[test]
 fn memory_sizes(rt: HostRuntime) -> Result<(), Fail> {
     let findings = Findings::new();
-    check_item::<()>(&findings, rt.alloc(), 0);
-    check_item::<u8>(&findings, rt.alloc(), 1);
-    check_item::<u64>(&findings, rt.alloc(), 8);
-    check_item::<[u64; 3]>(&findings, rt.alloc(), 24);
-    check_item::<[u64; 32]>(&findings, rt.alloc(), 256);
+    check_item::<()>(&findings, rt.alloc(), 0, 1);
+    check_item::<u8>(&findings, rt.alloc(), 1, 2);
+    check_item::<u64>(&findings, rt.alloc(), 8, 16);
+    check_item::<[u64; 3]>(&findings, rt.alloc(), 24, 32);
+    check_item::<[u64; 32]>(&findings, rt.alloc(), 256, 264);
     findings.verdict()
 }

@@ -1,7 +1,6 @@
 -- How a slot map keeps its generations: in the word of each place, which also says whether a value is there. No clause of a
 -- public call cites this.
-use Rattle.std.specs.Prelude.{◌≡◌, ℕ, ◌+◌, ◌*◌, ◌/◌, ◌%◌, ◌<◌, ◌≤◌, List, length, map, nat_eq, if◌then◌else◌, Option, Bool, IsSome, is_some, count_by, slice_index_or}
-use Rattle.std.specs.Option.{option_flatten}
+use Rattle.std.specs.Prelude.{◌≡◌, ℕ, ◌+◌, ◌*◌, ◌/◌, ◌<◌, ◌≤◌, List, length, map, nat_eq, if◌then◌else◌, Option, Bool, is_some, count_by, slice_index_or}
 use Rattle.ix_slottable.specs.SlotTableState.{SlotTableState, value_at}
 use Rattle.ix_slotmap.specs.Generations.{greatest_generation}
 use Rattle.ix_slottable.specs.inner.FullTables.{items_in}
@@ -39,10 +38,3 @@ module _ {C : Type 0} (is_retired : Option C → Bool) where
     pub lengths : length words ≡ length slots.values
     pub each : (place : ℕ) → place < length slots.values → IsWordOf (value_at slots place) (word_at words place)
     pub counted : retired ≡ count_by is_retired slots.values
-
-module _ {T : Type 0} where
-  -- of the places below the end, each whose word is odd has a value in it
-  pub record MatchesWords (slots : SlotTableState (Option T)) (words : List ℕ) (end : ℕ) : Type 0 where
-    pub within : end ≤ length slots.values
-    pub worded : end ≤ length words
-    pub held : (place : ℕ) → place < end → word_at words place % 2 ≡ 1 → IsSome (option_flatten (value_at slots place))

@@ -1,7 +1,0 @@
-use Rattle.std.proofs.Common.{sym, subst}
-use Rattle.ix_slotmap.specs.inner.Words.{MatchesWords}
-use Rattle.ix_slotmap.proofs.SlotMapCopies.{MatchesWords-all}
-use Rattle.ix_slotmap.proofs.slotmap.meta_slot_map.MetaSlotMap.drop.Goals as goal
-
-pub drop_values-requires : goal.drop_values-requires
-drop_values-requires g c = subst (MatchesWords c.self.inside.slots c.self.inside.words) (sym c.capacity-capacity.ensures.value) (MatchesWords-all _ _ _ c.self.invariant)
