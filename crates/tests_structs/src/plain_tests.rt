@@ -113,15 +113,53 @@ fn other_containers(rt: HostRuntime) -> Result<(), Fail> {
 }
 
 #[test]
-fn threads(rt: HostRuntime) -> Result<(), Fail> {
+fn inline_in_threads(rt: HostRuntime) -> Result<(), Fail> {
     let findings = Findings::new();
-    let inline = Inline::holding(1);
-    match Allocated::holding(rt.alloc(), 1) {
-        Ok(allocated) => match thread::spawn(&rt, move || (inline.len(), pass(allocated).len())) {
-            Ok(other) => findings.expect_same(other.join(&rt), (9, 6), "another thread"),
-            Err(_) => findings.miss("a thread"),
-        },
-        Err(AllocError) => findings.miss("memory"),
+    let slot_map = FixedSizeSlotMap::<u64, 2>::new();
+    match thread::spawn(&rt, move || slot_map.len()) {
+        Ok(other) => findings.expect_same(other.join(&rt), 0, "a slot map"),
+        Err(_) => findings.miss("a thread"),
+    }
+    let slot_table = FixedSizeSlotTable::<u64, 2>::new();
+    match thread::spawn(&rt, move || slot_table.len()) {
+        Ok(other) => findings.expect_same(other.join(&rt), 0, "a slot table"),
+        Err(_) => findings.miss("a thread"),
+    }
+    let flat_map = FixedSizeFlatMap::<u8, u64, 2>::new();
+    match thread::spawn(&rt, move || flat_map.len()) {
+        Ok(other) => findings.expect_same(other.join(&rt), 0, "a flat map"),
+        Err(_) => findings.miss("a thread"),
+    }
+    let queue = FixedSizeQueue::<u64, 2>::new();
+    match thread::spawn(&rt, move || queue.len()) {
+        Ok(other) => findings.expect_same(other.join(&rt), 0, "a queue"),
+        Err(_) => findings.miss("a thread"),
+    }
+    findings.verdict()
+}
+
+#[test]
+fn allocated_in_threads(rt: HostRuntime) -> Result<(), Fail> {
+    let slot_map = SlotMap::<u64>::new(rt.alloc(), 2)?;
+    let slot_table = SlotTable::<u64>::new(rt.alloc(), 2)?;
+    let flat_map = FlatMap::<u8, u64>::new(rt.alloc(), 2)?;
+    let queue = Queue::<u64>::new(rt.alloc(), 2)?;
+    let findings = Findings::new();
+    match thread::spawn(&rt, move || slot_map.len()) {
+        Ok(other) => findings.expect_same(other.join(&rt), 0, "a slot map"),
+        Err(_) => findings.miss("a thread"),
+    }
+    match thread::spawn(&rt, move || slot_table.len()) {
+        Ok(other) => findings.expect_same(other.join(&rt), 0, "a slot table"),
+        Err(_) => findings.miss("a thread"),
+    }
+    match thread::spawn(&rt, move || flat_map.len()) {
+        Ok(other) => findings.expect_same(other.join(&rt), 0, "a flat map"),
+        Err(_) => findings.miss("a thread"),
+    }
+    match thread::spawn(&rt, move || queue.len()) {
+        Ok(other) => findings.expect_same(other.join(&rt), 0, "a queue"),
+        Err(_) => findings.miss("a thread"),
     }
     findings.verdict()
 }
