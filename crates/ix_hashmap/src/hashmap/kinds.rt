@@ -112,7 +112,7 @@ impl<K: Eq + Hash + Drop, V: Drop, A: Allocator + Copy, B: BuildHasher + Drop> C
 
     ghost is_empty_with = { λ capacity map. map ≡ slot_table_new capacity };
 
-    /// Creates an empty map with room for `capacity` keys. O(`capacity`), with at most six allocations. If one fails, what makes the
+    /// Creates an empty map with room for `capacity` keys. O(`capacity`), with at most four allocations. If one fails, what makes the
     /// hashers is dropped.
     #[inline]
     fn with_capacity(
