@@ -6,6 +6,8 @@ pub mod SlotMapEntries
 pub mod SlotMapOutcomes
 pub mod SlotMapCalls
 pub mod SlotMapCopies
+pub mod PlaceSizes
 pub mod WordTables
+pub mod WordedValues
 pub mod Words
 mod WorkedSlotMaps

@@ -1,3 +1,2 @@
 -- What no public contract cites: what the code behind it means.
-pub mod HeldItem
 pub mod Words

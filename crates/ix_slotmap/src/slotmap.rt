@@ -5,9 +5,9 @@
 
 mod clone;
 mod content;
+mod debug;
 mod drain;
 mod eq;
-mod held_item;
 mod index;
 mod iter;
 mod keys;
@@ -15,6 +15,7 @@ mod kinds;
 mod meta_slot_map;
 mod retain;
 mod slot_map_key;
+mod teardown;
 mod try_insert;
 mod values;
 mod word_table;
@@ -26,5 +27,6 @@ pub use keys::Keys;
 pub use kinds::{FixedSizeSlotMap, RelocatableSlotMap, SlotMap, UninitSlotMap};
 pub use meta_slot_map::{MetaSlotMap, cleared_keys_law, dead_keys_law};
 pub use slot_map_key::{SlotMapKey, default_key_law, key_order_law};
+pub(crate) use teardown::drop_values;
 pub use values::Values;
 pub(crate) use word_table::{RETIRED, WordTable};

@@ -63,7 +63,7 @@ fn inline() -> Result<(), Fail> {
         (
             size_of::<FixedSizeSlotMap<u64, 1>>(),
             size_of::<FixedSizeSlotMap<u64, 9>>(),
-            48,
+            40,
             "a slot map",
         ),
         (
@@ -114,7 +114,7 @@ fn allocated() -> Result<(), Fail> {
             3,
             "a slot table",
         ),
-        (SlotMap::<u64, Global>::memory_size(1), 41, 4, "a slot map"),
+        (SlotMap::<u64, Global>::memory_size(1), 33, 4, "a slot map"),
         (
             FlatMap::<u64, u64, Global>::memory_size(1),
             33,

@@ -129,7 +129,7 @@ fn a_clone_has_the_same_keys(rt: HostRuntime) -> Result<(), Fail> {
 fn a_map_is_made_in_one_call(rt: HostRuntime) -> Result<(), Fail> {
     let inline = FixedSizeSlotMap::<u64, 100>::default();
     let size = SlotMap::<u64, Global>::memory_size(100);
-    assert_eq!(rt; (size.bytes, size.blocks), (4100, 4));
+    assert_eq!(rt; (size.bytes, size.blocks), (3300, 4));
     let allocated = SlotMap::<u64>::new(rt.alloc(), 100)?; // takes as much
     assert_eq!(rt; (inline.capacity(), allocated.capacity()), (100, 100));
     let later = SlotMap::<u64>::starting_at(rt.alloc(), 100, 7)?;

@@ -9,7 +9,7 @@ use ix_slotmap::{FixedSizeSlotMap, MetaSlotMap, SlotMap, SlotMapKey, UninitSlotM
 use ix_slottable::{
     FixedSizeSlotTable, Link, MetaSlotTable, SlotTable, SlotTableKey, UninitSlotTable,
 };
-use ix_tables::{RelocatableContainer, Table};
+use ix_tables::{MaybeMoved, RelocatableContainer, Table};
 use linked_list_allocator::LocalHeap;
 use std::alloc::{AllocError, Global};
 use std::test::Fail;
@@ -80,8 +80,8 @@ impl<'a, S: Table<Noted<'a>>, L: Table<Link>> Holder<'a, Call> for MetaSlotTable
     }
 }
 
-fn drain_map<T: Drop, S: Table<Option<T>>, L: Table<Link>, G: Table<u64>>(
-    map: &mut MetaSlotMap<Option<T>, S, L, G>,
+fn drain_map<T: Drop, S: Table<MaybeMoved<T>>, L: Table<Link>, G: Table<u64>>(
+    map: &mut MetaSlotMap<T, MaybeMoved<T>, S, L, G>,
     taken: usize,
     is_forgotten: bool,
     notes: &Notes,
@@ -89,8 +89,8 @@ fn drain_map<T: Drop, S: Table<Option<T>>, L: Table<Link>, G: Table<u64>>(
     take_some(map.drain(), taken, is_forgotten, notes);
 }
 
-impl<'a, S: Table<Option<Noted<'a>>>, L: Table<Link>, G: Table<u64>> Holder<'a, Call>
-    for MetaSlotMap<Option<Noted<'a>>, S, L, G> {
+impl<'a, S: Table<MaybeMoved<Noted<'a>>>, L: Table<Link>, G: Table<u64>> Holder<'a, Call>
+    for MetaSlotMap<Noted<'a>, MaybeMoved<Noted<'a>>, S, L, G> {
     type Back = Option<Noted<'a>>;
 
     fn make(&mut self, call: Call, notes: &'a Notes) -> Option<Noted<'a>> {

@@ -3,7 +3,7 @@ use crate::both_ends_tests::Step::{Back, Left, Next};
 use crate::containers::LAST;
 use ix_slotmap::{FixedSizeSlotMap, MetaSlotMap, SlotMap};
 use ix_slottable::{FixedSizeSlotTable, Link, MetaSlotTable, SlotTable, SlotTableKey};
-use ix_tables::Table;
+use ix_tables::{MaybeMoved, Table};
 use std::test::Fail;
 use test_support::{Findings, made};
 
@@ -96,9 +96,9 @@ fn check_table<S: Table<u64>, L: Table<Link>, E: Drop>(
 }
 
 /// Does what [`check_table`] does, of a map. The places of keys that the walk does not have are free again, or retired.
-fn check_map<S: Table<Option<u64>>, L: Table<Link>, G: Table<u64> + Drop, E: Drop>(
+fn check_map<S: Table<MaybeMoved<u64>>, L: Table<Link>, G: Table<u64> + Drop, E: Drop>(
     findings: &Findings,
-    made: Result<MetaSlotMap<Option<u64>, S, L, G>, E>,
+    made: Result<MetaSlotMap<u64, MaybeMoved<u64>, S, L, G>, E>,
     (_, values, steps): &Walk,
 ) {
     let Ok(mut map) = made else {

@@ -1,7 +1,7 @@
 //! Slot tables and slot maps as the tests of both see them.
 use ix_slotmap::{MetaSlotMap, SlotMapKey};
 use ix_slottable::{Link, MetaSlotTable, SlotTableKey};
-use ix_tables::Table;
+use ix_tables::{MaybeMoved, Table};
 use std::fmt::Debug;
 
 /// The greatest generation.
@@ -170,8 +170,8 @@ impl<T: Numbered, S: Table<T>, L: Table<Link>> Slots<T> for MetaSlotTable<T, S, 
     }
 }
 
-impl<T: Numbered, S: Table<Option<T>>, L: Table<Link>, G: Table<u64>> Slots<T>
-    for MetaSlotMap<Option<T>, S, L, G> {
+impl<T: Numbered, S: Table<MaybeMoved<T>>, L: Table<Link>, G: Table<u64>> Slots<T>
+    for MetaSlotMap<T, MaybeMoved<T>, S, L, G> {
     type Key = SlotMapKey;
 
     fn key(index: usize, generation: u32) -> SlotMapKey {

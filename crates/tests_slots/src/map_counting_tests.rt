@@ -7,7 +7,7 @@ use ix_commands::Runs;
 use ix_commands::SlotMapCommand::{self, Get, Insert, InsertAt, Len, Next, Remove};
 use ix_slotmap::{MetaSlotMap, SlotMap, SlotMapKey};
 use ix_slottable::Link;
-use ix_tables::{Table, Touches};
+use ix_tables::{MaybeMoved, Table, Touches};
 use std::alloc::{AllocError, Global};
 use std::cmp::min;
 use std::test::Fail;
@@ -15,8 +15,8 @@ use std::time::{CpuClock, Duration};
 use test_support::{Findings, check_tables, reply_of_key, reply_of_option};
 
 /// Runs the counted form of a command, if it has one, and returns the reply.
-fn run_counted<S: Table<Option<u64>>, L: Table<Link>, G: Table<u64>>(
-    map: &mut MetaSlotMap<Option<u64>, S, L, G>,
+fn run_counted<S: Table<MaybeMoved<u64>>, L: Table<Link>, G: Table<u64>>(
+    map: &mut MetaSlotMap<u64, MaybeMoved<u64>, S, L, G>,
     command: SlotMapCommand<u64>,
 ) -> Reply<SlotMapKey, u64> {
     let mut touches = Touches::new();

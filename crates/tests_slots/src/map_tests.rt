@@ -3,7 +3,7 @@ use crate::containers::key;
 use ix_slotmap::slotmap::key_order_law;
 use ix_slotmap::{FixedSizeSlotMap, MetaSlotMap, SlotMapKey, UninitSlotMap};
 use ix_slottable::Link;
-use ix_tables::Table;
+use ix_tables::{MaybeMoved, Table};
 use std::cmp::Ordering;
 use std::test::Fail;
 use test_support::{Findings, check_display, check_printed, check_text, hash_of, order_of};
@@ -53,8 +53,8 @@ fn keys() -> Result<(), Fail> {
 }
 
 /// Returns the values in the order of their places, up to the first that is `last`, as digits.
-fn values_up_to<S: Table<Option<u64>>, L: Table<Link>, G: Table<u64>>(
-    map: &MetaSlotMap<Option<u64>, S, L, G>,
+fn values_up_to<S: Table<MaybeMoved<u64>>, L: Table<Link>, G: Table<u64>>(
+    map: &MetaSlotMap<u64, MaybeMoved<u64>, S, L, G>,
     last: u64,
 ) -> u64 {
     let mut digits = 0u64;

@@ -122,15 +122,15 @@ const TABLES: &[(usize, u16)] = &[
     (200, 100 + 13 + 200),
 ];
 
-/// The capacity of a map, and the number of blocks of 16 bytes that it takes: 16 bytes for each value, one for its mark, 16
+/// The capacity of a map, and the number of blocks of 16 bytes that it takes: 8 bytes for each value, one for its mark, 16
 /// for each link and 8 for each generation.
 const MAPS: &[(usize, u16)] = &[
     (0, 0),
     (1, 1 + 1 + 1 + 1),
-    (3, 3 + 1 + 3 + 2),
-    (8, 8 + 1 + 8 + 4),
-    (16, 16 + 1 + 16 + 8),
-    (33, 33 + 3 + 33 + 17),
+    (3, 2 + 1 + 3 + 2),
+    (8, 4 + 1 + 8 + 4),
+    (16, 8 + 1 + 16 + 8),
+    (33, 17 + 3 + 33 + 17),
 ];
 
 /// Checks the containers of a kind, which take so many blocks as `sizes` say.
@@ -162,32 +162,13 @@ fn each_making(rt: HostRuntime) -> Result<(), Fail> {
     findings.verdict()
 }
 
-/// Checks the sizes of tables of values that take `size` bytes each.
-fn check_tables<T: Drop>(findings: &Findings, alloc: Global, size: usize) {
-    check_memory_sizes(
-        findings,
-        alloc,
-        size.saturating_add(17),
-        usize::from(size > 0).saturating_add(2),
-        |n| {
-            let size = SlotTable::<T, &LocalHeap>::memory_size(n);
-            findings.expect_same(SlotTable::<T, Global>::memory_size(n), size, "any memory");
-            (size.bytes, size.blocks)
-        },
-        |heap: &LocalHeap, n| match SlotTable::<T, &LocalHeap>::new(heap, n) {
-            Ok(_made) => Some(heap.used()),
-            Err(AllocError) => None,
-        },
-    );
-}
-
-/// Checks the sizes of maps of values that take `size` bytes each, with the mark of the place.
+/// Checks the sizes of maps of values that take `size` bytes each.
 fn check_maps<T: Drop>(findings: &Findings, alloc: Global, size: usize) {
     check_memory_sizes(
         findings,
         alloc,
         size.saturating_add(25),
-        4,
+        usize::from(size > 0).saturating_add(3),
         |n| {
             let size = SlotMap::<T, &LocalHeap>::memory_size(n);
             findings.expect_same(SlotMap::<T, Global>::memory_size(n), size, "any memory");
@@ -200,19 +181,19 @@ fn check_maps<T: Drop>(findings: &Findings, alloc: Global, size: usize) {
     );
 }
 
-/// Checks the sizes of tables and of maps of values that take `size` bytes each, and `marked` bytes with the mark of the place.
-fn check_item<T: Drop>(findings: &Findings, alloc: Global, size: usize, marked: usize) {
+/// Checks the sizes of tables and of maps of values that take `size` bytes each.
+fn check_item<T: Drop>(findings: &Findings, alloc: Global, size: usize) {
     check_tables::<T>(findings, alloc, size);
-    check_maps::<T>(findings, alloc, marked);
+    check_maps::<T>(findings, alloc, size);
 }
 
 #[test]
 fn memory_sizes(rt: HostRuntime) -> Result<(), Fail> {
     let findings = Findings::new();
-    check_item::<()>(&findings, rt.alloc(), 0, 1);
-    check_item::<u8>(&findings, rt.alloc(), 1, 2);
-    check_item::<u64>(&findings, rt.alloc(), 8, 16);
-    check_item::<[u64; 3]>(&findings, rt.alloc(), 24, 32);
-    check_item::<[u64; 32]>(&findings, rt.alloc(), 256, 264);
+    check_item::<()>(&findings, rt.alloc(), 0);
+    check_item::<u8>(&findings, rt.alloc(), 1);
+    check_item::<u64>(&findings, rt.alloc(), 8);
+    check_item::<[u64; 3]>(&findings, rt.alloc(), 24);
+    check_item::<[u64; 32]>(&findings, rt.alloc(), 256);
     findings.verdict()
 }

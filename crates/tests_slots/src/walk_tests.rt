@@ -8,7 +8,7 @@ use crate::slow_map::SlowMap;
 use ix_commands::{SlotMapCommand, SlotTableCommand};
 use ix_slotmap::{FixedSizeSlotMap, MetaSlotMap, SlotMap, SlotMapKey, UninitSlotMap};
 use ix_slottable::{FixedSizeSlotTable, Link, MetaSlotTable, SlotTable, UninitSlotTable};
-use ix_tables::{RelocatableContainer, Table};
+use ix_tables::{MaybeMoved, RelocatableContainer, Table};
 use std::alloc::Global;
 use std::test::Fail;
 use test_support::{Findings, Numbers, SlowTable, made};
@@ -113,9 +113,9 @@ fn check_table<S: Table<u64>, L: Table<Link>>(
 }
 
 /// Compares the entries of both maps, and the numbers of held and of retired places.
-fn check_map<S: Table<Option<u64>>, L: Table<Link>, G: Table<u64>>(
+fn check_map<S: Table<MaybeMoved<u64>>, L: Table<Link>, G: Table<u64>>(
     findings: &Findings,
-    map: &MetaSlotMap<Option<u64>, S, L, G>,
+    map: &MetaSlotMap<u64, MaybeMoved<u64>, S, L, G>,
     slow: &SlowMap,
 ) {
     let (held, retired) = slow.counts();
@@ -145,9 +145,9 @@ fn check_map<S: Table<Option<u64>>, L: Table<Link>, G: Table<u64>>(
 }
 
 /// Checks that no dead key is held: no one of a retired place, and else no one whose generation its place had before.
-fn check_dead<S: Table<Option<u64>>, L: Table<Link>, G: Table<u64>>(
+fn check_dead<S: Table<MaybeMoved<u64>>, L: Table<Link>, G: Table<u64>>(
     findings: &Findings,
-    map: &MetaSlotMap<Option<u64>, S, L, G>,
+    map: &MetaSlotMap<u64, MaybeMoved<u64>, S, L, G>,
     slow: &SlowMap,
 ) {
     for index in 0..map.capacity() {
@@ -191,10 +191,10 @@ fn walk_table<S: Table<u64>, L: Table<Link>, E: Drop>(
 }
 
 /// Runs random commands on an empty map, whose making did not fail, and on a slow one. At the end places are retired.
-fn walk_map<S: Table<Option<u64>>, L: Table<Link>, G: Table<u64> + Drop, E: Drop>(
+fn walk_map<S: Table<MaybeMoved<u64>>, L: Table<Link>, G: Table<u64> + Drop, E: Drop>(
     findings: &Findings,
     alloc: Global,
-    made: Result<MetaSlotMap<Option<u64>, S, L, G>, E>,
+    made: Result<MetaSlotMap<u64, MaybeMoved<u64>, S, L, G>, E>,
 ) {
     let Ok(mut map) = made else {
         return findings.miss("there is memory");

@@ -6,7 +6,7 @@ use ix_slottable::slottable::default_key_law;
 use ix_slottable::{
     FixedSizeSlotTable, Link, MetaSlotTable, SlotTable, SlotTableKey, UninitSlotTable,
 };
-use ix_tables::{RelocatableContainer, Table};
+use ix_tables::{MaybeMoved, RelocatableContainer, Table};
 use std::alloc::{AllocError, Global};
 use std::fmt::Debug;
 use std::test::Fail;
@@ -68,9 +68,9 @@ fn check_table_walks<S: Table<u64>, L: Table<Link>>(
 }
 
 /// Checks the iterators of an empty map with five places of generation 0, after values in three of them.
-fn check_map_walks<S: Table<Option<u64>>, L: Table<Link>, G: Table<u64>>(
+fn check_map_walks<S: Table<MaybeMoved<u64>>, L: Table<Link>, G: Table<u64>>(
     findings: &Findings,
-    map: &mut MetaSlotMap<Option<u64>, S, L, G>,
+    map: &mut MetaSlotMap<u64, MaybeMoved<u64>, S, L, G>,
 ) -> Result<(), AllocError> {
     check_walk(findings, &mut map.iter(), &[], &[])?;
     for (index, value) in [(4, 9), (1, 5), (2, 6), (2, 7)] {
@@ -152,9 +152,9 @@ fn check_table_refusals<S: Table<u64>, L: Table<Link>>(
 }
 
 /// Does what [`check_refusals`] does, and checks places that have the last generation, or are retired.
-fn check_map_refusals<S: Table<Option<u64>>, L: Table<Link>, G: Table<u64>>(
+fn check_map_refusals<S: Table<MaybeMoved<u64>>, L: Table<Link>, G: Table<u64>>(
     findings: &Findings,
-    map: &mut MetaSlotMap<Option<u64>, S, L, G>,
+    map: &mut MetaSlotMap<u64, MaybeMoved<u64>, S, L, G>,
 ) {
     let full = "{(0, 4294967294): 1, (1, 4294967294): 5, (2, 4294967295): 3}";
     check_refusals(findings, map, full);

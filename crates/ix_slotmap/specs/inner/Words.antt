@@ -1,6 +1,6 @@
 -- How a slot map keeps its generations: in the word of each place, which also says whether a value is there. No clause of a
 -- public call cites this.
-use Rattle.std.specs.Prelude.{◌≡◌, ℕ, ◌+◌, ◌*◌, ◌/◌, ◌<◌, ◌≤◌, List, length, map, nat_eq, if◌then◌else◌, Option, Bool, is_some, count_by, slice_index_or}
+use Rattle.std.specs.Prelude.{◌≡◌, ℕ, ◌+◌, ◌*◌, ◌/◌, ◌%◌, ◌<◌, ◌≤◌, List, length, map, nat_eq, if◌then◌else◌, Option, Bool, true, false, IsSome, is_some, count_by, slice_index_or}
 use Rattle.ix_slottable.specs.SlotTableState.{SlotTableState, value_at}
 use Rattle.ix_slotmap.specs.Generations.{greatest_generation}
 use Rattle.ix_slottable.specs.inner.FullTables.{items_in}
@@ -38,3 +38,17 @@ module _ {C : Type 0} (is_retired : Option C → Bool) where
     pub lengths : length words ≡ length slots.values
     pub each : (place : ℕ) → place < length slots.values → IsWordOf (value_at slots place) (word_at words place)
     pub counted : retired ≡ count_by is_retired slots.values
+
+  -- the content of a place that is neither free nor retired
+  abbrev pub HoldsValue : Option C → Type 0
+  HoldsValue content = IsSome content × (is_retired content ≡ false)
+
+  -- of the places below the end, each whose word is odd has a value in it
+  pub record MatchesWords (slots : SlotTableState C) (words : List ℕ) (end : ℕ) : Type 0 where
+    pub within : end ≤ length slots.values
+    pub worded : end ≤ length words
+    pub held : (place : ℕ) → place < end → word_at words place % 2 ≡ 1 → HoldsValue (value_at slots place)
+
+  -- of the places below the end, none whose word is odd has a value in it any more
+  abbrev pub HasNoValues : SlotTableState C → List ℕ → ℕ → Type 0
+  HasNoValues slots words end = (place : ℕ) → place < end → word_at words place % 2 ≡ 1 → is_retired (value_at slots place) ≡ true

@@ -1,11 +1,81 @@
 //! Clones of slot maps.
-ghost use Rattle.std.specs.Prelude.{◌≡◌, length, IsOk, IfOk};
+ghost use Rattle.std.specs.Prelude.{◌≡◌, ℕ, ◌<◌, length, replicate, None, IsOk, IfOk, OnOk};
 ghost use Rattle.ix_tables.specs.Cloning.{AreEqualClones};
+ghost use Rattle.ix_slottable.specs.SlotTableState.{value_at};
+ghost use Rattle.ix_slottable.specs.SlotTableCopies.{IsCloneAt, SlotTableIsClone};
 ghost use Rattle.ix_slotmap.specs.SlotMapCopies.{SlotMapIsClone, SlotMapIsInfallible};
 
-use crate::slotmap::{FixedSizeSlotMap, MetaSlotMap, SlotMap, WordTable};
-use ix_tables::{FilledHeapTable, FilledInlineTable};
+use crate::slotmap::{FixedSizeSlotMap, MetaSlotMap, SlotMap, WordTable, drop_values};
+use ix_slottable::slottable::{FixedSizeSlotTable, Link, MetaSlotTable, SlotTable, SlotTableKey};
+use ix_tables::{FilledHeapTable, FilledInlineTable, MaybeMoved, Table, Touches};
 use std::alloc::{AllocError, Allocator};
+use std::marker::PhantomData;
+
+impl<T: Clone, S: Table<MaybeMoved<T>>, L: Table<Link>, G: Table<u64>> MetaSlotMap<
+    T,
+    MaybeMoved<T>,
+    S,
+    L,
+    G,
+> {
+    /// Puts clones of the values in the same places of an empty table of the same capacity. A retired place is held there too,
+    /// and the free places are in the same order. Returns the error of the first clone that fails, and drops those already made.
+    fn clone_contents<R: Table<MaybeMoved<T>>, M: Table<Link>>(
+        &self,
+        slots: &mut MetaSlotTable<MaybeMoved<T>, R, M>,
+    ) -> Result<(), AllocError>
+        requires { slots.old.values ≡ replicate (length self.now.slots.values) None }
+        ensures clones { OnOk result (SlotTableIsClone (IsCloneAt T.is_clone) self.now.slots slots.new) }
+        ensures memory { SlotMapIsInfallible T.is_infallible self.now → IsOk result }
+    {
+        self.put_contents(slots)?;
+        slots.copy_free_keys(&self.slots);
+        Ok(())
+    }
+
+    /// Does what [`MetaSlotMap::clone_contents`] does, but for the order of the free places.
+    fn put_contents<R: Table<MaybeMoved<T>>, M: Table<Link>>(
+        &self,
+        slots: &mut MetaSlotTable<MaybeMoved<T>, R, M>,
+    ) -> Result<(), AllocError>
+        requires { slots.old.values ≡ replicate (length self.now.slots.values) None }
+        ensures capacity { OnOk result (length slots.new.values ≡ length self.now.slots.values) }
+        ensures values { OnOk result ((place : ℕ) → IsCloneAt (IsCloneAt T.is_clone)
+            (value_at self.now.slots place) (value_at slots.new place)) }
+        ensures memory { SlotMapIsInfallible T.is_infallible self.now → IsOk result }
+    {
+        for index in 0..self.capacity() {
+            match self.clone_content(index) {
+                Ok(Some(content)) => {
+                    slots.insert_at_unchecked(SlotTableKey::new(index), content);
+                }
+                Ok(None) => {}
+                Err(error) => {
+                    drop_values(slots, &self.words, index);
+                    return Err(error);
+                }
+            }
+        }
+        Ok(())
+    }
+
+    /// Returns a clone of the value in a place, the bytes of a retired one, or `None` if the place is free.
+    fn clone_content(&self, index: usize) -> Result<Option<MaybeMoved<T>>, AllocError>
+        requires { index < length self.now.slots.values }
+        ensures value { IfOk result (IsCloneAt (IsCloneAt T.is_clone) (value_at self.now.slots index)) }
+        ensures memory { SlotMapIsInfallible T.is_infallible self.now → IsOk result }
+    {
+        if self.has_value(index, &mut Touches::new()) {
+            let copy = self.value_at(index).clone()?;
+            return Ok(Some(MaybeMoved::new(copy)));
+        }
+        if self.is_retired(index, &mut Touches::new()) {
+            let place = SlotTableKey::new(index);
+            return Ok(Some(self.slots.get_unchecked(place).copy_moved()));
+        }
+        Ok(None)
+    }
+}
 
 impl<T: Clone, const CAPACITY: usize> Clone for FixedSizeSlotMap<T, CAPACITY> {
     ghost is_clone = { SlotMapIsClone T.is_clone };
@@ -19,14 +89,15 @@ impl<T: Clone, const CAPACITY: usize> Clone for FixedSizeSlotMap<T, CAPACITY> {
     fn clone(&self) -> Result<Self, AllocError> {
         // Names the capacity, by which the check knows that the tables have as many places.
         let _capacity = self.slots.capacity();
-        match self.slots.clone() {
-            Ok(slots) => Ok(MetaSlotMap {
-                slots,
-                words: WordTable::copy_of(FilledInlineTable::new(0), &self.words),
-                retired: self.retired,
-            }),
-            Err(error) => Err(error),
-        }
+        let words = WordTable::copy_of(FilledInlineTable::new(0), &self.words);
+        let mut slots = FixedSizeSlotTable::<MaybeMoved<T>, CAPACITY>::default();
+        self.clone_contents(&mut slots)?;
+        Ok(MetaSlotMap {
+            slots,
+            words,
+            retired: self.retired,
+            of: PhantomData,
+        })
     }
 }
 
@@ -41,12 +112,15 @@ impl<T: Clone, A: Allocator + Copy> SlotMap<T, A> {
         ensures value { IfOk result (λ map. map ≡ self.now) }
         ensures memory { length self.now.slots.values ≡ 0 → IsOk result }
     {
-        let slots = self.slots.try_clone_in(alloc)?;
+        let mut slots = SlotTable::new(alloc, self.capacity())?;
         let words = FilledHeapTable::new(alloc, self.capacity(), 0)?;
+        let words = WordTable::copy_of(words, &self.words);
+        self.clone_contents(&mut slots)?;
         Ok(MetaSlotMap {
             slots,
-            words: WordTable::copy_of(words, &self.words),
+            words,
             retired: self.retired,
+            of: PhantomData,
         })
     }
 }

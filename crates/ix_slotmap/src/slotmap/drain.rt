@@ -8,7 +8,7 @@ ghost use Rattle.ix_slotmap.specs.SlotMapSteps.{slot_map_clear};
 
 use crate::slotmap::{MetaSlotMap, SlotMapKey};
 use ix_slottable::slottable::Link;
-use ix_tables::{Table, Touches};
+use ix_tables::{MaybeMoved, Table, Touches};
 use std::fmt::{self, Debug, Formatter, Write};
 use std::iter::FusedIterator;
 
@@ -17,14 +17,20 @@ use std::iter::FusedIterator;
 ///
 /// The values that are still to come when it is dropped are dropped with it, that of the least index first, and no key is held
 /// then.
-pub struct Drain<'a, T, S: Table<Option<T>>, L: Table<Link>, G: Table<u64>> {
-    map: &'a mut MetaSlotMap<Option<T>, S, L, G>,
+pub struct Drain<'a, T, S: Table<MaybeMoved<T>>, L: Table<Link>, G: Table<u64>> {
+    map: &'a mut MetaSlotMap<T, MaybeMoved<T>, S, L, G>,
     /// No place before this one has a value.
     index: usize,
     ghost counted: { slot_map_len map.now ≡ length (held_entries map.now (entries_from index (drop index map.now.slots.values))) },
 }
 
-impl<T, S: Table<Option<T>>, L: Table<Link>, G: Table<u64>> MetaSlotMap<Option<T>, S, L, G> {
+impl<T, S: Table<MaybeMoved<T>>, L: Table<Link>, G: Table<u64>> MetaSlotMap<
+    T,
+    MaybeMoved<T>,
+    S,
+    L,
+    G,
+> {
     ghost use Rattle.ix_slottable.specs.Draining.{DrainingKeepsAlong};
     ghost use Rattle.ix_slotmap.specs.SlotMapDrain.{drain_items, drain_left, drain_lender};
 
@@ -57,7 +63,8 @@ impl<T, S: Table<Option<T>>, L: Table<Link>, G: Table<u64>> MetaSlotMap<Option<T
 }
 
 /// Drops the values that are still to come, that of the least index first. No key is held then. O(capacity).
-impl<T: Drop, S: Table<Option<T>>, L: Table<Link>, G: Table<u64>> Drop for Drain<'_, T, S, L, G> {
+impl<T: Drop, S: Table<MaybeMoved<T>>, L: Table<Link>, G: Table<u64>> Drop
+    for Drain<'_, T, S, L, G> {
     ghost use Rattle.ix_slotmap.specs.SlotMapDrain.{drain_left};
 
     fn drop(self)
@@ -68,7 +75,7 @@ impl<T: Drop, S: Table<Option<T>>, L: Table<Link>, G: Table<u64>> Drop for Drain
     }
 }
 
-impl<T: Drop, S: Table<Option<T>>, L: Table<Link>, G: Table<u64>> Iterator
+impl<T: Drop, S: Table<MaybeMoved<T>>, L: Table<Link>, G: Table<u64>> Iterator
     for Drain<'_, T, S, L, G> {
     type Item = (SlotMapKey, T);
 
@@ -107,7 +114,7 @@ impl<T: Drop, S: Table<Option<T>>, L: Table<Link>, G: Table<u64>> Iterator
     }
 }
 
-impl<T: Drop, S: Table<Option<T>>, L: Table<Link>, G: Table<u64>> ExactSizeIterator
+impl<T: Drop, S: Table<MaybeMoved<T>>, L: Table<Link>, G: Table<u64>> ExactSizeIterator
     for Drain<'_, T, S, L, G> {
     /// Returns the number of items that are still to come. O(1).
     #[inline]
@@ -116,12 +123,13 @@ impl<T: Drop, S: Table<Option<T>>, L: Table<Link>, G: Table<u64>> ExactSizeItera
     }
 }
 
-impl<T: Drop, S: Table<Option<T>>, L: Table<Link>, G: Table<u64>> FusedIterator
+impl<T: Drop, S: Table<MaybeMoved<T>>, L: Table<Link>, G: Table<u64>> FusedIterator
     for Drain<'_, T, S, L, G> {}
 
 /// Prints a list of the items that are still to come, each the index and the generation of its key, and its value.
 /// O(capacity).
-impl<T: Debug, S: Table<Option<T>>, L: Table<Link>, G: Table<u64>> Debug for Drain<'_, T, S, L, G> {
+impl<T: Debug, S: Table<MaybeMoved<T>>, L: Table<Link>, G: Table<u64>> Debug
+    for Drain<'_, T, S, L, G> {
     fn fmt<W: Write>(&self, f: &mut Formatter<W>) -> fmt::Result {
         self.map.iter().fmt(f)
     }

@@ -4,12 +4,12 @@ ghost use Rattle.ix_slotmap.specs.Generations.{slot_map_value};
 
 use crate::slotmap::{MetaSlotMap, SlotMapKey};
 use ix_slottable::slottable::Link;
-use ix_tables::Table;
+use ix_tables::{MaybeMoved, Table};
 use std::ops::Index;
 
 /// `map[key]` is the value of `key`, which is held; [`MetaSlotMap::get`] asks for nothing. O(1).
-impl<T, S: Table<Option<T>>, L: Table<Link>, G: Table<u64>> Index<SlotMapKey>
-    for MetaSlotMap<Option<T>, S, L, G> {
+impl<T, S: Table<MaybeMoved<T>>, L: Table<Link>, G: Table<u64>> Index<SlotMapKey>
+    for MetaSlotMap<T, MaybeMoved<T>, S, L, G> {
     type Output = T;
 
     ghost can_index = { λ map key. IsSome (slot_map_value map key) };

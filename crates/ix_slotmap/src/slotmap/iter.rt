@@ -6,7 +6,7 @@ ghost use Rattle.ix_slotmap.specs.Generations.{slot_map_entries};
 
 use crate::slotmap::{MetaSlotMap, SlotMapKey};
 use ix_slottable::slottable::Link;
-use ix_tables::{Table, Touches};
+use ix_tables::{MaybeMoved, Table, Touches};
 use std::alloc::AllocError;
 use std::fmt::{self, Debug, Formatter, Write};
 use std::iter::FusedIterator;
@@ -17,8 +17,8 @@ use std::marker::Model;
 ///
 /// This is `Iter` of iceoryx2-bb-container.
 #[derive(Drop)]
-pub struct Iter<'a, T, S: Table<Option<T>>, L: Table<Link>, G: Table<u64>> {
-    map: &'a MetaSlotMap<Option<T>, S, L, G>,
+pub struct Iter<'a, T, S: Table<MaybeMoved<T>>, L: Table<Link>, G: Table<u64>> {
+    map: &'a MetaSlotMap<T, MaybeMoved<T>, S, L, G>,
     /// The least index that is still to be visited.
     index: usize,
     /// The index after the greatest one that is still to be visited.
@@ -27,7 +27,7 @@ pub struct Iter<'a, T, S: Table<Option<T>>, L: Table<Link>, G: Table<u64>> {
     left: usize,
 }
 
-impl<'a, T, S: Table<Option<T>>, L: Table<Link>, G: Table<u64>> Model for Iter<'a, T, S, L, G> {
+impl<'a, T, S: Table<MaybeMoved<T>>, L: Table<Link>, G: Table<u64>> Model for Iter<'a, T, S, L, G> {
     ghost use Rattle.std.specs.Prelude.{List, length, slice_range};
     ghost use Rattle.ix_slottable.specs.SlotTableState.{entries_from};
     ghost use Rattle.ix_slottable.specs.inner.KeyRange.{IsKeyRange};
@@ -43,10 +43,10 @@ impl<'a, T, S: Table<Option<T>>, L: Table<Link>, G: Table<u64>> Model for Iter<'
         (entries_from iter.index (slice_range iter.map.now.slots.values iter.index iter.end))) };
 }
 
-impl<'a, T, S: Table<Option<T>>, L: Table<Link>, G: Table<u64>> Iter<'a, T, S, L, G> {
+impl<'a, T, S: Table<MaybeMoved<T>>, L: Table<Link>, G: Table<u64>> Iter<'a, T, S, L, G> {
     /// Returns an iterator over all held keys. O(1).
     #[inline]
-    pub(crate) fn new(map: &'a MetaSlotMap<Option<T>, S, L, G>) -> Self
+    pub(crate) fn new(map: &'a MetaSlotMap<T, MaybeMoved<T>, S, L, G>) -> Self
         ensures { result ≡ slot_map_entries map.now }
     {
         Iter {
@@ -71,7 +71,8 @@ impl<'a, T, S: Table<Option<T>>, L: Table<Link>, G: Table<u64>> Iter<'a, T, S, L
     }
 }
 
-impl<'a, T, S: Table<Option<T>>, L: Table<Link>, G: Table<u64>> Iterator for Iter<'a, T, S, L, G> {
+impl<'a, T, S: Table<MaybeMoved<T>>, L: Table<Link>, G: Table<u64>> Iterator
+    for Iter<'a, T, S, L, G> {
     type Item = (SlotMapKey, &'a T);
 
     ghost next_gives = { YieldsFirstBy (λ item. (item.0, item.1.now)) (λ rest. rest) };
@@ -103,7 +104,7 @@ impl<'a, T, S: Table<Option<T>>, L: Table<Link>, G: Table<u64>> Iterator for Ite
     }
 }
 
-impl<'a, T, S: Table<Option<T>>, L: Table<Link>, G: Table<u64>> DoubleEndedIterator
+impl<'a, T, S: Table<MaybeMoved<T>>, L: Table<Link>, G: Table<u64>> DoubleEndedIterator
     for Iter<'a, T, S, L, G> {
     ghost next_back_gives = { YieldsLastBy (λ item. (item.0, item.1.now)) (λ rest. rest) };
 
@@ -122,7 +123,7 @@ impl<'a, T, S: Table<Option<T>>, L: Table<Link>, G: Table<u64>> DoubleEndedItera
     }
 }
 
-impl<'a, T, S: Table<Option<T>>, L: Table<Link>, G: Table<u64>> ExactSizeIterator
+impl<'a, T, S: Table<MaybeMoved<T>>, L: Table<Link>, G: Table<u64>> ExactSizeIterator
     for Iter<'a, T, S, L, G> {
     /// Returns the number of items that are still to come. O(1).
     #[inline]
@@ -131,10 +132,10 @@ impl<'a, T, S: Table<Option<T>>, L: Table<Link>, G: Table<u64>> ExactSizeIterato
     }
 }
 
-impl<'a, T, S: Table<Option<T>>, L: Table<Link>, G: Table<u64>> FusedIterator
+impl<'a, T, S: Table<MaybeMoved<T>>, L: Table<Link>, G: Table<u64>> FusedIterator
     for Iter<'a, T, S, L, G> {}
 
-impl<'a, T, S: Table<Option<T>>, L: Table<Link>, G: Table<u64>> Clone for Iter<'a, T, S, L, G> {
+impl<'a, T, S: Table<MaybeMoved<T>>, L: Table<Link>, G: Table<u64>> Clone for Iter<'a, T, S, L, G> {
     ghost is_clone = { λ iter clone. clone ≡ iter };
 
     ghost is_infallible = { λ _. ⊤ };
@@ -148,7 +149,7 @@ impl<'a, T, S: Table<Option<T>>, L: Table<Link>, G: Table<u64>> Clone for Iter<'
 
 /// Prints a list of the items that are still to come, each the index and the generation of its key, and its value.
 /// O(capacity).
-impl<'a, T: Debug, S: Table<Option<T>>, L: Table<Link>, G: Table<u64>> Debug
+impl<'a, T: Debug, S: Table<MaybeMoved<T>>, L: Table<Link>, G: Table<u64>> Debug
     for Iter<'a, T, S, L, G> {
     fn fmt<W: Write>(&self, f: &mut Formatter<W>) -> fmt::Result {
         let mut list = f.debug_list();
@@ -159,8 +160,8 @@ impl<'a, T: Debug, S: Table<Option<T>>, L: Table<Link>, G: Table<u64>> Debug
     }
 }
 
-impl<'a, T, S: Table<Option<T>>, L: Table<Link>, G: Table<u64>> IntoIterator
-    for &'a MetaSlotMap<Option<T>, S, L, G> {
+impl<'a, T, S: Table<MaybeMoved<T>>, L: Table<Link>, G: Table<u64>> IntoIterator
+    for &'a MetaSlotMap<T, MaybeMoved<T>, S, L, G> {
     type Item = (SlotMapKey, &'a T);
 
     type IntoIter = Iter<'a, T, S, L, G>;

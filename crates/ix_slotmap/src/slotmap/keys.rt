@@ -6,7 +6,7 @@ ghost use Rattle.std.specs.Map.{keys_of};
 
 use crate::slotmap::{Iter, SlotMapKey};
 use ix_slottable::slottable::Link;
-use ix_tables::Table;
+use ix_tables::{MaybeMoved, Table};
 use std::alloc::AllocError;
 use std::fmt::{self, Debug, Formatter, Write};
 use std::iter::FusedIterator;
@@ -15,11 +15,11 @@ use std::marker::Model;
 /// An iterator over the held keys of a slot map in rising order of their indexes, as
 /// [`MetaSlotMap::keys`](crate::MetaSlotMap::keys) returns it. Contracts see the keys that are still to come.
 #[derive(Drop)]
-pub struct Keys<'a, T, S: Table<Option<T>>, L: Table<Link>, G: Table<u64>> {
+pub struct Keys<'a, T, S: Table<MaybeMoved<T>>, L: Table<Link>, G: Table<u64>> {
     items: Iter<'a, T, S, L, G>,
 }
 
-impl<'a, T, S: Table<Option<T>>, L: Table<Link>, G: Table<u64>> Model for Keys<'a, T, S, L, G> {
+impl<'a, T, S: Table<MaybeMoved<T>>, L: Table<Link>, G: Table<u64>> Model for Keys<'a, T, S, L, G> {
     ghost use Rattle.std.specs.Prelude.{List};
     ghost use Rattle.std.specs.Map.{keys_of};
     ghost use Rattle.ix_slotmap.specs.Generations.{SlotKey};
@@ -29,7 +29,7 @@ impl<'a, T, S: Table<Option<T>>, L: Table<Link>, G: Table<u64>> Model for Keys<'
     ghost view = { λ keys. keys_of keys.items };
 }
 
-impl<'a, T, S: Table<Option<T>>, L: Table<Link>, G: Table<u64>> Keys<'a, T, S, L, G> {
+impl<'a, T, S: Table<MaybeMoved<T>>, L: Table<Link>, G: Table<u64>> Keys<'a, T, S, L, G> {
     /// Returns an iterator over the keys of entries. O(1).
     #[inline]
     pub(crate) fn new(items: Iter<'a, T, S, L, G>) -> Self
@@ -39,7 +39,8 @@ impl<'a, T, S: Table<Option<T>>, L: Table<Link>, G: Table<u64>> Keys<'a, T, S, L
     }
 }
 
-impl<'a, T, S: Table<Option<T>>, L: Table<Link>, G: Table<u64>> Iterator for Keys<'a, T, S, L, G> {
+impl<'a, T, S: Table<MaybeMoved<T>>, L: Table<Link>, G: Table<u64>> Iterator
+    for Keys<'a, T, S, L, G> {
     type Item = SlotMapKey;
 
     ghost next_gives = { YieldsFirstBy (λ key. key) (λ rest. rest) };
@@ -66,7 +67,7 @@ impl<'a, T, S: Table<Option<T>>, L: Table<Link>, G: Table<u64>> Iterator for Key
     }
 }
 
-impl<'a, T, S: Table<Option<T>>, L: Table<Link>, G: Table<u64>> DoubleEndedIterator
+impl<'a, T, S: Table<MaybeMoved<T>>, L: Table<Link>, G: Table<u64>> DoubleEndedIterator
     for Keys<'a, T, S, L, G> {
     ghost next_back_gives = { YieldsLastBy (λ key. key) (λ rest. rest) };
 
@@ -81,7 +82,7 @@ impl<'a, T, S: Table<Option<T>>, L: Table<Link>, G: Table<u64>> DoubleEndedItera
     }
 }
 
-impl<'a, T, S: Table<Option<T>>, L: Table<Link>, G: Table<u64>> ExactSizeIterator
+impl<'a, T, S: Table<MaybeMoved<T>>, L: Table<Link>, G: Table<u64>> ExactSizeIterator
     for Keys<'a, T, S, L, G> {
     /// Returns the number of keys that are still to come. O(1).
     #[inline]
@@ -90,10 +91,10 @@ impl<'a, T, S: Table<Option<T>>, L: Table<Link>, G: Table<u64>> ExactSizeIterato
     }
 }
 
-impl<'a, T, S: Table<Option<T>>, L: Table<Link>, G: Table<u64>> FusedIterator
+impl<'a, T, S: Table<MaybeMoved<T>>, L: Table<Link>, G: Table<u64>> FusedIterator
     for Keys<'a, T, S, L, G> {}
 
-impl<'a, T, S: Table<Option<T>>, L: Table<Link>, G: Table<u64>> Clone for Keys<'a, T, S, L, G> {
+impl<'a, T, S: Table<MaybeMoved<T>>, L: Table<Link>, G: Table<u64>> Clone for Keys<'a, T, S, L, G> {
     ghost is_clone = { λ iter clone. clone ≡ iter };
 
     ghost is_infallible = { λ _. ⊤ };
@@ -108,7 +109,7 @@ impl<'a, T, S: Table<Option<T>>, L: Table<Link>, G: Table<u64>> Clone for Keys<'
 }
 
 /// Prints a list of the indexes and generations of the keys that are still to come. O(capacity).
-impl<'a, T, S: Table<Option<T>>, L: Table<Link>, G: Table<u64>> Debug for Keys<'a, T, S, L, G> {
+impl<'a, T, S: Table<MaybeMoved<T>>, L: Table<Link>, G: Table<u64>> Debug for Keys<'a, T, S, L, G> {
     fn fmt<W: Write>(&self, f: &mut Formatter<W>) -> fmt::Result {
         let mut list = f.debug_list();
         for (key, _) in self.items.rest() {

@@ -11,7 +11,7 @@ use crate::slotmap::{MetaSlotMap, WordTable};
 use ix_slottable::slottable::{FixedSizeSlotTable, Link, SlotTable};
 use ix_tables::{
     FilledHeapTable, FilledInlineTable, HeapTable, InitError, InlineTable, MAX_FIXED_CAPACITY,
-    MemorySize, RelocatableContainer,
+    MaybeMoved, MemorySize, RelocatableContainer,
 };
 use std::alloc::{AllocError, Allocator, Global};
 use std::fmt;
@@ -21,8 +21,9 @@ use std::marker::{Model, PhantomData};
 ///
 /// This is `FixedSizeSlotMap` of iceoryx2-bb-container.
 pub type FixedSizeSlotMap<T, const CAPACITY: usize> = MetaSlotMap<
-    Option<T>,
-    InlineTable<Option<T>, CAPACITY>,
+    T,
+    MaybeMoved<T>,
+    InlineTable<MaybeMoved<T>, CAPACITY>,
     FilledInlineTable<Link, CAPACITY>,
     FilledInlineTable<u64, CAPACITY>,
 >;
@@ -49,6 +50,7 @@ impl<T: Drop, const CAPACITY: usize> FixedSizeSlotMap<T, CAPACITY> {
             slots: FixedSizeSlotTable::new(),
             words: WordTable::new(FilledInlineTable::full(2 * generation as u64)),
             retired: 0,
+            of: PhantomData,
         }
     }
 }
@@ -62,6 +64,7 @@ impl<T: Drop, const CAPACITY: usize> Default for FixedSizeSlotMap<T, CAPACITY> {
             slots: FixedSizeSlotTable::default(),
             words: WordTable::new(FilledInlineTable::full(0)),
             retired: 0,
+            of: PhantomData,
         }
     }
 }
@@ -70,28 +73,28 @@ impl<T: Drop, const CAPACITY: usize> Default for FixedSizeSlotMap<T, CAPACITY> {
 ///
 /// This is `SlotMap` of iceoryx2-bb-container.
 pub type SlotMap<T, A = Global> = MetaSlotMap<
-    Option<T>,
-    HeapTable<Option<T>, A>,
+    T,
+    MaybeMoved<T>,
+    HeapTable<MaybeMoved<T>, A>,
     FilledHeapTable<Link, A>,
     FilledHeapTable<u64, A>,
 >;
 
 impl<T: Drop, A: Allocator + Copy> SlotMap<T, A> {
-    ghost use Rattle.std.specs.contracts.option.Option as option;
     ghost use Rattle.ix_slottable.specs.contracts.slottable.link.Link as link;
 
     /// Returns how much memory a map of this capacity takes from its allocator when it is made: that of a table of what the
-    /// places hold, each an `Option<T>`, of a table of links and of a table of words. None if the capacity is 0.
+    /// places hold, each the bytes of a `T`, of a table of links and of a table of words. None if the capacity is 0.
     ///
     /// Does not allocate. O(1).
     #[inline]
     pub fn memory_size(capacity: usize) -> MemorySize
-        ensures value { result ≡ slot_map_memory (type_size (option.the_row T.row)) (type_size link.the_row) (type_size u64) capacity }
+        ensures value { result ≡ slot_map_memory (type_size T.row) (type_size link.the_row) (type_size u64) capacity }
         ensures monotone { (greater : ℕ) → capacity ≤ greater
-            → result.bytes ≤ (slot_map_memory (type_size (option.the_row T.row)) (type_size link.the_row) (type_size u64) greater).bytes }
+            → result.bytes ≤ (slot_map_memory (type_size T.row) (type_size link.the_row) (type_size u64) greater).bytes }
         ensures none { capacity ≡ 0 → result ≡ no_memory }
     {
-        let slots = SlotTable::<Option<T>, A>::memory_size(capacity);
+        let slots = SlotTable::<MaybeMoved<T>, A>::memory_size(capacity);
         let words = FilledHeapTable::<u64, A>::memory_size(capacity);
         slots.saturating_add(words)
     }
@@ -121,6 +124,7 @@ impl<T: Drop, A: Allocator + Copy> SlotMap<T, A> {
             slots,
             words: WordTable::new(words),
             retired: 0,
+            of: PhantomData,
         })
     }
 }

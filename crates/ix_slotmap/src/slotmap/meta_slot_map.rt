@@ -3,20 +3,18 @@ ghost use Rattle.std.specs.Prelude.{◌≡◌, ◌≢◌, false, ◌+◌, ◌<�
 ghost use Rattle.std.specs.Borrow.{sem, Lends, LendsIf};
 ghost use Rattle.std.specs.Map.{lookup};
 ghost use Rattle.std.specs.Option.{option_copied_mut};
-ghost use Rattle.std.specs.contracts.option.Option as option;
+ghost use Rattle.ix_tables.specs.contracts.cells.maybe_moved.MaybeMoved as moved;
 ghost use Rattle.ix_slottable.specs.SlotTableState.{IsFree, entries_from};
 ghost use Rattle.ix_slottable.specs.SlotTableSteps.{SlotTableInsert};
 ghost use Rattle.ix_slotmap.specs.Generations.{SlotKey, SlotMapState, greatest_generation, generation_at, key_at, slot_key_eq, place_value, slot_map_value, IsRetired, IsDead, retired_count, slot_map_len, held_entries, slot_map_entries, IsSlotMapFormed, DeadAreNotHeld, KeysRise, ListsExactly};
 ghost use Rattle.ix_slotmap.specs.SlotMapSteps.{slot_map_set, slot_map_set_at, slot_map_fill, slot_map_replace, slot_map_vacate, slot_map_retire, slot_map_clear, SlotMapInsert, SlotMapInsertAt, SlotMapRemove};
 
-use crate::slotmap::held_item::{item, item_mut};
-use crate::slotmap::{Content, Iter, RETIRED, SlotMapKey, WordTable};
+use crate::slotmap::{Content, Iter, RETIRED, SlotMapKey, WordTable, drop_values};
 use ix_slottable::slottable::{Link, MetaSlotTable, SlotTableKey};
-use ix_tables::{Table, Touches};
-use std::fmt::{self, Debug, Formatter, Write};
-use std::marker::Model;
+use ix_tables::{MaybeMoved, Table, Touches};
+use std::marker::{Model, PhantomData};
 
-/// A map from keys that it chooses itself to values, over a table of values `S`, a table of links `L` and a table of
+/// A map from keys that it chooses itself to values `T`, over a table of places `S`, a table of links `L` and a table of
 /// numbers `G` for the generations. Contracts see what each place holds, the free places in their order, and the generations.
 ///
 /// A map has as many places as its capacity, with indexes from 0. A place is free, holds a value, or is retired, and it has
@@ -29,18 +27,21 @@ use std::marker::Model;
 /// [`MetaSlotMap::remove`] makes a place the first. A key or an index out of range, up to the greatest numbers, is an
 /// ordinary case, for which calls return `false` or `None`.
 ///
-/// Each call takes O(1) time if nothing else is said. No call allocates but those that make a map. A map that is dropped
-/// drops its values, that of the least index first, in O(capacity) time.
+/// A place takes the bytes of a value, as a [`MaybeMoved`] (`C`), of a link and of a word, in which its generation is. The word says
+/// whether a value is there; what a retired place has is the bytes of its last value.
+///
+/// Each call takes O(1) time if nothing else is said, and to drop a map O(capacity). No call allocates but those that make one.
 ///
 /// This is `MetaSlotMap` of iceoryx2-bb-container, whose keys have no generation: that map is [`MetaSlotTable`] here.
-#[derive(Drop)]
-pub struct MetaSlotMap<C: Content, S: Table<C>, L: Table<Link>, G: Table<u64>> {
+pub struct MetaSlotMap<T, C: Content<T>, S: Table<C>, L: Table<Link>, G: Table<u64>> {
     pub(crate) slots: MetaSlotTable<C, S, L>,
     pub(crate) words: WordTable<G>,
     pub(crate) retired: usize,
+    pub(crate) of: PhantomData<T>,
 }
 
-impl<C: Content, S: Table<C>, L: Table<Link>, G: Table<u64>> Model for MetaSlotMap<C, S, L, G> {
+impl<T, C: Content<T>, S: Table<C>, L: Table<Link>, G: Table<u64>> Model
+    for MetaSlotMap<T, C, S, L, G> {
     ghost use Rattle.ix_slotmap.specs.Generations.{GenerationState, generation_state_code};
     ghost use Rattle.ix_slotmap.specs.inner.Words.{word_generations, HasWords};
 
@@ -53,7 +54,13 @@ impl<C: Content, S: Table<C>, L: Table<Link>, G: Table<u64>> Model for MetaSlotM
     ghost invariant = { λ map. HasWords C.is_retired map.slots map.words map.retired };
 }
 
-impl<T, S: Table<Option<T>>, L: Table<Link>, G: Table<u64>> MetaSlotMap<Option<T>, S, L, G> {
+impl<T, S: Table<MaybeMoved<T>>, L: Table<Link>, G: Table<u64>> MetaSlotMap<
+    T,
+    MaybeMoved<T>,
+    S,
+    L,
+    G,
+> {
     ghost use Rattle.ix_slotmap.specs.contracts.slotmap.meta_slot_map.MetaSlotMap.{the_row};
 
     /// Returns the number of places, free, held and retired.
@@ -149,7 +156,7 @@ impl<T, S: Table<Option<T>>, L: Table<Link>, G: Table<u64>> MetaSlotMap<Option<T
     #[inline]
     pub fn get_mut(&mut self, key: SlotMapKey) -> Option<&mut T>
         ensures* writes_back { sem 𝓛
-            (LendsIf (the_row (option.the_row T.row) S.row L.row G.row ⟦<Option<T> as Content>⟧ S.Table L.Table G.Table)
+            (LendsIf (the_row T.row (moved.the_row T.row) S.row L.row G.row ⟦<MaybeMoved<T> as Content<T>>⟧ S.Table L.Table G.Table)
             T.row self.entry result (slot_map_set self.old key) self.old) }
         ensures value { option_copied_mut result ≡ slot_map_value self.old key }
         // Whatever value is written, the key has it, any other key keeps its own, and a dead key stays dead.
@@ -369,7 +376,7 @@ impl<T, S: Table<Option<T>>, L: Table<Link>, G: Table<u64>> MetaSlotMap<Option<T
         requires { IsSome (place_value self.now index) }
         ensures { place_value self.now index ≡ Some result.now }
     {
-        item(self.slots.get_unchecked(SlotTableKey::new(index)))
+        self.slots.get_unchecked(SlotTableKey::new(index)).get()
     }
 
     /// Inserts a value in the first free place and returns that place with its generation, or returns `None` if no place is
@@ -385,7 +392,9 @@ impl<T, S: Table<Option<T>>, L: Table<Link>, G: Table<u64>> MetaSlotMap<Option<T
         ensures touches { touches.new ≤ touches.old + 18 }
         ensures rises { touches.old ≤ touches.new }
     {
-        let place = self.slots.insert_counted(Some(value), touches)?;
+        // The value is dropped here if there is no room. A `MaybeMoved` does not drop it.
+        let _first = self.slots.next_free_key()?;
+        let place = self.slots.insert_counted(MaybeMoved::new(value), touches)?;
         let word = self.words.raise(place.value(), 1, touches);
         Some((place, (word / 2) as u32))
     }
@@ -403,7 +412,7 @@ impl<T, S: Table<Option<T>>, L: Table<Link>, G: Table<u64>> MetaSlotMap<Option<T
     {
         let place = SlotTableKey::new(index);
         self.slots
-            .insert_at_unchecked_counted(place, Some(value), touches);
+            .insert_at_unchecked_counted(place, MaybeMoved::new(value), touches);
         (self.words.raise(index, 1, touches) / 2) as u32
     }
 
@@ -422,7 +431,7 @@ impl<T, S: Table<Option<T>>, L: Table<Link>, G: Table<u64>> MetaSlotMap<Option<T
         let place = SlotTableKey::new(index);
         let content = self.slots.remove_unchecked_counted(place, touches);
         self.words.raise(index, 1, touches);
-        content
+        Some(content.into_item())
     }
 
     /// Removes the value from a place with the greatest generation, which is retired then, and returns it.
@@ -438,10 +447,10 @@ impl<T, S: Table<Option<T>>, L: Table<Link>, G: Table<u64>> MetaSlotMap<Option<T
         // Each place is retired once, so that their number fits.
         let _capacity = self.capacity();
         let place = SlotTableKey::new(index);
-        let content = self.slots.get_unchecked_mut_counted(place, touches).take();
+        let value = self.slots.get_unchecked_mut_counted(place, touches).take();
         self.words.raise(index, 1, touches);
         self.retired += 1;
-        content
+        Some(value)
     }
 
     /// Returns a mutable reference to the value in a place.
@@ -449,11 +458,27 @@ impl<T, S: Table<Option<T>>, L: Table<Link>, G: Table<u64>> MetaSlotMap<Option<T
     pub(crate) fn value_mut(&mut self, index: usize) -> &mut T
         requires { IsSome (place_value self.old index) }
         ensures* writes_back { sem 𝓛
-            (Lends (the_row (option.the_row T.row) S.row L.row G.row ⟦<Option<T> as Content>⟧ S.Table L.Table G.Table)
+            (Lends (the_row T.row (moved.the_row T.row) S.row L.row G.row ⟦<MaybeMoved<T> as Content<T>>⟧ S.Table L.Table G.Table)
             T.row self.entry result (slot_map_set_at self.old index)) }
         ensures value { place_value self.old index ≡ Some result.now }
     {
-        item_mut(self.slots.get_unchecked_mut(SlotTableKey::new(index)))
+        let place = SlotTableKey::new(index);
+        self.slots.get_unchecked_mut(place).get_mut()
+    }
+}
+
+/// Drops the values, that of the least index first. O(capacity).
+impl<T: Drop, C: Content<T> + Drop, S: Table<C>, L: Table<Link>, G: Table<u64> + Drop> Drop
+    for MetaSlotMap<T, C, S, L, G> {
+    fn drop(self) {
+        let MetaSlotMap {
+            mut slots,
+            words,
+            retired: _,
+            of: _,
+        } = self;
+        let capacity = slots.capacity();
+        drop_values(&mut slots, &words, capacity);
     }
 }
 
@@ -470,15 +495,3 @@ pub fn cleared_keys_law<T>()
     ensures dead { (map : SlotMapState T) (key : SlotKey) → IsSlotMapFormed map
         → IsDead map key → IsDead (slot_map_clear map) key }
 {}
-
-/// Prints a map from the held keys, each its index and its generation, to their values, in rising order. O(capacity).
-impl<T: Debug, S: Table<Option<T>>, L: Table<Link>, G: Table<u64>> Debug
-    for MetaSlotMap<Option<T>, S, L, G> {
-    fn fmt<W: Write>(&self, f: &mut Formatter<W>) -> fmt::Result {
-        let mut map = f.debug_map();
-        for (key, value) in self.iter() {
-            map.entry(&(key.index(), key.generation()), value);
-        }
-        map.finish()
-    }
-}

@@ -9,9 +9,15 @@ ghost use Rattle.ix_slottable.specs.SlotTableCalls.{IsCallableOnEach, ComputesTe
 
 use crate::slotmap::{Keys, MetaSlotMap, SlotMapKey, Values};
 use ix_slottable::slottable::Link;
-use ix_tables::{Table, Touches};
+use ix_tables::{MaybeMoved, Table, Touches};
 
-impl<T, S: Table<Option<T>>, L: Table<Link>, G: Table<u64>> MetaSlotMap<Option<T>, S, L, G> {
+impl<T, S: Table<MaybeMoved<T>>, L: Table<Link>, G: Table<u64>> MetaSlotMap<
+    T,
+    MaybeMoved<T>,
+    S,
+    L,
+    G,
+> {
     /// Removes all values and drops them, that of the least index first. O(capacity).
     ///
     /// The map is as [`MetaSlotMap::remove`] of each held key in turn leaves it: each of these keys is dead, and the place

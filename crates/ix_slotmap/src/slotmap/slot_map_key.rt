@@ -5,7 +5,7 @@ ghost use Rattle.ix_slotmap.specs.Generations.{IsDead, null_key};
 
 use crate::slotmap::MetaSlotMap;
 use ix_slottable::slottable::Link;
-use ix_tables::Table;
+use ix_tables::{MaybeMoved, Table};
 use std::fmt;
 use std::marker::Model;
 
@@ -88,8 +88,8 @@ impl fmt::Display for SlotMapKey {
 }
 
 /// The default key is dead, whatever the map: that is the contract of this function, which does nothing. O(1).
-pub fn default_key_law<T, S: Table<Option<T>>, L: Table<Link>, G: Table<u64>>(
-    map: &MetaSlotMap<Option<T>, S, L, G>,
+pub fn default_key_law<T, S: Table<MaybeMoved<T>>, L: Table<Link>, G: Table<u64>>(
+    map: &MetaSlotMap<T, MaybeMoved<T>, S, L, G>,
 )
     ensures { IsDead map.now null_key }
 {

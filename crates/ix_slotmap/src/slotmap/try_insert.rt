@@ -6,10 +6,16 @@ ghost use Rattle.ix_slotmap.specs.SlotMapSteps.{slot_map_replace, SlotMapInsert,
 
 use crate::slotmap::{MetaSlotMap, SlotMapKey};
 use ix_slottable::slottable::{Link, SlotTableKey};
-use ix_tables::{Table, Touches};
+use ix_tables::{MaybeMoved, Table, Touches};
 use std::mem;
 
-impl<T, S: Table<Option<T>>, L: Table<Link>, G: Table<u64>> MetaSlotMap<Option<T>, S, L, G> {
+impl<T, S: Table<MaybeMoved<T>>, L: Table<Link>, G: Table<u64>> MetaSlotMap<
+    T,
+    MaybeMoved<T>,
+    S,
+    L,
+    G,
+> {
     /// Inserts `value` in the first free place and returns the key of that place. Drops nothing.
     ///
     /// Returns `value` as the error if no place is free.
@@ -86,9 +92,9 @@ impl<T, S: Table<Option<T>>, L: Table<Link>, G: Table<u64>> MetaSlotMap<Option<T
         let place = SlotTableKey::new(index);
         let replaced = mem::replace(
             self.slots.get_unchecked_mut_counted(place, touches),
-            Some(value),
+            MaybeMoved::new(value),
         );
         let word = self.words.raise(index, 2, touches);
-        ((word / 2) as u32, replaced)
+        ((word / 2) as u32, Some(replaced.into_item()))
     }
 }

@@ -5,7 +5,7 @@ ghost use Rattle.std.specs.Iterator.SizeHint.{IsWithinCount};
 
 use crate::slotmap::Iter;
 use ix_slottable::slottable::Link;
-use ix_tables::Table;
+use ix_tables::{MaybeMoved, Table};
 use std::alloc::AllocError;
 use std::fmt::{self, Debug, Formatter, Write};
 use std::iter::FusedIterator;
@@ -14,11 +14,12 @@ use std::marker::Model;
 /// An iterator over the values of a slot map in rising order of the indexes of their keys, as
 /// [`MetaSlotMap::values`](crate::MetaSlotMap::values) returns it. Contracts see the values that are still to come.
 #[derive(Drop)]
-pub struct Values<'a, T, S: Table<Option<T>>, L: Table<Link>, G: Table<u64>> {
+pub struct Values<'a, T, S: Table<MaybeMoved<T>>, L: Table<Link>, G: Table<u64>> {
     items: Iter<'a, T, S, L, G>,
 }
 
-impl<'a, T, S: Table<Option<T>>, L: Table<Link>, G: Table<u64>> Model for Values<'a, T, S, L, G> {
+impl<'a, T, S: Table<MaybeMoved<T>>, L: Table<Link>, G: Table<u64>> Model
+    for Values<'a, T, S, L, G> {
     ghost use Rattle.std.specs.Prelude.{List, map};
 
     ghost Value = { List T };
@@ -26,7 +27,7 @@ impl<'a, T, S: Table<Option<T>>, L: Table<Link>, G: Table<u64>> Model for Values
     ghost view = { λ values. map (λ item. item.1) values.items };
 }
 
-impl<'a, T, S: Table<Option<T>>, L: Table<Link>, G: Table<u64>> Values<'a, T, S, L, G> {
+impl<'a, T, S: Table<MaybeMoved<T>>, L: Table<Link>, G: Table<u64>> Values<'a, T, S, L, G> {
     /// Returns an iterator over the values of entries. O(1).
     #[inline]
     pub(crate) fn new(items: Iter<'a, T, S, L, G>) -> Self
@@ -36,7 +37,7 @@ impl<'a, T, S: Table<Option<T>>, L: Table<Link>, G: Table<u64>> Values<'a, T, S,
     }
 }
 
-impl<'a, T, S: Table<Option<T>>, L: Table<Link>, G: Table<u64>> Iterator
+impl<'a, T, S: Table<MaybeMoved<T>>, L: Table<Link>, G: Table<u64>> Iterator
     for Values<'a, T, S, L, G> {
     type Item = &'a T;
 
@@ -64,7 +65,7 @@ impl<'a, T, S: Table<Option<T>>, L: Table<Link>, G: Table<u64>> Iterator
     }
 }
 
-impl<'a, T, S: Table<Option<T>>, L: Table<Link>, G: Table<u64>> DoubleEndedIterator
+impl<'a, T, S: Table<MaybeMoved<T>>, L: Table<Link>, G: Table<u64>> DoubleEndedIterator
     for Values<'a, T, S, L, G> {
     ghost next_back_gives = { YieldsLastBy (λ value. value.now) (λ rest. rest) };
 
@@ -79,7 +80,7 @@ impl<'a, T, S: Table<Option<T>>, L: Table<Link>, G: Table<u64>> DoubleEndedItera
     }
 }
 
-impl<'a, T, S: Table<Option<T>>, L: Table<Link>, G: Table<u64>> ExactSizeIterator
+impl<'a, T, S: Table<MaybeMoved<T>>, L: Table<Link>, G: Table<u64>> ExactSizeIterator
     for Values<'a, T, S, L, G> {
     /// Returns the number of values that are still to come. O(1).
     #[inline]
@@ -88,10 +89,11 @@ impl<'a, T, S: Table<Option<T>>, L: Table<Link>, G: Table<u64>> ExactSizeIterato
     }
 }
 
-impl<'a, T, S: Table<Option<T>>, L: Table<Link>, G: Table<u64>> FusedIterator
+impl<'a, T, S: Table<MaybeMoved<T>>, L: Table<Link>, G: Table<u64>> FusedIterator
     for Values<'a, T, S, L, G> {}
 
-impl<'a, T, S: Table<Option<T>>, L: Table<Link>, G: Table<u64>> Clone for Values<'a, T, S, L, G> {
+impl<'a, T, S: Table<MaybeMoved<T>>, L: Table<Link>, G: Table<u64>> Clone
+    for Values<'a, T, S, L, G> {
     ghost is_clone = { λ iter clone. clone ≡ iter };
 
     ghost is_infallible = { λ _. ⊤ };
@@ -106,7 +108,7 @@ impl<'a, T, S: Table<Option<T>>, L: Table<Link>, G: Table<u64>> Clone for Values
 }
 
 /// Prints a list of the values that are still to come. O(capacity).
-impl<'a, T: Debug, S: Table<Option<T>>, L: Table<Link>, G: Table<u64>> Debug
+impl<'a, T: Debug, S: Table<MaybeMoved<T>>, L: Table<Link>, G: Table<u64>> Debug
     for Values<'a, T, S, L, G> {
     fn fmt<W: Write>(&self, f: &mut Formatter<W>) -> fmt::Result {
         let mut list = f.debug_list();

@@ -13,7 +13,7 @@ use ix_slotmap::{
     FixedSizeSlotMap, MetaSlotMap, RelocatableSlotMap, SlotMap, SlotMapKey, UninitSlotMap,
 };
 use ix_slottable::Link;
-use ix_tables::{RelocatableContainer, Table};
+use ix_tables::{MaybeMoved, RelocatableContainer, Table};
 use std::alloc::Global;
 use std::io::Write;
 
@@ -29,8 +29,8 @@ impl<'a> ListedItem for (SlotMapKey, &'a u64) {
     }
 }
 
-impl<S: Table<Option<u64>>, L: Table<Link>, G: Table<u64>> Served
-    for MetaSlotMap<Option<u64>, S, L, G> {
+impl<S: Table<MaybeMoved<u64>>, L: Table<Link>, G: Table<u64>> Served
+    for MetaSlotMap<u64, MaybeMoved<u64>, S, L, G> {
     ghost use Rattle.std.specs.Prelude.{ℕ};
     ghost use Rattle.ix_slotmap.specs.Generations.{SlotMapState};
     ghost use Rattle.ix_run.specs.Script.{slot_map_line_reply, slot_map_line_after, slot_map_shown};
