@@ -321,13 +321,17 @@ module _ {K Q V : Type 0} (eq : K → Q → Bool) where
       bucket_if_key (Some pair) is = ap Some (same pair is)
 
   module _ (s : SlotTableState (Pair K V)) (links : List ChainLink) (key : Q) (first : ℕ) (leads : LeadsToKey eq s links key first) where
-    pub LeadsToKey-held : first ≢ no_place → IsHeld s first
-    LeadsToKey-held apart = leads.held first (on_chain-first links first leads.chain apart)
+    -- a place of the table is not the number for none
+    is_some : first < length links → first ≢ no_place
+    is_some below none = let fits = leads.chain.fits in omega arith
+
+    pub LeadsToKey-held : first < length links → IsHeld s first
+    LeadsToKey-held below = leads.held first (on_chain-first links first leads.chain (is_some below))
 
     -- a place with another key is passed
-    pub LeadsToKey-next : first ≢ no_place → (pair : Pair K V) → value_at s first ≡ Some pair → eq pair.key key ≡ false → LeadsToKey eq s links key (next_at links first)
-    LeadsToKey-next apart pair at differs =
-        let more = HasRest-from links first leads.chain apart in
+    pub LeadsToKey-next : first < length links → (pair : Pair K V) → value_at s first ≡ Some pair → eq pair.key key ≡ false → LeadsToKey eq s links key (next_at links first)
+    LeadsToKey-next below pair at differs =
+        let more = HasRest-from links first leads.chain (is_some below) in
         let counts : (place : ℕ) → key_count place (chain_from links first) ≡ hit place first + key_count place (chain_from links (next_at links first)) = λ place. (
         ap (key_count place) more.is ∙ key_count-cons place first (chain_from links (next_at links first))
         ) in record {
@@ -343,13 +347,19 @@ module _ {K Q V : Type 0} (eq : K → Q → Bool) where
         }
 
     -- the chain is shorter after its first place
-    pub LeadsToKey-shorter : first ≢ no_place → length (chain_from links (next_at links first)) < length (chain_from links first)
-    LeadsToKey-shorter apart = let is = ap length (HasRest-from links first leads.chain apart).is in omega arith
+    pub LeadsToKey-shorter : first < length links → length (chain_from links (next_at links first)) < length (chain_from links first)
+    LeadsToKey-shorter below = let is = ap length (HasRest-from links first leads.chain (is_some below)).is in omega arith
 
     -- at the end no place has the key
-    pub LeadsToKey-end : first ≡ no_place → map_entry eq s key ≡ None
-    LeadsToKey-end ended = go (map_entry eq s key) refl
+    pub LeadsToKey-end : length links ≤ first → map_entry eq s key ≡ None
+    LeadsToKey-end past = go (map_entry eq s key) refl
       where
+        ended : first ≡ no_place
+        ended = elim (cases_eq first no_place) [
+          | inl is ↦ is
+          | inr apart ↦ let below = leads.chain.within first (on_chain-first links first leads.chain apart) in absurd (omega (arith, past, below))
+        ]
+
         go : (found : Option (ℕ × Pair K V)) → map_entry eq s key ≡ found → found ≡ None
         go None none = refl
         go (Some entry) some =

@@ -127,7 +127,7 @@ impl<K: Eq + Hash + Drop, V: Drop, C: LinkTable, B: BuildHasher> KeyIndex<K, V> 
         match pairs.try_insert(pair) {
             Ok(place) => {
                 self.links
-                    .insert_first(seat.number, seat.first, place.value() as u32);
+                    .insert_first(seat.number, seat.first, place.value());
                 Ok(place)
             }
             Err(pair) => Err(pair),
@@ -144,8 +144,7 @@ impl<K: Eq + Hash + Drop, V: Drop, C: LinkTable, B: BuildHasher> KeyIndex<K, V> 
         if !C::has_chains() {
             return pairs.remove_unchecked(place);
         }
-        self.links
-            .remove(seat.number, seat.first, place.value() as u32);
+        self.links.remove(seat.number, seat.first, place.value());
         pairs.remove_unchecked(place)
     }
 

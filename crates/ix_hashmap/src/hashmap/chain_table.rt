@@ -1,7 +1,7 @@
 //! A table of links, which are chains of places.
 ghost use Rattle.std.specs.Prelude.{◌≡◌, ◌≢◌, ◌*◌, ◌<◌, ◌≤◌, length, replicate, Some};
 ghost use Rattle.ix_tables.specs.Places.{IsVacant};
-ghost use Rattle.ix_hashmap.specs.inner.HashChains.{no_link, head_at, next_at, links_set_head, links_set_next, links_insert_first, IsChainFrom, IsOnChain, IsBefore, IsUnlinked};
+ghost use Rattle.ix_hashmap.specs.inner.HashChains.{no_place, no_link, head_at, next_at, links_set_head, links_set_next, links_insert_first, IsChainFrom, IsOnChain, IsBefore, IsUnlinked};
 
 use crate::hashmap::ChainLink;
 use crate::hashmap::chain_link::NO_LINK;
@@ -75,29 +75,30 @@ impl<C: Table<ChainLink>> ChainTable<C> {
 
     /// Returns the next place of a place in its chain, or the number for no place.
     #[inline]
-    pub(crate) fn next(&self, place: u32) -> u32
+    pub(crate) fn next(&self, place: usize) -> u32
         requires { place < length self.now }
         ensures { result ≡ next_at self.now place }
     {
-        self.links.get(place as usize, &mut Touches::new()).next
+        self.links.get(place, &mut Touches::new()).next
     }
 
     /// Makes `place` the first in the chain of a bucket, before those that are in it, the first of which is `first`.
     #[inline]
-    pub(crate) fn insert_first(&mut self, bucket: u128, first: u32, place: u32)
+    pub(crate) fn insert_first(&mut self, bucket: u128, first: u32, place: usize)
         requires bucket { bucket < 4 * length self.old }
         requires first { first ≡ head_at self.old bucket }
         requires place { place < length self.old }
+        requires fits { length self.old ≤ no_place }
         ensures links { self.new ≡ links_insert_first self.old bucket place }
         ensures head { head_at self.new bucket ≡ place }
     {
         self.set_next(place, first);
-        self.set_head(bucket, place);
+        self.set_head(bucket, place as u32);
     }
 
     /// Takes a place out of the chain of a bucket, which begins at `first`. O(the number of places before it).
     #[inline]
-    pub(crate) fn remove(&mut self, bucket: u128, first: u32, place: u32)
+    pub(crate) fn remove(&mut self, bucket: u128, first: u32, place: usize)
         requires bucket { bucket < 4 * length self.old }
         requires first { first ≡ head_at self.old bucket }
         requires chain { IsChainFrom self.old (head_at self.old bucket) }
@@ -105,11 +106,11 @@ impl<C: Table<ChainLink>> ChainTable<C> {
         ensures { IsUnlinked self.old bucket place self.new }
     {
         let next = self.next(place);
-        if first == place {
+        if first as usize == place {
             self.set_head(bucket, next);
             return;
         }
-        let previous = self.before(first, place);
+        let previous = self.before(first as usize, place);
         self.set_next(previous, next);
     }
 
@@ -124,17 +125,17 @@ impl<C: Table<ChainLink>> ChainTable<C> {
 
     /// Returns the place before another one, on the chain that begins at `first`.
     #[inline]
-    fn before(&self, first: u32, place: u32) -> u32
+    fn before(&self, first: usize, place: usize) -> usize
         requires chain { IsChainFrom self.now first }
         requires has { IsOnChain self.now first place }
         requires later { first ≢ place }
         ensures { IsBefore self.now first result place }
     {
         let mut previous = first;
-        let mut next = self.next(first);
+        let mut next = self.next(first) as usize;
         while next != place {
             previous = next;
-            next = self.next(next);
+            next = self.next(next) as usize;
         }
         previous
     }
@@ -153,10 +154,10 @@ impl<C: Table<ChainLink>> ChainTable<C> {
     }
 
     #[inline]
-    fn set_next(&mut self, place: u32, next: u32)
+    fn set_next(&mut self, place: usize, next: u32)
         requires { place < length self.old }
         ensures { self.new ≡ links_set_next self.old place next }
     {
-        self.links.get_mut(place as usize, &mut Touches::new()).next = next;
+        self.links.get_mut(place, &mut Touches::new()).next = next;
     }
 }

@@ -4,7 +4,6 @@ ghost use Rattle.ix_flatmap.specs.MapState.{AreEqualByBytes, HasDistinctKeys, ha
 ghost use Rattle.ix_hashmap.specs.inner.HashChains.{LeadsToKey};
 
 use crate::hashmap::ChainLink;
-use crate::hashmap::chain_link::NO_PLACE;
 use crate::hashmap::chain_table::ChainTable;
 use ix_flatmap::map::Pair;
 use ix_slottable::slottable::{Link, MetaSlotTable, SlotTableKey};
@@ -25,14 +24,41 @@ pub(crate) fn find_from<'a, K: Eq, V, S: Table<Pair<K, V>>, L: Table<Link>, C: T
     ensures { option_map (λ entry. (entry.0, entry.1.now)) result
         ≡ map_entry K.eq pairs.now key.now }
 {
-    let mut place = first;
-    while place != NO_PLACE {
-        let number = SlotTableKey::new(place as usize);
+    let first = first as usize;
+    // Most chains have one place at most, so that the first is looked at before the loop.
+    if first >= chains.len() {
+        return None;
+    }
+    let number = SlotTableKey::new(first);
+    let pair = pairs.get_unchecked(number);
+    if pair.key == *key {
+        return Some((number, pair));
+    }
+    find_later(pairs, chains, chains.next(first), key)
+}
+
+/// Returns what [`find_from`] returns, for a chain whose first place was looked at.
+#[inline]
+fn find_later<'a, K: Eq, V, S: Table<Pair<K, V>>, L: Table<Link>, C: Table<ChainLink>>(
+    pairs: &'a MetaSlotTable<Pair<K, V>, S, L>,
+    chains: &ChainTable<C>,
+    first: u32,
+    key: &K,
+) -> Option<(SlotTableKey, &'a Pair<K, V>)>
+    requires leads { LeadsToKey K.eq pairs.now chains.now key.now first }
+    requires distinct { HasDistinctKeys K.eq pairs.now }
+    ensures { option_map (λ entry. (entry.0, entry.1.now)) result
+        ≡ map_entry K.eq pairs.now key.now }
+{
+    let places = chains.len();
+    let mut place = first as usize;
+    while place < places {
+        let number = SlotTableKey::new(place);
         let pair = pairs.get_unchecked(number);
         if pair.key == *key {
             return Some((number, pair));
         }
-        place = chains.next(place);
+        place = chains.next(place) as usize;
     }
     None
 }
@@ -59,14 +85,15 @@ pub(crate) fn find_bytes<
     ensures { option_map (λ entry. (entry.0, entry.1.now)) result
         ≡ map_entry (has_bytes K.items) pairs.now bytes.now }
 {
-    let mut place = first;
-    while place != NO_PLACE {
-        let number = SlotTableKey::new(place as usize);
+    let places = chains.len();
+    let mut place = first as usize;
+    while place < places {
+        let number = SlotTableKey::new(place);
         let pair = pairs.get_unchecked(number);
         if pair.key.as_slice() == bytes {
             return Some((number, pair));
         }
-        place = chains.next(place);
+        place = chains.next(place) as usize;
     }
     None
 }

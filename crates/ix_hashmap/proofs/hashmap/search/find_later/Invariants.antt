@@ -1,6 +1,6 @@
 use Rattle.std.proofs.Common.{length}
 use Rattle.ix_hashmap.specs.inner.HashChains.{chain_from, LeadsToKey}
-use Rattle.ix_hashmap.proofs.hashmap.search.find_from.Given as goal
+use Rattle.ix_hashmap.proofs.hashmap.search.find_later.Given as goal
 
 -- if the map has the key, it is in the rest of the chain
 abbrev pub invariant-loop-place : goal.invariant-loop-place
