@@ -153,8 +153,11 @@ def printed_texts(lines, item):
 
 
 def base_of(name):
-    """Returns the type that an impl is for, without its parameters."""
-    words = re.findall(r"[\w:]+", re.sub(r"'\w+|&|\bmut\b", " ", name.partition(" for ")[2] or name))
+    """Returns the type that an impl is for, without its parameters; of an array `array`, as its module in std is named."""
+    of = name.partition(" for ")[2] or name
+    if of.startswith("["):
+        return "array"
+    words = re.findall(r"[\w:]+", re.sub(r"'\w+|&|\bmut\b", " ", of))
     return words[0].rpartition("::")[2] if words else name
 
 

@@ -35,7 +35,7 @@ byte_atomic/steps/versioned.rt writes_are_in_turn: for step in steps
 byte_atomic/steps/versioned.rt versions_are_right: for step in steps
 byte_atomic/value_arrays.rt encode_array: for value in values
 byte_atomic/value_arrays.rt encode_array: .encode(&mut out[start..end])
-byte_atomic/value_arrays.rt decode_array: for i in 1..N
+byte_atomic/value_arrays.rt decode_array: for i in 0..N
 sequenced/data_words.rt new_words: Vec::new(alloc)
 sequenced/data_words.rt new_words: words.push(0)
 sequenced/data_words.rt new_words: for i in 0..bytes.len().div_ceil(8)

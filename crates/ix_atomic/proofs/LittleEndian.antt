@@ -1,5 +1,5 @@
 -- Lemmas on reading numbers whose least byte comes first.
-use Rattle.std.proofs.Common.{ℕ, ℤ, ◌≡◌, ◌↔◌, ◌<◌, ◌*◌, ◌^◌, List, length, refl, ap, sym, subst, ◌∙◌, FitsSigned, slice_index}
+use Rattle.std.proofs.Common.{ℕ, ℤ, ◌≡◌, ◌↔◌, ◌<◌, ◌*◌, ◌^◌, List, length, ap, sym, subst, ◌∙◌, FitsSigned, slice_index}
 use Rattle.std.specs.Prelude.{Some}
 use Rattle.std.specs.Int.{Width, byte_len, cast_signed, cast_unsigned, to_le_bytes, from_le_bytes}
 use Rattle.std.proofs.lemmas.Int.{of_z-to_z}

@@ -8,7 +8,7 @@ use lib.Seq.{set-get_or}
 use prog.Atomic.{either}
 use Rattle.std.specs.List.{Contains}
 use Rattle.atomic_table.specs.Table.{State, step, keeps, stepped, Valid, Allows, Splits, Joins, carried_after, opening, Seen, Final}
-use Rattle.atomic_table.proofs.Lists.{at_set, at_snoc, at_longer, set_again, set_else, exchanged}
+use Rattle.atomic_table.proofs.Lists.{at_set, at_snoc, at_longer, set_else, exchanged}
 use Rattle.std.proofs.lemmas.List.{length-take-le, take-append-drop}
 use Rattle.std.proofs.lemmas.List.Elements.{All-push, All-append, Contains-append_left, Contains-push, Contains-push_cases, Contains-get_or}
 use Rattle.ix_atomic.specs.declared.sequenced.rule.SeatView.{SeatView}

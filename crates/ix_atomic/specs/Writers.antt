@@ -64,7 +64,7 @@ Refuses before after (Busy loaded found) =
 Refuses before after VersionsUsedUp = Loads (as_reader before) (as_reader after) last_version × (after.touched ≡ before.touched ++ 0 ∷ [])
 
 abbrev pub try_write_text : TryWriteError → List ℕ
-try_write_text (Busy loaded found) = codes "another write is in progress"
+try_write_text (Busy loaded found) = codes "another write is in progress or came first"
 try_write_text VersionsUsedUp = versions_used_up_text
 
 abbrev pub unfinished_text : List ℕ

@@ -5,7 +5,6 @@
 //!
 //! [`pack_word`] makes one number of up to eight bytes, and [`unpack_word`] writes its bytes.
 
-mod arrays;
 mod atomic_copy;
 mod atomic_fields;
 mod fixed_size_byte_atomic;
@@ -16,10 +15,8 @@ mod other_integers;
 mod pairs;
 mod relocatable_byte_atomic;
 mod ruled;
-mod signed_arrays;
 pub mod steps;
 mod unit_and_bool;
-mod unsigned_arrays;
 mod value_arrays;
 mod words;
 

@@ -38,10 +38,12 @@ fn triples() -> Result<(), Fail> {
     findings.verdict()
 }
 
-/// No number, one and three, of each unsigned type.
+/// No number, one and three; and values that are themselves of parts.
 #[test]
-fn unsigned_arrays() -> Result<(), Fail> {
+fn arrays() -> Result<(), Fail> {
     let findings = Findings::new();
+    check(&findings, [0u8; 0], [], "no bytes");
+    check(&findings, [7u8, 0, 255], [7, 0, 255], "three bytes");
     check(&findings, [0u16; 0], [], "no u16");
     check(&findings, [258u16], [2, 1], "one u16");
     check(
@@ -50,53 +52,6 @@ fn unsigned_arrays() -> Result<(), Fail> {
         [1, 0, 0, 1, 255, 255],
         "three u16",
     );
-    check(&findings, [0u32; 0], [], "no u32");
-    check(&findings, [0x0102_0304u32], [4, 3, 2, 1], "one u32");
-    let bytes = [1, 0, 0, 0, 255, 255, 255, 255, 0, 0, 0, 128];
-    check(&findings, [1u32, u32::MAX, 1 << 31], bytes, "three u32");
-    check(&findings, [0u64; 0], [], "no u64");
-    check(
-        &findings,
-        [1u64 << 63],
-        [0, 0, 0, 0, 0, 0, 0, 128],
-        "one u64",
-    );
-    let bytes = [
-        1, 0, 0, 0, 0, 0, 0, 0, 0, 1, 0, 0, 0, 0, 0, 0, 0, 0, 1, 0, 0, 0, 0, 0,
-    ];
-    check(&findings, [1u64, 256, 65_536], bytes, "three u64");
-    check(&findings, [0usize; 0], [], "no usize");
-    check(&findings, [258usize], [2, 1, 0, 0, 0, 0, 0, 0], "one usize");
-    check(&findings, [1usize, 256, 65_536], bytes, "three usize");
-    check(&findings, [0u128; 0], [], "no u128");
-    let mut bytes = [0; 16];
-    bytes[8] = 1;
-    check(&findings, [1u128 << 64], bytes, "one u128");
-    let mut bytes = [0; 48];
-    bytes[0] = 3;
-    bytes[17] = 2;
-    bytes[47] = 128;
-    check(&findings, [3u128, 512, 1 << 127], bytes, "three u128");
-    findings.verdict()
-}
-
-/// No number, one and three, of each signed type.
-#[test]
-fn signed_arrays() -> Result<(), Fail> {
-    let findings = Findings::new();
-    check(&findings, [0i8; 0], [], "no i8");
-    check(&findings, [-1i8], [255], "one i8");
-    check(&findings, [1i8, -128, 127], [1, 128, 127], "three i8");
-    check(&findings, [0i16; 0], [], "no i16");
-    check(&findings, [-2i16], [254, 255], "one i16");
-    check(
-        &findings,
-        [1i16, -32_768, 32_767],
-        [1, 0, 0, 128, 255, 127],
-        "three i16",
-    );
-    check(&findings, [0i32; 0], [], "no i32");
-    check(&findings, [-256i32], [0, 255, 255, 255], "one i32");
     let bytes = [4, 3, 2, 1, 0, 0, 0, 128, 255, 255, 255, 127];
     check(
         &findings,
@@ -104,42 +59,34 @@ fn signed_arrays() -> Result<(), Fail> {
         bytes,
         "three i32",
     );
-    check(&findings, [0i64; 0], [], "no i64");
-    check(&findings, [i64::MIN], [0, 0, 0, 0, 0, 0, 0, 128], "one i64");
-    let mut bytes = [255; 24];
-    bytes[8] = 254;
-    bytes[16] = 0;
-    check(&findings, [-1i64, -2, -256], bytes, "three i64");
-    check(&findings, [0isize; 0], [], "no isize");
     check(
         &findings,
-        [isize::MIN],
-        [0, 0, 0, 0, 0, 0, 0, 128],
-        "one isize",
+        [(1u8, 258u16); 2],
+        [1, 2, 1, 1, 2, 1],
+        "two pairs",
     );
-    check(&findings, [-1isize, -2, -256], bytes, "three isize");
-    check(&findings, [0i128; 0], [], "no i128");
-    check(&findings, [-1i128], [255; 16], "one i128");
-    let mut bytes = [255; 48];
-    bytes[16] = 254;
-    bytes[32] = 0;
-    check(&findings, [-1i128, -2, -256], bytes, "three i128");
+    check(
+        &findings,
+        [[1u8, 2], [3, 4]],
+        [1, 2, 3, 4],
+        "two arrays of bytes",
+    );
+    check(&findings, [true, false, true], [1, 0, 1], "three bools");
+    check_none::<[bool; 3], 3>(&findings, [2, 0, 0], "no first");
+    check_none::<[bool; 3], 3>(&findings, [0, 2, 0], "no second");
+    check_none::<[bool; 3], 3>(&findings, [0, 0, 2], "no third");
     findings.verdict()
 }
 
-/// Arrays of values that not all bytes encode.
+/// By the functions of which the encodings are made.
 #[test]
-fn arrays_of_other_values() -> Result<(), Fail> {
+fn values_one_behind_the_other() -> Result<(), Fail> {
     let findings = Findings::new();
     let mut out = [9; 3];
     encode_array(&[true, false, true], &mut out);
     findings.expect_same(out.as_slice(), [1u8, 0, 1].as_slice(), "three bools");
     let bools = decode_array::<bool, 3>(&[0, 1, 1]);
     findings.expect_same(bools, Some([false, true, true]), "three bools");
-    for bytes in [[2u8, 0, 0], [0, 2, 0], [0, 0, 2]] {
-        let bools = decode_array::<bool, 3>(&bytes);
-        findings.expect_same(bools, None, "no bools");
-    }
     findings.expect_same(decode_array::<bool, 0>(&[]), Some([]), "no bool");
     findings.expect(decode_array::<(), 2>(&[]).is_some(), "no bytes");
     let texts = decode_array::<StaticString<2>, 2>(b"a\0bc");

@@ -108,7 +108,7 @@ fn the_bytes_of_numbers_of_other_sizes(rt: HostRuntime) {
     assert_eq!(rt; u128::decode(&[255; 16]), Some(u128::MAX));
 }
 
-// Shows: AtomicCopy for (A, B), AtomicCopy for [u32; N], AtomicCopy for StaticString
+// Shows: AtomicCopy for (A, B), AtomicCopy for [T; N], AtomicCopy for StaticString
 #[test]
 fn a_cell_of_several_values(rt: HostRuntime) {
     let cell = FixedSizeByteAtomic::<(u8, [u32; 2]), 9>::new((1, [2, 3]));

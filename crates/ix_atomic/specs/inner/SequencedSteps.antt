@@ -6,7 +6,7 @@ use Rattle.ix_atomic.specs.declared.sequenced.rule.SeatView.{SeatView}
 use Rattle.ix_atomic.specs.declared.sequenced.rule.Stage.{Stage}
 use Rattle.ix_atomic.specs.declared.sequenced.rule.Stage.TheVariants.{Idle, Reading, Writing}
 use Rattle.ix_atomic.specs.History.{Begins, IsEven, history_value, Reader}
-use Rattle.ix_atomic.specs.Shares.{halved, IsWhole}
+use Rattle.ix_atomic.specs.Shares.{IsWhole}
 use Rattle.ix_atomic.specs.Writers.{Writer, IsRising, HoldsEach, places_merge}
 use Rattle.ix_atomic.specs.Words.{bytes_of_word}
 use Rattle.atomic_table.specs.Seated.{TableId}

@@ -1,5 +1,5 @@
 -- Laws of the encodings of values of one type, one behind the other, which each have the size of the type.
-use Rattle.std.specs.Prelude.{◌≡◌, ℕ, suc, ◌+◌, ◌*◌, ◌^◌, ◌<◌, List, [], ◌∷◌, ◌++◌, length, All, refl}
+use Rattle.std.specs.Prelude.{◌≡◌, ℕ, suc, ◌+◌, ◌*◌, List, [], ◌∷◌, length, All, refl}
 use Rattle.std.specs.List.{flat_map}
 use Rattle.std.proofs.Common.{sym, ◌∙◌, ap, arith}
 use Rattle.std.proofs.Math.Nat.{suc-mul}
@@ -36,3 +36,8 @@ module _ {T : Type 0} (is_value : T → Type 0) (encoding : T → List ℕ) (siz
 
   pub array_encoding-one_value : ((v w : T) → is_value v → is_value w → encoding v ≡ encoding w → v ≡ w) → (count : ℕ) (vs ws : List T) → AreValues count size is_value vs → AreValues count size is_value ws → flat_map encoding vs ≡ flat_map encoding ws → vs ≡ ws
   array_encoding-one_value one count vs ws v_are w_are same = flat_map-one_value one vs ws v_are.1 w_are.1 (v_are.0 ∙ sym w_are.0) same
+
+-- an array of bytes is its own encoding
+pub byte_array_encoding : (bytes : List ℕ) → flat_map (λ byte. byte ∷ []) bytes ≡ bytes
+byte_array_encoding [] = refl
+byte_array_encoding (byte ∷ bytes) = ap (λ rest. byte ∷ rest) (byte_array_encoding bytes)

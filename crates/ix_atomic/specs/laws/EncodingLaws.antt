@@ -1,7 +1,7 @@
 -- Lemmas on encodings that the laws of impls cite: an encoding has the size of its type, and no two values have the same.
 use Rattle.std.specs.Prelude.{◌≡◌, ℕ, ℤ, ◌+◌, ◌-◌, ◌*◌, ◌^◌, ◌<◌, ◌≤◌, FitsSigned, Bool, true, false, List, [], ◌∷◌, ◌++◌, slice_index, length, take, drop, replicate, refl, ◌==◌, ◌↔◌, Option, Some, None}
 use Rattle.std.proofs.Common.{sym, ◌∙◌, ap, subst, arith}
-use Rattle.std.specs.Int.{Width, w8, w32, w64, w128, byte_len, cast_signed, cast_unsigned, from_le_bytes, to_le_bytes}
+use Rattle.std.specs.Int.{Width, w8, w32, w64, byte_len, cast_signed, cast_unsigned, from_le_bytes, to_le_bytes}
 use Rattle.std.proofs.Math.Facts.{Fits-of_z}
 use Rattle.std.proofs.Math.Seq.{take-append_seam, drop-append_seam}
 use Rattle.std.proofs.lemmas.Grind.{common_steps}

@@ -3,7 +3,7 @@ use Rattle.std.specs.Prelude.{◌≡◌, ℕ, ◌/◌, ◌≤◌, List, ◌++◌
 use Rattle.std.proofs.Common.{sym, ◌∙◌, ap, subst, arith, length-append, append_assoc}
 use Rattle.std.proofs.lemmas.List.{get_or_append_left}
 use Rattle.std.proofs.lemmas.Option.{slice_get_within, slice_get-get_or, get_or_from_slice_get, IfSome_then}
-use Rattle.ix_atomic.specs.History.{Begins, Reader, Loads, LoadsTwice, history_value}
+use Rattle.ix_atomic.specs.History.{Begins, Reader, LoadsTwice, history_value}
 
 module _ {T : Type 0} where
   -- some version of the known history has this value

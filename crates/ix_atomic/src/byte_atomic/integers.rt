@@ -7,7 +7,17 @@ ghost use Rattle.ix_atomic.specs.Encoding.{i64_encoding};
 ghost use Rattle.ix_atomic.specs.laws.EncodingLaws.{i64_encoding-one_value};
 
 use crate::byte_atomic::AtomicCopy;
-use crate::byte_atomic::arrays::to_array;
+
+/// Returns a copy of the `N` bytes. O(`N`).
+#[inline]
+pub(super) fn to_array<const N: usize>(bytes: &[u8]) -> [u8; N]
+    requires { length bytes.now ≡ N }
+    ensures { result ≡ bytes.now }
+{
+    let mut array = [0; N];
+    array.copy_from_slice(bytes);
+    array
+}
 
 /// One byte.
 impl AtomicCopy for u8 {

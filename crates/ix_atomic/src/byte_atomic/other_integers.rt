@@ -5,7 +5,7 @@ ghost use Rattle.ix_atomic.specs.Encoding.{signed_encoding};
 ghost use Rattle.ix_atomic.specs.laws.EncodingLaws.{unsigned_encoding-one_value, signed_encoding-one_value, i8_encoding-one_value};
 
 use crate::byte_atomic::AtomicCopy;
-use crate::byte_atomic::arrays::to_array;
+use crate::byte_atomic::integers::to_array;
 
 /// As the `u8` of the same bits in two's complement.
 impl AtomicCopy for i8 {

@@ -1,7 +1,7 @@
-use Rattle.std.proofs.Common.{rules, ◌≡◌, ◌↔◌, ◌+◌, ◌-◌, ◌*◌, ◌<◌, ◌≤◌, ℕ, [], ◌∷◌, ◌++◌, List, length, take, drop, Option, Some, None, subst, sym, ap, ◌∙◌, arith}
+use Rattle.std.proofs.Common.{rules, ◌≡◌, ◌+◌, ◌-◌, ◌*◌, ℕ, List, take, drop, Some, None, subst, sym, ap, ◌∙◌, arith}
 use Rattle.std.proofs.lemmas.Grind.{common_steps}
 use Rattle.std.proofs.lemmas.List.{take_more_set}
-use Rattle.ix_atomic.proofs.ArrayEncodings.{PartOf, DecodesFront, times-more, DecodesFront-more, DecodesFront-all, refused_part}
+use Rattle.ix_atomic.proofs.ArrayEncodings.{DecodesFront, times-more, DecodesFront-more, DecodesFront-all, refused_part}
 use Rattle.ix_atomic.proofs.byte_atomic.value_arrays.decode_array.Goals as goal
 
 -- a part of the bytes, as the code cuts it
