@@ -31,7 +31,7 @@ fn printed_errors() -> Result<(), Fail> {
         let versions = (*one, *other);
         let debugged = format_args!("Busy {{ loaded: {one}, found: {other} }}");
         let debugged = InlineText::<80>::of(debugged);
-        let text = "another write is in progress";
+        let text = "another write is in progress or came first";
         check_printed(&findings, &busy(versions), text, debugged.as_str());
         let debugged = format_args!("Interfered {{ first: {one}, last: {other} }}");
         let debugged = InlineText::<80>::of(debugged);

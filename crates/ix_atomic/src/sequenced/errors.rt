@@ -59,7 +59,7 @@ impl fmt::Display for TryWriteError {
 
     fn fmt<W: fmt::Write>(&self, f: &mut fmt::Formatter<W>) -> fmt::Result {
         match self {
-            TryWriteError::Busy { .. } => f.write_str("another write is in progress"),
+            TryWriteError::Busy { .. } => f.write_str("another write is in progress or came first"),
             TryWriteError::VersionsUsedUp => f.write_str("all versions are used up"),
         }
     }
