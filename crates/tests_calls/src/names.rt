@@ -56,7 +56,7 @@ fn the_bytes_of_a_name(rt: HostRuntime) -> Result<(), Fail> {
 }
 
 // Shows: Semantic::len, Semantic::capacity, Semantic::max_len, Semantic::is_empty
-// Shows: Semantic::is_full
+// Shows: Semantic::is_full, Semantic::remaining_capacity
 #[test]
 fn how_long_a_name_is_and_may_be(rt: HostRuntime) -> Result<(), Fail> {
     let name = GroupName::new(b"staff")?;
@@ -65,6 +65,7 @@ fn how_long_a_name_is_and_may_be(rt: HostRuntime) -> Result<(), Fail> {
     assert_eq!(rt; GroupName::max_len(), 31);
     assert!(rt; !name.is_empty());
     assert!(rt; !name.is_full());
+    assert_eq!(rt; name.remaining_capacity(), 26);
     Ok(())
 }
 

@@ -174,6 +174,14 @@ impl<R: Rules<CAPACITY>, const CAPACITY: usize> Semantic<R, CAPACITY> {
         self.text.rfind(bytes)
     }
 
+    /// Returns how many more bytes fit, `capacity - len`. The rules may refuse them all the same. O(1).
+    #[inline]
+    pub fn remaining_capacity(&self) -> usize
+        ensures { length self.now + result ≡ CAPACITY }
+    {
+        self.text.remaining_capacity()
+    }
+
     /// Returns `true` if the length equals the capacity. O(1).
     #[inline]
     pub fn is_full(&self) -> bool
