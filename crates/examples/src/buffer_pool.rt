@@ -1,8 +1,9 @@
 //! A pool of buffers that are lent and given back. A handle that was given back is refused from then on.
-ghost use Rattle.std.specs.Prelude.{◌≡◌, ◌≢◌, ◌↔◌, ◌+◌, ◌<◌, ◌++◌, false, [], None, Some, IsTrue, IsSome, IsNone, IfSome, length, option_map};
+ghost use Rattle.std.specs.Prelude.{◌≡◌, ◌≢◌, ◌↔◌, ◌+◌, ◌<◌, ◌≤◌, ℕ, List, ◌++◌, false, [], None, Some, IsTrue, IsSome, IsNone, IfSome, length, option_map};
 ghost use Rattle.std.specs.Bool.{OnFalse};
 ghost use Rattle.ix_maps.specs.Generations.{SlotKey, greatest_generation, slot_map_value, slot_map_new, IsDead};
 ghost use Rattle.ix_maps.specs.SlotMapSteps.{slot_map_insert};
+ghost use Rattle.ix_maps.specs.SlotTableState.{IsFree};
 
 use ix_cells::{StaticVec, Vector};
 use ix_maps::{FixedSizeSlotMap, SlotMapKey};
@@ -35,6 +36,7 @@ impl BufferPool {
     /// Lends an empty buffer and returns its handle, or `None` if no buffer is free.
     pub fn lend(&mut self) -> Option<SlotMapKey>
         ensures lent { IfSome result (λ handle. slot_map_value self.new.lent handle ≡ Some []) }
+        ensures was_free { IfSome result (λ handle. IsFree self.old.lent.slots handle.index) }
         ensures none { IsNone result ↔ (self.old.free ≡ 0) }
         ensures free { IsSome result → self.new.free + 1 ≡ self.old.free }
         ensures refused { IsNone result → self.new ≡ self.old }
@@ -53,11 +55,15 @@ impl BufferPool {
     pub fn append(&mut self, handle: SlotMapKey, bytes: &[u8]) -> bool
         ensures appended { IsTrue result → slot_map_value self.new.lent handle
             ≡ option_map (λ buffer. buffer ++ bytes.now) (slot_map_value self.old.lent handle) }
+        ensures held { IsTrue result → IsSome (slot_map_value self.old.lent handle) }
+        ensures fits { (buffer : List ℕ) → slot_map_value self.old.lent handle ≡ Some buffer
+            → (IsTrue result ↔ length buffer + length bytes.now ≤ 256) }
         ensures stale { IsDead self.old.lent handle → result ≡ false }
         ensures refused { OnFalse result (self.new ≡ self.old) }
         ensures free { self.new.free ≡ self.old.free }
         ensures kept { (other : SlotKey) → other ≢ handle
             → slot_map_value self.new.lent other ≡ slot_map_value self.old.lent other }
+        ensures dead { (other : SlotKey) → IsDead self.old.lent other → IsDead self.new.lent other }
     {
         match self.lent.get_mut(handle) {
             Some(buffer) => buffer.extend_from_slice(bytes).is_ok(),
@@ -69,7 +75,8 @@ impl BufferPool {
     /// dead then. The buffer is free, unless its place has had all of its handles, 2³² of them.
     pub fn give_back(&mut self, handle: SlotMapKey) -> Option<Buffer>
         ensures value { result ≡ slot_map_value self.old.lent handle }
-        ensures dead { IsSome result → IsDead self.new.lent handle }
+        ensures killed { IsSome result → IsDead self.new.lent handle }
+        ensures dead { (other : SlotKey) → IsDead self.old.lent other → IsDead self.new.lent other }
         ensures free { IsSome result → handle.generation < greatest_generation
             → self.new.free ≡ self.old.free + 1 }
         ensures retired { IsSome result → handle.generation ≡ greatest_generation

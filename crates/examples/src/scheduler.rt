@@ -2,7 +2,7 @@
 //! queue.
 ghost use Rattle.std.specs.Prelude.{◌≡◌, ◌≢◌, ◌↔◌, ◌+◌, ◌≤◌, ℕ, [], None, Some, IsTrue, IsSome, IsNone, IfSome, length};
 ghost use Rattle.std.specs.Bool.{OnFalse};
-ghost use Rattle.ix_maps.specs.SlotTableState.{value_at, held_count, slot_table_new, IsHeld};
+ghost use Rattle.ix_maps.specs.SlotTableState.{value_at, held_count, slot_table_new, IsFree, IsHeld};
 ghost use Rattle.examples.specs.Tasks.{AreReady, steps_left};
 
 use ix_maps::{FixedSizeQueue, FixedSizeSlotTable, SlotTableKey};
@@ -37,6 +37,7 @@ impl Scheduler {
     /// Adds a task with so many steps and returns its key, or `None` if there are 16 tasks already.
     pub fn spawn(&mut self, steps: u32) -> Option<SlotTableKey>
         ensures added { IfSome result (λ key. value_at self.new.tasks key ≡ Some steps) }
+        ensures was_free { IfSome result (IsFree self.old.tasks) }
         ensures kept { (other : ℕ) → IsHeld self.old.tasks other
             → value_at self.new.tasks other ≡ value_at self.old.tasks other }
         ensures full { IsNone result ↔ (self.old.tasks.free ≡ []) }
@@ -61,6 +62,8 @@ impl Scheduler {
 
     /// Removes a task and returns `true`. Returns `false` if there is no such task, and while a task is ready: before a run.
     pub fn remove(&mut self, key: SlotTableKey) -> bool
+        ensures value { IsTrue result
+            ↔ ((self.old.ready.items ≡ []) × IsHeld self.old.tasks key) }
         ensures gone { IsTrue result → value_at self.new.tasks key ≡ None }
         ensures done { IsTrue result → value_at self.old.tasks key ≡ Some 0 }
         ensures refused { OnFalse result (self.new ≡ self.old) }
