@@ -1,7 +1,7 @@
 //! Clones, equality, defaults, look-ups by index and by `get_or_insert_with`.
 use crate::hashers::{HASHES, OneHash};
-use crate::memory_tests::HASH_SIZES;
-use ix_flatmap::{FixedSizeFlatMap, FlatMap, KeyIndex, MetaMap, Pair};
+use crate::memory_tests::{FLAT_SIZES, HASH_SIZES};
+use ix_flatmap::{BoundedMap, FixedSizeFlatMap, FlatMap, KeyIndex, MetaMap, Pair};
 use ix_hashmap::{FixedSizeHashMap, HashMap};
 use ix_slottable::Link;
 use ix_tables::Table;
@@ -106,32 +106,61 @@ fn equal_maps(rt: HostRuntime) -> Result<(), Fail> {
     findings.verdict()
 }
 
-/// Fills a map of `capacity` and clones it in `heap`. Returns how many bytes of that are in use then, or `None` if there is not
+/// The most keys that a map is filled with: a flat map compares each with all others.
+const MOST: usize = 33;
+
+/// Checks a copy of a map that was filled, if it was made. Returns how many bytes of `heap` are in use with it, or `None`.
+fn used_with<M: BoundedMap<u64, u64> + Drop>(
+    findings: &Findings,
+    copy: Result<M, AllocError>,
+    heap: &LocalHeap,
+    capacity: usize,
+) -> Option<usize> {
+    match copy {
+        Ok(copy) => {
+            findings.expect_same_at(copy.len(), capacity.min(MOST), capacity, "a copy");
+            Some(heap.used())
+        }
+        Err(AllocError) => None,
+    }
+}
+
+/// Inserts `capacity` keys, or [`MOST`].
+fn fill<M: BoundedMap<u64, u64>>(findings: &Findings, map: &mut M, capacity: usize) {
+    for key in 0..capacity.min(MOST) as u64 {
+        findings.expect_same(map.insert(key, key), Ok(()), "room for a key");
+    }
+}
+
+/// Fills a flat map of `capacity` and clones it in `heap`. Returns how many bytes of that are in use then, or `None` if there is not
 /// enough memory.
-fn clone_in(
+fn copy_flat(
     findings: &Findings,
     alloc: Global,
     heap: &LocalHeap,
     capacity: usize,
 ) -> Option<usize> {
-    match HashMap::<u64, u64>::new(alloc, capacity) {
-        Ok(mut map) => {
-            for key in 0..capacity as u64 {
-                findings.expect_same(map.insert(key, key), Ok(()), "room for a key");
-            }
-            match map.try_clone_in(heap) {
-                Ok(copy) => {
-                    findings.expect_at(copy.is_full(), capacity, "a full copy");
-                    Some(heap.used())
-                }
-                Err(AllocError) => None,
-            }
-        }
-        Err(AllocError) => {
-            findings.miss("there is memory");
-            None
-        }
-    }
+    let Ok(mut map) = FlatMap::<u64, u64>::new(alloc, capacity) else {
+        findings.miss("there is memory");
+        return None;
+    };
+    fill(findings, &mut map, capacity);
+    used_with(findings, map.try_clone_in(heap), heap, capacity)
+}
+
+/// As [`copy_flat`], of a hash map.
+fn copy_hashed(
+    findings: &Findings,
+    alloc: Global,
+    heap: &LocalHeap,
+    capacity: usize,
+) -> Option<usize> {
+    let Ok(mut map) = HashMap::<u64, u64>::new(alloc, capacity) else {
+        findings.miss("there is memory");
+        return None;
+    };
+    fill(findings, &mut map, capacity);
+    used_with(findings, map.try_clone_in(heap), heap, capacity)
 }
 
 #[test]
@@ -141,9 +170,16 @@ fn clones_in_little_memory(rt: HostRuntime) -> Result<(), Fail> {
     check_makings(
         &findings,
         alloc,
+        FLAT_SIZES,
+        "flat",
+        |heap: &LocalHeap, n| { copy_flat(&findings, alloc, heap, n) },
+    );
+    check_makings(
+        &findings,
+        alloc,
         HASH_SIZES,
-        "a clone",
-        |heap: &LocalHeap, n| { clone_in(&findings, alloc, heap, n) },
+        "hashed",
+        |heap: &LocalHeap, n| { copy_hashed(&findings, alloc, heap, n) },
     );
     findings.verdict()
 }

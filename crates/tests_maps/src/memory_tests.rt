@@ -99,7 +99,7 @@ fn read_hashed<A: Allocator + Copy, F: Fn() -> usize>(
 
 /// The capacity of a flat map, and the number of blocks of 16 bytes that it takes: 16 bytes for each pair, one for its mark, and
 /// 16 for each link. An allocation takes whole blocks, so a fourth one would take one more.
-const FLAT_SIZES: &[(usize, u16)] = &[
+pub(crate) const FLAT_SIZES: &[(usize, u16)] = &[
     (0, 0),
     (1, 1 + 1 + 1),
     (3, 3 + 1 + 3),

@@ -1,9 +1,10 @@
 //! Clones of queues, and memory that is refused.
+use crate::memory_tests::SIZES;
 use ix_queue::{FixedSizeQueue, Queue};
 use linked_list_allocator::LocalHeap;
-use std::alloc::AllocError;
+use std::alloc::{AllocError, Global};
 use std::test::Fail;
-use test_support::{Findings, check_text};
+use test_support::{Findings, check_makings, check_text};
 
 #[test]
 fn fixed_numbers() -> Result<(), Fail> {
@@ -20,30 +21,35 @@ fn fixed_numbers() -> Result<(), Fail> {
     findings.verdict()
 }
 
-/// Clones a queue of 16 numbers, for which there is memory once.
-fn check_refused(findings: &Findings, heap: &LocalHeap) {
-    match Queue::<u64, &LocalHeap>::new(heap, 16) {
-        Ok(mut queue) => {
-            queue.push(7);
-            let used = heap.used();
-            findings.expect(queue.try_clone_in(heap).is_err(), "memory for one of them");
-            findings.expect_same(heap.used(), used, "nothing stays allocated");
-            check_text(findings, &queue, "[7]");
+/// Fills a queue of `capacity` and copies it in `heap`. Returns how many bytes of that are in use then, or `None` if there is not
+/// enough memory.
+fn copy_in(findings: &Findings, alloc: Global, heap: &LocalHeap, capacity: usize) -> Option<usize> {
+    let Ok(mut queue) = Queue::<u64>::new(alloc, capacity) else {
+        findings.miss("there is memory");
+        return None;
+    };
+    for number in 0..capacity as u64 {
+        findings.expect(queue.push(number), "room for a number");
+    }
+    match queue.try_clone_in(heap) {
+        Ok(copy) => {
+            findings.expect_at(copy.is_full(), capacity, "a full copy");
+            Some(heap.used())
         }
-        Err(_) => findings.miss("memory for a queue"),
+        Err(AllocError) => None,
     }
 }
 
 #[test]
-fn too_little_memory(rt: HostRuntime) -> Result<(), Fail> {
+fn copies_in_little_memory(rt: HostRuntime) -> Result<(), Fail> {
     let findings = Findings::new();
-    match LocalHeap::new(rt.alloc(), 224) {
-        Ok(heap) => check_refused(&findings, &heap),
-        Err(_) => findings.miss("a heap"),
-    }
-    match Queue::<u64>::new(rt.alloc(), 0) {
-        Ok(none) => check_text(&findings, &none.try_clone_in(rt.alloc()), "Ok([])"),
-        Err(_) => findings.miss("no memory is needed"),
+    let alloc = rt.alloc();
+    check_makings(&findings, alloc, SIZES, "a copy", |heap: &LocalHeap, n| {
+        copy_in(&findings, alloc, heap, n)
+    });
+    match Queue::<u64>::new(alloc, 0) {
+        Ok(none) => check_text(&findings, &none.try_clone_in(alloc), "Ok([])"),
+        Err(AllocError) => findings.miss("no memory is needed"),
     }
     findings.verdict()
 }

@@ -43,7 +43,7 @@ fn read_made<A: Allocator + Copy, B: Allocator + Copy, F: Fn() -> usize>(
 }
 
 /// The capacity of a queue, and the number of blocks of 16 bytes that it takes: 8 bytes for each number, one for its mark.
-const SIZES: &[(usize, u16)] = &[
+pub(crate) const SIZES: &[(usize, u16)] = &[
     (0, 0),
     (1, 1 + 1),
     (3, 2 + 1),

@@ -1,5 +1,5 @@
-//! Slot tables and slot maps for which there is not enough memory, at each of the three or four allocations: nothing stays
-//! allocated. Where there is memory, none is refused, and each takes just as much as `memory_size` returns.
+//! Slot tables, slot maps and copies of them for which there is not enough memory, at each of the three or four allocations: nothing
+//! stays allocated. Where there is memory, none is refused, and each takes just as much as `memory_size` returns.
 use crate::containers::{LAST, key};
 use crate::memory_tests::Kind::{Map, Table};
 use crate::{map_rows, table_rows};
@@ -160,6 +160,92 @@ fn each_making(rt: HostRuntime) -> Result<(), Fail> {
         check_kind(&findings, rt.alloc(), *kind, *sizes);
     }
     findings.verdict()
+}
+
+/// Fills a slot table of `capacity` and copies it in `heap`. Returns how many bytes of that are in use then, or `None` if there is not
+/// enough memory.
+fn copy_table(
+    findings: &Findings,
+    alloc: Global,
+    heap: &LocalHeap,
+    capacity: usize,
+) -> Option<usize> {
+    let Ok(mut table) = SlotTable::<u64>::new(alloc, capacity) else {
+        findings.miss("there is memory");
+        return None;
+    };
+    for value in 0..capacity as u64 {
+        findings.expect(table.insert(value).is_some(), "room for a value");
+    }
+    match table.try_clone_in(heap) {
+        Ok(copy) => {
+            findings.expect_at(copy.is_full(), capacity, "a full copy");
+            Some(heap.used())
+        }
+        Err(AllocError) => None,
+    }
+}
+
+/// As [`copy_table`], of a slot map.
+fn copy_map(
+    findings: &Findings,
+    alloc: Global,
+    heap: &LocalHeap,
+    capacity: usize,
+) -> Option<usize> {
+    let Ok(mut map) = SlotMap::<u64>::new(alloc, capacity) else {
+        findings.miss("there is memory");
+        return None;
+    };
+    for value in 0..capacity as u64 {
+        findings.expect(map.insert(value).is_some(), "room for a value");
+    }
+    match map.try_clone_in(heap) {
+        Ok(copy) => {
+            findings.expect_at(copy.is_full(), capacity, "a full copy");
+            Some(heap.used())
+        }
+        Err(AllocError) => None,
+    }
+}
+
+#[test]
+fn copies_of_tables(rt: HostRuntime) -> Result<(), Fail> {
+    let findings = Findings::new();
+    let alloc = rt.alloc();
+    check_makings(&findings, alloc, TABLES, "a copy", |heap: &LocalHeap, n| {
+        copy_table(&findings, alloc, heap, n)
+    });
+    findings.verdict()
+}
+
+#[test]
+fn copies_of_maps(rt: HostRuntime) -> Result<(), Fail> {
+    let findings = Findings::new();
+    let alloc = rt.alloc();
+    check_makings(&findings, alloc, MAPS, "a copy", |heap: &LocalHeap, n| {
+        copy_map(&findings, alloc, heap, n)
+    });
+    findings.verdict()
+}
+
+/// Checks the sizes of tables of values that take `size` bytes each.
+fn check_tables<T: Drop>(findings: &Findings, alloc: Global, size: usize) {
+    check_memory_sizes(
+        findings,
+        alloc,
+        size.saturating_add(17),
+        usize::from(size > 0).saturating_add(2),
+        |n| {
+            let size = SlotTable::<T, &LocalHeap>::memory_size(n);
+            findings.expect_same(SlotTable::<T, Global>::memory_size(n), size, "any memory");
+            (size.bytes, size.blocks)
+        },
+        |heap: &LocalHeap, n| match SlotTable::<T, &LocalHeap>::new(heap, n) {
+            Ok(_made) => Some(heap.used()),
+            Err(AllocError) => None,
+        },
+    );
 }
 
 /// Checks the sizes of maps of values that take `size` bytes each.
