@@ -1,6 +1,7 @@
 //! Tests of maps beside their contracts, for flat maps and hash maps: worked examples on each kind of map, in each memory and by
-//! several hashers, keys of several types, each function once, how often keys are compared and values are cloned, when both are
-//! dropped, calls that go through all keys, drains and clones, too little memory, and random calls beside a plain slow map.
+//! several hashers, keys of several types, each function once, how often keys are compared and values are cloned, how long a call
+//! takes, when keys and values are dropped, calls that go through all keys, drains and clones, too little memory, and random calls
+//! beside a plain slow map.
 #![tactic(auto)]
 
 #[cfg(test)]
@@ -35,6 +36,8 @@ mod slow_map;
 mod small_key_tests;
 #[cfg(test)]
 mod text_key_tests;
+#[cfg(test)]
+mod time_tests;
 #[cfg(test)]
 mod walk_tests;
 #[cfg(test)]
