@@ -2,6 +2,7 @@
 //! bench program can link them beside other libraries and compare both times and results.
 #![tactic(auto)]
 
+mod drawn_keys;
 mod flat_maps;
 mod generator;
 mod hash_maps;
@@ -201,6 +202,42 @@ pub extern "C" fn ix_bench_hash_exchange(alloc: Global, rounds: u64, param: u64)
 #[unsafe(no_mangle)]
 pub extern "C" fn ix_bench_hash_exchange__half(alloc: Global, rounds: u64, param: u64) -> u64 {
     hash_maps::exchanges(alloc, rounds, param, Room::Half)
+}
+
+/// Looks up a key that a full allocated hash map of `param` drawn keys has.
+#[unsafe(no_mangle)]
+pub extern "C" fn ix_bench_drawn_get(alloc: Global, rounds: u64, param: u64) -> u64 {
+    drawn_keys::hits(alloc, rounds, param, Room::Full)
+}
+
+/// Looks up a key that a half full allocated hash map of `param` drawn keys has.
+#[unsafe(no_mangle)]
+pub extern "C" fn ix_bench_drawn_get__half(alloc: Global, rounds: u64, param: u64) -> u64 {
+    drawn_keys::hits(alloc, rounds, param, Room::Half)
+}
+
+/// Looks up a key that a full allocated hash map of `param` drawn keys does not have.
+#[unsafe(no_mangle)]
+pub extern "C" fn ix_bench_drawn_miss(alloc: Global, rounds: u64, param: u64) -> u64 {
+    drawn_keys::misses(alloc, rounds, param, Room::Full)
+}
+
+/// Looks up a key that a half full allocated hash map of `param` drawn keys does not have.
+#[unsafe(no_mangle)]
+pub extern "C" fn ix_bench_drawn_miss__half(alloc: Global, rounds: u64, param: u64) -> u64 {
+    drawn_keys::misses(alloc, rounds, param, Room::Half)
+}
+
+/// Removes a key of a full allocated hash map of `param` drawn keys, and inserts another one.
+#[unsafe(no_mangle)]
+pub extern "C" fn ix_bench_drawn_exchange(alloc: Global, rounds: u64, param: u64) -> u64 {
+    drawn_keys::exchanges(alloc, rounds, param, Room::Full)
+}
+
+/// Removes a key of a half full allocated hash map of `param` drawn keys, and inserts another one.
+#[unsafe(no_mangle)]
+pub extern "C" fn ix_bench_drawn_exchange__half(alloc: Global, rounds: u64, param: u64) -> u64 {
+    drawn_keys::exchanges(alloc, rounds, param, Room::Half)
 }
 
 /// Two pushes and a pop on a fixed vector of 64.
