@@ -16,7 +16,8 @@ FILES = {room: [path for path in paths(*room) if not path.endswith("/kinds.rt")]
 # By file, the functions that go through places, as their documentation says: those that make, end, walk or print a container.
 WALKS = {
     "eq": ("eq",),
-    "clone": ("fill_with_clones", "put_clones", "copy_free_keys", "clone", "try_clone_in"),
+    "clone": ("fill_with_clones", "put_clones", "copy_free_keys", "clone", "try_clone_in", "clone_contents", "put_contents"),
+    "debug": ("fmt",),
     "drain": ("drop", "next", "fmt"),
     "free_list": ("link_all", "copy_links"),
     "into_iter": ("next", "next_back"),
@@ -26,12 +27,13 @@ WALKS = {
     "steps": ("held_from", "held_before"),
     "values": ("next", "next_back", "fmt"),
     "retain": ("clear", "for_each_mut", "retain"),
-    "meta_slot_map": ("held_from", "held_before", "fmt"),
+    "meta_slot_map": ("held_from", "held_before", "drop"),
+    "teardown": ("drop_values",),
     "word_table": ("copy_of",),
     "full_table": ("copy_items",),
 }
-# Calls of a single step: those of counted tables, of new values, of a value's part, and of std.
-CALLS = {"item", "item_mut", ".put", ".take", ".get", ".get_mut", ".len", ".as_ref", ".is_some", ".ok", "Counted::new", "Touches::new", "SlotTableKey::new", "SlotMapKey::new",
+# Calls of a single step: those of counted tables, of new values, of what a place holds, of a value's part, and of std.
+CALLS = {".put", ".take", ".get", ".get_mut", ".len", ".as_ref", ".is_some", ".ok", "Counted::new", "MaybeMoved::new", ".into_item", ".copy_moved", "Touches::new", "SlotTableKey::new", "SlotMapKey::new",
          "Link::held", "Iter::new", "Keys::new", "Values::new", "P::of", "mem::replace", "write!", "Some", "Ok", "Err"}
 COUNTER = "touches: &mut Touches"
 FUNCTION = re.compile(r"( *)(?:pub(?:\(crate\))? )?fn (\w+)")
@@ -50,11 +52,11 @@ SCANS = (
     "let _ = self.held_before(1);",
     "drop_all(&mut self.values, &mut self.links);",
 )
-DETOURS = ("let _ = self.contains(key);", "let _ = self.get(key).is_some();", "let _ = &self[key];")
+DETOURS = ("let _ = self.contains(key);", "let _ = self.slots.contains(key);", "let _ = self.get(key).is_some();", "let _ = &self[key];")
 
 
 class Function:
-    """A function: its file without the ending, its name, whether it is a method, the lines of its body, and its code."""
+    """A function: its file without the ending, its name, how it is called, the lines of its body, and its code."""
 
     def __init__(self, path, lines, first, indent, name):
         self.path, self.file, self.name = path, re.sub(r".*/|\.rt$", "", path), name
@@ -63,6 +65,7 @@ class Function:
         self.head = " ".join(lines[first : self.first])
         self.body = " ".join(line.partition("//")[0].strip() for line in lines[self.first : last + 1]).removeprefix("{ ")
         self.called = "." + name if indent else name
+        self.called_as = (name, f"slots.{name}") if path.startswith("crates/ix_slottable/") else (name,)
         # A function that calls itself, or is called by one that it calls, says so in this language.
         self.is_recursive = any("#[cycle" in line for line in lines)
 
@@ -71,30 +74,33 @@ class Function:
 
 
 def functions(path, text):
+    """Yields the functions with a body, which those that a trait declares may not have."""
     lines = text.splitlines()
     for first, line in enumerate(lines):
         if match := FUNCTION.match(line):
-            yield Function(path, lines, first, *match.groups())
+            function = Function(path, lines, first, *match.groups())
+            if not function.head.endswith(";"):
+                yield function
 
 
 def uncounted_calls(body):
-    """Returns the names of the methods that a body calls without passing its counter."""
+    """Returns the names of the methods that a body calls without passing its counter, with `slots.` those of a map's slot table."""
     names = set()
-    for call in re.finditer(r"\.(\w+)\(", body):
+    for call in re.finditer(r"(\bslots)? ?\.(\w+)\(", body):
         depth, end = 1, call.end()
         while depth and end < len(body):
             depth += {"(": 1, ")": -1}.get(body[end], 0)
             end += 1
         if "touches" not in body[call.end() : end]:
-            names.add(call.group(1))
+            names.add(f"slots.{call.group(2)}" if call.group(1) else call.group(2))
     return names
 
 
 def makers(all_functions):
     """Returns the names of the methods that make a counter of their own, by themselves or by what they call."""
     plain = [it for it in all_functions if COUNTER not in it.head and it.file != "index"]
-    found = {it.name for it in plain if "Touches::new" in it.body}
-    while more := {it.name for it in plain if found & uncounted_calls(it.body)} - found:
+    found = {name for it in plain if "Touches::new" in it.body for name in it.called_as}
+    while more := {name for it in plain if found & uncounted_calls(it.body) for name in it.called_as} - found:
         found |= more
     return found
 
