@@ -1,7 +1,7 @@
-//! Cells for which there is no memory: nothing stays allocated, and the uninitialised cell is returned.
+//! Cells for which there is no memory: nothing stays allocated, and the uninitialised cell is returned. What inline ones take.
 ghost use Rattle.std.specs.Prelude.{◌≤◌};
 
-use ix_atomic::UninitByteAtomic;
+use ix_atomic::{FixedSizeByteAtomic, UninitByteAtomic};
 use ix_tables::InitError;
 use linked_list_allocator::LocalHeap;
 use std::alloc::Global;
@@ -80,5 +80,17 @@ fn cells_refused(rt: HostRuntime) -> Result<(), Fail> {
     check_size::<17>(&findings, rt.alloc(), "17 bytes");
     check_size::<33>(&findings, rt.alloc(), "33 bytes");
     check_size::<200>(&findings, rt.alloc(), "200 bytes");
+    findings.verdict()
+}
+
+#[test]
+fn inline() -> Result<(), Fail> {
+    let findings = Findings::new();
+    for (found, wanted, cell) in [
+        (size_of::<FixedSizeByteAtomic<u64, 8>>(), 64, "a number"),
+        (size_of::<FixedSizeByteAtomic<(u64, bool), 9>>(), 72, "a pair"),
+    ] {
+        findings.expect_same(found, wanted, cell);
+    }
     findings.verdict()
 }

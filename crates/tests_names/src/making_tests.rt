@@ -7,6 +7,7 @@ use ix_semantic_string::{
     GroupName, GroupNameRules, Rules, Semantic, SemanticStringError, TrailingSlashRules,
 };
 use ix_string::String;
+use std::mem::size_of;
 use std::str::{FromStr, from_utf8};
 use std::test::Fail;
 use test_support::Findings;
@@ -234,5 +235,17 @@ fn defaults() -> Result<(), Fail> {
     let findings = Findings::new();
     let path = Semantic::<TrailingSlashRules, 255>::default();
     findings.expect_same(path.as_bytes(), b"".as_slice(), "of the sample rules");
+    findings.verdict()
+}
+
+#[test]
+fn sizes() -> Result<(), Fail> {
+    let findings = Findings::new();
+    for (found, wanted, name) in [
+        (size_of::<Semantic<NonEmptyRules, 8>>(), 16, "8 bytes"),
+        (size_of::<Semantic<NonEmptyRules, 32>>(), 40, "32 bytes"),
+    ] {
+        findings.expect_same(found, wanted, name);
+    }
     findings.verdict()
 }

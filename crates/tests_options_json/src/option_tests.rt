@@ -2,6 +2,7 @@
 use ix_relocatable_option::RelocatableOption;
 use std::alloc::{AllocError, Global};
 use std::cmp::Ordering::{self, Equal, Greater, Less};
+use std::mem::size_of;
 use std::test::Fail;
 use test_support::{Findings, hash_of, order_of};
 
@@ -27,6 +28,7 @@ fn conversions() -> Result<(), Fail> {
         findings.expect_same_at(option.is_none(), other.is_none(), row, "is_none");
     }
     findings.expect_same(RelocatableOption::default(), NOTHING, "the default");
+    findings.expect_same(size_of::<RelocatableOption<u64>>(), 16, "the size");
     findings.verdict()
 }
 
