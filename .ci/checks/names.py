@@ -24,11 +24,11 @@ WORDS = set("""
     Handles Wait allow dac8208d650f15bf holes lemma trusted
     CRATE FILE FUNCTION MODULE SUBJECT WHAT_IS_WRONG my_program
 """.split())
-# Words of upstream that this library does not have, and of the harness that measures both.
+# Words of upstream that this library does not have.
 UPSTREAM = set("""
     OwningIter RelocatableIter SemanticString SemanticStringAccessor StringMemoryLayoutMetrics StringView VectorView
     VectorMemoryLayoutMetrics __internal_ __internal_insert _unchecked as_bytes_with_nul as_c_str const_memory_size memory_size
-    placement_default churn_fixed churn_heap slot_ slot_map_
+    placement_default
 """.split())
 # Texts and untrue ones in their places.
 PLANTS = (
