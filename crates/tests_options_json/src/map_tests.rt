@@ -1,7 +1,8 @@
-//! Flat maps from strings that are written as objects and read from them.
+//! Maps from strings that are written as objects and read from them.
 use crate::forms::Counted;
 use crate::list_tests::{check_text, fill, read};
 use ix_flatmap::{FixedSizeFlatMap, FlatMap};
+use ix_hashmap::FixedSizeHashMap;
 use ix_json::JsonFault::{BadByte, InvalidContent, OutOfMemory, TooLong, WrongKind};
 use ix_json::{JsonFill, JsonForm};
 use ix_string::StaticString;
@@ -42,6 +43,23 @@ fn fixed_maps(rt: HostRuntime) -> Result<(), Fail> {
     }
     let full = read::<FixedSizeFlatMap<Name, u8, 0>>(alloc, "{}").map(|map| map.is_full());
     findings.expect_same(full, Ok(true), "no room");
+    findings.verdict()
+}
+
+/// A hash map is written as a flat map is.
+#[test]
+fn hash_maps(rt: HostRuntime) -> Result<(), Fail> {
+    let findings = Findings::new();
+    let alloc = rt.alloc();
+    let mut map = FixedSizeHashMap::<Name, u8, 2>::new();
+    for (key, value) in [("b", 2), ("a", 1)] {
+        findings.expect_same(map.insert(name(key), value), Ok(()), key);
+    }
+    check_text(&findings, alloc, map.to_value(alloc), "{\"a\":1,\"b\":2}");
+    match read::<FixedSizeHashMap<Name, u8, 2>>(alloc, "{\"b\":2,\"a\":1}") {
+        Ok(other) => findings.expect(other == map, "the same map"),
+        Err(_) => findings.miss("a map"),
+    }
     findings.verdict()
 }
 
