@@ -2,8 +2,8 @@
 //! a key with those before it in slot order and with the equal one, or with all; a hash map hashes it once, and compares it so along
 //! the chain of its bucket, in which the key that came last is the first.
 use crate::count_tests::Call::{
-    Clear, Contains, Drain, ForEachMut, GetKeyValue, GetMutRef, GetOrInsertWith, GetRef, Index,
-    Insert, ListKeys, Look, Remove, RemoveEntry, Replace, Retain, TryInsert,
+    Clear, Contains, Drain, ForEachMut, Get, GetKeyValue, GetMutRef, GetOrInsertWith, GetRef,
+    Index, Insert, ListKeys, Look, Remove, RemoveEntry, Replace, Retain, TryInsert,
 };
 use crate::counted_key::{CountedKey, Counts};
 use crate::hashers::OneHash;
@@ -22,6 +22,7 @@ enum Call {
     TryInsert(u64),
     Replace(u64),
     GetOrInsertWith(u64),
+    Get(u64),
     GetRef(u64),
     GetKeyValue(u64),
     GetMutRef(u64),
@@ -54,6 +55,7 @@ const ROWS: &[Row] = &[
     (&[], Replace(9), (5, 5), 1, 0),
     (&[], GetOrInsertWith(2), (2, 4), 1, 0),
     (&[], GetOrInsertWith(9), (5, 5), 1, 1),
+    (&[], Get(4), (4, 2), 1, 0),
     (&[], GetRef(1), (1, 5), 1, 0),
     (&[], GetRef(5), (5, 1), 1, 0),
     (&[], GetRef(9), (5, 5), 1, 0),
@@ -138,6 +140,7 @@ where
         Insert(number) => drop(map.insert(counts.key(number), 1)),
         TryInsert(number) => drop(map.try_insert(counts.key(number), 1)),
         Replace(number) => drop(map.replace(counts.key(number), 1)),
+        Get(number) => drop(map.get(&counts.key(number))),
         GetRef(number) => drop(map.get_ref(&counts.key(number)).is_some()),
         GetKeyValue(number) => drop(map.get_key_value(&counts.key(number)).is_some()),
         GetMutRef(number) => drop(map.get_mut_ref(&counts.key(number)).is_some()),
