@@ -1,12 +1,13 @@
 """The reference in docs/api/: a page for each public module, from the sources of the library's crates.
 
-A page has the lines that import its items, a line on each item, the traits of its types, and then each item with its signature,
-docs, errors, conditions, examples and promises, and the files that define the words of its contract. The type or trait with the
-most calls comes first, iterators last, and behind them what proofs and containers of one's own need. docs/api/README.md lists
-all pages and items, and the page of each call.
+A page begins with the module's main type and the table of its calls by task. Then come the lines that import the items, a line on each
+item, the traits of its types, and each item with its signature, docs, errors, conditions, examples and promises, and where the words
+of its contract are defined; behind them what proofs and containers of one's own need. docs/api/README.md lists all pages and items,
+and the page of each call.
 
-It fails if a page is another than the sources make, if docs would be lost, if an example names a call that is not there, or if a
-facade does not pass on all that a module has.
+It fails if a page is another than the sources make, if docs would be lost, if an example names a call that is not there, if a facade
+does not pass on all that a module has, and if a link leads nowhere or a heading is long.
+let_through plants what has to be refused.
 """
 
 import collections
@@ -16,79 +17,17 @@ import re
 
 from crates import ROOT, write_text
 from checks.examples import assigned
-from checks.items import LIBRARY, base_of, exported_names, facade_of, is_own, items_of, paths, text_of, title_of, trait_of
-from checks.sections import MARK, Library, Source, anchor_of, block, derived, file_of, first_sentence, heading_of, is_bare
-from checks.sections import prose, shown_members, unheaded, wrapped
+from checks.index import INDEX, Places, headings_on
+from checks.items import LIBRARY, base_of, exported_names, facade_of, items_of, paths, text_of, title_of, trait_of
+from checks.layout import docs_of, is_later, kinds_of, layouts
+from checks.sections import Library, Source, anchor_of, block, derived, file_of, first_sentence, is_bare, prose, shown_members, unheaded, wrapped
 
 PAGES = os.path.join(ROOT, "docs", "api")
-INDEX = "README.md"
-MAIN_CALLS = 6
-# What proofs and containers of one's own need, and no other caller.
-LATER = re.compile(r"\w+_law|\w+Family|\w*Link|Content|Hashed|HeapStringKind|Keyed|Pair(?:Key|Value)?|Part|Polymorphic|RawSlots|Relocatable|Whole")
 LATER_HEADING = "## For proofs, and for containers of your own"
 TRAITS = ("Copy", "Clone", "PartialEq", "Eq", "PartialOrd", "Ord", "Hash", "Debug", "Display", "Error", "Default")
+LONGEST = 80
 # Traits of an impl that say nothing to a caller.
 HIDDEN = {"Model", "Move", "Owns"}
-INTRODUCTION = """# Reference
-
-Made from the sources by `.ci/check --write`: the public items of each module, each with its contract. The
-[README](../../README.md#how-to-read-a-contract) explains how to read a contract; [CHOOSING.md](../CHOOSING.md) says which
-container to take, and which call.
-
-A call has its signature and its docs first. "Errors" says when it returns one, "Conditions" what its caller owes, "Promises" what
-it ensures, and "Words" where the words of these are defined. What stands under "Example" is the body of a proved test, which is
-handed the machine, `rt`; one that several calls of a page share stands at the first of them. In a program a `Result` has to be
-used, by `?`, `match` or `let _ = ..`.
-
-A line `impl<..>` shows the bounds of the calls below it. `T: Drop` says that a value of `T` may be let go: a type is so if it is
-`Copy`, or by `#[derive(Drop)]`. The `ghost` members of an impl are what contracts know of it. A type is `Send` if all that it
-is made of is, and so `Sync`: its items, its allocator, its closures.
-
-A module with a path in the column "also" is passed on there too, with all its items.
-"""
-
-
-def main_type(items):
-    """Returns the name of the type or trait with the most calls, if it has many."""
-    counts = collections.Counter()
-    for item in items:
-        if item.kind == "trait" or item.kind == "impl" and is_own(item):
-            counts[item.name if item.kind == "trait" else base_of(item.name)] += len(shown_members(item))
-    name, count = max(counts.items(), key=lambda it: it[1], default=("", 0))
-    return name if count >= MAIN_CALLS else ""
-
-
-def in_order(module):
-    """Returns the files of a module with their items: the main type first, iterators last."""
-    main = main_type([item for _, items in module.items for item in items])
-
-    def rank(entry):
-        if any(item.kind != "impl" and item.name == main for item in entry[1]):
-            return 0
-        if all(item.kind == "impl" and base_of(item.name) == main for item in entry[1]):
-            return 1
-        return 3 if any(trait_of(item.name) == "Iterator" for item in entry[1]) else 2
-
-    return sorted(module.items, key=rank)
-
-
-def is_later(item):
-    """Says whether an item stands behind the others."""
-    names = (base_of(item.name), trait_of(item.name)) if item.kind == "impl" else (item.name,)
-    return any(LATER.fullmatch(name) for name in names)
-
-
-def headings(items):
-    """Returns the heading of each item of a page. Impls of one name are told apart by their calls."""
-    names = collections.Counter(heading_of(item) for item in items if not is_bare(item))
-    found = []
-    for item in items:
-        calls = [it.name for it in shown_members(item)]
-        heading = f"`{heading_of(item)}`"
-        if names[heading_of(item)] > 1 and calls:
-            heading += f": `{calls[0]}`" + (f" to `{calls[-1]}`" if calls[1:] else "")
-        found.append(heading)
-    return found
 
 
 def crate_of(file):
@@ -113,52 +52,50 @@ def imports(module, items):
     return block("", use_lines(module.crate, passed_on) + use_lines(title_of(module), names - passed_on))
 
 
-def traits_of(items):
-    """Returns the traits of each type of a page by its name."""
-    types = [it for it in items if it.kind in ("struct", "enum", "type") and not is_later(it)]
-    found = {it.name: dict.fromkeys(derived(it)) for it in types}
-    for item in items:
+def traits_of(layout):
+    """Returns the traits of each type of a page by its name, each with the anchor of the impl that says more of it."""
+    found = {it.name: dict.fromkeys(derived(it), "") for it in layout.items() if it.kind in ("struct", "enum", "type") and not is_later(it)}
+    for item in layout.items():
         name, trait = base_of(item.name), trait_of(item.name)
-        if item.kind == "impl" and trait and name in found and trait not in HIDDEN and not LATER.fullmatch(trait):
+        if item.kind == "impl" and trait and name in found and trait not in HIDDEN and not is_later(item):
             reference = re.search(r" for (&(?:'\w+ )?(?:mut )?)", item.name)
             by = re.sub(r"'\w+ ", "", reference.group(1)).strip() if reference else ""
-            found[name][f"{trait} of `{by}`" if by else trait] = None
-    return {name: list(traits) for name, traits in found.items() if traits}
+            found[name].setdefault(f"`{trait}` of `{by}`" if by else f"`{trait}`", "" if is_bare(item) else layout.heading(item))
+    return {name: {it if "`" in it else f"`{it}`": heading for it, heading in traits.items()} for name, traits in found.items() if traits}
 
 
-def trait_table(items):
+def trait_table(layout, links):
     """Returns the lines of the table of traits."""
-    found = traits_of(items)
+    found = traits_of(layout)
     if not found:
         return []
     lines = ["## Traits", "", "A type that is a name of another one has its traits too.", "", "| type | traits |", "|---|---|"]
     for name, traits in found.items():
-        ordered = sorted(traits, key=lambda it: (TRAITS.index(it) if it in TRAITS else len(TRAITS), it))
-        cells = [f"`{it}`" if "`" not in it else "`" + it.replace(" of", "` of", 1) for it in ordered]
+        ordered = sorted(traits, key=lambda it: (TRAITS.index(it.strip("`")) if it.strip("`") in TRAITS else len(TRAITS), it.replace("`", "")))
+        cells = [f"[{it}]({links[traits[it]]})" if traits[it] in links else it for it in ordered]
         lines.append(f"| `{name}` | {', '.join(cells)} |")
     return [*lines, ""]
 
 
-def item_table(items, heading):
-    """Returns the lines of the table of items."""
+def item_table(layout):
+    """Returns the lines of the table of items, without the main one."""
     lines = ["| item | |", "|---|---|"]
-    for item in items:
-        if item.kind != "impl":
-            lines.append(f"| [`{item.name}`](#{anchor_of(heading[id(item)])}) | {first_sentence(item.docs)} |")
-    return [*lines, ""]
+    for item in (it for it in layout.items() if it.kind != "impl" and it is not layout.main):
+        lines.append(f"| [`{item.name}`](#{anchor_of(layout.heading(item))}) | {first_sentence(item.docs)} |")
+    return [*lines, ""] if lines[2:] else []
 
 
 def others(items, library):
     """Returns the lines of impls of which there is little to say. `items` has each with its source."""
     if not items:
         return []
-    bare, words = [], []
+    bare, links = [], []
     for source, item in items:
-        lines = library.impl_lines(item)
+        lines = [*item.head[:-1], item.head[-1] + " {", *library.pinned(item), "}"] if library.pinned(item) else item.head
         bare += ["", *lines] if bare and len(lines) > 1 else lines
-        words += [it for it in source.word_links(lines) if it]
+        links += [it for it in source.pinned_words(item) if it]
     shown = library.shown(items[0][0].page, [name for _, item in items for name in unheaded(item)])
-    return ["## Other implementations", "", *block("", bare), *joined(words), *shown]
+    return ["## Other implementations", "", *block("", bare), *joined(links), *shown]
 
 
 def joined(lines):
@@ -167,40 +104,45 @@ def joined(lines):
     return ["Words: " + ", ".join(dict.fromkeys(links)) + ".", ""] if links else []
 
 
-def module_docs(module):
-    return [line[4:] for line in text_of(module.path).splitlines() if line.startswith("//!")]
-
-
-def page(module, library):
-    """Returns the text of a module's page, with marks in place of the links of names."""
-    ordered = in_order(module)
-    pairs = [(Source(path, module, library), item, items) for path, items in ordered for item in items]
-    pairs = [it for it in pairs if not is_later(it[1])] + [it for it in pairs if is_later(it[1])]
-    everything = [item for _, item, _ in pairs]
-    heading = dict(zip(map(id, everything), headings(everything)))
-    lines = [f"# {title_of(module)}", "", *prose(module_docs(module)), *imports(module, everything)]
-    lines += [*item_table(everything, heading), *trait_table(everything)]
-    sections = [
-        [line for source, item, items in pairs if is_later(item) == later and not is_bare(item)
-         for line in source.section(item, "##", heading[id(item)], items)]
-        for later in (False, True)
+def first_screen(layout, source_of, library):
+    """Returns the lines of the main type and of the table of calls."""
+    if not layout.main:
+        return []
+    path, main, items = next(it for it in layout.entries if it[1] is layout.main)
+    of = library.mains[layout.main.name if layout.main.kind != "type" else library.aliases[layout.main.name]]
+    return [
+        f"## {layout.heading(main)}", "", *source_of(path).type_or_trait(main, items), f"[Source](../../{path})", "",
+        "## Calls", "", *of.table(kinds_of(library, {of.main.name}), of.module is layout.module),
     ]
-    bare = [(source, item) for source, item, _ in pairs if is_bare(item)]
-    lines += [*sections[0], *others(bare, library), *([LATER_HEADING, ""] if sections[1] else []), *sections[1]]
+
+
+def page(layout, library, links):
+    """Returns the text of a module's page, with marks in place of the links of names."""
+    sources = {path: Source(path, layout.module, library) for path, _, _ in layout.entries}
+    first = first_screen(layout, sources.get, library)
+    lines = [f"# {title_of(layout.module)}", "", *prose(docs_of(layout.module.path)), *first, *(["## Items", ""] if first else [])]
+    lines += [*imports(layout.module, layout.items()), *item_table(layout), *trait_table(layout, links)]
+    sections = {False: [], True: []}
+    for path, item, items in layout.entries:
+        if item is layout.main:
+            below = sources[path].calls_below(item)
+            sections[False] += [f"## {layout.heading_of_calls(item.name, item)}", "", *below] if below else []
+        elif not is_bare(item):
+            sections[is_later(item)] += sources[path].section(item, layout.heading(item), items)
+    bare = [(sources[path], item) for path, item, _ in layout.entries if is_bare(item)]
+    lines += [*sections[False], *others(bare, library), *([LATER_HEADING, ""] if sections[True] else []), *sections[True]]
     return "\n".join(lines).rstrip("\n") + "\n"
 
 
 def examples_once(text):
     """Returns a page's text with the place of an example where it stands there a second time."""
-    found, seen, anchors, heading = [], {}, collections.Counter(), ""
+    found, seen, heading = [], {}, ""
+    links = [f"[{title}]({link})" for _, title, link in headings_on(text, "")]
     lines = text.splitlines()
     while lines:
         line = lines.pop(0)
         if line.startswith("#"):
-            title = line.lstrip("# ")
-            anchor = anchor_of(title)
-            heading = f"[{title}](#{anchor}" + (f"-{anchors[anchor]})" if anchors[anchor] else ")")
-            anchors[anchor] += 1
+            heading = links.pop(0)
         elif line.startswith("```"):
             end = lines.index("```") + 1
             code, lines = lines[:end], lines[end:]
@@ -215,97 +157,12 @@ def examples_once(text):
     return "\n".join(found) + "\n"
 
 
-def calls_on(text, file):
-    """Yields each call of a page with the type or trait that has it, or none, and a link to it."""
-    seen, owner, is_code = collections.Counter(), None, False
-    for line in text.splitlines():
-        is_code ^= line.startswith("```")
-        match = None if is_code else re.fullmatch(r"(#+) (.*)", line)
-        if not match:
-            continue
-        anchor = anchor_of(match.group(2))
-        link = f"{file}#{anchor}-{seen[anchor]}" if seen[anchor] else f"{file}#{anchor}"
-        seen[anchor] += 1
-        words = re.match(r"`(fn |trait )?(\w+)", match.group(2))
-        if match.group(1) == "##":
-            owner = words and (base_of(match.group(2).strip("`")) if " for " in match.group(2) else words.group(2))
-            if words and words.group(1) == "fn ":
-                yield words.group(2), None, link
-        elif match.group(1) == "###" and owner:
-            yield words.group(2), owner, link
-
-
-class Places:
-    """Where each item and each call stands: for the links of names in docs, for the index and for examples."""
-
-    def __init__(self, modules, texts):
-        self.calls, self.items = collections.defaultdict(list), collections.defaultdict(list)
-        # By page: what examples can name, and its types.
-        self.names, self.types = {}, {}
-        for module in modules:
-            self.note(module, texts[file_of(module)])
-
-    def note(self, module, text):
-        file, items = file_of(module), [item for _, items in module.items for item in items]
-        self.items[module.name.rpartition("::")[2]].append(file)
-        headed = list(calls_on(text, file))
-        for call, owner, link in headed:
-            self.calls[owner, call].append(link)
-        self.names[file] = {f"{owner or title_of(module)}::{call}" for call, owner, _ in headed}
-        self.names[file].update(name for item in items for name in unheaded(item))
-        self.types[file] = {item.name for item in items if item.kind not in ("impl", "fn", "const")}
-        self.names[file].update(self.types[file])
-        for item in items:
-            place = f"{file}#" + ("other-implementations" if is_bare(item) else anchor_of(heading_of(item)))
-            for owner, call in (name.split("::", 1) for name in unheaded(item) if re.fullmatch(r"\w+::\w+", name)):
-                if place not in self.calls[owner, call]:
-                    self.calls[owner, call].append(place)
-            if item.kind != "impl":
-                self.items[item.name].append(place)
-
-    def place(self, target, file):
-        """Returns where a name in the docs of a page leads to, if that is one place."""
-        owner, _, name = ("::" + target).rpartition("::")
-        owner = owner.rpartition("::")[2]
-        item = owner if owner[:1].isupper() else name
-        for links in (self.calls.get((owner, name)), self.items.get(item), self.calls.get((None, name))):
-            near = [it for it in links or () if it.startswith(file + "#")]
-            if near or links and len(links) == 1:
-                return (near or links)[0].removeprefix(file if near else "")
-        return ""
-
-    def linked(self, text, file):
-        """Returns a page's text with each mark as a link, or as the name alone."""
-        def link(match):
-            name, place = match.group(1), self.place(match.group(2), file)
-            name = name if "`" in name else f"`{name}`"
-            return f"[{name}]({place})" if place else name
-
-        return MARK.sub(link, text)
-
-    def index(self, modules):
-        """Returns the text of the first page: all modules with their items, and all calls."""
-        lines = [INTRODUCTION, "| module | also | | items |", "|---|---|---|---|"]
-        for module in modules:
-            items = [item for _, items in module.items for item in items if item.kind != "impl" and not is_later(item)]
-            names = ", ".join(f"`{item.name}`" for item in items)
-            facade = facade_of(module)
-            also = f"`{facade[0]}`" if facade else ""
-            lines.append(f"| [`{title_of(module)}`]({file_of(module)}) | {also} | {first_sentence(module_docs(module))} | {names} |")
-        found = collections.defaultdict(list)
-        for (owner, call), links in self.calls.items():
-            for link in links:
-                name = owner or link.partition(".md")[0].replace("-", "::")
-                found[call].append(f"[`{name}`]({link})")
-        lines += ["", "## Calls", "", "Each call, and whose it is: calls of traits of std too.", "", "| call | of |", "|---|---|"]
-        lines += [f"| `{call}` | {', '.join(dict.fromkeys(links))} |" for call, links in sorted(found.items())]
-        return self.linked("\n".join(lines) + "\n", INDEX)
-
-
 def first_pass():
     """Returns the library and the places of all that its pages have."""
     library = Library()
-    return library, Places(library.modules, {file_of(module): page(module, library) for module in library.modules})
+    library.layouts, library.mains = layouts(library)
+    texts = {file: page(layout, library, {}) for file, layout in library.layouts.items()}
+    return library, Places(library.layouts, texts, library), texts
 
 
 def known_names(places):
@@ -338,17 +195,38 @@ def wanted_names(module, library):
 
 def pages_with_names():
     """Returns what examples can name, and the names of all that is to have one, each behind its page."""
-    library, places = first_pass()
+    library, places, _ = first_pass()
     wanted = [(file_of(module), names) for module in library.modules for names in wanted_names(module, library)]
     return *known_names(places), wanted
 
 
 def made():
     """Returns the text of each page by its file, and what is wrong with the examples and the facades."""
-    library, places = first_pass()
+    library, places, texts = first_pass()
     library.examples, faults = assigned(*known_names(places))
-    texts = {file_of(module): places.linked(examples_once(page(module, library)), file_of(module)) for module in library.modules}
-    return texts | {INDEX: places.index(library.modules)}, [*faults, *not_passed_on(library.modules)]
+    for file, layout in library.layouts.items():
+        links = {heading: link for _, heading, link in reversed(list(headings_on(texts[file], "")))}
+        texts[file] = places.linked(examples_once(page(layout, library, links)), file)
+    texts[INDEX] = places.index()
+    return texts, [*faults, *not_passed_on(library.modules), *let_through(), *lost_links(texts)]
+
+
+def lost_links(texts):
+    """Yields each link from a page to a page or a heading that there is not, and each heading that is long or stands there twice."""
+    for file, text in texts.items():
+        names = [heading for level, heading, _ in headings_on(text, file) if level == 2]
+        yield from (f"docs/api/{file}: the heading {it} is long, or there twice" for it in names if len(it) > LONGEST or names.count(it) > 1)
+    anchors = {file: {link.partition("#")[2] for _, _, link in headings_on(text, file)} for file, text in texts.items()}
+    for file, text in texts.items():
+        for page_of, anchor in set(re.findall(r"\]\(([\w-]*\.md|)#([^)]*)\)", text)):
+            if anchor not in anchors.get(page_of or file, ()):
+                yield f"docs/api/{file}: {page_of or 'it'} has no heading {anchor}"
+
+
+def let_through():
+    """Yields each planted fault of which nothing is said."""
+    if not any(lost_links({"a.md": "[b](#c)"})) or not any(lost_links({"a.md": "## b\n## b"})):
+        yield "nothing is said of a lost link, or of a heading that stands there twice"
 
 
 def lost_docs():

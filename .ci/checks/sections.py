@@ -4,7 +4,9 @@ import collections
 import re
 import textwrap
 
-from checks.items import ALIAS, LIBRARY, base_of, facade_of, is_own, is_shown, printed_texts, public_modules, text_of, title_of, trait_of, words_of
+from checks.items import ALIAS, LIBRARY, base_of, extent, facade_of, is_own, is_shown, items_of, paths, printed_texts, public_modules
+from checks.items import text_of, title_of, trait_of
+from checks.words import Words
 
 WORD = re.compile(r"[^\W\d][\w-]*")
 # What an impl of a trait of std says of it. What it says of a trait of the library is what the contracts of that trait cite.
@@ -19,6 +21,7 @@ MARK = re.compile("\0([^\0]*)\0([^\0]*)\0")
 ERROR = re.compile(r"\b\w*(?:Error|Fault)\b|\b(?:Interfered|Unfinished|VersionsUsedUp)\b|`Err` with|\b(?:as the error|the errors? of|first reason)\b")
 CLAUSE = re.compile(r"\s*(requires|ensures)\b")
 PARAMETERS = re.compile(r"<(?:[^<>]|<(?:[^<>]|<[^<>]*>)*>)*>$")
+MEMBER = re.compile(r"    (?:ghost(?! use)|type|const) (\w+)")
 # The calls of a trait that is derived.
 DERIVED = {"Clone": "clone", "PartialEq": "eq", "PartialOrd": "partial_cmp", "Ord": "cmp", "Hash": "hash", "Debug": "fmt",
            "Display": "fmt", "Default": "default"}
@@ -29,7 +32,11 @@ def file_of(module):
 
 
 def heading_of(item):
-    return item.name if item.kind == "impl" else f"{item.kind} {item.name}"
+    """Returns the name of an item in its heading: that of an impl without paths, lifetimes and the parameters of its type."""
+    if item.kind != "impl":
+        return f"{item.kind} {item.name}"
+    trait, of, whole = item.name.rpartition(" for ")
+    return re.sub(r"'\w+ |<'\w+>|\b(?:\w+::)+(?=[A-Z])", "", f"{trait}{of}{PARAMETERS.sub('', whole)}")
 
 
 def anchor_of(heading):
@@ -37,24 +44,27 @@ def anchor_of(heading):
     return re.sub(r"[^\w\- ]", "", heading.lower()).replace(" ", "-")
 
 
+def mark(name, path):
+    """Returns a name in docs that is to lead to what its path says."""
+    return f"\0{name}\0{path}\0"
+
+
 def prose(docs, owner=""):
     """Returns docs as lines of a page, in which names are marked."""
-    def mark(match):
+    def marked(match):
         name, path = match.groups()
-        if not name:
-            return match.group()
-        return f"\0{name}\0{(path or name).strip('`').replace('Self', owner)}\0"
+        return mark(name, (path or name).strip("`").replace("Self", owner)) if name else match.group()
 
-    return [*(NAME.sub(mark, line) for line in docs), ""] if docs else []
+    return [*(NAME.sub(marked, line) for line in docs), ""] if docs else []
 
 
 def sentences(text):
     return re.split(r"(?<=\.) (?=[A-Z\0`])", text)
 
 
-def first_sentence(docs):
+def first_sentence(docs, owner=""):
     """Returns what the table of a page says of an item."""
-    lines = prose(docs)
+    lines = prose(docs, owner)
     paragraph = " ".join(lines[: lines.index("")]) if lines else ""
     return sentences(paragraph)[0].replace("|", "\\|")
 
@@ -109,6 +119,11 @@ def block(title, lines, language="rust"):
     return [*([f"**{title}**", ""] if title else []), f"```{language}", *lines, "```", ""] if lines else []
 
 
+def braced(head, members):
+    """Returns the lines of a trait or an impl with some of its members."""
+    return [*head[:-1], head[-1] + " {", *members, "}"] if members else head
+
+
 def shown_members(item):
     return [it for it in item.members if it.kind == "fn" and is_shown(item, it) and not it.is_hidden]
 
@@ -142,18 +157,41 @@ def unheaded(item):
     return [*traits, *(f"{name}::{call}" for call in calls_in(item) if call not in headed)]
 
 
+def members_of_trait(lines, item):
+    """Returns the types, constants and ghost members of a trait by name, each with its docs, as its source has them."""
+    found, docs, end, i = {}, [], item.last, extent(lines, item.first, "")[0]
+    while i < end:
+        match = MEMBER.match(lines[i])
+        if lines[i].startswith("    ///"):
+            docs.append(lines[i])
+        elif match:
+            last = next(j for j in range(i, end) if lines[j].endswith(";"))
+            found[match.group(1)] = [*found.get(match.group(1), []), *docs, *lines[i : last + 1]]
+            docs, i = [], last
+        elif not lines[i].startswith("    #["):
+            docs = []
+        i += 1
+    return found
+
+
 class Library:
     """All modules, and what the sections of one page need of other pages."""
 
     def __init__(self):
         self.modules = [module for crate in LIBRARY for module in public_modules(crate)]
         self.examples = {}
-        self.links, self.aliases, self.cited, self.rooms = {}, {}, {}, {}
+        # The place of each item by its name, and by its crate and its name.
+        self.links, self.homes, self.aliases, self.cited, self.rooms = {}, {}, {}, {}, {}
+        # The traits that have a ghost member, by its name; the models of types; words of the kit, each with a call that has it.
+        self.ghosts, self.models, self.kit_words = collections.defaultdict(list), {}, {}
         self.traits = collections.defaultdict(list)
         for module in self.modules:
             for path, items in module.items:
                 for item in items:
                     self.note(module, text_of(path).splitlines(), item)
+        for crate in LIBRARY:
+            for path in paths(crate, "src/**/*.rt"):
+                self.note_models(crate, items_of(text_of(path).splitlines()))
 
     def note(self, module, lines, item):
         """Takes in what other sections say of an item: its place, what it is a name of, the traits that it meets."""
@@ -161,14 +199,22 @@ class Library:
             if trait_of(item.name):
                 self.traits[base_of(item.name)].append(trait_of(item.name))
             return
-        self.links.setdefault(item.name, f"{file_of(module)}#{anchor_of(heading_of(item))}")
+        self.homes[module.crate, item.name] = place = f"{file_of(module)}#{anchor_of(heading_of(item))}"
+        self.links.setdefault(item.name, place)
         facade = facade_of(module)
         self.rooms.setdefault(item.name, facade[0].partition("::")[0] if facade else module.crate)
         if item.kind == "trait":
             self.cited[item.name] = set(WORD.findall(" ".join(line for it in item.members for line in it.head)))
+            for member in members_of_trait(lines, item):
+                self.ghosts[member].append(item.name)
         alias = ALIAS.match(lines[item.first])
         if alias:
             self.aliases[item.name] = alias.group(2)
+
+    def note_models(self, crate, items):
+        """Takes in the models of a file's types."""
+        models = [it for it in items if trait_of(it.name) == "Model" and "Value" in it.ghosts]
+        self.models.update(((crate, base_of(it.name)), it.ghosts["Value"]) for it in models)
 
     def calls_of(self, name, is_alias):
         """Returns links to the type that a name stands for, and to the traits of its crate, or of its facade, that it meets.
@@ -188,12 +234,9 @@ class Library:
         """Says whether contracts know of an impl of a trait by a ghost member."""
         return name in self.cited[trait] if trait in self.cited else bool(PINNED.fullmatch(name))
 
-    def impl_lines(self, item):
-        """Returns the line of an impl with its bounds, and what it pins."""
-        ghosts = [it for name, it in item.ghosts.items() if self.is_pinned(trait_of(item.name), name)]
-        if not ghosts:
-            return item.head
-        return [*item.head[:-1], item.head[-1] + " {", *(line for lines in ghosts for line in lines), "}"]
+    def pinned(self, item):
+        """Returns the lines of what an impl pins."""
+        return [line for name, lines in item.ghosts.items() if self.is_pinned(trait_of(item.name), name) for line in lines]
 
     def shown(self, page, names):
         """Returns the example of what the first of these names stands for that has one on a page."""
@@ -202,17 +245,12 @@ class Library:
 
 
 class Source:
-    """What the sections of one source file need: where its words are defined, and the module that has it."""
+    """What the sections of one source file need: its lines, where the words of its clauses are defined, and its module."""
 
     def __init__(self, path, module, library):
         self.path, self.lines = path, text_of(path).splitlines()
-        self.module, self.page, self.library = title_of(module), file_of(module), library
-        self.words = words_of(text_of(path))
-
-    def word_links(self, lines):
-        """Returns the line that names the files of the words in some lines."""
-        used = [it for it in dict.fromkeys(WORD.findall(" ".join(lines))) if it in self.words]
-        return ["Words: " + ", ".join(f"[`{it}`](../../{self.words[it]})" for it in used) + ".", ""] if used else []
+        self.module, self.crate, self.page, self.library = title_of(module), module.crate, file_of(module), library
+        self.words = Words(path, self.page, library)
 
     def calls(self, item):
         """Returns the line that says where the calls of a type stand."""
@@ -221,6 +259,11 @@ class Source:
         types, traits = self.library.calls_of(item.name, item.kind == "type")
         parts = [*types, *(["the " + ("trait " if len(traits) == 1 else "traits ") + ", ".join(traits)] if traits else [])]
         return ["It has the calls of " + " and of ".join(parts) + ".", ""] if parts else []
+
+    def model(self, item):
+        """Returns the line that names the model of a type."""
+        lines = self.library.models.get((self.crate, item.name)) if item.kind == "struct" else None
+        return ["Its model in contracts is `" + re.search(r"{ (.*) }", " ".join(lines)).group(1) + "`.", ""] if lines else []
 
     def printed(self, item, items):
         """Returns the line that says what an error prints."""
@@ -242,34 +285,63 @@ class Source:
         return ["A contract names its variants by:", "", *block("", [f"ghost use {place}.{{{', '.join(names)}}};"], "text")]
 
     def function(self, item, owner):
-        """Returns the lines of a function below its heading."""
+        """Returns the lines of a function below its heading. `owner` is the trait or the impl that has it, if one does."""
         signature, conditions, promises = contract(item.head)
-        docs, errors = parted(prose(item.docs, owner))
+        name = owner and (base_of(owner.name) if owner.kind == "impl" else owner.name)
+        rust = " ".join([*(owner.head if owner else []), *signature])
+        trait = owner.name if owner and owner.kind == "trait" else ""
+        docs, errors = parted(prose(item.docs, name or ""))
+        place = f"{self.path}: {item.name}"
         return [
             *block("", signature),
             *docs,
             *errors,
             *block("Conditions", conditions),
-            *self.library.shown(self.page, [f"{owner or self.module}::{item.name}"]),
+            *self.library.shown(self.page, [f"{name or self.module}::{item.name}"]),
             *block("Promises", promises),
-            *self.word_links(item.head),
+            *self.words.line([*conditions, *promises], rust, trait, place),
         ]
 
-    def section(self, item, level, heading, items, owner=""):
-        """Returns the lines of an item, and of the functions in it, under a heading of this level."""
-        lines = [f"{level} {heading}", ""]
-        name = base_of(item.name) if item.kind == "impl" else item.name
-        source = [f"[Source](../../{self.path})", ""] if level == "##" else []
+    def type_or_trait(self, item, items):
+        """Returns the lines of a type, a trait or a constant below its heading, without its calls."""
+        members = members_of_trait(self.lines, item) if item.kind == "trait" else {}
+        head = [line.removesuffix(" {") for line in self.lines[item.first : extent(self.lines, item.first, "")[0]]] if members else item.head
+        ghosts = [line for lines in members.values() for line in lines]
+        clauses = [line for line in ghosts if line.startswith(("    ghost", "        "))] or self.library.models.get((self.crate, item.name), [])
+        return [
+            *block("", braced(head, ghosts)),
+            *prose(item.docs, item.name),
+            *self.model(item),
+            *self.printed(item, items),
+            *self.calls(item),
+            *self.variants(item),
+            *self.library.shown(self.page, [item.name, *unheaded(item)]),
+            *self.words.line(clauses, " ".join(item.head if item.kind != "trait" else head), item.name, f"{self.path}: {item.name}"),
+        ]
+
+    def implementation(self, item):
+        """Returns the lines of an impl below its heading, without its calls."""
+        pins = self.library.pinned(item)
+        return [
+            *block("", braced(item.head, pins)),
+            *prose(item.docs, base_of(item.name)),
+            *self.library.shown(self.page, unheaded(item)),
+            *self.pinned_words(item),
+        ]
+
+    def pinned_words(self, item):
+        clauses = [line for line in self.library.pinned(item) if not line.startswith("    type ")]
+        return self.words.line(clauses, " ".join(item.head), "", f"{self.path}: {item.name}")
+
+    def section(self, item, heading, items):
+        """Returns the lines of an item under its heading, and its calls."""
+        lines = [f"## {heading}", ""]
         if item.kind == "fn":
-            return lines + self.function(item, owner) + source
-        if item.kind == "impl":
-            shown = self.library.impl_lines(item)
-            lines += [*block("", shown), *prose(item.docs, name), *self.library.shown(self.page, unheaded(item))]
-            lines += [*self.word_links(shown), *source]
+            lines += self.function(item, None)
         else:
-            lines += [*block("", item.head), *prose(item.docs, name), *self.printed(item, items), *self.calls(item)]
-            lines += [*self.variants(item), *self.library.shown(self.page, [item.name, *unheaded(item)])]
-            lines += [*self.word_links(item.head), *source]
-        for member in shown_members(item):
-            lines += self.section(member, level + "#", f"`{heading_of(member)}`", [], name)
-        return lines
+            lines += self.implementation(item) if item.kind == "impl" else self.type_or_trait(item, items)
+        return [*lines, f"[Source](../../{self.path})", "", *self.calls_below(item)]
+
+    def calls_below(self, item):
+        """Returns the lines of each call of a trait or an impl, under a heading of its own."""
+        return [line for it in shown_members(item) for line in (f"### `{heading_of(it)}`", "", *self.function(it, item))]

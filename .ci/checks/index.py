@@ -1,0 +1,133 @@
+"""Where each item and each call of the reference stands, and its first page: all modules and all calls.
+"""
+
+import collections
+import re
+
+from checks.items import base_of, facade_of, is_own, title_of, trait_of
+from checks.layout import docs_of, is_later
+from checks.sections import MARK, anchor_of, first_sentence, heading_of, is_bare, shown_members, unheaded
+
+INDEX = "README.md"
+INTRODUCTION = """# Reference
+
+Made from the sources by `.ci/check --write`: the public items of each module, each with its contract. The
+[README](../../README.md#how-to-read-a-contract) explains how to read a contract; [CHOOSING.md](../CHOOSING.md) says which
+container to take, and which call.
+
+A page begins with the main type of its module and the calls by task. A call has its signature and its docs first. "Errors" says
+when it returns one, "Conditions" what its caller owes, "Promises" what it ensures, and "Words" where the words of these are
+defined. What stands under "Example" is the body of a proved test, which is
+handed the machine, `rt`; one that several calls of a page share stands at the first of them. In a program a `Result` has to be
+used, by `?`, `match` or `let _ = ..`.
+
+A line `impl<..>` shows the bounds of the calls below it. `T: Drop` says that a value of `T` may be let go: a type is so if it is
+`Copy`, or by `#[derive(Drop)]`. The `ghost` members of an impl are what contracts know of it. A type is `Send` if all that it
+is made of is, and so `Sync`: its items, its allocator, its closures.
+
+## Modules
+
+A module with a path in the column "also" is passed on there too, with all its items.
+"""
+
+
+def headings_on(text, file):
+    """Yields each heading of a page: its level, its text, and a link to it."""
+    seen, is_code = collections.Counter(), False
+    for line in text.splitlines():
+        is_code ^= line.startswith("```")
+        match = None if is_code else re.fullmatch(r"(#+) (.*)", line)
+        if match:
+            anchor = anchor_of(match.group(2))
+            yield len(match.group(1)), match.group(2), f"{file}#{anchor}" + (f"-{seen[anchor]}" if seen[anchor] else "")
+            seen[anchor] += 1
+
+
+def calls_on(text, file):
+    """Yields each call of a page: its name, the type or trait that has it, or none, its link, and the heading above it."""
+    owner, above = None, ""
+    for level, heading, link in headings_on(text, file):
+        words = re.match(r"`(fn |trait )?(\w+)", heading)
+        if level == 2:
+            above = heading
+            owner = words and (base_of(heading.strip("`")) if " for " in heading else words.group(2))
+            if words and words.group(1) == "fn ":
+                yield words.group(2), None, link, above
+        elif level == 3 and owner:
+            yield words.group(2), owner, link, above
+
+
+class Places:
+    """Where each item and each call stands: for the links of names in docs, for the index and for examples."""
+
+    def __init__(self, layouts, texts, library):
+        self.library, self.layouts = library, layouts
+        # By owner and call: those with a heading, and others. By name: items.
+        self.headed, self.others, self.items = (collections.defaultdict(list) for _ in range(3))
+        # By page: what examples can name, and its types.
+        self.names, self.types = {}, {}
+        self.listed = collections.defaultdict(list)
+        for file, layout in layouts.items():
+            self.note(layout, texts[file])
+
+    def note(self, layout, text):
+        """Takes in the calls and the items of a page."""
+        file, items = layout.file, layout.items()
+        self.items[layout.module.name.rpartition("::")[2]].append(file)
+        headed = list(calls_on(text, file))
+        for call, owner, link, above in headed:
+            self.headed[owner, call].append(link)
+            self.list_call(owner or title_of(layout.module), call, link, above.partition(" for ")[0].strip("`") if " for " in above else "")
+        self.types[file] = {item.name for item in items if item.kind not in ("impl", "fn", "const")}
+        self.names[file] = {f"{owner or title_of(layout.module)}::{call}" for call, owner, _, _ in headed} | self.types[file]
+        links = {heading: link for _, heading, link in reversed(list(headings_on(text, file)))}
+        for item in items:
+            self.names[file].update(unheaded(item))
+            link = links["Other implementations" if is_bare(item) else layout.heading(item)]
+            self.note_unheaded(item, link)
+            if item.kind != "impl":
+                self.items[item.name].append(link)
+
+    def note_unheaded(self, item, link):
+        """Takes in the calls of an item that have no heading: those of derived traits, and of impls that add nothing to theirs."""
+        for owner, call in (name.split("::", 1) for name in unheaded(item) if re.fullmatch(r"\w+::\w+", name)):
+            if link not in self.others[owner, call]:
+                self.others[owner, call].append(link)
+                self.list_call(owner, call, link, trait_of(item.name) if item.kind == "impl" else "derived")
+
+    def list_call(self, owner, call, link, trait):
+        """Puts a call into the table of the first page."""
+        self.listed[call].append((owner, link))
+
+    def place(self, target, file):
+        """Returns where a name in the docs of a page leads to, if that is one place."""
+        owner, _, name = ("::" + target).rpartition("::")
+        owner = owner.rpartition("::")[2]
+        item = owner if owner[:1].isupper() else name
+        for links in (self.headed.get((owner, name)), self.others.get((owner, name)), self.items.get(item), self.headed.get((None, name))):
+            near = [it for it in links or () if it.startswith(file + "#")]
+            if near or links and len(links) == 1:
+                return (near or links)[0].removeprefix(file if near else "")
+        return ""
+
+    def linked(self, text, file):
+        """Returns a page's text with each mark as a link, or as the name alone."""
+        def link(match):
+            name, place = match.group(1), self.place(match.group(2), file)
+            name = name if "`" in name else f"`{name}`"
+            return f"[{name}]({place})" if place else name
+
+        return MARK.sub(link, text)
+
+    def index(self):
+        """Returns the text of the first page."""
+        lines = [INTRODUCTION, "| module | also | | items |", "|---|---|---|---|"]
+        for file, layout in self.layouts.items():
+            names = ", ".join(f"`{item.name}`" for _, items in layout.module.items for item in items if item.kind != "impl" and not is_later(item))
+            facade = facade_of(layout.module)
+            also, title = f"`{facade[0]}`" if facade else "", title_of(layout.module)
+            lines.append(f"| [`{title}`]({file}) | {also} | {first_sentence(docs_of(layout.module.path))} | {names} |")
+        lines += ["", "## Calls", "", "Each call, and whose it is: calls of traits of std too.", "", "| call | of |", "|---|---|"]
+        for call, owners in sorted(self.listed.items()):
+            lines.append(f"| `{call}` | {', '.join(f'[`{name}`]({link})' for name, link in owners)} |")
+        return self.linked("\n".join(lines) + "\n", INDEX)

@@ -1,0 +1,101 @@
+"""The words of clauses: where a page of the reference says what each of them means.
+
+A word leads to the file of specs/ that defines it, to the type, the constant or the error of the library that it is, or to the trait
+whose ghost member it is.
+"""
+
+import os
+import re
+
+from checks.items import text_of
+from crates import ROOT
+
+USE = re.compile(r"ghost use ([^\s;{]+?)(?:\.\{([^}]*)\}| as (\w+));")
+DEFINED = re.compile(r"Rattle\.(ix_\w+)\.specs\.([\w.]+)")
+# The items that a crate declares: the variants of an enum, or another item.
+DECLARED = re.compile(r"(?:declared|contracts)\.(?:(?:[\w.]+\.)?(\w+)\.TheVariants$|)")
+# A name, and what stands behind it after dots; in place of a type by its traits, `⟦<T as Trait>⟧`, that bracket alone.
+CHAIN = re.compile(r"(?<![\w.])(⟧|[^\W\d][\w'-]*)((?:\.[\w'-]+)*)")
+BOUND = re.compile(r"λ ([^.]*)\.|[({]((?:[\w']+ )+): |\blet (\w+) |(?<!\w)(\w+) = ")
+HEAD = re.compile(r"\b(?:requires|ensures\*?)(?: \w+)? \{|\bghost (\w+)(?: =|:) \{")
+SYMBOL = re.compile(r"[^\w\s(){}\[\];,.:'\"\\]+")
+# What a reference has beside the value of its model, and a closure of what it may be called with.
+SUFFIXES = {"now", "old", "new", "entry", "exit", "ghost_name", "pre", "post", "row", "the_row"}
+
+
+def imported(text):
+    """Returns the place from which a source file imports each word for its contracts, and the names that it gives to whole places."""
+    words, places = {}, {}
+    for place, names, alias in USE.findall(text):
+        words.update((name.strip(), place) for name in names.split(",") if name.strip())
+        if alias:
+            places[alias] = place
+    return words, places
+
+
+def code_of(lines):
+    """Returns clauses as one text without their heads, comments and texts, and the names of the ghost members that they set."""
+    text = " ".join(line for line in lines if not line.lstrip().startswith("//"))
+    members = [name for name in HEAD.findall(text) if name]
+    return re.sub(r"⟦<.*?>⟧", "⟧", HEAD.sub(" ", re.sub(r'"[^"]*"', " ", text))), members
+
+
+class Words:
+    """What the clauses of one source file may use, for a page of the reference."""
+
+    def __init__(self, path, page, library):
+        self.page, self.library = page, library
+        self.words, self.places = imported(text_of(path))
+
+    def link(self, word):
+        """Returns where the definition of an imported word is, or nothing if the kit has it."""
+        match = DEFINED.match({**self.words, **self.places}.get(word, ""))
+        if not match:
+            return ""
+        crate, path = match.groups()
+        declared = DECLARED.match(path)
+        if declared:
+            return self.item(declared.group(1) or (word if word in self.words else path.rpartition(".")[2]), crate)
+        path = f"crates/{crate}/specs/{path.replace('.', '/')}.antt"
+        return f"../../{path}" if os.path.exists(os.path.join(ROOT, path)) else ""
+
+    def item(self, name, crate=""):
+        """Returns where an item of the library stands, seen from this page."""
+        place = self.library.homes.get((crate, name)) or self.library.links.get(name, "")
+        return place.removeprefix(self.page) if place.startswith(self.page + "#") else place
+
+    def ghost(self, name, near):
+        """Returns where the trait stands that has a ghost member, if it is named near by."""
+        close = [it for it in self.library.ghosts.get(name, ()) if it in near]
+        return self.item(close[0]) if close else ""
+
+    def found(self, lines, rust, trait):
+        """Returns the words of clauses with the place of each, in order, and those that are neither defined here nor local.
+
+        `rust` is the text of the signatures around, which says what types and parameters there are.
+        """
+        code, members = code_of(lines)
+        ghosts, near = self.library.ghosts, {"Self", "self", *re.findall(r"\w+", rust)}
+        local = {word for parts in BOUND.findall(code) for part in parts for word in part.split()} | set(re.findall(r"(\w+): ", rust))
+        places, left = {}, [*SYMBOL.findall(code), *(it for it in members if it not in ghosts)]
+        for head, chain in CHAIN.findall(code):
+            names, is_type = chain.split(".")[1:], head == "⟧" or head[0].isupper()
+            if head not in local:
+                link = self.link(head) or (self.item(trait) if trait in ghosts.get(head, ()) else "")
+                link = link or (self.item(head) if head not in near | {*self.words, *self.places} else "")
+                places.update({head: link} if link else {})
+                left += [head] if not link and head not in self.places and (head in self.words or head not in near) else []
+            for name in names:
+                if is_type and (self.ghost(name, near) or name in self.library.cited):
+                    places[name] = self.ghost(name, near) or self.item(name)
+                    break
+                if name in SUFFIXES or is_type and name not in near or head in {*self.places} - local - {*places}:
+                    left.append(name)
+        return places, left
+
+    def line(self, lines, rust, trait="", place=""):
+        """Returns the line of a page that says where the words of clauses are defined. Notes the others, which the kit has."""
+        places, left = self.found(lines, rust, trait)
+        for word in left:
+            self.library.kit_words.setdefault(word, place)
+        return ["Words: " + ", ".join(f"[`{word}`]({link})" for word, link in places.items()) + ".", ""] if places else []
