@@ -1,11 +1,14 @@
 """Where each item and each call of the reference stands, and its first page: all modules and all calls.
+
+The table of calls has those of types, traits and modules, and those of std's traits for containers and their like; what errors,
+iterators, keys and commands have of std's traits is on their pages.
 """
 
 import collections
 import re
 
 from checks.items import base_of, facade_of, is_own, title_of, trait_of
-from checks.layout import docs_of, is_later
+from checks.layout import docs_of, is_later, kinds_of
 from checks.sections import MARK, anchor_of, first_sentence, heading_of, is_bare, shown_members, unheaded
 
 INDEX = "README.md"
@@ -67,6 +70,7 @@ class Places:
         # By page: what examples can name, and its types.
         self.names, self.types = {}, {}
         self.listed = collections.defaultdict(list)
+        self.mains = kinds_of(library, {layout.main.name for layout in layouts.values() if layout.main})
         for file, layout in layouts.items():
             self.note(layout, texts[file])
 
@@ -96,8 +100,11 @@ class Places:
                 self.list_call(owner, call, link, trait_of(item.name) if item.kind == "impl" else "derived")
 
     def list_call(self, owner, call, link, trait):
-        """Puts a call into the table of the first page."""
-        self.listed[call].append((owner, link))
+        """Puts a call into the table of the first page: one of a trait only of the traits of std, and of containers."""
+        trait = trait_of(f"{trait} for x")
+        if not trait or owner in self.mains and trait not in self.library.cited and trait != "Drop":
+            if not any(name == owner for name, _ in self.listed[call]):
+                self.listed[call].append((owner, link))
 
     def place(self, target, file):
         """Returns where a name in the docs of a page leads to, if that is one place."""
@@ -127,7 +134,8 @@ class Places:
             facade = facade_of(layout.module)
             also, title = f"`{facade[0]}`" if facade else "", title_of(layout.module)
             lines.append(f"| [`{title}`]({file}) | {also} | {first_sentence(docs_of(layout.module.path))} | {names} |")
-        lines += ["", "## Calls", "", "Each call, and whose it is: calls of traits of std too.", "", "| call | of |", "|---|---|"]
+        lines += ["", "## Calls", "", "Each call of types, traits and modules, and whose it is. Of std's traits those of containers and their like are here;"]
+        lines += ["the others are in the table of traits of each page.", "", "| call | of |", "|---|---|"]
         for call, owners in sorted(self.listed.items()):
             lines.append(f"| `{call}` | {', '.join(f'[`{name}`]({link})' for name, link in owners)} |")
         return self.linked("\n".join(lines) + "\n", INDEX)
