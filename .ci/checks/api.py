@@ -6,7 +6,7 @@ of its contract are defined; behind them what proofs and containers of one's own
 and the page of each call.
 
 It fails if a page is another than the sources make, if docs would be lost, if an example names a call that is not there, if a facade
-does not pass on all that a module has, and if a link leads nowhere or a heading is long.
+does not pass on all that a module has, if a signature has a private type, and if a link leads nowhere or a heading is long.
 let_through plants what has to be refused.
 """
 
@@ -208,7 +208,8 @@ def made():
         links = {heading: link for _, heading, link in reversed(list(headings_on(texts[file], "")))}
         texts[file] = places.linked(examples_once(page(layout, library, links)), file)
     texts[INDEX] = places.index()
-    return texts, [*faults, *not_passed_on(library.modules), *let_through(), *lost_links(texts)]
+    wrong = [*not_passed_on(library.modules), *let_through(library), *sorted(library.faults)]
+    return texts, [*faults, *wrong, *lost_links(texts)]
 
 
 def lost_links(texts):
@@ -223,8 +224,12 @@ def lost_links(texts):
                 yield f"docs/api/{file}: {page_of or 'it'} has no heading {anchor}"
 
 
-def let_through():
+def let_through(library):
     """Yields each planted fault of which nothing is said."""
+    private = next(iter(sorted(library.private)))
+    if library.signature([f"fn of(it: {private})"], None, "a plant") and not any("a plant" in it for it in library.faults):
+        yield f"nothing is said of the private type {private}"
+    library.faults = {it for it in library.faults if "a plant" not in it}
     if not any(lost_links({"a.md": "[b](#c)"})) or not any(lost_links({"a.md": "## b\n## b"})):
         yield "nothing is said of a lost link, or of a heading that stands there twice"
 

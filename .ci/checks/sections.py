@@ -10,7 +10,10 @@ from checks.words import Words
 
 WORD = re.compile(r"[^\W\d][\w-]*")
 # What an impl of a trait of std says of it. What it says of a trait of the library is what the contracts of that trait cite.
-PINNED = re.compile(r"\w+_gives|output|debug_output|eq|cmp|hash_input|is_default|is_clone|is_infallible|Item|IntoIter")
+PINNED = re.compile(r"\w+_gives|can_index|items|text|output|debug_output|eq|cmp|hash_input|is_default|is_clone|is_infallible"
+                    r"|Item|IntoIter|Error|Err|Output|Target|Elem")
+# What an index means by itself: no promise to callers.
+INNER = {"Fits", "IsSeat"}
 VARIANT = re.compile(r"    (\w+)(?:,| \{|\()")
 DERIVED_TEXT = re.compile(r"#\[error\(\"([^\"]*)\"\)\]")
 # A name in docs that rustdoc would make a link of, with its path if that is another; or code, in which brackets are its own.
@@ -184,14 +187,16 @@ class Library:
         self.links, self.homes, self.aliases, self.cited, self.rooms = {}, {}, {}, {}, {}
         # The traits that have a ghost member, by its name; the models of types; words of the kit, each with a call that has it.
         self.ghosts, self.models, self.kit_words = collections.defaultdict(list), {}, {}
+        self.faults = set()
         self.traits = collections.defaultdict(list)
         for module in self.modules:
             for path, items in module.items:
                 for item in items:
                     self.note(module, text_of(path).splitlines(), item)
+        self.private = set()
         for crate in LIBRARY:
             for path in paths(crate, "src/**/*.rt"):
-                self.note_models(crate, items_of(text_of(path).splitlines()))
+                self.note_private(crate, items_of(text_of(path).splitlines()))
 
     def note(self, module, lines, item):
         """Takes in what other sections say of an item: its place, what it is a name of, the traits that it meets."""
@@ -211,10 +216,11 @@ class Library:
         if alias:
             self.aliases[item.name] = alias.group(2)
 
-    def note_models(self, crate, items):
-        """Takes in the models of a file's types."""
+    def note_private(self, crate, items):
+        """Takes in the models of a file's types, and the types that no page has."""
         models = [it for it in items if trait_of(it.name) == "Model" and "Value" in it.ghosts]
         self.models.update(((crate, base_of(it.name)), it.ghosts["Value"]) for it in models)
+        self.private.update(it.name for it in items if it.kind in ("struct", "enum", "type") and it.name not in self.links)
 
     def calls_of(self, name, is_alias):
         """Returns links to the type that a name stands for, and to the traits of its crate, or of its facade, that it meets.
@@ -232,11 +238,21 @@ class Library:
 
     def is_pinned(self, trait, name):
         """Says whether contracts know of an impl of a trait by a ghost member."""
-        return name in self.cited[trait] if trait in self.cited else bool(PINNED.fullmatch(name))
+        return name not in INNER and (name in self.cited[trait] if trait in self.cited else bool(PINNED.fullmatch(name)))
 
     def pinned(self, item):
-        """Returns the lines of what an impl pins."""
-        return [line for name, lines in item.ghosts.items() if self.is_pinned(trait_of(item.name), name) for line in lines]
+        """Returns the lines of what an impl pins, without what names a private type."""
+        shown = [it for name, it in item.ghosts.items() if self.is_pinned(trait_of(item.name), name)]
+        return [line for lines in shown if not self.private & set(WORD.findall(" ".join(lines))) for line in lines]
+
+    def signature(self, lines, owner, place):
+        """Returns the block of a signature, with the trait's name of a private type in its place. Notes a type that has none."""
+        for name, of in re.findall(r"\btype (\w+) = (\w+);", " ".join(line for it in owner.ghosts.values() for line in it) if owner else ""):
+            if of in self.private:
+                lines = [re.sub(rf"\b{of}\b", f"Self::{name}", line) for line in lines]
+        found = self.private & set(WORD.findall(" ".join(lines)))
+        self.faults.update(f"{place}: the reference has a private type, {name}" for name in found)
+        return block("", lines)
 
     def shown(self, page, names):
         """Returns the example of what the first of these names stands for that has one on a page."""
@@ -293,7 +309,7 @@ class Source:
         docs, errors = parted(prose(item.docs, name or ""))
         place = f"{self.path}: {item.name}"
         return [
-            *block("", signature),
+            *self.library.signature(signature, owner, place),
             *docs,
             *errors,
             *block("Conditions", conditions),
