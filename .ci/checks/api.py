@@ -6,8 +6,8 @@ of its contract are defined; behind them what proofs and containers of one's own
 and the page of each call.
 
 It fails if a page is another than the sources make, if docs would be lost, if an example names a call that is not there, if a facade
-does not pass on all that a module has, if a signature has a private type, and if a link leads nowhere or a heading is long.
-let_through plants what has to be refused.
+does not pass on all that a module has, if a signature has a private type, if a link leads nowhere or a heading is long, and if
+nothing explains a word of a clause. let_through plants what has to be refused.
 """
 
 import collections
@@ -16,6 +16,7 @@ import os
 import re
 
 from crates import ROOT, write_text
+from checks import words
 from checks.examples import assigned
 from checks.index import INDEX, Places, headings_on
 from checks.items import LIBRARY, base_of, exported_names, facade_of, items_of, paths, text_of, title_of, trait_of
@@ -201,14 +202,14 @@ def pages_with_names():
 
 
 def made():
-    """Returns the text of each page by its file, and what is wrong with the examples and the facades."""
+    """Returns the text of each page by its file, and what is wrong with the examples, the facades and the words of clauses."""
     library, places, texts = first_pass()
     library.examples, faults = assigned(*known_names(places))
     for file, layout in library.layouts.items():
         links = {heading: link for _, heading, link in reversed(list(headings_on(texts[file], "")))}
         texts[file] = places.linked(examples_once(page(layout, library, links)), file)
     texts[INDEX] = places.index()
-    wrong = [*not_passed_on(library.modules), *let_through(library), *sorted(library.faults)]
+    wrong = [*not_passed_on(library.modules), *let_through(library), *sorted(library.faults), *words.faults(library.kit_words)]
     return texts, [*faults, *wrong, *lost_links(texts)]
 
 
@@ -226,6 +227,10 @@ def lost_links(texts):
 
 def let_through(library):
     """Yields each planted fault of which nothing is said."""
+    words_of_queues = words.Words("crates/ix_queue/src/queue/get.rt", "ix_queue-queue.md", library)
+    for clause in ("ensures { IsQueue self.now }", "ensures { result ≡ T.qwert self.now }", "ensures { self.new ⊕ result }"):
+        if not set(words_of_queues.found([clause], "fn get<T>(&self)", "")[1]) - words.explained():
+            yield f"nothing is said of a word of {clause}"
     private = next(iter(sorted(library.private)))
     if library.signature([f"fn of(it: {private})"], None, "a plant") and not any("a plant" in it for it in library.faults):
         yield f"nothing is said of the private type {private}"

@@ -1,4 +1,4 @@
-"""Where each item and each call of the reference stands, and its first page: all modules and all calls.
+"""Where each item and each call of the reference stands, and its first page: all modules, all calls and the words of the kit.
 
 The table of calls has those of types, traits and modules, and those of std's traits for containers and their like; what errors,
 iterators, keys and commands have of std's traits is on their pages.
@@ -10,6 +10,7 @@ import re
 from checks.items import base_of, facade_of, is_own, title_of, trait_of
 from checks.layout import docs_of, is_later, kinds_of
 from checks.sections import MARK, anchor_of, first_sentence, heading_of, is_bare, shown_members, unheaded
+from checks.words import kit_table
 
 INDEX = "README.md"
 INTRODUCTION = """# Reference
@@ -20,7 +21,7 @@ container to take, and which call.
 
 A page begins with the main type of its module and the calls by task. A call has its signature and its docs first. "Errors" says
 when it returns one, "Conditions" what its caller owes, "Promises" what it ensures, and "Words" where the words of these are
-defined. What stands under "Example" is the body of a proved test, which is
+defined; those of the kit are [below](#words-of-contracts). What stands under "Example" is the body of a proved test, which is
 handed the machine, `rt`; one that several calls of a page share stands at the first of them. In a program a `Result` has to be
 used, by `?`, `match` or `let _ = ..`.
 
@@ -138,4 +139,5 @@ class Places:
         lines += ["the others are in the table of traits of each page.", "", "| call | of |", "|---|---|"]
         for call, owners in sorted(self.listed.items()):
             lines.append(f"| `{call}` | {', '.join(f'[`{name}`]({link})' for name, link in owners)} |")
+        lines += ["", "## Words of contracts", "", "Words of the kit's logic that clauses use, beside those that the README explains.", "", *kit_table()]
         return self.linked("\n".join(lines) + "\n", INDEX)

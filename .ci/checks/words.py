@@ -1,15 +1,22 @@
 """The words of clauses: where a page of the reference says what each of them means.
 
 A word leads to the file of specs/ that defines it, to the type, the constant or the error of the library that it is, or to the trait
-whose ghost member it is.
+whose ghost member it is. A word of the kit's logic has a line in KIT, which docs/api/README.md lists, if the README's section on
+contracts does not explain it. It fails if a clause has a word that none of these explains, and if no clause has a word of KIT.
+
+cd .ci && python3 -m checks.words    prints the words that nothing explains, each with a call that has it
 """
 
+import functools
 import os
 import re
 
 from checks.items import text_of
+from checks.kit import KIT
 from crates import ROOT
 
+SECTION = re.compile(r"^## How to read a contract$(.*?)^## ", re.M | re.S)
+BLOCK = re.compile(r"^```.*?^```$", re.M | re.S)
 USE = re.compile(r"ghost use ([^\s;{]+?)(?:\.\{([^}]*)\}| as (\w+));")
 DEFINED = re.compile(r"Rattle\.(ix_\w+)\.specs\.([\w.]+)")
 # The items that a crate declares: the variants of an enum, or another item.
@@ -21,6 +28,28 @@ HEAD = re.compile(r"\b(?:requires|ensures\*?)(?: \w+)? \{|\bghost (\w+)(?: =|:) 
 SYMBOL = re.compile(r"[^\w\s(){}\[\];,.:'\"\\]+")
 # What a reference has beside the value of its model, and a closure of what it may be called with.
 SUFFIXES = {"now", "old", "new", "entry", "exit", "ghost_name", "pre", "post", "row", "the_row"}
+
+
+@functools.lru_cache(maxsize=None)
+def explained_by_readme():
+    """Returns the words that the README's section on contracts explains, symbols too."""
+    spans = re.findall(r"`([^`]+)`", BLOCK.sub("", SECTION.search(text_of("README.md")).group(1)))
+    return {word for span in spans for word in [*re.findall(r"[^\W\d][\w-]*", span), *SYMBOL.findall(span)]}
+
+
+@functools.lru_cache(maxsize=None)
+def explained_by_kit():
+    """Returns the words that KIT explains."""
+    return {word for words, _, _ in KIT for word in words.split()}
+
+
+def kit_table():
+    """Returns the lines of the table of the kit's words."""
+    lines = ["| word | meaning |", "|---|---|"]
+    for words, shown, meaning in KIT:
+        forms = ", ".join(f"`{form}`" for form in (shown or words).split(", "))
+        lines.append(f"| {forms} | {meaning} |")
+    return lines
 
 
 def imported(text):
@@ -65,8 +94,9 @@ class Words:
         return place.removeprefix(self.page) if place.startswith(self.page + "#") else place
 
     def ghost(self, name, near):
-        """Returns where the trait stands that has a ghost member, if it is named near by."""
-        close = [it for it in self.library.ghosts.get(name, ()) if it in near]
+        """Returns where the trait stands that has a ghost member: one that is named near by, or the only one, if the kit has none."""
+        traits = self.library.ghosts.get(name, ())
+        close = [it for it in traits if it in near] or (traits if name not in explained_by_kit() else ())
         return self.item(close[0]) if close else ""
 
     def found(self, lines, rust, trait):
@@ -99,3 +129,24 @@ class Words:
         for word in left:
             self.library.kit_words.setdefault(word, place)
         return ["Words: " + ", ".join(f"[`{word}`]({link})" for word, link in places.items()) + ".", ""] if places else []
+
+
+def explained():
+    """Returns the words that are no one's of the library, and explained."""
+    return explained_by_kit() | explained_by_readme()
+
+
+def faults(used):
+    """Yields what is wrong with the words of all clauses, each with a place that has it."""
+    yield from (f"{place}: nothing explains the word {word}: KIT in .ci/checks/kit.py" for word, place in used.items() if word not in explained())
+    yield from (f".ci/checks/kit.py explains {word}, which no clause has" for word in sorted(explained_by_kit() - set(used)))
+
+
+def main():
+    from checks.api import first_pass
+
+    print("\n".join(faults(first_pass()[0].kit_words)))
+
+
+if __name__ == "__main__":
+    main()
