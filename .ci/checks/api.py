@@ -6,8 +6,8 @@ of its contract are defined; behind them what proofs and containers of one's own
 and the page of each call.
 
 It fails if a page is another than the sources make, if docs would be lost, if an example names a call that is not there, if a facade
-does not pass on all that a module has, if a signature has a private type, if a link leads nowhere or a heading is long, and if
-nothing explains a word of a clause. let_through plants what has to be refused.
+does not pass on all that a module has, if a signature has a private type, if a link leads nowhere or a heading is long, if nothing
+explains a word of a clause, and if a lemma of docs/api/lemmas.md is not there. let_through plants what has to be refused.
 """
 
 import collections
@@ -16,7 +16,7 @@ import os
 import re
 
 from crates import ROOT, write_text
-from checks import words
+from checks import lemmas, words
 from checks.examples import assigned
 from checks.index import INDEX, Places, headings_on
 from checks.items import LIBRARY, base_of, exported_names, facade_of, items_of, paths, text_of, title_of, trait_of
@@ -208,9 +208,9 @@ def made():
     for file, layout in library.layouts.items():
         links = {heading: link for _, heading, link in reversed(list(headings_on(texts[file], "")))}
         texts[file] = places.linked(examples_once(page(layout, library, links)), file)
-    texts[INDEX] = places.index()
+    texts[INDEX], texts[lemmas.PAGE] = places.index(), places.linked(lemmas.page(library), lemmas.PAGE)
     wrong = [*not_passed_on(library.modules), *let_through(library), *sorted(library.faults), *words.faults(library.kit_words)]
-    return texts, [*faults, *wrong, *lost_links(texts)]
+    return texts, [*faults, *wrong, *lemmas.faults(library), *lost_links(texts)]
 
 
 def lost_links(texts):

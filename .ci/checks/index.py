@@ -29,6 +29,8 @@ A line `impl<..>` shows the bounds of the calls below it. `T: Drop` says that a 
 `Copy`, or by `#[derive(Drop)]`. The `ghost` members of an impl are what contracts know of it. A type is `Send` if all that it
 is made of is, and so `Sync`: its items, its allocator, its closures.
 
+[Lemmas](lemmas.md) has the laws and lemmas for proofs of your own.
+
 ## Modules
 
 A module with a path in the column "also" is passed on there too, with all its items.
