@@ -1,7 +1,7 @@
 """The order of a page of the reference: its main type or trait first, then the table of its calls by task, and iterators last.
 
-The main one has the most calls and impls, if it has many; where a module only gives other names to the main type of another one, as
-that of flat maps, the first of these names is. Calls of the main type and its kinds are grouped by what they do. Those of another type,
+The main one has the most calls and impls, if it has many, or else is the first one with calls that the module's docs name; where a
+module only gives other names to the main type of another one, as that of flat maps, the first of these names is. Calls of the main type and its kinds are grouped by what they do. Those of another type,
 and several of another file, are a group with that file's title: the first sentence of its docs, up to a colon.
 """
 
@@ -32,8 +32,8 @@ def is_later(item):
     return any(LATER.fullmatch(name) for name in names)
 
 
-def main_name(items):
-    """Returns the name of the type or trait with the most calls and impls, if it has many calls."""
+def main_name(items, docs):
+    """Returns the name of the type or trait with the most calls and impls, if it has many calls, or else the one that docs name first."""
     calls, impls = collections.Counter(), collections.Counter()
     for item in (it for it in items if not is_later(it)):
         if item.kind == "trait" or item.kind == "impl" and is_own(item):
@@ -41,7 +41,7 @@ def main_name(items):
         elif item.kind == "impl":
             impls[trait_of(item.name)] += 1
     name = max(calls, key=lambda it: calls[it] + impls[it], default="")
-    return name if calls[name] >= MAIN_CALLS else ""
+    return name if calls[name] >= MAIN_CALLS else next((it for it in re.findall(r"\[`(\w+)`\]", docs) if calls[it]), "")
 
 
 def task_of(call):
@@ -53,7 +53,7 @@ def task_of(call):
     if docs.startswith("Creates ") or not receiver and not docs.startswith("Returns the "):
         return "Creating"
     by = receiver.group(1) or "" if receiver else "&"
-    return "Changing" if "&" in by and "mut" in by else "Reading" if "&" in by else "Consuming"
+    return "Changing" if "&" in by and "mut" in by or docs.startswith("Writes ") else "Reading" if "&" in by else "Consuming"
 
 
 class Layout:
@@ -62,7 +62,7 @@ class Layout:
     def __init__(self, module, mains=None, aliases=None):
         self.module, self.file = module, file_of(module)
         everything = [item for _, items in module.items for item in items]
-        name = main_name(everything)
+        name = main_name(everything, " ".join(docs_of(module.path)))
         if not name and mains:
             name = next((it.name for it in everything if it.kind == "type" and aliases.get(it.name) in mains), "")
         self.main = next((it for it in everything if it.kind in TYPES and it.name == name), None)
@@ -72,8 +72,10 @@ class Layout:
         self.headings = dict(zip(map(lambda it: id(it[1]), self.entries), self.made_headings()))
 
     def rank(self, entry):
-        """Returns where the items of a file stand: those of the main type first, iterators last."""
+        """Returns where the items of a file stand: those of the main type first, iterators last. Without a main type, impls are last."""
         items, main = entry[1], self.main.name if self.main else None
+        if not main:
+            return all(item.kind == "impl" for item in items)
         if any(item is self.main for item in items):
             return 0
         if all(item.kind == "impl" and base_of(item.name) == main for item in items):
