@@ -50,7 +50,7 @@ def task_of(call):
     if "touches: &mut Touches" in head:
         return "Counting touches"
     receiver = RECEIVER.search(head)
-    if docs.startswith("Creates ") or not receiver and not docs.startswith("Returns the "):
+    if docs.startswith("Creates ") or not receiver and not docs.startswith("Returns "):
         return "Creating"
     by = receiver.group(1) or "" if receiver else "&"
     return "Changing" if "&" in by and "mut" in by or docs.startswith("Writes ") else "Reading" if "&" in by else "Consuming"
@@ -115,7 +115,7 @@ class Layout:
             for it in made:
                 own.setdefault(task_of(it[1]), []).append(it)
             others += [(first_sentence(docs_of(path)).partition(":")[0].rstrip("."), rest)] if rest else []
-        own.get(TASKS[0], []).sort(key=lambda it: it[1].name != "new")
+        own.get(TASKS[0], []).sort(key=lambda it: not it[1].name.startswith("new"))
         return [*((task, own[task]) for task in TASKS if task in own), *others]
 
     def table(self, kinds, others=True):
