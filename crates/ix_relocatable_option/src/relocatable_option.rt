@@ -1,4 +1,4 @@
-//! An optional value.
+//! Options: values that may be missing.
 ghost use Rattle.std.specs.Prelude.{◌≡◌, ◌↔◌, None, Some, IsTrue, IsSome, IsNone, IfSome, is_some, unwrap_or, option_copied, option_map};
 ghost use Rattle.std.specs.Borrow.{sem};
 ghost use Rattle.std.specs.Fn.{FnOnceReturnsAt, FnOnceTakesAt, FnOnceTakesAtMut};
@@ -195,7 +195,7 @@ impl<T> RelocatableOption<T> {
         mem::replace(self, RelocatableOption::None)
     }
 
-    /// Takes the value out of the option and returns it if `predicate` returns `true` of it. Otherwise returns `None`.
+    /// Takes the value out of the option and returns it if `predicate` returns `true` for it. Otherwise returns `None`.
     /// Does not call `predicate` if there is no value.
     ///
     /// `predicate` may change the value. It stays changed, even if it is not taken.

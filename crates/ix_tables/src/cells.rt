@@ -1,4 +1,7 @@
-//! Tables, tables that count the calls on them, and containers that are made in two steps.
+//! Tables: fixed rows of places, each empty or holding one item.
+//!
+//! A [`Table`] is stored inline ([`InlineTable`], [`FilledInlineTable`]) or allocates only when it is made ([`HeapTable`],
+//! [`FilledHeapTable`]). [`Counted`] counts the calls on one. Here are also the parts of containers that are made in two steps.
 
 mod counted;
 mod filled;

@@ -1,4 +1,4 @@
-//! What is made of the value of an option.
+//! Mapping, filtering and combining options.
 ghost use Rattle.std.specs.Bool.{then_some};
 ghost use Rattle.std.specs.Fn.{FnOnceReturnsAt, FnOnceTakesAt};
 ghost use Rattle.std.specs.Option.{ForSome, MatchOption, option_zip};
@@ -8,7 +8,7 @@ ghost use Rattle.ix_relocatable_option.specs.Optional.{option_of};
 use crate::relocatable_option::RelocatableOption;
 
 impl<T> RelocatableOption<T> {
-    /// Returns the option that `f` returns of the value, or `None` if there is none. Does not call `f` then.
+    /// Returns the option that `f` returns for the value, or `None` if there is none. Does not call `f` then.
     #[inline]
     pub fn and_then<U, F: FnOnce(T) -> RelocatableOption<U>>(self, f: F) -> RelocatableOption<U>
         requires { ForSome (option_of self) (F.pre f) }
@@ -21,7 +21,7 @@ impl<T> RelocatableOption<T> {
         }
     }
 
-    /// Returns the option if `predicate` returns `true` of its value, and `None` otherwise. The value is dropped then. Does
+    /// Returns the option if `predicate` returns `true` for its value, and `None` otherwise. The value is dropped then. Does
     /// not call `predicate` if there is no value.
     #[inline]
     pub fn filter<P: FnOnce(&T) -> bool>(self, predicate: P) -> RelocatableOption<T>
@@ -44,7 +44,7 @@ impl<T> RelocatableOption<T> {
         }
     }
 
-    /// Returns what `f` returns of the value, or `false` if there is none. Does not call `f` then.
+    /// Returns what `f` returns for the value, or `false` if there is none. Does not call `f` then.
     #[inline]
     pub fn is_some_and<F: FnOnce(T) -> bool>(self, f: F) -> bool
         requires { ForSome (option_of self) (F.pre f) }
@@ -53,7 +53,7 @@ impl<T> RelocatableOption<T> {
         self.map_or(false, f)
     }
 
-    /// Returns what `f` returns of the value, or `default` if there is none. Does not call `f` then. `default` is dropped if
+    /// Returns what `f` returns for the value, or `default` if there is none. Does not call `f` then. `default` is dropped if
     /// it is not returned.
     #[inline]
     pub fn map_or<U: Drop, F: FnOnce(T) -> U>(self, default: U, f: F) -> U

@@ -7,10 +7,10 @@ use crate::semantic_string::{Rules, Semantic, TrailingSlashRules};
 /// Rules that name a text which they accept: [`Semantic`] strings of such rules have a default, and can be the items of a
 /// fixed vector.
 pub trait DefaultText<const CAPACITY: usize>: Rules<CAPACITY> {
-    /// The text that is named.
+    /// The default text.
     ghost default_text: { List ℕ };
 
-    /// Returns the text that is named. O(1).
+    /// Returns the default text. O(1).
     fn default_text() -> &'static str
         ensures { result.now ≡ default_text };
 

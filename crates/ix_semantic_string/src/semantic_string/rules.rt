@@ -29,8 +29,9 @@ pub trait Rules<const CAPACITY: usize> {
         requires { IsAccepted CAPACITY rules text.now }
         ensures { result ≡ rules.normal_form text.now };
 
-    /// Returns `true` if the accepted text is known to be its own normal form: comparing and hashing it then make none.
-    /// `false` says nothing, and is what this returns if rules do not say otherwise.
+    /// Returns `true` if the accepted text is known to be its own normal form, so that comparing and hashing need not make one.
+    ///
+    /// `false` says nothing. Rules that leave this function out return it.
     #[inline]
     fn is_normal_form(_text: &StaticString<CAPACITY>) -> bool
         requires { IsAccepted CAPACITY rules _text.now }

@@ -1,4 +1,4 @@
-//! The semantic string: how it is made and read.
+//! How a semantic string is made and read.
 ghost use Rattle.std.specs.Prelude.{◌≡◌, ◌+◌, ◌<◌, ◌≤◌, ◌↔◌, [], ◌∷◌, ◌++◌, length, drop, IsTrue, IsSome, IfSome, IfNone, IfOk, OnSome, string_bytes};
 ghost use Rattle.std.specs.Bool.{OnFalse};
 ghost use Rattle.ix_string.specs.Text.{IsText, IsFirstMatch, IsLastMatch, before_nul};
@@ -40,7 +40,7 @@ impl<R: Rules<CAPACITY>, const CAPACITY: usize> Model for Semantic<R, CAPACITY> 
     ghost inverse = { λ text. record { text = text; rules = record {} } };
 }
 
-/// `Clone` and `Copy` are written by hand: a derive would ask them of the rules.
+/// A semantic string is `Copy` whatever its rules are. A derive would ask them to be `Copy` too.
 impl<R: Rules<CAPACITY>, const CAPACITY: usize> Clone for Semantic<R, CAPACITY> {
     ghost is_clone = { λ string clone. clone ≡ string };
 

@@ -37,8 +37,10 @@ impl<K: HeapStringKind, A: Allocator> HeapString<K, A> {
         HeapString::try_from_bytes(alloc, text.as_bytes())
     }
 
-    /// Returns how much memory a string of this capacity takes from its allocator when it is made: one block of as many bytes,
-    /// and none if the capacity is 0. An allocator that rounds each block up takes more than these bytes ([`MemorySize`]).
+    /// Returns how much memory a string of this capacity takes from its allocator when it is made.
+    ///
+    /// This is one block of as many bytes, and none if the capacity is 0. An allocator that rounds each block up takes more than
+    /// these bytes ([`MemorySize`]).
     ///
     /// Does not allocate. O(1).
     #[inline]

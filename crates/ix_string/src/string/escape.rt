@@ -56,9 +56,10 @@ impl fmt::Debug for EscapedByte {
     }
 }
 
-/// Returns the text that `byte` is printed as: `\t`, `\r` and `\n` for the bytes 9, 13 and 10, the byte itself for those
-/// from 32 to 127, a backslash and a quote too, and `\x` and two lower-case hexadecimal digits for every other byte. Does
-/// not allocate. O(1).
+/// Returns the text that `byte` is printed as. Does not allocate. O(1).
+///
+/// That is `\t`, `\r` and `\n` for the bytes 9, 13 and 10, the byte itself for those from 32 to 127, a backslash and a quote too,
+/// and `\x` and two lower-case hexadecimal digits for every other byte.
 #[inline]
 pub fn escape_byte(byte: u8) -> EscapedByte
     ensures { result ≡ escaped_byte byte }

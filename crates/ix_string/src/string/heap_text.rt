@@ -48,7 +48,7 @@ impl<K: HeapStringKind, A: Allocator> AsSlice<u8> for HeapString<K, A> {
     }
 }
 
-/// Has the calls of `str` that the trait [`String`] has not, as `trim` and `parse`.
+/// Has the calls of `str` that the trait [`String`] does not have, as `trim` and `parse`.
 impl<K: HeapStringKind, A: Allocator> DerefStr for HeapString<K, A> {
     ghost deref_gives = { λ string text. text ≡ string.items };
 

@@ -50,7 +50,7 @@ impl HeapStringKind for Relocatable {
 pub type PolymorphicString<A = Global> = HeapString<Polymorphic, A>;
 
 impl<A: Allocator> PolymorphicString<A> {
-    /// Creates an empty string that can hold `capacity` bytes.
+    /// Creates an empty string with room for `capacity` bytes.
     ///
     /// O(1), with at most one allocation. Returns `AllocError` if it fails, and if the bytes would be more than
     /// `isize::MAX`; nothing stays allocated then. A capacity of 0 needs no memory.
@@ -86,7 +86,7 @@ pub type RelocatableString<A = Global> = HeapString<Relocatable, A>;
 
 impl<A: Allocator> RelocatableString<A> {
     /// Creates an uninitialised string for `capacity` bytes. Does not allocate. O(1).
-    /// The allocator is that which `init` gets, whatever `A` is here.
+    /// The allocator is the one that `init` is given, whatever `A` is here.
     #[inline]
     pub fn new_uninit(capacity: usize) -> UninitString
         ensures { result ≡ capacity }
@@ -104,7 +104,7 @@ impl<A: Allocator> ContainerFamily<A> for StringFamily {
 
     ghost is_empty_with = { λ capacity string. string ≡ bounded_new capacity };
 
-    /// Allocates from `alloc` once, or not at all if `capacity` is 0. O(1).
+    /// Creates an empty string with room for `capacity` bytes. O(1), with at most one allocation.
     #[inline]
     fn with_capacity(alloc: A, capacity: usize) -> Result<RelocatableString<A>, AllocError> {
         let bytes = PolymorphicVec::new(alloc, capacity)?;

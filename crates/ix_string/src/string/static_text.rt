@@ -46,7 +46,7 @@ impl<const CAPACITY: usize> AsSlice<u8> for StaticString<CAPACITY> {
     }
 }
 
-/// Has the calls of `str` that the trait [`String`] has not, as `trim` and `parse`.
+/// Has the calls of `str` that the trait [`String`] does not have, as `trim` and `parse`.
 impl<const CAPACITY: usize> DerefStr for StaticString<CAPACITY> {
     ghost deref_gives = { λ string text. text ≡ string };
 

@@ -32,7 +32,7 @@ impl<const CAPACITY: usize> FromStr for StaticString<CAPACITY> {
 
     ghost from_str_gives = { StringFromBytes CAPACITY };
 
-    /// As [`StaticString::from_bytes`], of the bytes of `text`.
+    /// Creates a string that holds the bytes of `text`, or returns the error of [`StaticString::from_bytes`].
     fn from_str(text: &str) -> Result<Self, StringModificationError> {
         StaticString::from_bytes(text.as_bytes())
     }
@@ -43,7 +43,7 @@ impl<const CAPACITY: usize> TryFrom<&str> for StaticString<CAPACITY> {
 
     ghost try_from_gives = { λ text result. StringFromBytes CAPACITY text.now result };
 
-    /// As [`StaticString::from_bytes`], of the bytes of `text`.
+    /// Creates a string that holds the bytes of `text`, or returns the error of [`StaticString::from_bytes`].
     fn try_from(text: &str) -> Result<Self, StringModificationError> {
         StaticString::from_bytes(text.as_bytes())
     }
@@ -54,7 +54,7 @@ impl<const CAPACITY: usize> TryFrom<&[u8]> for StaticString<CAPACITY> {
 
     ghost try_from_gives = { λ bytes result. StringFromBytes CAPACITY bytes.now result };
 
-    /// As [`StaticString::from_bytes`].
+    /// Creates a string that holds the bytes, or returns the error of [`StaticString::from_bytes`].
     fn try_from(bytes: &[u8]) -> Result<Self, StringModificationError> {
         StaticString::from_bytes(bytes)
     }
@@ -65,7 +65,7 @@ impl<const CAPACITY: usize, const N: usize> TryFrom<&[u8; N]> for StaticString<C
 
     ghost try_from_gives = { λ bytes result. StringFromBytes CAPACITY bytes.now result };
 
-    /// As [`StaticString::from_bytes`].
+    /// Creates a string that holds the bytes, or returns the error of [`StaticString::from_bytes`].
     fn try_from(bytes: &[u8; N]) -> Result<Self, StringModificationError> {
         StaticString::from_bytes(bytes.as_slice())
     }

@@ -28,8 +28,10 @@ impl<T, A: Allocator> Model for FilledHeapTable<T, A> {
 }
 
 impl<T: Copy, A: Allocator> FilledHeapTable<T, A> {
-    /// Returns how much memory a table of `len` places takes from its allocator when it is made: a block of as many items. None
-    /// if `len` is 0. An allocator that rounds each block up takes more than these bytes ([`MemorySize`]).
+    /// Returns how much memory a table of `len` places takes from its allocator when it is made.
+    ///
+    /// This is a block of as many items, and none if `len` is 0. An allocator that rounds each block up takes more than these
+    /// bytes ([`MemorySize`]).
     ///
     /// Does not allocate. O(1).
     #[inline]

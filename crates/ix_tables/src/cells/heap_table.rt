@@ -22,9 +22,10 @@ impl<T, A: Allocator> Model for HeapTable<T, A> {
 }
 
 impl<T: Drop, A: Allocator> HeapTable<T, A> {
-    /// Returns how much memory a table of `len` places takes from its allocator when it is made: a block of the places, if
-    /// they have bytes, and a block of their marks. None if `len` is 0. An allocator that rounds each block up takes more than
-    /// these bytes ([`MemorySize`]).
+    /// Returns how much memory a table of `len` places takes from its allocator when it is made.
+    ///
+    /// This is a block of the places, if they have bytes, and a block of their marks; no block if `len` is 0. An allocator that
+    /// rounds each block up takes more than these bytes ([`MemorySize`]).
     ///
     /// Does not allocate. O(1).
     #[inline]

@@ -9,8 +9,8 @@ use std::mem::size_of;
 ///
 /// The bytes are those that are asked of the allocator. One that rounds each block up takes more, for each of the `blocks`: a
 /// `LocalHeap` of `linked_list_allocator` rounds up to a multiple of 16, and a new one of `bytes + 16 * blocks` bytes has room.
-/// Nor is counted what an allocator takes to keep track of the blocks or to align them. Numbers past the greatest `usize` count
-/// as that one; no allocator has so many bytes.
+/// What an allocator takes to keep track of the blocks or to align them is not counted. A number above the greatest `usize` is
+/// counted as that one; no allocator has so many bytes.
 #[derive(Clone, Copy, PartialEq, Eq, Debug)]
 pub struct MemorySize {
     /// The bytes of all blocks together.

@@ -41,9 +41,10 @@ impl<T, A: Allocator> Model for RawSlots<T, A> {
 impl<T, A: Allocator> RawSlots<T, A> {
     ghost use Rattle.ix_tables.specs.Lending.{raw_slots_lends};
 
-    /// Returns how much memory a row of `len` places takes from its allocator when it is made: a block of the places, if
-    /// they have bytes, and a block of their marks. None if `len` is 0. An allocator that rounds each block up takes more than
-    /// these bytes ([`MemorySize`]).
+    /// Returns how much memory a row of `len` places takes from its allocator when it is made.
+    ///
+    /// This is a block of the places, if they have bytes, and a block of their marks; no block if `len` is 0. An allocator that
+    /// rounds each block up takes more than these bytes ([`MemorySize`]).
     ///
     /// Does not allocate. O(1).
     #[inline]

@@ -46,7 +46,7 @@ impl<T, A: Allocator> Model for PolymorphicVec<T, A> {
 }
 
 impl<T: Drop, A: Allocator> PolymorphicVec<T, A> {
-    /// Creates an empty vector with capacity for `capacity` items.
+    /// Creates an empty vector with room for `capacity` items.
     ///
     /// O(1), with at most one allocation. Returns `AllocError` if it fails, and if the items would take more than
     /// `isize::MAX` bytes or, at size zero, be more than `isize::MAX`; nothing stays allocated then. A capacity of 0 needs
@@ -60,9 +60,10 @@ impl<T: Drop, A: Allocator> PolymorphicVec<T, A> {
         })
     }
 
-    /// Returns how much memory a vector of this capacity takes from its allocator when it is made: one block, and none if the
-    /// capacity is 0. The block of items of size zero has no bytes. An allocator that rounds each block up takes more than
-    /// these bytes ([`MemorySize`]).
+    /// Returns how much memory a vector of this capacity takes from its allocator when it is made.
+    ///
+    /// This is one block, and none if the capacity is 0. The block of items of size zero has no bytes. An allocator that rounds
+    /// each block up takes more than these bytes ([`MemorySize`]).
     ///
     /// Does not allocate. O(1).
     #[inline]

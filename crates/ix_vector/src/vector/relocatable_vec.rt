@@ -14,7 +14,7 @@ pub type RelocatableVec<T, A = Global> = PolymorphicVec<T, A>;
 
 impl<T, A: Allocator> RelocatableVec<T, A> {
     /// Creates an uninitialised vector for `capacity` items. Does not allocate. O(1).
-    /// The allocator is that which `init` gets, whatever `A` is here.
+    /// The allocator is the one that `init` is given, whatever `A` is here.
     #[inline]
     pub fn new_uninit(capacity: usize) -> UninitVec<T>
         ensures { result ≡ capacity }
@@ -37,7 +37,7 @@ impl<T: Drop, A: Allocator> ContainerFamily<A> for VecFamily<T> {
 
     ghost is_empty_with = { λ capacity vector. vector ≡ bounded_new capacity };
 
-    /// O(1), with at most one allocation.
+    /// Creates an empty vector with room for `capacity` items. O(1), with at most one allocation.
     #[inline]
     fn with_capacity(alloc: A, capacity: usize) -> Result<RelocatableVec<T, A>, AllocError> {
         PolymorphicVec::new(alloc, capacity)

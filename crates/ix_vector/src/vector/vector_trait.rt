@@ -108,9 +108,9 @@ pub trait Vector<T: Drop> {
         ensures value { result ≡ vec_last (bounded self.old) }
         ensures vector { bounded self.new ≡ vec_pop (bounded self.old) };
 
-    /// Appends `item`. O(1).
+    /// Appends `item` at the end. O(1).
     ///
-    /// Returns [`VectorModificationError::InsertWouldExceedCapacity`] if the vector is full.
+    /// Returns [`VectorModificationError::InsertWouldExceedCapacity`], and drops `item`, if the vector is full.
     #[inline]
     final fn push(&mut self, item: T) -> Result<(), VectorModificationError>
         ensures value { result ≡ vec_push_result (bounded self.old) }
@@ -124,7 +124,9 @@ pub trait Vector<T: Drop> {
         Err(VectorModificationError::InsertWouldExceedCapacity)
     }
 
-    /// Appends `item`. O(1). Returns `Err` with `item`, and leaves the vector unchanged, if the vector is full.
+    /// Appends `item` at the end, or hands it back. O(1).
+    ///
+    /// Returns `Err` with `item`, and leaves the vector unchanged, if the vector is full.
     #[inline]
     final fn try_push(&mut self, item: T) -> Result<(), T>
         ensures full { IsErr result ↔ IsFull (bounded self.old) }
@@ -154,7 +156,7 @@ pub trait Vector<T: Drop> {
         }
     }
 
-    /// Inserts `item` at `index` as [`Vector::insert`] does. O(`len - index`).
+    /// Inserts `item` at `index` as [`Vector::insert`] does, or hands it back. O(`len - index`).
     ///
     /// Returns the errors of that call, each together with `item`.
     final fn try_insert(
@@ -242,8 +244,9 @@ pub trait Vector<T: Drop> {
         }
     }
 
-    /// Calls `f` with each item, from the first to the last. Keeps the items for which `f` returns `true`, in their order,
-    /// and drops the others, in any order, once `f` was called with all. O(`len`).
+    /// Keeps the items for which `f` returns `true`, in their order, and drops the others. O(`len`).
+    ///
+    /// Calls `f` with each item, from the first to the last. The others are dropped after the last call, in any order.
     final fn retain<F: FnMut(&T) -> bool>(&mut self, f: F)
         requires { IsCallableOnEach F.FnMut (bounded self.old).items f }
         ensures items { IsFiltered (CalledAt F.FnMut) f

@@ -21,7 +21,7 @@ impl<R: Rules<CAPACITY>, const CAPACITY: usize> FromStr for Semantic<R, CAPACITY
 
     ghost from_str_gives = { λ text result. SemanticResult CAPACITY R.rules text text result };
 
-    /// As [`Semantic::new`], of the bytes of `text`.
+    /// Creates a string that holds the bytes of `text`, or returns the error of [`Semantic::new`].
     fn from_str(text: &str) -> Result<Self, SemanticStringError> {
         Semantic::try_from(text)
     }
@@ -33,7 +33,7 @@ impl<R: Rules<CAPACITY>, const CAPACITY: usize> TryFrom<&str> for Semantic<R, CA
     ghost try_from_gives = { λ text result.
         SemanticResult CAPACITY R.rules text.now text.now result };
 
-    /// As [`Semantic::new`], of the bytes of `text`.
+    /// Creates a string that holds the bytes of `text`, or returns the error of [`Semantic::new`].
     fn try_from(text: &str) -> Result<Self, SemanticStringError> {
         Semantic::new(text.as_bytes())
     }
@@ -45,7 +45,7 @@ impl<R: Rules<CAPACITY>, const CAPACITY: usize> TryFrom<&[u8]> for Semantic<R, C
     ghost try_from_gives = { λ bytes result.
         SemanticResult CAPACITY R.rules bytes.now bytes.now result };
 
-    /// As [`Semantic::new`].
+    /// Creates a string that holds the bytes, or returns the error of [`Semantic::new`].
     fn try_from(bytes: &[u8]) -> Result<Self, SemanticStringError> {
         Semantic::new(bytes)
     }
@@ -58,7 +58,7 @@ impl<R: Rules<CAPACITY>, const CAPACITY: usize, const N: usize> TryFrom<&[u8; N]
     ghost try_from_gives = { λ bytes result.
         SemanticResult CAPACITY R.rules bytes.now bytes.now result };
 
-    /// As [`Semantic::new`].
+    /// Creates a string that holds the bytes, or returns the error of [`Semantic::new`].
     fn try_from(bytes: &[u8; N]) -> Result<Self, SemanticStringError> {
         Semantic::new(bytes.as_slice())
     }
