@@ -20,8 +20,8 @@ pub struct Drain<'a, T, S: Table<T>> {
 impl<T, S: Table<T>> MetaQueue<T, S> {
     ghost use Rattle.ix_queue.specs.QueueDrain.{drain_items, drain_capacity, drain_lender, DrainKeepsAlong};
 
-    /// Returns an iterator that removes all items, the front item first. What is not taken is dropped with it, and the queue
-    /// is empty then. O(1), and O(`len`) for all of its items together.
+    /// Returns an iterator that removes all items, the front item first. The items that are not taken are dropped with it, and
+    /// the queue is empty then. O(1), and O(`len`) for all of its items together.
     #[inline]
     pub fn drain(&mut self) -> Drain<'_, T, S>
     where

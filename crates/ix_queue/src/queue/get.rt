@@ -41,7 +41,7 @@ impl<T, S: Table<T>> MetaQueue<T, S> {
         }
     }
 
-    /// Returns a reference to the item at `index`, where 0 is the front, or `None` if there are at most `index` items.
+    /// Returns a reference to the item at `index`, where 0 is the front, or `None` if `index` is out of bounds.
     #[inline]
     pub fn get_ref(&self, index: usize) -> Option<&T>
         ensures value { option_copied result ≡ slice_get self.now.items index }
@@ -54,8 +54,7 @@ impl<T, S: Table<T>> MetaQueue<T, S> {
         }
     }
 
-    /// Returns a mutable reference to the item at `index`, where 0 is the front, or `None` if there are at most `index`
-    /// items.
+    /// Returns a mutable reference to the item at `index`, where 0 is the front, or `None` if `index` is out of bounds.
     #[inline]
     pub fn get_mut_ref(&mut self, index: usize) -> Option<&mut T>
         ensures* writes_back { sem 𝓛 (LendsIf (the_row T.row S.row S.Table)

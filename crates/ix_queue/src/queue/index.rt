@@ -5,8 +5,8 @@ use crate::queue::MetaQueue;
 use ix_tables::Table;
 use std::ops::Index;
 
-/// `queue[i]` is the item at index `i`, where 0 is the front. `i` is less than the number of items;
-/// [`MetaQueue::get_ref`] asks for nothing. O(1).
+/// `queue[i]` is the item at index `i`, where 0 is the front. `i` has to be less than the number of items;
+/// [`MetaQueue::get_ref`] takes any index. O(1).
 impl<T, S: Table<T>> Index<usize> for MetaQueue<T, S> {
     type Output = T;
 

@@ -49,10 +49,9 @@ pub type Queue<T, A = Global> = MetaQueue<T, HeapTable<T, A>>;
 pub type RelocatableQueue<T, A = Global> = MetaQueue<T, HeapTable<T, A>>;
 
 impl<T: Drop, A: Allocator> Queue<T, A> {
-    /// Returns how much memory a queue of this capacity takes from its allocator when it is made: that of a table. None if the
-    /// capacity is 0.
+    /// Returns how much memory a queue of this capacity takes from its allocator when it is made.
     ///
-    /// Does not allocate. O(1).
+    /// This is the memory of a table. A queue of capacity 0 takes no block. Does not allocate. O(1).
     #[inline]
     pub fn memory_size(capacity: usize) -> MemorySize
         ensures value { result ≡ table_memory (type_size T.row) capacity }
@@ -63,7 +62,7 @@ impl<T: Drop, A: Allocator> Queue<T, A> {
         HeapTable::<T, A>::memory_size(capacity)
     }
 
-    /// Creates an empty queue with memory for `capacity` items.
+    /// Creates an empty queue with room for `capacity` items.
     ///
     /// O(`capacity`), with at most two allocations. Returns `AllocError` if one fails, and if the items would take more
     /// than `isize::MAX` bytes; nothing stays allocated then. A capacity of 0 needs no memory.
@@ -77,7 +76,7 @@ impl<T: Drop, A: Allocator> Queue<T, A> {
 
 impl<T: Drop, A: Allocator> RelocatableQueue<T, A> {
     /// Creates an uninitialised queue for `capacity` items. Does not allocate. O(1).
-    /// The allocator is that which `init` gets, whatever `A` is here.
+    /// The allocator is the one that `init` is given, whatever `A` is here.
     #[inline]
     pub fn new_uninit(capacity: usize) -> UninitQueue<T>
         ensures { result ≡ capacity }
@@ -97,7 +96,7 @@ impl<T: Drop, A: Allocator> ContainerFamily<A> for QueueFamily<T> {
 
     ghost is_empty_with = { λ capacity queue. queue ≡ bounded_new capacity };
 
-    /// Creates an empty queue with memory for `capacity` items. O(`capacity`), with at most two allocations.
+    /// Creates an empty queue with room for `capacity` items. O(`capacity`), with at most two allocations.
     #[inline]
     fn with_capacity(alloc: A, capacity: usize) -> Result<RelocatableQueue<T, A>, AllocError> {
         Queue::new(alloc, capacity)

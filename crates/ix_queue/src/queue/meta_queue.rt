@@ -157,7 +157,9 @@ impl<T, S: Table<T>> MetaQueue<T, S> {
         has_room
     }
 
-    /// Appends `value` at the back. Returns `Err` with `value`, and leaves the queue unchanged, if the queue is full.
+    /// Appends `value` at the back, or hands it back.
+    ///
+    /// Returns `Err` with `value`, and leaves the queue unchanged, if the queue is full.
     #[inline]
     pub fn try_push(&mut self, value: T) -> Result<(), T>
         ensures queue { self.new ≡ bounded_push self.old value }
@@ -175,8 +177,8 @@ impl<T, S: Table<T>> MetaQueue<T, S> {
         Ok(())
     }
 
-    /// Appends `value` at the back. If the queue is full, removes the front item first and returns it; at capacity 0
-    /// returns `value` itself. Returns `None` otherwise.
+    /// Appends `value` at the back, removing the front item first if the queue is full. Returns the item that was removed, or
+    /// `None` if there was room; at capacity 0 returns `value` itself.
     #[inline]
     pub fn push_with_overflow(&mut self, value: T) -> Option<T>
         ensures value { result ≡ queue_overflow_item self.old value }
@@ -286,7 +288,7 @@ impl<T, S: Table<T>> MetaQueue<T, S> {
         *self.item_at(index)
     }
 
-    /// Does what [`MetaQueue::get`] does, under the same condition.
+    /// Returns a copy of the item at `index`, as [`MetaQueue::get`] does.
     #[inline]
     pub fn get_unchecked(&self, index: usize) -> T
     where

@@ -22,7 +22,7 @@ impl<T, S: Table<T>> MetaQueue<T, S> {
         }
     }
 
-    /// Calls `f` with each item, the front item first, so that it can change it. O(`len`).
+    /// Calls `f` with a mutable reference to each item, the front item first. O(`len`).
     ///
     /// There is no `iter_mut`, since a table can lend one item at a time.
     pub fn for_each_mut<F: FnMut(&mut T)>(&mut self, mut f: F)
@@ -39,8 +39,9 @@ impl<T, S: Table<T>> MetaQueue<T, S> {
         }
     }
 
-    /// Calls `f` with each item, the front item first. Keeps the items for which `f` returns `true`, in their order, and
-    /// drops each of the others once `f` was asked. O(`len`).
+    /// Keeps the items for which `f` returns `true`, in their order, and drops the others. O(`len`).
+    ///
+    /// Calls `f` with each item, the front item first. An item for which it returns `false` is dropped right after that call.
     pub fn retain<F: FnMut(&T) -> bool>(&mut self, mut f: F)
     where
         T: Drop,

@@ -4,7 +4,7 @@ ghost use Rattle.std.specs.Prelude.{◌≡◌, Option, Some, Bool, true, false};
 use ix_tables::MaybeMoved;
 
 /// What a [`MetaSlotMap`](crate::slotmap::MetaSlotMap) of values `T` can hold at a place that is not free: a value, or what is left
-/// of one if the place is retired. Every [`MaybeMoved`] is, and nothing else has the calls of a map.
+/// of one if the place is retired. A map has calls for [`MaybeMoved`] alone.
 pub trait Content<T> {
     /// The place is not free, and has no value.
     ghost is_retired: { Option Self → Bool };

@@ -34,9 +34,9 @@ impl<T, S: Table<MaybeMoved<T>>, L: Table<Link>, G: Table<u64>> MetaSlotMap<
     ghost use Rattle.ix_slottable.specs.Draining.{DrainingKeepsAlong};
     ghost use Rattle.ix_slotmap.specs.SlotMapDrain.{drain_items, drain_left, drain_lender};
 
-    /// Returns an iterator that removes all held keys, each with its value, in rising order of the indexes. What is not taken is
-    /// dropped with it, and the map is as [`MetaSlotMap::clear`] leaves it then. O(1), and O(capacity) for all of its items
-    /// together.
+    /// Returns an iterator that removes all held keys, each with its value, in rising order of the indexes. The values that are
+    /// not taken are dropped with it, and the map is as [`MetaSlotMap::clear`] leaves it then. O(1), and O(capacity) for all of
+    /// its items together.
     #[inline]
     pub fn drain(&mut self) -> Drain<'_, T, S, L, G>
     where

@@ -7,7 +7,7 @@ use ix_slottable::slottable::Link;
 use ix_tables::{MaybeMoved, Table};
 use std::ops::Index;
 
-/// `map[key]` is the value of `key`, which is held; [`MetaSlotMap::get`] asks for nothing. O(1).
+/// `map[key]` is the value of `key`, which has to be held; [`MetaSlotMap::get`] takes any key. O(1).
 impl<T, S: Table<MaybeMoved<T>>, L: Table<Link>, G: Table<u64>> Index<SlotMapKey>
     for MetaSlotMap<T, MaybeMoved<T>, S, L, G> {
     type Output = T;

@@ -83,10 +83,10 @@ pub type SlotMap<T, A = Global> = MetaSlotMap<
 impl<T: Drop, A: Allocator + Copy> SlotMap<T, A> {
     ghost use Rattle.ix_slottable.specs.contracts.slottable.link.Link as link;
 
-    /// Returns how much memory a map of this capacity takes from its allocator when it is made: that of a table of what the
-    /// places hold, each the bytes of a `T`, of a table of links and of a table of words. None if the capacity is 0.
+    /// Returns how much memory a map of this capacity takes from its allocator when it is made.
     ///
-    /// Does not allocate. O(1).
+    /// This is the memory of a table of what the places hold, each the bytes of a `T`, of a table of links and of a table of
+    /// words. A map of capacity 0 takes no block. Does not allocate. O(1).
     #[inline]
     pub fn memory_size(capacity: usize) -> MemorySize
         ensures value { result ≡ slot_map_memory (type_size T.row) (type_size link.the_row) (type_size u64) capacity }
@@ -137,7 +137,7 @@ pub type RelocatableSlotMap<T, A = Global> = SlotMap<T, A>;
 
 impl<T: Drop, A: Allocator + Copy> RelocatableSlotMap<T, A> {
     /// Creates an uninitialised map with `capacity` places, which will have generation 0. Does not allocate. O(1).
-    /// The allocator is that which `init` gets, whatever `A` is here.
+    /// The allocator is the one that `init` is given, whatever `A` is here.
     #[inline]
     pub fn new_uninit(capacity: usize) -> UninitSlotMap<T>
         ensures { result ≡ record { capacity = capacity; generation = 0 } }

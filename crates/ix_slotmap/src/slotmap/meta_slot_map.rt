@@ -27,10 +27,10 @@ use std::marker::{Model, PhantomData};
 /// [`MetaSlotMap::remove`] makes a place the first. A key or an index out of range, up to the greatest numbers, is an
 /// ordinary case, for which calls return `false` or `None`.
 ///
-/// A place takes the bytes of a value, as a [`MaybeMoved`] (`C`), of a link and of a word, in which its generation is. The word says
-/// whether a value is there; what a retired place has is the bytes of its last value.
+/// A place takes the bytes of a value, as a [`MaybeMoved`] (`C`), of a link and of a word, in which its generation is. The
+/// word says whether a value is there; what a retired place has is the bytes of its last value.
 ///
-/// Each call takes O(1) time if nothing else is said, and to drop a map O(capacity). No call allocates but those that make one.
+/// Each call takes O(1) time if nothing else is said; dropping a map takes O(capacity). No call allocates but those that make one.
 ///
 /// This is `MetaSlotMap` of iceoryx2-bb-container, whose keys have no generation: that map is [`MetaSlotTable`] here.
 pub struct MetaSlotMap<T, C: Content<T>, S: Table<C>, L: Table<Link>, G: Table<u64>> {
@@ -140,7 +140,7 @@ impl<T, S: Table<MaybeMoved<T>>, L: Table<Link>, G: Table<u64>> MetaSlotMap<
         self.is_held(key, &mut Touches::new())
     }
 
-    /// Returns the value of `key`, or `None` if `key` is not held.
+    /// Returns a reference to the value of `key`, or `None` if `key` is not held.
     #[inline]
     pub fn get(&self, key: SlotMapKey) -> Option<&T>
         ensures value { option_copied result ≡ slot_map_value self.now key }

@@ -86,9 +86,11 @@ impl<T, S: Table<MaybeMoved<T>>, L: Table<Link>, G: Table<u64>> MetaSlotMap<
         }
     }
 
-    /// Calls `f` with each held key in rising order of the indexes and a mutable reference to its value. Removes each key for
-    /// which `f` returns `false`, as [`MetaSlotMap::remove`] does, and drops its value, right after the call. O(capacity), with
-    /// one call for each value.
+    /// Keeps the keys for which `f` returns `true`, and removes the others, as [`MetaSlotMap::remove`] does, and drops their
+    /// values. O(capacity), with one call for each value.
+    ///
+    /// Calls `f` with each held key in rising order of the indexes and a mutable reference to its value. A key for which it returns
+    /// `false` is removed right after that call.
     pub fn retain<F: FnMut(SlotMapKey, &mut T) -> bool>(&mut self, mut f: F)
     where
         T: Drop,

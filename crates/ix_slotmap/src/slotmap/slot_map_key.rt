@@ -87,7 +87,7 @@ impl fmt::Display for SlotMapKey {
     }
 }
 
-/// The default key is dead, whatever the map: that is the contract of this function, which does nothing. O(1).
+/// The default key is dead, whatever the map. This function does nothing: its contract is the law. O(1).
 pub fn default_key_law<T, S: Table<MaybeMoved<T>>, L: Table<Link>, G: Table<u64>>(
     map: &MetaSlotMap<T, MaybeMoved<T>, S, L, G>,
 )

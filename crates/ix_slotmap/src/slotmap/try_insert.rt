@@ -16,7 +16,7 @@ impl<T, S: Table<MaybeMoved<T>>, L: Table<Link>, G: Table<u64>> MetaSlotMap<
     L,
     G,
 > {
-    /// Inserts `value` in the first free place and returns the key of that place. Drops nothing.
+    /// Inserts `value` in the first free place and returns the key of that place, or hands `value` back. Drops nothing.
     ///
     /// Returns `value` as the error if no place is free.
     #[inline]

@@ -26,9 +26,9 @@ impl<T, S: Table<T>, L: Table<Link>> MetaSlotTable<T, S, L> {
     ghost use Rattle.ix_slottable.specs.Draining.{DrainingKeepsAlong};
     ghost use Rattle.ix_slottable.specs.SlotTableDrain.{drain_items, drain_left, drain_lender};
 
-    /// Returns an iterator that removes all values, each with its key, in rising order of the keys. What is not taken is
-    /// dropped with it, and the table is as [`MetaSlotTable::clear`] leaves it then. O(1), and O(capacity) for all of its items
-    /// together.
+    /// Returns an iterator that removes all values, each with its key, in rising order of the keys. The values that are not
+    /// taken are dropped with it, and the table is as [`MetaSlotTable::clear`] leaves it then. O(1), and O(capacity) for all of
+    /// its items together.
     #[inline]
     pub fn drain(&mut self) -> Drain<'_, T, S, L>
     where

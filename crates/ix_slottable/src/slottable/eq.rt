@@ -8,7 +8,7 @@ ghost use Rattle.ix_slottable.specs.SlotTableState.{entries};
 use crate::slottable::{Link, MetaSlotTable};
 use ix_tables::Table;
 
-/// Maps are equal if they have the same held keys with equal values. Their capacities and the order of their free keys do not
+/// Tables are equal if they have the same held keys with equal values. Their capacities and the order of their free keys do not
 /// matter.
 impl<T: PartialEq, S: Table<T>, L: Table<Link>> PartialEq for MetaSlotTable<T, S, L> {
     ghost eq = { λ map other.

@@ -6,7 +6,7 @@ use crate::slottable::{Link, MetaSlotTable, SlotTableKey};
 use ix_tables::Table;
 use std::ops::Index;
 
-/// `table[key]` is the value at `key`, which has one; [`MetaSlotTable::get`] asks for nothing. O(1).
+/// `table[key]` is the value at `key`, which has to have one; [`MetaSlotTable::get`] takes any key. O(1).
 impl<T, S: Table<T>, L: Table<Link>> Index<SlotTableKey> for MetaSlotTable<T, S, L> {
     type Output = T;
 

@@ -54,10 +54,10 @@ pub type SlotTable<T, A = Global> = MetaSlotTable<T, HeapTable<T, A>, FilledHeap
 impl<T: Drop, A: Allocator + Copy> SlotTable<T, A> {
     ghost use Rattle.ix_slottable.specs.contracts.slottable.link.Link as link;
 
-    /// Returns how much memory a table of this capacity takes from its allocator when it is made: that of a table of values and
-    /// of a table of links. None if the capacity is 0.
+    /// Returns how much memory a table of this capacity takes from its allocator when it is made.
     ///
-    /// Does not allocate. O(1).
+    /// This is the memory of a table of values and of a table of links. A table of capacity 0 takes no block. Does not allocate.
+    /// O(1).
     #[inline]
     pub fn memory_size(capacity: usize) -> MemorySize
         ensures value { result ≡ slot_table_memory (type_size T.row) (type_size link.the_row) capacity }
@@ -92,7 +92,7 @@ pub type RelocatableSlotTable<T, A = Global> = SlotTable<T, A>;
 
 impl<T: Drop, A: Allocator + Copy> RelocatableSlotTable<T, A> {
     /// Creates an uninitialised table with `capacity` keys. Does not allocate. O(1).
-    /// The allocator is that which `init` gets, whatever `A` is here.
+    /// The allocator is the one that `init` is given, whatever `A` is here.
     #[inline]
     pub fn new_uninit(capacity: usize) -> UninitSlotTable<T>
         ensures { result ≡ capacity }

@@ -148,7 +148,7 @@ impl<T, S: Table<T>, L: Table<Link>> MetaSlotTable<T, S, L> {
         self.contains_counted(key, &mut Touches::new())
     }
 
-    /// Returns the value at `key`, or `None` if `key` is free or out of range.
+    /// Returns a reference to the value at `key`, or `None` if `key` is free or out of range.
     #[inline]
     pub fn get(&self, key: SlotTableKey) -> Option<&T>
         ensures { option_copied result ≡ value_at self.now key }
@@ -156,7 +156,7 @@ impl<T, S: Table<T>, L: Table<Link>> MetaSlotTable<T, S, L> {
         self.get_counted(key, &mut Touches::new())
     }
 
-    /// Returns the value at `key`, which has one.
+    /// Returns a reference to the value at `key`, which has one.
     #[inline]
     pub fn get_unchecked(&self, key: SlotTableKey) -> &T
         requires { IsHeld self.now key }

@@ -67,8 +67,10 @@ impl<T, S: Table<T>, L: Table<Link>> MetaSlotTable<T, S, L> {
         }
     }
 
-    /// Calls `f` with each held key in rising order and a mutable reference to its value, and removes and drops each value for
-    /// which `f` returns `false`, right after the call. O(capacity), with one call for each value.
+    /// Keeps the values for which `f` returns `true`, and removes and drops the others. O(capacity), with one call for each value.
+    ///
+    /// Calls `f` with each held key in rising order and a mutable reference to its value. A value for which it returns `false` is
+    /// dropped right after that call.
     pub fn retain<F: FnMut(SlotTableKey, &mut T) -> bool>(&mut self, mut f: F)
     where
         T: Drop,

@@ -10,7 +10,7 @@ use std::marker::Model;
 
 /// A key of a slot table. Contracts see its number.
 ///
-/// A key can have any number. In range of a table are the keys whose number is less than its capacity.
+/// A key can have any number. The keys of a table are those with a number less than its capacity.
 ///
 /// This is `SlotMapKey` of iceoryx2-bb-container, whose keys are plain numbers.
 #[derive(Clone, Copy, Debug, PartialEq, Eq, PartialOrd, Ord, Hash)]
@@ -65,7 +65,7 @@ impl fmt::Display for SlotTableKey {
     }
 }
 
-/// The default key is out of range, whatever the table: that is the contract of this function, which does nothing. O(1).
+/// The default key is out of range, whatever the table. This function does nothing: its contract is the law. O(1).
 pub fn default_key_law<T, S: Table<T>, L: Table<Link>>(map: &MetaSlotTable<T, S, L>)
     ensures past { length map.now.values ≤ 18446744073709551615 }
     ensures free { value_at map.now 18446744073709551615 ≡ None }

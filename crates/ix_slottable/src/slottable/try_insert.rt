@@ -10,7 +10,7 @@ use ix_tables::{Table, Touches};
 use std::mem;
 
 impl<T, S: Table<T>, L: Table<Link>> MetaSlotTable<T, S, L> {
-    /// Inserts `value` at the first free key and returns that key. Drops nothing.
+    /// Inserts `value` at the first free key and returns that key, or hands `value` back. Drops nothing.
     ///
     /// Returns `value` as the error if the table is full.
     #[inline]
