@@ -1,4 +1,4 @@
-//! The calls of a map as a trait.
+//! The calls of flat maps and hash maps as a trait.
 ghost use Rattle.std.specs.Prelude.{◌≡◌, ◌≢◌, ◌↔◌, ◌+◌, ◌≤◌, ℕ, List, [], length, Some, None, IsSome, IsTrue, IsNone, IsOk, IsErr, IfOk, IfSome, OnErr, option_copied, option_map, replicate, slice_get, unwrap_or, false, true, refl, Bool, filter, map};
 ghost use Rattle.std.specs.Borrow.{sem};
 ghost use Rattle.std.specs.List.{FoldsTo};
@@ -21,8 +21,8 @@ use ix_tables::Table;
 use std::alloc::AllocError;
 use std::convert::AsSlice;
 
-/// A map with room for a set number of keys, each with a value, as [`MetaMap`](crate::map::MetaMap) is. A function over any such
-/// map is written over this trait. What a call costs is said at the map.
+/// A map with room for a set number of keys, each with a value, as [`MetaMap`](crate::map::MetaMap) is. A function that takes any
+/// flat map or hash map is written over this trait. What a call costs stands at that of [`MetaMap`](crate::map::MetaMap).
 pub trait BoundedMap<K: Eq, V>: Sized {
     /// The table of its pairs.
     type Pairs: Table<Pair<K, V>>;
@@ -45,7 +45,7 @@ pub trait BoundedMap<K: Eq, V>: Sized {
     /// What is asked of keys that are found by these bytes of theirs.
     ghost AreFoundBy: { (K → List ℕ) → Type 0 };
 
-    /// Does what [`MetaMap::insert`](crate::map::MetaMap::insert) does.
+    /// Inserts `key` with `value`, as [`MetaMap::insert`](crate::map::MetaMap::insert) does.
     fn insert(&mut self, key: K, value: V) -> Result<(), MapError>
         ensures value { result ≡ map_insert_result K.eq (state self.old) key }
         ensures map { state self.new ≡ map_insert K.eq (state self.old) key value }
@@ -57,7 +57,7 @@ pub trait BoundedMap<K: Eq, V>: Sized {
         ensures count { IsOk result → held_count (state self.new) ≡ held_count (state self.old) + 1 }
         ensures room { IsOk result → length (state self.new).free + 1 ≡ length (state self.old).free };
 
-    /// Does what [`MetaMap::try_insert`](crate::map::MetaMap::try_insert) does.
+    /// Inserts `key` with `value`, or hands both back, as [`MetaMap::try_insert`](crate::map::MetaMap::try_insert) does.
     fn try_insert(&mut self, key: K, value: V) -> Result<(), (MapError, K, V)>
         ensures inserted { IsOk result ↔ IsOk (map_insert_result K.eq (state self.old) key) }
         ensures error { IfErr result (λ refused.
@@ -72,7 +72,7 @@ pub trait BoundedMap<K: Eq, V>: Sized {
         ensures count { IsOk result → held_count (state self.new) ≡ held_count (state self.old) + 1 }
         ensures room { IsOk result → length (state self.new).free + 1 ≡ length (state self.old).free };
 
-    /// Does what [`MetaMap::replace`](crate::map::MetaMap::replace) does.
+    /// Inserts `key` with `value`, or gives an equal key `value`, as [`MetaMap::replace`](crate::map::MetaMap::replace) does.
     fn replace(&mut self, key: K, value: V) -> Result<Option<V>, (K, V)>
         ensures value { IfOk result (λ old. old ≡ map_value K.eq (state self.old) key) }
         ensures full { IsErr result
@@ -91,7 +91,8 @@ pub trait BoundedMap<K: Eq, V>: Sized {
             → held_count (state self.new) ≡ held_count (state self.old) }
         ensures same_free { IsSome (map_value K.eq (state self.old) key) → (state self.new).free ≡ (state self.old).free };
 
-    /// Does what [`MetaMap::get_or_insert_with`](crate::map::MetaMap::get_or_insert_with) does.
+    /// Returns a mutable reference to the value of `key`, which is inserted if the map has no equal key, as
+    /// [`MetaMap::get_or_insert_with`](crate::map::MetaMap::get_or_insert_with) does.
     fn get_or_insert_with<F: FnOnce() -> V>(&mut self, key: K, f: F) -> Result<&mut V, K>
         requires { map_value K.eq (state self.old) key ≡ None → (state self.old).free ≢ [] → F.pre f }
         ensures* writes_back { sem 𝓛 (map_lends_pair Self.row V.row with_pair self.entry key result) }
@@ -118,7 +119,7 @@ pub trait BoundedMap<K: Eq, V>: Sized {
         ensures same_free { (written : V) → IsSome (map_value K.eq (state self.old) key)
             → (map_replace K.eq (state self.old) key written).free ≡ (state self.old).free };
 
-    /// Does what [`MetaMap::get`](crate::map::MetaMap::get) does.
+    /// Returns a clone of the value of `key`, as [`MetaMap::get`](crate::map::MetaMap::get) does.
     fn get(&self, key: &K) -> Result<Option<V>, AllocError>
     where
         V: Clone,
@@ -126,7 +127,8 @@ pub trait BoundedMap<K: Eq, V>: Sized {
         ensures value { IfOk result (λ value. value ≡ map_value K.eq (state self.now) key.now) }
         ensures memory { IfSome (map_value K.eq (state self.now) key.now) V.is_infallible → IsOk result };
 
-    /// Does what [`MetaMap::get_bytes`](crate::map::MetaMap::get_bytes) does.
+    /// Returns a reference to the value of the key with these bytes, as
+    /// [`MetaMap::get_bytes`](crate::map::MetaMap::get_bytes) does.
     fn get_bytes(&self, bytes: &[u8]) -> Option<&V>
     where
         K: AsSlice<u8>,
@@ -137,7 +139,8 @@ pub trait BoundedMap<K: Eq, V>: Sized {
         ensures key { (key : K) → K.items key ≡ bytes.now
             → option_copied result ≡ map_value K.eq (state self.now) key };
 
-    /// Does what [`MetaMap::get_str`](crate::map::MetaMap::get_str) does.
+    /// Returns a reference to the value of the key with the bytes of `text`, as
+    /// [`MetaMap::get_str`](crate::map::MetaMap::get_str) does.
     #[inline]
     final fn get_str(&self, text: &str) -> Option<&V>
     where
@@ -152,7 +155,7 @@ pub trait BoundedMap<K: Eq, V>: Sized {
         self.get_bytes(text.as_bytes())
     }
 
-    /// Does what [`MetaMap::get_ref`](crate::map::MetaMap::get_ref) does.
+    /// Returns a reference to the value of `key`, as [`MetaMap::get_ref`](crate::map::MetaMap::get_ref) does.
     fn get_ref(&self, key: &K) -> Option<&V>
         ensures value { option_copied result ≡ map_value K.eq (state self.now) key.now }
         // The key's value is that of the one pair whose key equals it.
@@ -161,12 +164,13 @@ pub trait BoundedMap<K: Eq, V>: Sized {
         ensures absent { IsNone result ↔ ((place : ℕ) (pair : Pair K V)
             → value_at (state self.now) place ≡ Some pair → K.eq pair.key key.now ≡ false) };
 
-    /// Does what [`MetaMap::get_key_value`](crate::map::MetaMap::get_key_value) does.
+    /// Returns references to the equal key and to its value, as
+    /// [`MetaMap::get_key_value`](crate::map::MetaMap::get_key_value) does.
     fn get_key_value(&self, key: &K) -> Option<(&K, &V)>
         ensures { option_map (λ item. (item.0.now, item.1.now)) result
             ≡ option_map (λ entry. map_item entry) (map_entry K.eq (state self.now) key.now) };
 
-    /// Does what [`MetaMap::get_mut_ref`](crate::map::MetaMap::get_mut_ref) does.
+    /// Returns a mutable reference to the value of `key`, as [`MetaMap::get_mut_ref`](crate::map::MetaMap::get_mut_ref) does.
     fn get_mut_ref(&mut self, key: &K) -> Option<&mut V>
         ensures* writes_back { sem 𝓛 (map_lends Self.row V.row with_value self.entry key.now result) }
         ensures value { option_copied_mut result ≡ map_value K.eq (state self.old) key.now }
@@ -178,7 +182,7 @@ pub trait BoundedMap<K: Eq, V>: Sized {
             → map_value K.eq (map_set K.eq (state self.old) key.now written) other
             ≡ map_value K.eq (state self.old) other };
 
-    /// Does what [`MetaMap::remove`](crate::map::MetaMap::remove) does.
+    /// Removes `key` and returns its value, as [`MetaMap::remove`](crate::map::MetaMap::remove) does.
     fn remove(&mut self, key: &K) -> Option<V>
         ensures value { result ≡ map_value K.eq (state self.old) key.now }
         ensures map { state self.new ≡ map_remove K.eq (state self.old) key.now }
@@ -190,7 +194,8 @@ pub trait BoundedMap<K: Eq, V>: Sized {
         ensures count { IsSome result → held_count (state self.new) + 1 ≡ held_count (state self.old) }
         ensures room { IsSome result → length (state self.new).free ≡ length (state self.old).free + 1 };
 
-    /// Does what [`MetaMap::remove_entry`](crate::map::MetaMap::remove_entry) does.
+    /// Removes `key` and returns the equal key with its value, as
+    /// [`MetaMap::remove_entry`](crate::map::MetaMap::remove_entry) does.
     fn remove_entry(&mut self, key: &K) -> Option<(K, V)>
         ensures value { result
             ≡ option_map (λ entry. map_item entry) (map_entry K.eq (state self.old) key.now) }
@@ -203,14 +208,14 @@ pub trait BoundedMap<K: Eq, V>: Sized {
         ensures count { IsSome result → held_count (state self.new) + 1 ≡ held_count (state self.old) }
         ensures room { IsSome result → length (state self.new).free ≡ length (state self.old).free + 1 };
 
-    /// Does what [`MetaMap::clear`](crate::map::MetaMap::clear) does.
+    /// Removes all keys, as [`MetaMap::clear`](crate::map::MetaMap::clear) does.
     fn clear(&mut self)
         ensures map { state self.new ≡ slot_table_clear (state self.old) }
         ensures values { (state self.new).values ≡ replicate (length (state self.old).values) None }
         ensures count { held_count (state self.new) ≡ 0 }
         ensures room { length (state self.new).free ≡ length (state self.old).values };
 
-    /// Does what [`MetaMap::for_each_mut`](crate::map::MetaMap::for_each_mut) does.
+    /// Calls `f` with each key and its value, as [`MetaMap::for_each_mut`](crate::map::MetaMap::for_each_mut) does.
     fn for_each_mut<F: FnMut(&K, &mut V)>(&mut self, f: F)
         requires { IsCallableOnEach (CallAtKey F.step) (TakesKey F.pre) f (map_items (state self.old)) }
         ensures calls { (last : F) × FoldsTo (ChangesItem (map_set K.eq) (CallAtKey F.step))
@@ -230,7 +235,7 @@ pub trait BoundedMap<K: Eq, V>: Sized {
         ensures distinct { HasDistinctKeys K.eq (state self.new) }
         ensures capacity { length (state self.new).values ≡ length (state self.old).values };
 
-    /// Does what [`MetaMap::retain`](crate::map::MetaMap::retain) does.
+    /// Keeps the keys for which `f` returns `true`, as [`MetaMap::retain`](crate::map::MetaMap::retain) does.
     fn retain<F: FnMut(&K, &mut V) -> bool>(&mut self, f: F)
         requires { IsCallableOnEach (CallAtKey F.step) (TakesKey F.pre) f (map_items (state self.old)) }
         ensures calls { (last : F)
@@ -254,31 +259,32 @@ pub trait BoundedMap<K: Eq, V>: Sized {
         ensures room { held_count (state self.new) + length (state self.new).free
             ≡ held_count (state self.old) + length (state self.old).free };
 
-    /// Does what [`MetaMap::capacity`](crate::map::MetaMap::capacity) does.
+    /// Returns the maximum number of keys, as [`MetaMap::capacity`](crate::map::MetaMap::capacity) does.
     fn capacity(&self) -> usize
         ensures value { result ≡ length (state self.now).values }
         ensures known { IsCapacity (length (state self.now).values) };
 
-    /// Does what [`MetaMap::is_empty`](crate::map::MetaMap::is_empty) does.
+    /// Returns `true` if the map has no key, as [`MetaMap::is_empty`](crate::map::MetaMap::is_empty) does.
     fn is_empty(&self) -> bool
         ensures { IsTrue result ↔ (held_count (state self.now) ≡ 0) };
 
-    /// Does what [`MetaMap::is_full`](crate::map::MetaMap::is_full) does.
+    /// Returns `true` if there is no room for another key, as [`MetaMap::is_full`](crate::map::MetaMap::is_full) does.
     fn is_full(&self) -> bool
         ensures value { IsTrue result
             ↔ (held_count (state self.now) ≡ length (state self.now).values) }
         ensures free { IsTrue result ↔ ((state self.now).free ≡ []) };
 
-    /// Does what [`MetaMap::remaining_capacity`](crate::map::MetaMap::remaining_capacity) does.
+    /// Returns how many more keys there is room for, as
+    /// [`MetaMap::remaining_capacity`](crate::map::MetaMap::remaining_capacity) does.
     fn remaining_capacity(&self) -> usize
         ensures value { result ≡ length (state self.now).free }
         ensures full { result ≡ 0 ↔ ((state self.now).free ≡ []) };
 
-    /// Does what [`MetaMap::contains`](crate::map::MetaMap::contains) does.
+    /// Returns `true` if the map has an equal key, as [`MetaMap::contains`](crate::map::MetaMap::contains) does.
     fn contains(&self, key: &K) -> bool
         ensures { IsTrue result ↔ IsSome (map_value K.eq (state self.now) key.now) };
 
-    /// Does what [`MetaMap::len`](crate::map::MetaMap::len) does.
+    /// Returns the number of keys, as [`MetaMap::len`](crate::map::MetaMap::len) does.
     fn len(&self) -> usize
         ensures value { result ≡ held_count (state self.now) }
         ensures rest { held_count (state self.now) + length (state self.now).free
@@ -288,20 +294,20 @@ pub trait BoundedMap<K: Eq, V>: Sized {
         ensures distinct { HasDistinctKeys K.eq (state self.now) }
         ensures known { IsCapacity (length (state self.now).values) };
 
-    /// Does what [`MetaMap::list_keys`](crate::map::MetaMap::list_keys) does.
+    /// Calls `callback` with each key, until it returns `Stop`, as [`MetaMap::list_keys`](crate::map::MetaMap::list_keys) does.
     fn list_keys<F: FnMut(&K) -> CallbackProgression>(&self, callback: F)
         requires { F.IsAlwaysCallable callback }
         ensures { (last : F) × ListsUntilStop F.FnMut callback (map_keys (state self.now)) last };
 
-    /// Does what [`MetaMap::keys`](crate::map::MetaMap::keys) does.
+    /// Returns an iterator over the keys, as [`MetaMap::keys`](crate::map::MetaMap::keys) does.
     fn keys(&self) -> Keys<'_, K, V, Self::Pairs, Self::Links>
         ensures { result ≡ map_keys (state self.now) };
 
-    /// Does what [`MetaMap::values`](crate::map::MetaMap::values) does.
+    /// Returns an iterator over the values, as [`MetaMap::values`](crate::map::MetaMap::values) does.
     fn values(&self) -> Values<'_, K, V, Self::Pairs, Self::Links>
         ensures { result ≡ map_values (state self.now) };
 
-    /// Does what [`MetaMap::iter`](crate::map::MetaMap::iter) does.
+    /// Returns an iterator over the keys, each with its value, as [`MetaMap::iter`](crate::map::MetaMap::iter) does.
     fn iter(&self) -> Iter<'_, K, V, Self::Pairs, Self::Links>
         ensures items { result ≡ map_items (state self.now) }
         ensures keys { keys_of result ≡ map_keys (state self.now) }
@@ -309,7 +315,7 @@ pub trait BoundedMap<K: Eq, V>: Sized {
         ensures exactly { (key : K)
             → lookup (λ other. K.eq other key) result ≡ map_value K.eq (state self.now) key };
 
-    /// Does what [`MetaMap::nth_key`](crate::map::MetaMap::nth_key) does.
+    /// Returns the key behind `n` others, as [`MetaMap::nth_key`](crate::map::MetaMap::nth_key) does.
     fn nth_key(&self, n: usize) -> Option<&K>
         ensures { option_copied result ≡ slice_get (map_keys (state self.now)) n };
 
@@ -317,7 +323,7 @@ pub trait BoundedMap<K: Eq, V>: Sized {
     ghost state_with_value: { (map : Self) (key : K) (value : V)
         → state (with_value map key value) ≡ map_set K.eq (state map) key value };
 
-    /// And so is a new key with the value that is written.
+    /// A key with a value, new or not, is what a write of that value leaves.
     ghost state_with_pair: { (map : Self) (key : K) (value : V)
         → state (with_pair map key value) ≡ map_replace K.eq (state map) key value };
 }

@@ -1,4 +1,6 @@
-//! A bounded map from keys of your own to values, and what it finds keys by.
+//! The map under flat maps and hash maps, with their calls: a bounded map from keys of your own to values.
+//!
+//! It finds keys by an index ([`KeyIndex`]): that of flat maps, that of hash maps, or one of your own.
 
 mod callback_progression;
 mod clone;

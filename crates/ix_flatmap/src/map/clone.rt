@@ -14,8 +14,7 @@ impl<K: Eq + Clone, V: Clone> Clone for Pair<K, V> {
 
     /// Creates a pair of clones of the key and of the value.
     ///
-    /// Returns `AllocError` if a clone fails, and if the clone of the key is not equal to the key, which a key of a map may not
-    /// do without.
+    /// Returns `AllocError` if a clone fails, and if the clone of the key is not equal to the key, as it has to be in a map.
     fn clone(&self) -> Result<Self, AllocError> {
         let key = self.key.clone()?;
         if key != self.key {

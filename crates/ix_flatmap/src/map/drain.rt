@@ -39,8 +39,8 @@ impl<K: Eq + Drop, V: Drop, S: Table<Pair<K, V>>, L: Table<Link>, I: KeyIndex<K,
     ghost use Rattle.ix_slottable.specs.Draining.{DrainingKeepsAlong};
     ghost use Rattle.ix_flatmap.specs.MapDrain.{drain_items, drain_left, drain_lender};
 
-    /// Returns an iterator that removes all keys, each with its value, in slot order. What is not taken is dropped with it, and
-    /// the map is as [`MetaMap::clear`] leaves it then. O(1), and O(capacity) for all of its items together.
+    /// Returns an iterator that removes all keys, each with its value, in slot order. Those that are not taken are dropped with it,
+    /// and the map is as [`MetaMap::clear`] leaves it then. O(1), and O(capacity) for all of its items together.
     #[inline]
     pub fn drain(&mut self) -> Drain<'_, K, V, S, L, I>
         ensures items { drain_items result ≡ map_items self.old }

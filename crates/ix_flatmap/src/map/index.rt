@@ -7,7 +7,7 @@ use ix_slottable::slottable::Link;
 use ix_tables::Table;
 use std::ops::Index;
 
-/// `map[&key]` is the value of `key`, which the map has; [`MetaMap::get_ref`] asks for nothing.
+/// `map[&key]` is the value of `key`, which the map has to have; [`MetaMap::get_ref`] takes any key.
 impl<'q, K: Eq + Drop, V: Drop, S: Table<Pair<K, V>>, L: Table<Link>, I: KeyIndex<K, V>> Index<
     &'q K,
 > for MetaMap<Pair<K, V>, S, L, I> {

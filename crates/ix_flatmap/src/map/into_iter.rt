@@ -14,8 +14,8 @@ use std::marker::Model;
 /// An iterator that removes the keys of a map, each with its value, in slot order, as `into_iter` returns it. Contracts see the
 /// items that are still to come.
 ///
-/// It has the map's memory, but for that of the index. The keys and values that are still to come when it is dropped are dropped with it, the
-/// next ones first, in O(capacity) time.
+/// It has the map's memory, but for that of the index. The keys and values that are still to come when it is dropped are dropped
+/// with it, the next ones first, in O(capacity) time.
 #[derive(Drop)]
 pub struct IntoIter<P: IntoItem, S: Table<P>, L: Table<Link>> {
     pairs: slottable::IntoIter<P, S, L>,

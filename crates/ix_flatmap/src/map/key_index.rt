@@ -43,7 +43,7 @@ pub trait KeyIndex<K: Eq + Drop, V: Drop>: PairIndex<Pair<K, V>> {
         ensures equal { IfSome (map_entry K.eq pairs.now key.now) (λ entry.
             IsSeat self.now pairs.now entry.1.key result) };
 
-    /// Returns the place of the key that equals `key`, which belongs at `seat`, and the pair there.
+    /// Returns the place of the key that equals `key`, which belongs at `seat`, and the pair there, or `None` if there is none.
     fn find<'a, S: Table<Pair<K, V>>, L: Table<Link>>(
         &self,
         pairs: &'a MetaSlotTable<Pair<K, V>, S, L>,
@@ -59,7 +59,7 @@ pub trait KeyIndex<K: Eq + Drop, V: Drop>: PairIndex<Pair<K, V>> {
     /// What is asked of keys that are found by these bytes of theirs, beside that keys with equal bytes are equal.
     ghost AreFoundBy: { (K → List ℕ) → Type 0 };
 
-    /// Returns the place of the key with these bytes, and the pair there.
+    /// Returns the place of the key with these bytes, and the pair there, or `None` if there is none.
     fn find_bytes<'a, S: Table<Pair<K, V>>, L: Table<Link>>(
         &self,
         pairs: &'a MetaSlotTable<Pair<K, V>, S, L>,
@@ -123,7 +123,7 @@ pub trait KeyIndex<K: Eq + Drop, V: Drop>: PairIndex<Pair<K, V>> {
         requires { Self.PairIndex.Fits self.now pairs.now }
         ensures { IsBound pairs.now result };
 
-    /// Returns the place of the key that equals `key`, which belongs at `seat`.
+    /// Returns the place of the key that equals `key`, which belongs at `seat`, or `None` if there is none.
     #[inline]
     final fn place<S: Table<Pair<K, V>>, L: Table<Link>>(
         &self,
@@ -153,14 +153,14 @@ pub trait InlineIndex<P, const CAPACITY: usize>: PairIndex<P> {
     /// What an index is made of.
     type Setup;
 
-    /// Makes the index of no pairs. O(`CAPACITY`).
+    /// Creates an index of no pairs. O(`CAPACITY`).
     fn new_inline(setup: Self::Setup) -> Self
         ensures { Self.PairIndex.Fits result (slot_table_new CAPACITY) };
 }
 
 /// An index that is stored inline and can be copied.
 pub trait CopyInline<P, const CAPACITY: usize>: PairIndex<P> {
-    /// Makes an index of the same pairs. O(`CAPACITY`).
+    /// Creates an index of the same pairs. O(`CAPACITY`).
     fn copy_inline(&self) -> Self
         ensures { (pairs : SlotTableState P) → Self.PairIndex.Fits self.now pairs → Self.PairIndex.Fits result pairs };
 }
@@ -183,7 +183,7 @@ pub trait HeapIndex<P, A: Allocator + Copy>: PairIndex<P> {
             → capacity ≤ more → result.bytes ≤ (memory greater more).bytes }
         ensures none { pairs ≡ no_memory → capacity ≡ 0 → result ≡ no_memory };
 
-    /// Makes the index of no pairs, of as many places. O(`capacity`).
+    /// Creates an index of no pairs, for this capacity. O(`capacity`).
     ///
     /// Returns `AllocError` if an allocation fails; nothing stays allocated then, and `setup` is dropped.
     fn new_in(alloc: A, capacity: usize, setup: Self::Setup) -> Result<Self, AllocError>
@@ -196,7 +196,7 @@ pub trait CopyIn<P, D: Allocator + Copy>: PairIndex<P> {
     /// The index in memory of `D`.
     type Made: PairIndex<P>;
 
-    /// Makes an index of the same pairs in memory of `alloc`. O(its capacity).
+    /// Creates an index of the same pairs in memory of `alloc`. O(its capacity).
     ///
     /// Returns `AllocError` if an allocation fails; nothing stays allocated then.
     fn copy_in(&self, alloc: D) -> Result<Self::Made, AllocError>

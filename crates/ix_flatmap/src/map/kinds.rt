@@ -97,10 +97,10 @@ impl<K: Eq + Drop, V: Drop, A: Allocator + Copy, I: HeapIndex<Pair<K, V>, A>> He
     ghost use Rattle.ix_flatmap.specs.contracts.map.pair.Pair as pair;
     ghost use Rattle.ix_slottable.specs.contracts.slottable.link.Link as link;
 
-    /// Returns how much memory a map of this capacity takes from its allocator when it is made: that of a table of pairs, of
-    /// a table of links, and of its index. None if the capacity is 0.
+    /// Returns how much memory a map of this capacity takes from its allocator when it is made.
     ///
-    /// Does not allocate. O(1).
+    /// This is the memory of a table of pairs, of a table of links, and of its index. A map of capacity 0 takes no block. Does not
+    /// allocate. O(1).
     #[inline]
     pub fn memory_size(capacity: usize) -> MemorySize
         ensures value { result ≡ I.HeapIndex.memory (slot_table_memory (type_size (pair.the_row K.row V.row)) (type_size link.the_row) capacity) capacity }
@@ -139,7 +139,7 @@ impl<K: Eq + Drop, V: Drop, A: Allocator + Copy, I: HeapIndex<Pair<K, V>, A>> He
     }
 
     /// Creates an uninitialised map with room for `capacity` keys. Does not allocate. O(1).
-    /// The allocator is that which `init` gets, whatever `A` is here.
+    /// The allocator is the one that `init` is given, whatever `A` is here.
     #[inline]
     pub fn new_uninit(capacity: usize) -> Uninit<I::Family>
         ensures { result ≡ capacity }

@@ -134,7 +134,7 @@ impl<K: Eq + Drop, V: Drop, S: Table<Pair<K, V>>, L: Table<Link>, I: KeyIndex<K,
         Some(&pair.value)
     }
 
-    /// Returns a reference to the value of the key with these bytes, as [`MetaMap::get_bytes`] does.
+    /// Returns a reference to the value of the key with the bytes of `text`, as [`MetaMap::get_bytes`] does.
     #[inline]
     pub fn get_str(&self, text: &str) -> Option<&V>
     where

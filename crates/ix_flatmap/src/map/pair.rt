@@ -1,8 +1,7 @@
 //! What a map has at a place.
 ghost use Rattle.std.specs.Prelude.{◌≡◌, Bool};
 
-/// What a [`MetaMap`](crate::map::MetaMap) can hold at a place: it has a key. Every [`Pair`] is, and nothing else
-/// has the calls of a map.
+/// What a [`MetaMap`](crate::map::MetaMap) can hold at a place: something with a key. A map has calls for a [`Pair`] alone.
 pub trait Keyed {
     /// The two have equal keys.
     ghost has_key_of: { Self → Self → Bool };
@@ -10,16 +9,16 @@ pub trait Keyed {
 
 /// What comes apart into a key and its value, as every [`Pair`] does.
 pub trait IntoItem: Keyed {
-    /// What the key is.
+    /// The type of the key.
     type Key;
 
-    /// What the value is.
+    /// The type of the value.
     type Value;
 
     /// The key, and its value.
     ghost item: { Self → Self.Key × Self.Value };
 
-    /// Returns the key, and its value.
+    /// Returns the key and its value.
     fn into_item(self) -> (Self::Key, Self::Value)
         ensures { result ≡ item self };
 }

@@ -48,9 +48,11 @@ impl<K: Eq + Drop, V: Drop, S: Table<Pair<K, V>>, L: Table<Link>, I: KeyIndex<K,
         }
     }
 
-    /// Calls `f` with each key in slot order and a mutable reference to its value. Removes each key for which `f` returns
-    /// `false`, as [`MetaMap::remove`] does, and drops the key and its value, right after the call. O(capacity), with one
-    /// call for each key.
+    /// Keeps the keys for which `f` returns `true`, and removes the others, as [`MetaMap::remove`] does, and drops them with their
+    /// values. O(capacity), with one call for each key.
+    ///
+    /// Calls `f` with each key in slot order and a mutable reference to its value. A key for which it returns `false` is removed
+    /// right after that call.
     pub fn retain<F: FnMut(&K, &mut V) -> bool>(&mut self, mut f: F)
         requires { IsCallableOnEach (CallAtKey F.step) (TakesKey F.pre) f (map_items self.old) }
         ensures calls { (last : F) × FoldsTo (RetainsItem (map_set K.eq) (map_remove K.eq) (CallAtKey F.step))

@@ -1,4 +1,4 @@
-//! The calls of a map that insert a key.
+//! The calls of a map that insert a key unless it has an equal one.
 ghost use Rattle.std.specs.Prelude.{◌≡◌, ◌≢◌, ◌+◌, ◌↔◌, [], length, Some, None, IsSome, IsOk, IsErr, IfOk, OnErr, false, unwrap_or};
 ghost use Rattle.std.specs.Borrow.{sem, LendsIfOk};
 ghost use Rattle.std.specs.Option.{UnwrapsOrElse};
@@ -21,7 +21,7 @@ impl<K: Eq + Drop, V: Drop, S: Table<Pair<K, V>>, L: Table<Link>, I: KeyIndex<K,
     ghost use Rattle.ix_flatmap.specs.contracts.map.meta_map.MetaMap.{the_row};
     ghost use Rattle.ix_flatmap.specs.contracts.map.pair.Pair as pair;
 
-    /// Inserts `key` with `value`. What is refused is handed back.
+    /// Inserts `key` with `value`, or hands both back.
     ///
     /// Returns [`MapError::KeyAlreadyExists`] if the map has an equal key, and otherwise [`MapError::IsFull`] if
     /// it is full, with `key` and `value`.
@@ -87,8 +87,8 @@ impl<K: Eq + Drop, V: Drop, S: Table<Pair<K, V>>, L: Table<Link>, I: KeyIndex<K,
         }
     }
 
-    /// Returns a mutable reference to the value of `key`. If the map has no equal key, it first inserts `key` with the value that
-    /// `f` returns; if it has one, `key` is dropped, and `f` is not called.
+    /// Returns a mutable reference to the value of `key`, inserting `key` with the value that `f` returns if the map has no equal
+    /// key. If it has one, `key` is dropped, and `f` is not called.
     ///
     /// Returns `key` as the error if the map is full and has no equal key. `f` is not called then.
     pub fn get_or_insert_with<F: FnOnce() -> V>(&mut self, key: K, f: F) -> Result<&mut V, K>

@@ -5,8 +5,8 @@ ghost use Rattle.ix_hashmap.specs.inner.HashChains.{bucket_of, hash_of};
 use ix_flatmap::map::Pair;
 use std::hash::{BuildHasher, Hash, Hasher};
 
-/// What a [`MetaHashMap`](crate::hashmap::MetaHashMap) can hold at a place: it has a key that can be hashed. Every
-/// [`Pair`](ix_flatmap::map::Pair) whose key implements `Hash` is, and nothing else has the calls of a map.
+/// What a [`MetaHashMap`](crate::hashmap::MetaHashMap) can hold at a place: something with a key that can be hashed. A map has
+/// calls for a [`Pair`](ix_flatmap::map::Pair) alone, whose key implements `Hash`.
 pub trait Hashed {
     /// What the key feeds a hasher.
     ghost key_input: { Self → List (List ℕ) };
@@ -40,8 +40,8 @@ pub(crate) fn bucket_of_bytes<B: BuildHasher>(hasher: &B, bytes: &[u8], places: 
     bucket_of_hash(state.finish(), places)
 }
 
-/// A factor of hashes. The upper bits of the product choose the bucket, and depend on most bits of the hash. Those of the hash alone
-/// are alike for keys of some steps, as `FoldHasher` makes them.
+/// A factor of hashes. The upper bits of the product choose the bucket, and depend on most bits of the hash. Those of the
+/// hash alone are alike for keys of some steps, as `FoldHasher` makes them.
 const FACTOR: u64 = 1_647_494_261;
 
 /// Returns the bucket of a hash in a map of so many places, of which there is at least one.

@@ -14,15 +14,15 @@ use std::alloc::{AllocError, Allocator, Global};
 use std::hash::{BuildHasher, BuildHasherDefault, FoldHasher, Hash};
 use std::marker::PhantomData;
 
-/// What makes the hashers of a hash map if nothing else is said: a fast hasher with a fixed seed, so that whoever chooses the keys
+/// The default of what makes the hashers of a hash map. The hasher is fast and has a fixed seed, so that whoever chooses the keys
 /// can give many of them one bucket.
 pub type DefaultHashBuilder = BuildHasherDefault<FoldHasher>;
 
 /// A hash map over a table of pairs `S`, a table of links `L` and a table of chain links `C`, whose keys are hashed by the hashers
 /// that `B` makes.
 ///
-/// Each call that looks for a key takes O(1) time on average, and O(capacity) if all keys have one bucket; [`Buckets`] says how many
-/// keys it compares. The other calls are as [`MetaMap`] says.
+/// Each call that looks for a key takes O(1) time on average, and O(capacity) if all keys have one bucket; [`Buckets`] says
+/// how many keys it compares. The other calls are as [`MetaMap`] says.
 pub type MetaHashMap<P, S, L, C, B> = MetaMap<P, S, L, Buckets<C, B>>;
 
 /// A hash map with room for `CAPACITY` keys that is stored inline and does not allocate.
@@ -45,8 +45,8 @@ pub type HashMap<K, V, A = Global, B = DefaultHashBuilder> = HeapMap<
     Buckets<FilledHeapTable<ChainLink, A>, B>,
 >;
 
-/// Returns what [`MetaMap::memory_size`](ix_flatmap::map::MetaMap) of a hash map returns: what a table of pairs, one of links and one of
-/// links of chains take.
+/// Returns what [`HeapMap::memory_size`](ix_flatmap::map::HeapMap::memory_size) of a hash map returns: what a table of pairs, one
+/// of links and one of links of chains take.
 ///
 /// Does not allocate. O(1).
 pub fn hash_map_memory_law<
@@ -112,8 +112,8 @@ impl<K: Eq + Hash + Drop, V: Drop, A: Allocator + Copy, B: BuildHasher + Drop> C
 
     ghost is_empty_with = { λ capacity map. map ≡ slot_table_new capacity };
 
-    /// Creates an empty map with room for `capacity` keys. O(`capacity`), with at most four allocations. If one fails, what makes the
-    /// hashers is dropped.
+    /// Creates an empty map with room for `capacity` keys. O(`capacity`), with at most four allocations. If one fails, what
+    /// makes the hashers is dropped.
     #[inline]
     fn with_capacity(
         with_hasher: WithHasher<A, B>,
