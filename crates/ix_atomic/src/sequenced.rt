@@ -1,8 +1,5 @@
 //! A cell that threads write and read without a lock: a sequence lock for several writers.
 //!
-//! This module is this project's own. It is the synchronization that the documentation of `MaybeTorn` of
-//! iceoryx2-bb-container asks its users to bring.
-//!
 //! A [`SequencedByteAtomic`] has a version and the encoding of a value, eight bytes a word. The version is even between two
 //! writes and odd during one; it begins at 0, and each write raises it by 2. A writer loads the version, and exchanges an even
 //! one for the next odd one: at most one writer succeeds, and the others are told that the cell is busy. A reader loads the
@@ -12,8 +9,10 @@
 //! own; no place belongs to two seats. [`merge`](SequencedByteAtomic::merge) and
 //! [`merge_reader`](SequencedByteAtomic::merge_reader) bring together what two seats know.
 //!
-//! The holders of seats write and read; nobody is ever blocked by another. A writer's seat can't be let go, so no `?` stands
-//! where one lives: `writer` and `reader` never fail, and the answer of a write is matched.
+//! The holders of seats write and read, and no one ever blocks another. A writer's seat can't be dropped, so a function that
+//! holds one can't return early by `?`: `writer` and `reader` never fail, and the result of a write is matched.
+//!
+//! iceoryx2-bb-container has no such cell: the documentation of its `MaybeTorn` asks users to bring this synchronization.
 
 mod data_words;
 mod errors;

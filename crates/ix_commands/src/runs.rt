@@ -6,6 +6,7 @@ use std::alloc::{AllocError, Global};
 
 /// A container on which commands of the type `C` are run. Contracts see the model of the container, whatever its kind.
 pub trait Runs<C> {
+    /// The type of the replies.
     type Reply: Copy;
 
     /// The type of the model.

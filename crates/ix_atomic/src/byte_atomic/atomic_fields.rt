@@ -6,9 +6,10 @@ use std::ops::Deref;
 
 /// A struct that is stored as its fields are, in a cell of [`Fields<Self>`](Fields).
 ///
-/// An impl names the fields as a tuple or an array, and makes them of a value and back: of `Settings { low, high, mode }` they are
-/// `(u8, u8, u16)`, `ghost fields` is `λ settings. (settings.low, settings.high, settings.mode)`, and the law `one_value` is
-/// `Prim.search rules`. More than three are tuples in a tuple, or an array. A field that is such a struct itself is a `Fields` of it.
+/// An impl names the fields as a tuple or an array, and makes them of a value and back: of `Settings { low, high, mode }`
+/// they are `(u8, u8, u16)`, `ghost fields` is `λ settings. (settings.low, settings.high, settings.mode)`, and the law
+/// `one_value` is `Prim.search rules`. More than three are tuples in a tuple, or an array. A field that is such a struct
+/// itself is a `Fields` of it.
 ///
 /// If the struct has a ghost field, `from_fields` tests what that says, and each value that is read from a cell has it.
 /// docs/PROVING.md goes through both.

@@ -125,7 +125,7 @@ impl AtomicCopy for u64 {
         ∙ from_le_bytes-to_le_bytes_8 n n_is };
 }
 
-/// As the `u64` of the same bits in two's complement.
+/// The encoding of the `u64` with the same bits, in two's complement.
 impl AtomicCopy for i64 {
     const SIZE: usize = 8;
 

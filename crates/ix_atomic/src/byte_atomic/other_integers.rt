@@ -7,7 +7,7 @@ ghost use Rattle.ix_atomic.specs.laws.EncodingLaws.{unsigned_encoding-one_value,
 use crate::byte_atomic::AtomicCopy;
 use crate::byte_atomic::integers::to_array;
 
-/// As the `u8` of the same bits in two's complement.
+/// The encoding of the `u8` with the same bits, in two's complement.
 impl AtomicCopy for i8 {
     const SIZE: usize = 1;
 
@@ -32,7 +32,7 @@ impl AtomicCopy for i8 {
     ghost one_value = { i8_encoding-one_value };
 }
 
-/// As the `u16` of the same bits in two's complement.
+/// The encoding of the `u16` with the same bits, in two's complement.
 impl AtomicCopy for i16 {
     const SIZE: usize = 2;
 
@@ -57,7 +57,7 @@ impl AtomicCopy for i16 {
     ghost one_value = { signed_encoding-one_value w16 };
 }
 
-/// As the `u32` of the same bits in two's complement.
+/// The encoding of the `u32` with the same bits, in two's complement.
 impl AtomicCopy for i32 {
     const SIZE: usize = 4;
 
@@ -82,7 +82,7 @@ impl AtomicCopy for i32 {
     ghost one_value = { signed_encoding-one_value w32 };
 }
 
-/// As the `u128` of the same bits in two's complement.
+/// The encoding of the `u128` with the same bits, in two's complement.
 impl AtomicCopy for i128 {
     const SIZE: usize = 16;
 
@@ -107,7 +107,7 @@ impl AtomicCopy for i128 {
     ghost one_value = { signed_encoding-one_value w128 };
 }
 
-/// As the `u64` of the same bits in two's complement.
+/// The encoding of the `u64` with the same bits, in two's complement.
 impl AtomicCopy for isize {
     const SIZE: usize = 8;
 

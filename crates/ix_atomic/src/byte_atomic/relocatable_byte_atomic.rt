@@ -30,7 +30,7 @@ impl<T, const SIZE: usize, A: Allocator> RelocatableByteAtomic<T, SIZE, A> {
 }
 
 impl<T: AtomicCopy, const SIZE: usize, A: Allocator> RelocatableByteAtomic<T, SIZE, A> {
-    /// As [`FixedSizeByteAtomic::read`]. O(`SIZE`).
+    /// Returns the bytes, as [`FixedSizeByteAtomic::read`] does. O(`SIZE`).
     #[inline]
     pub fn read(&self) -> MaybeTorn<T, SIZE>
         ensures { length result ≡ SIZE }
@@ -38,7 +38,7 @@ impl<T: AtomicCopy, const SIZE: usize, A: Allocator> RelocatableByteAtomic<T, SI
         self.cell.read()
     }
 
-    /// As [`FixedSizeByteAtomic::write`]. O(`SIZE`).
+    /// Writes the encoding of `value`, as [`FixedSizeByteAtomic::write`] does. O(`SIZE`).
     #[inline]
     pub fn write(&self, value: T)
         requires { SIZE ≡ T.SIZE }

@@ -18,7 +18,7 @@ pub trait ValueRule<T>: Copy {
 
 /// A value that obeys the rule `R`.
 ///
-/// So does each value that is read from a cell of `Fields<Ruled<T, R>>`, whoever wrote it.
+/// Each value that is read from a cell of `Fields<Ruled<T, R>>` obeys it too, whoever wrote it.
 pub struct Ruled<T, R: ValueRule<T>> {
     /// The value.
     pub value: T,
@@ -80,7 +80,7 @@ impl<T: fmt::Debug, R: ValueRule<T>> fmt::Debug for Ruled<T, R> {
     }
 }
 
-/// Values are equal if those are that obey the rule.
+/// Ruled values are equal if the values are.
 impl<T: PartialEq, R: ValueRule<T>> PartialEq for Ruled<T, R> {
     ghost use Rattle.std.specs.Ordering.{on};
     ghost use Rattle.std.specs.Cmp.{on_per};

@@ -1,4 +1,4 @@
-//! The cell, its calls, and the loops over its words.
+//! Reading and writing a cell. The loops over its words are here too.
 ghost use Rattle.std.specs.Prelude.{◌≡◌, ℕ, ◌+◌, ◌/◌, ◌<◌, ◌≤◌, ◌⊎◌, [], ◌∷◌, ◌++◌, List, All, length, Some, Ok, Err, IsOk, IfOk, IfErr};
 ghost use Rattle.ix_atomic.specs.Words.{word_count};
 ghost use Rattle.ix_atomic.specs.History.{Begins, Loads, LoadsTwice, history_value, last_value, IsEven, IsOdd, data_words, all_words};
@@ -157,8 +157,8 @@ impl<T: AtomicCopy, const SIZE: usize> SequencedByteAtomic<T, SIZE> {
         self.table.shared.load::<LoadVersion>(&mut seat.seat, 0)
     }
 
-    /// Returns the value of the version that it loads before and after the bytes, as [`try_read`](Self::try_read) does: none from
-    /// before the last one that was written with this seat. O(`SIZE`).
+    /// Returns the value, read with a writer's seat, as [`try_read`](Self::try_read) does with a reader's. It is not older than the
+    /// last value that was written with this seat. O(`SIZE`).
     ///
     /// Returns [`Interfered`] with both versions, unless they are equal and even. The cell does not change.
     pub fn read_own(&self, seat: &mut WriterSeat<T>) -> Result<T, Interfered>

@@ -41,7 +41,7 @@ pub trait JsonFill {
 
     /// Takes in all entries of `value`, in their order, behind those that are there. Does not allocate.
     ///
-    /// Returns the first reason why `value` has not such entries or there is no room for them, and never
+    /// Returns the first reason why `value` does not have such entries or there is no room for them, and never
     /// [`JsonFault::OutOfMemory`]. The container is unchanged then, and what was read is dropped.
     fn fill_from_value(&mut self, value: &Value) -> Result<(), JsonFault>
         ensures filled { OnOk result (filled self.old (view value.now) ≡ Ok self.new) }

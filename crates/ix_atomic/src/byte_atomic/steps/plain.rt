@@ -35,7 +35,7 @@ impl ByteStep for Step {
     }
 }
 
-/// Returns whether `steps` are legal, in this order, on a value whose first bytes are `first`.
+/// Returns `true` if `steps` are legal, in this order, on a value whose first bytes are `first`.
 ///
 /// They are if each place is less than the length of `first`, and each load has the byte that was stored at its place
 /// last, or the byte of `first` if none was. O(n * m) for n bytes and m steps.
@@ -45,7 +45,7 @@ pub fn replay(first: &[u8], steps: &[Step]) -> bool
     acts_are_legal(first, steps)
 }
 
-/// States what a read loads that overlaps no write. Does nothing.
+/// States what a read loads that overlaps no write. This function does nothing: its contract is the law.
 ///
 /// It is about steps that [`replay`] accepts, and whose operations are all reads or writes, finished or not: a
 /// finished read that overlaps no write loads the bytes of the last write before it, if that write overlaps no other

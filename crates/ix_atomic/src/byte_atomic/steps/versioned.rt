@@ -33,7 +33,7 @@ impl ByteStep for VersionedStep {
     }
 }
 
-/// Returns whether `steps` are legal, in this order, on a value whose first bytes, at version 0, are `first`.
+/// Returns `true` if `steps` are legal, in this order, on a value whose first bytes, at version 0, are `first`.
 ///
 /// They are if
 ///
@@ -93,7 +93,7 @@ fn versions_are_right(steps: &[VersionedStep]) -> bool
     true
 }
 
-/// States what a reader has loaded between two loads of the same even version. Does nothing.
+/// States what a reader has loaded between two loads of the same even version. This function does nothing: its contract is the law.
 ///
 /// It is about steps that [`replay_versioned`] accepts: where a reader loads the even version 2 * k, then the byte of each
 /// place in rising order, then the version 2 * k again, the bytes are the value of the write whose end made that version,

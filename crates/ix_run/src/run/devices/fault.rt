@@ -32,7 +32,7 @@ impl fmt::Display for ScriptFault {
 
 impl Error for ScriptFault {}
 
-/// Returns the exit status of the program: 0, 1 after a read or a write fault, 2 without memory. O(1).
+/// Returns the exit status of the program: 0 without a fault, 1 after a read or write fault, 2 if there was no memory. O(1).
 pub fn exit_status(outcome: &Result<(), ScriptFault>) -> u8
     ensures { result ≡ outcome_status outcome.now }
 {
