@@ -15,7 +15,7 @@ use std::ops::{AsDeref, DerefMut};
 /// An optional value: `Some` with a value, or `None`.
 ///
 /// It has the most used calls of [`Option`], and [`RelocatableOption::to_option`] leads to the others. It is made by its
-/// variants, or by [`From`] of an [`Option`]. Every call is O(1), if nothing else is said, and does not allocate.
+/// variants, or by [`From`] of an [`Option`]. Every call is O(1) unless its docs say otherwise, and does not allocate.
 ///
 /// Options are ordered by their values, and `None` is less than each `Some`.
 ///

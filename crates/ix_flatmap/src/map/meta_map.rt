@@ -25,8 +25,9 @@ use std::marker::Model;
 /// A pair stays at its place until it is removed, and a new one takes the first free place: the one vacated last, or else
 /// the least that was never used. Slot order is that of the places.
 ///
-/// A call that looks for a key takes the time of the index. Any other takes O(1), if nothing else is said. No call allocates but
-/// those that make a map, and clones of a value. A map that is dropped drops its pairs in slot order, in O(capacity) time.
+/// A call that looks for a key takes the time of the index. Any other takes O(1) time unless its docs say otherwise. No call
+/// allocates but those that make a map, and clones of a value. A map that is dropped drops its pairs in slot order, in
+/// O(capacity) time.
 ///
 /// A user makes a map by the names of its kinds: `FlatMap` and its like, whose index is [`Bound`](crate::flatmap::Bound), or
 /// `HashMap` and its like of `ix_hashmap`.

@@ -8,7 +8,7 @@ use std::alloc::{Allocator, Global};
 
 /// A list of the forms of the items, in order.
 ///
-/// Reading appends the items. It returns [`JsonFault::WrongKind`] if the value is no list, otherwise
+/// Reading appends the items. It returns [`JsonFault::WrongKind`] if the value is not a list, otherwise
 /// [`JsonFault::TooLong`] if it has more entries than there is room for, and otherwise the fault of the first entry that has
 /// one. Entries after that one are not read. O(`len`) of what is read, with as many calls of the items' conversion.
 impl<T: JsonItem + Drop, A: Allocator> JsonFill for PolymorphicVec<T, A> {

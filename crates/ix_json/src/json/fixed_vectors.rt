@@ -8,7 +8,7 @@ use std::alloc::Global;
 
 /// A list of the forms of the items, in order.
 ///
-/// Reading returns [`JsonFault::WrongKind`] if the value is no list, otherwise [`JsonFault::TooLong`] if it has more
+/// Reading returns [`JsonFault::WrongKind`] if the value is not a list, otherwise [`JsonFault::TooLong`] if it has more
 /// than `CAPACITY` entries, and otherwise the fault of the first entry that has one. Entries after that one are not read.
 /// O(`CAPACITY`), with as many calls of the items' conversion as there are items.
 impl<T: JsonItem + Default + Drop, const CAPACITY: usize> JsonForm for StaticVec<T, CAPACITY> {

@@ -100,7 +100,7 @@ fn insert_members<
 
 /// An object with a member for each key: the key's text, and the form of the value. Members are in the order of their keys.
 ///
-/// Reading inserts the members in that order. It returns [`JsonFault::WrongKind`] if the value is no object, otherwise
+/// Reading inserts the members in that order. It returns [`JsonFault::WrongKind`] if the value is not an object, otherwise
 /// [`JsonFault::TooLong`] if it has more than `CAPACITY` members, and otherwise the fault of the first member that has one: that
 /// of its key, as of a [`StaticString`], or else that of its value. Members after that one are not read.
 ///
@@ -149,7 +149,7 @@ where
 
 /// An object with a member for each key: the key's text, and the form of the value. Members are in the order of their keys.
 ///
-/// Reading inserts the members in that order. It returns [`JsonFault::WrongKind`] if the value is no object, otherwise
+/// Reading inserts the members in that order. It returns [`JsonFault::WrongKind`] if the value is not an object, otherwise
 /// [`JsonFault::TooLong`] if it has more members than there is room for, and otherwise the fault of the first member that has one:
 /// that of its key, as of a [`StaticString`], or [`JsonFault::InvalidContent`] if the map has the key, or else that of its value.
 /// Members after that one are not read.

@@ -4,7 +4,7 @@ use crate::json::{JsonFault, JsonForm, JsonItem};
 use serde_json::Value;
 use std::alloc::Global;
 
-/// A number. Reads a number in the range of `i8` that is not held as a float, and no other value.
+/// A number. Only a number in the range of `i8` that is not held as a float is read.
 impl JsonForm for i8 {
     ghost use Rattle.ix_json.specs.JsonTree.{i64_tree, signed_read};
 
@@ -30,7 +30,7 @@ impl JsonItem for i8 {
     ghost never_null = { λ _ same. Prim.cc };
 }
 
-/// A number. Reads a number in the range of `i16` that is not held as a float, and no other value.
+/// A number. Only a number in the range of `i16` that is not held as a float is read.
 impl JsonForm for i16 {
     ghost use Rattle.ix_json.specs.JsonTree.{i64_tree, signed_read};
 
@@ -56,7 +56,7 @@ impl JsonItem for i16 {
     ghost never_null = { λ _ same. Prim.cc };
 }
 
-/// A number. Reads a number in the range of `i32` that is not held as a float, and no other value.
+/// A number. Only a number in the range of `i32` that is not held as a float is read.
 impl JsonForm for i32 {
     ghost use Rattle.ix_json.specs.JsonTree.{i64_tree, signed_read};
 
@@ -82,7 +82,7 @@ impl JsonItem for i32 {
     ghost never_null = { λ _ same. Prim.cc };
 }
 
-/// A number. Reads a number in the range of `isize` that is not held as a float, and no other value.
+/// A number. Only a number in the range of `isize` that is not held as a float is read.
 impl JsonForm for isize {
     ghost use Rattle.ix_json.specs.JsonTree.{i64_tree, i64_read};
 

@@ -4,7 +4,7 @@ use crate::json::{JsonFault, JsonForm, JsonItem};
 use serde_json::Value;
 use std::alloc::Global;
 
-/// A number. Reads a number in the range of `u8` that is not held as a float, and no other value.
+/// A number. Only a number in the range of `u8` that is not held as a float is read.
 impl JsonForm for u8 {
     ghost use Rattle.ix_json.specs.JsonTree.{u64_tree, unsigned_read};
 
@@ -30,7 +30,7 @@ impl JsonItem for u8 {
     ghost never_null = { λ _ same. Prim.cc };
 }
 
-/// A number. Reads a number in the range of `u16` that is not held as a float, and no other value.
+/// A number. Only a number in the range of `u16` that is not held as a float is read.
 impl JsonForm for u16 {
     ghost use Rattle.ix_json.specs.JsonTree.{u64_tree, unsigned_read};
 
@@ -56,7 +56,7 @@ impl JsonItem for u16 {
     ghost never_null = { λ _ same. Prim.cc };
 }
 
-/// A number. Reads a number in the range of `u32` that is not held as a float, and no other value.
+/// A number. Only a number in the range of `u32` that is not held as a float is read.
 impl JsonForm for u32 {
     ghost use Rattle.ix_json.specs.JsonTree.{u64_tree, unsigned_read};
 
@@ -82,7 +82,7 @@ impl JsonItem for u32 {
     ghost never_null = { λ _ same. Prim.cc };
 }
 
-/// A number. Reads a number in the range of `usize` that is not held as a float, and no other value.
+/// A number. Only a number in the range of `usize` that is not held as a float is read.
 impl JsonForm for usize {
     ghost use Rattle.ix_json.specs.JsonTree.{u64_tree, u64_read};
 

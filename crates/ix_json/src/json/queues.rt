@@ -66,7 +66,7 @@ fn push_items<T: JsonForm + Drop, S: Table<T>>(
 
 /// A list of the forms of the items, the front item first.
 ///
-/// Reading returns [`JsonFault::WrongKind`] if the value is no list, otherwise [`JsonFault::TooLong`] if it has more
+/// Reading returns [`JsonFault::WrongKind`] if the value is not a list, otherwise [`JsonFault::TooLong`] if it has more
 /// than `CAPACITY` entries, and otherwise the fault of the first entry that has one. Entries after that one are not read.
 /// O(`CAPACITY`), with as many calls of the items' conversion as there are items.
 impl<T: JsonItem + Drop, const CAPACITY: usize> JsonForm for FixedSizeQueue<T, CAPACITY> {
@@ -91,7 +91,7 @@ impl<T: JsonItem + Drop, const CAPACITY: usize> JsonForm for FixedSizeQueue<T, C
 
 /// A list of the forms of the items, the front item first.
 ///
-/// Reading appends the items at the back. It returns [`JsonFault::WrongKind`] if the value is no list, otherwise
+/// Reading appends the items at the back. It returns [`JsonFault::WrongKind`] if the value is not a list, otherwise
 /// [`JsonFault::TooLong`] if it has more entries than there is room for, and otherwise the fault of the first entry that has
 /// one. Entries after that one are not read. O(`len`) of what is read, with as many calls of the items' conversion.
 impl<T: JsonItem + Drop, A: Allocator> JsonFill for Queue<T, A> {

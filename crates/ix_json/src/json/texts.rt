@@ -43,7 +43,7 @@ pub(super) fn text_from_string<const CAPACITY: usize>(
 
 /// A text.
 ///
-/// Reading returns [`JsonFault::WrongKind`] if the value is no text, otherwise [`JsonFault::TooLong`] if it has more
+/// Reading returns [`JsonFault::WrongKind`] if the value is not a text, otherwise [`JsonFault::TooLong`] if it has more
 /// than `CAPACITY` bytes, and otherwise [`JsonFault::BadByte`] if one of them is 0 or above 127. O(`len`).
 impl<const CAPACITY: usize> JsonForm for StaticString<CAPACITY> {
     ghost use Rattle.serde_json.specs.Data.{string};

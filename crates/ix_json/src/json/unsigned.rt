@@ -4,7 +4,7 @@ use crate::json::{JsonFault, JsonForm, JsonItem};
 use serde_json::Value;
 use std::alloc::Global;
 
-/// A number. Reads a number in the range of `u64` that is not held as a float, and no other value.
+/// A number. Only a number in the range of `u64` that is not held as a float is read.
 impl JsonForm for u64 {
     ghost use Rattle.ix_json.specs.JsonTree.{u64_tree, u64_read};
 

@@ -19,8 +19,8 @@ use std::marker::{Model, PhantomData};
 /// A queue whose items lie in a table `S`. Contracts see it as a bounded list, with the front item, which is the
 /// oldest, first.
 ///
-/// The items lie in a ring of the table's places. Each call takes O(1) time if nothing else is said. No call allocates but
-/// those that make a queue. A queue that is dropped drops its items, the front item first, in O(capacity) time.
+/// The items lie in a ring of the table's places. Each call takes O(1) time unless its docs say otherwise. No call allocates
+/// but those that make a queue. A queue that is dropped drops its items, the front item first, in O(capacity) time.
 ///
 /// This is `MetaQueue` of iceoryx2-bb-container.
 pub struct MetaQueue<T, S: Table<T>> {

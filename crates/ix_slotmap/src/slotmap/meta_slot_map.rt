@@ -30,7 +30,8 @@ use std::marker::{Model, PhantomData};
 /// A place takes the bytes of a value, as a [`MaybeMoved`] (`C`), of a link and of a word, in which its generation is. The
 /// word says whether a value is there; what a retired place has is the bytes of its last value.
 ///
-/// Each call takes O(1) time if nothing else is said; dropping a map takes O(capacity). No call allocates but those that make one.
+/// Each call takes O(1) time unless its docs say otherwise; dropping a map takes O(capacity). No call allocates but those
+/// that make one.
 ///
 /// This is `MetaSlotMap` of iceoryx2-bb-container, whose keys have no generation: that map is [`MetaSlotTable`] here.
 pub struct MetaSlotMap<T, C: Content<T>, S: Table<C>, L: Table<Link>, G: Table<u64>> {

@@ -26,8 +26,8 @@ use std::marker::{Model, PhantomData};
 /// [`MetaSlotTable::remove`] makes a key the first. A key out of range, up to `usize::MAX`, is an ordinary case, for
 /// which calls return `false` or `None`.
 ///
-/// Each call takes O(1) time if nothing else is said. No call allocates but those that make a table. A table that is dropped
-/// drops its values, that of the least key first, in O(capacity) time.
+/// Each call takes O(1) time unless its docs say otherwise. No call allocates but those that make a table. A table that is
+/// dropped drops its values, that of the least key first, in O(capacity) time.
 ///
 /// This is `MetaSlotMap` of iceoryx2-bb-container, whose keys have no generation.
 pub struct MetaSlotTable<T, S: Table<T>, L: Table<Link>> {
