@@ -5,7 +5,8 @@ A block begins at a line ```rust or ```antt. The line before it names a file of 
 <!-- crates/examples/src/registry.rt: Registry register -->, the block is these items, each with its docs. The word imports
 stands for the lines of the file that import words of contracts.
 
-A block may not name no file, or differ from what it quotes; what is written is what it quotes.
+A block may not name no file, or differ from what it quotes, and a line that names a file may not stand alone; what is written is
+what a block quotes.
 """
 
 import os
@@ -14,6 +15,7 @@ import re
 from crates import ROOT, read, write_text
 
 BLOCK = re.compile(r"^((?:<!-- ([^\n]*?) -->\n)?```(?:rust|antt)[^\n]*\n)(.*?)^(```)$", re.M | re.S)
+ALONE = re.compile(r"^<!-- (crates/[^\n]*?) -->\n(?!```)", re.M)
 
 
 def item(lines, name):
@@ -58,6 +60,8 @@ def quoted(text, name, differing, faults):
             differing.append(f"{place}: the block differs from {source}")
         return head + wanted + tail
 
+    for match in ALONE.finditer(text):
+        faults.append(f"{name}:{text.count(chr(10), 0, match.start()) + 1}: no block stands below the line that names {match.group(1)}")
     return BLOCK.sub(block_of, text)
 
 
