@@ -135,8 +135,12 @@ def page(layout, library, links):
     return "\n".join(lines).rstrip("\n") + "\n"
 
 
+# What stands once on a page.
+TITLE = re.compile(r"\*\*(Example|`\w+`)\*\*")
+
+
 def examples_once(text):
-    """Returns a page's text with the place of an example where it stands there a second time."""
+    """Returns a page's text with the place of an example, or of a record, where it stands there a second time."""
     found, seen, heading = [], {}, ""
     links = [f"[{title}]({link})" for _, title, link in headings_on(text, "")]
     lines = text.splitlines()
@@ -147,10 +151,10 @@ def examples_once(text):
         elif line.startswith("```"):
             end = lines.index("```") + 1
             code, lines = lines[:end], lines[end:]
-            if found[-2:] == ["**Example**", ""]:
+            if found[-1:] == [""] and TITLE.fullmatch(found[-2]):
                 first = seen.setdefault("\n".join(code), heading)
                 if first != heading:
-                    found[-2:] = [f"**Example**: that of {first}."]
+                    found[-2:] = [f"{found[-2]}: that of {first}."]
                     continue
             found += [line, *code]
             continue

@@ -315,6 +315,7 @@ class Source:
             *block("Conditions", conditions),
             *self.library.shown(self.page, [f"{name or self.module}::{item.name}"]),
             *block("Promises", promises),
+            *self.words.records([*conditions, *promises]),
             *self.words.line([*conditions, *promises], rust, trait, place),
         ]
 

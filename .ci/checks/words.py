@@ -10,6 +10,7 @@ cd .ci && python3 -m checks.words    prints the words that nothing explains, eac
 import functools
 import os
 import re
+import textwrap
 
 from checks.items import text_of
 from checks.kit import KIT
@@ -26,6 +27,8 @@ CHAIN = re.compile(r"(?<![\w.])(⟧|[^\W\d][\w'-]*)((?:\.[\w'-]+)*)")
 BOUND = re.compile(r"λ ([^.]*)\.|[({]((?:[\w']+ )+): |\blet (\w+) |(?<!\w)(\w+) = ")
 HEAD = re.compile(r"\b(?:requires|ensures\*?)(?: \w+)? \{|\bghost (\w+)(?: =|:) \{")
 SYMBOL = re.compile(r"[^\w\s(){}\[\];,.:'\"\\]+")
+# A clause that is one word with what it is of.
+WHOLE = re.compile(r"\b(?:requires|ensures\*?)(?: \w+)? \{ ([A-Z]\w*) [^×⊎→↔≡{}]*\}")
 # What a reference has beside the value of its model, and a closure of what it may be called with.
 SUFFIXES = {"now", "old", "new", "entry", "exit", "ghost_name", "pre", "post", "row", "the_row"}
 
@@ -129,6 +132,18 @@ class Words:
         for word in left:
             self.library.kit_words.setdefault(word, place)
         return ["Words: " + ", ".join(f"[`{word}`]({link})" for word, link in places.items()) + ".", ""] if places else []
+
+    def records(self, lines):
+        """Returns the records that whole clauses are, each with its fields: those of the calls that promise alike."""
+        found = []
+        for name in dict.fromkeys(WHOLE.findall(" ".join(lines))):
+            link = self.link(name)
+            text = text_of(link.removeprefix("../../")) if link.endswith(".antt") else ""
+            record = re.search(rf"^( *)pub record {name} .*\n(?:\1 +.*\n)*", text, re.M)
+            if record:
+                fields = textwrap.dedent(record.group()).replace("pub ", "").rstrip("\n").split("\n")
+                found += [f"**`{name}`**", "", "```antt", *fields, "```", ""]
+        return found
 
 
 def explained():
