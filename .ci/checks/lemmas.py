@@ -80,6 +80,10 @@ LEMMAS = {
         ("ix_atomic", "specs.laws.ArrayLaws", "byte_array_encoding", "An array of bytes is its own encoding.", "the encoding of a `[u8; N]` as its bytes"),
         ("ix_atomic", "specs.laws.EncodingLaws", "decodes_by", "Where the fields of a value are decoded, the value is.", "the promise of `decode`, of a type that is made of its fields"),
     ),
+    "What a queue has": (
+        ("ix_queue", "proofs.Members", "number_is_item", "A number that `contains` finds is an item.", "`IsTrue result → Contains queue.now.items number`"),
+        ("ix_queue", "proofs.Members", "item_is_found", "A number that is an item is found.", "`Contains queue.now.items number → IsTrue result`; with the other law, `IsTrue result ↔ Contains queue.now.items number`"),
+    ),
     "Rules over texts": (
         ("ix_semantic_string", "specs.laws.SampleRulesLaws", "without_trailing_slashes-fits", "A text without its trailing slashes fits where the text does.", "the length in `normal_accepted` of an `impl Rules` with this normal form"),
         ("ix_semantic_string", "specs.laws.SampleRulesLaws", "IsText-without_trailing_slashes", "A text without its trailing slashes is a text.", "the bytes in `normal_accepted`"),

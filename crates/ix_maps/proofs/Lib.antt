@@ -3,6 +3,7 @@ pub use Rattle.ix_queue.proofs.Pairs
 pub use Rattle.ix_queue.proofs.Rings
 pub use Rattle.ix_queue.proofs.Ranges
 pub use Rattle.ix_queue.proofs.Backs
+pub use Rattle.ix_queue.proofs.Members
 pub use Rattle.ix_queue.proofs.QueueCalls
 pub use Rattle.ix_queue.proofs.QueueDrains
 pub use Rattle.ix_queue.proofs.QueueOrders

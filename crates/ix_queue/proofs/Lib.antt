@@ -1,4 +1,5 @@
 pub mod Backs
+pub mod Members
 pub mod Pairs
 pub mod QueueCalls
 pub mod QueueClones
