@@ -1,4 +1,4 @@
-//! What a caller concludes from the contracts of calls, with no proof written.
+//! What a caller concludes from the contracts of calls, with no proof written, or one line.
 #![tactic(auto)]
 
 /// Structs in cells, and what holds of all values of a cell.
@@ -9,5 +9,7 @@ pub mod closures;
 pub mod counts;
 /// How many keys a map holds, and how many more fit.
 pub mod map_counts;
+/// What a queue has.
+pub mod members;
 /// Names as keys.
 pub mod words;
