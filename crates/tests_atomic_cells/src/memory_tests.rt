@@ -88,7 +88,11 @@ fn inline() -> Result<(), Fail> {
     let findings = Findings::new();
     for (found, wanted, cell) in [
         (size_of::<FixedSizeByteAtomic<u64, 8>>(), 64, "a number"),
-        (size_of::<FixedSizeByteAtomic<(u64, bool), 9>>(), 72, "a pair"),
+        (
+            size_of::<FixedSizeByteAtomic<(u64, bool), 9>>(),
+            72,
+            "a pair",
+        ),
     ] {
         findings.expect_same(found, wanted, cell);
     }
