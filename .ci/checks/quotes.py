@@ -15,7 +15,7 @@ import re
 from crates import ROOT, read, write_text
 
 BLOCK = re.compile(r"^((?:<!-- ([^\n]*?) -->\n)?```(?:rust|antt)[^\n]*\n)(.*?)^(```)$", re.M | re.S)
-ALONE = re.compile(r"^<!-- (crates/[^\n]*?) -->\n(?!```)", re.M)
+ALONE = re.compile(r"^<!-- (crates/[^\n]*?) -->\n(?!```(?:rust|antt))", re.M)
 
 
 def item(lines, name):
