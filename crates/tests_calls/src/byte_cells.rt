@@ -12,9 +12,9 @@ use std::test::Fail;
 fn the_bytes_of_a_number(rt: HostRuntime) {
     let mut bytes = [0; 2];
     258u16.encode(&mut bytes);
-    assert_eq!(rt; bytes, [2, 1]);
-    assert_eq!(rt; u16::decode(&bytes), Some(258));
-    assert_eq!(rt; bool::decode(&[2]), None);
+    assert!(rt; bytes == [2, 1]);
+    assert!(rt; u16::decode(&bytes) == Some(258));
+    assert!(rt; bool::decode(&[2]) == None);
 }
 
 // Shows: FixedSizeByteAtomic
@@ -23,7 +23,7 @@ fn the_bytes_of_a_number(rt: HostRuntime) {
 fn a_cell_that_is_stored_inline(rt: HostRuntime) {
     let cell = FixedSizeByteAtomic::<u64, 8>::new(1);
     cell.write(2);
-    assert_eq!(rt; cell.read().assume_consistent(), Some(2));
+    assert!(rt; cell.read().assume_consistent() == Some(2));
 }
 
 // Shows: RelocatableByteAtomic, RelocatableByteAtomic::new_uninit, RelocatableByteAtomic::write
@@ -33,7 +33,7 @@ fn a_cell_in_memory_of_an_allocator(rt: HostRuntime) -> Result<(), Fail> {
     let uninit = RelocatableByteAtomic::<u64, 8>::new_uninit();
     let cell = uninit.init(rt.alloc(), 1)?;
     cell.write(2);
-    assert_eq!(rt; cell.read().assume_consistent(), Some(2));
+    assert!(rt; cell.read().assume_consistent() == Some(2));
     Ok(())
 }
 
@@ -45,18 +45,15 @@ fn a_cell_that_is_made_in_two_steps(rt: HostRuntime) -> Result<(), Fail> {
         Ok(cell) => cell,
         Err(error) => error.into_uninit().init(rt.alloc(), true)?, // once more
     };
-    assert_eq!(rt; cell.read().assume_consistent(), Some(true));
+    assert!(rt; cell.read().assume_consistent() == Some(true));
     Ok(())
 }
 
 // Shows: MaybeTorn, MaybeTorn::new, MaybeTorn::assume_consistent
 #[test]
 fn bytes_that_were_read_may_be_no_value(rt: HostRuntime) {
-    assert_eq!(rt;
-        MaybeTorn::<bool, 1>::new([1]).assume_consistent(),
-        Some(true)
-    );
-    assert_eq!(rt; MaybeTorn::<bool, 1>::new([2]).assume_consistent(), None);
+    assert!(rt; MaybeTorn::<bool, 1>::new([1]).assume_consistent() == Some(true));
+    assert!(rt; MaybeTorn::<bool, 1>::new([2]).assume_consistent() == None);
 }
 
 // Shows: ix_atomic::byte_atomic::encode_pair, ix_atomic::byte_atomic::decode_pair
@@ -64,8 +61,8 @@ fn bytes_that_were_read_may_be_no_value(rt: HostRuntime) {
 fn two_values_one_behind_the_other(rt: HostRuntime) {
     let mut bytes = [0; 3];
     encode_pair(&1u8, &258u16, &mut bytes);
-    assert_eq!(rt; bytes, [1, 2, 1]);
-    assert_eq!(rt; decode_pair::<u8, u16>(&bytes), Some((1, 258)));
+    assert!(rt; bytes == [1, 2, 1]);
+    assert!(rt; decode_pair::<u8, u16>(&bytes) == Some((1, 258)));
 }
 
 // Shows: ix_atomic::byte_atomic::encode_triple, ix_atomic::byte_atomic::decode_triple
@@ -73,11 +70,8 @@ fn two_values_one_behind_the_other(rt: HostRuntime) {
 fn three_values_one_behind_the_other(rt: HostRuntime) {
     let mut bytes = [0; 4];
     encode_triple(&true, &7u8, &258u16, &mut bytes);
-    assert_eq!(rt; bytes, [1, 7, 2, 1]);
-    assert_eq!(rt;
-        decode_triple::<bool, u8, u16>(&bytes),
-        Some((true, 7, 258))
-    );
+    assert!(rt; bytes == [1, 7, 2, 1]);
+    assert!(rt; decode_triple::<bool, u8, u16>(&bytes) == Some((true, 7, 258)));
 }
 
 // Shows: ix_atomic::byte_atomic::encode_array, ix_atomic::byte_atomic::decode_array
@@ -85,17 +79,17 @@ fn three_values_one_behind_the_other(rt: HostRuntime) {
 fn the_values_of_an_array(rt: HostRuntime) {
     let mut bytes = [0; 4];
     encode_array(&[1u16, 258], &mut bytes);
-    assert_eq!(rt; bytes, [1, 0, 2, 1]);
-    assert_eq!(rt; decode_array::<u16, 2>(&bytes), Some([1, 258]));
+    assert!(rt; bytes == [1, 0, 2, 1]);
+    assert!(rt; decode_array::<u16, 2>(&bytes) == Some([1, 258]));
 }
 
 // Shows: ix_atomic::byte_atomic::pack_word, ix_atomic::byte_atomic::unpack_word
 #[test]
 fn one_number_of_up_to_eight_bytes(rt: HostRuntime) {
-    assert_eq!(rt; pack_word(&[4, 6]), 1540); // 4 + 256 * 6
+    assert!(rt; pack_word(&[4, 6]) == 1540); // 4 + 256 * 6
     let mut bytes = [0; 2];
     unpack_word(1540, &mut bytes);
-    assert_eq!(rt; bytes, [4, 6]);
+    assert!(rt; bytes == [4, 6]);
 }
 
 // Shows: AtomicCopy for i32, AtomicCopy for usize, AtomicCopy for u128
@@ -103,16 +97,16 @@ fn one_number_of_up_to_eight_bytes(rt: HostRuntime) {
 fn the_bytes_of_numbers_of_other_sizes(rt: HostRuntime) {
     let mut bytes = [0; 4];
     (-2i32).encode(&mut bytes);
-    assert_eq!(rt; bytes, [254, 255, 255, 255]);
-    assert_eq!(rt; usize::decode(&[7, 0, 0, 0, 0, 0, 0, 0]), Some(7));
-    assert_eq!(rt; u128::decode(&[255; 16]), Some(u128::MAX));
+    assert!(rt; bytes == [254, 255, 255, 255]);
+    assert!(rt; usize::decode(&[7, 0, 0, 0, 0, 0, 0, 0]) == Some(7));
+    assert!(rt; u128::decode(&[255; 16]) == Some(u128::MAX));
 }
 
 // Shows: AtomicCopy for (A, B), AtomicCopy for [T; N], AtomicCopy for StaticString
 #[test]
 fn a_cell_of_several_values(rt: HostRuntime) {
     let cell = FixedSizeByteAtomic::<(u8, [u32; 2]), 9>::new((1, [2, 3]));
-    assert_eq!(rt; cell.read().assume_consistent(), Some((1, [2, 3])));
+    assert!(rt; cell.read().assume_consistent() == Some((1, [2, 3])));
     let name = FixedSizeByteAtomic::<StaticString<8>, 8>::new(StaticString::new());
-    assert_eq!(rt; name.read().assume_consistent(), Some(StaticString::new()));
+    assert!(rt; name.read().assume_consistent() == Some(StaticString::new()));
 }

@@ -37,9 +37,6 @@ fn a_version_is_raised_before_and_after_a_write(rt: HostRuntime) {
 // Shows: ix_atomic::byte_atomic::steps::next_versions
 #[test]
 fn the_versions_during_a_write_and_after_it(rt: HostRuntime) {
-    assert_eq!(rt; next_versions(4), Ok((5, 6)));
-    assert_eq!(rt;
-        next_versions(18_446_744_073_709_551_614),
-        Err(VersionsUsedUp)
-    );
+    assert!(rt; next_versions(4) == Ok((5, 6)));
+    assert!(rt; next_versions(18_446_744_073_709_551_614) == Err(VersionsUsedUp));
 }

@@ -11,8 +11,8 @@ fn a_vector_of_keys(rt: HostRuntime) -> Result<(), Fail> {
     if let Some(key) = services.insert("web") {
         keys.push(key)?;
     }
-    assert_eq!(rt; keys.len(), 1);
-    assert_eq!(rt; services.get(keys[0]), Some(&"web"));
+    assert!(rt; keys.len() == 1);
+    assert!(rt; services.get(keys[0]) == Some(&"web"));
     Ok(())
 }
 
@@ -23,7 +23,7 @@ fn a_vector_of_numbers_of_a_table(rt: HostRuntime) -> Result<(), Fail> {
     if let Some(number) = sessions.insert("ann") {
         numbers.push(number)?;
     }
-    assert_eq!(rt; numbers.pop(), Some(SlotTableKey::new(0)));
+    assert!(rt; numbers.pop() == Some(SlotTableKey::new(0)));
     Ok(())
 }
 
@@ -34,8 +34,8 @@ fn a_vector_of_queues(rt: HostRuntime) -> Result<(), Fail> {
     for queue in &mut queues {
         assert!(rt; queue.push(7));
     }
-    assert_eq!(rt; queues.len(), 1);
-    assert_eq!(rt; queues[0].peek(), Some(&7));
+    assert!(rt; queues.len() == 1);
+    assert!(rt; queues[0].peek() == Some(&7));
     Ok(())
 }
 
@@ -43,7 +43,7 @@ fn a_vector_of_queues(rt: HostRuntime) -> Result<(), Fail> {
 fn a_vector_of_names_which_have_no_default(rt: HostRuntime) -> Result<(), Fail> {
     let mut groups = StaticVec::<Option<GroupName>, 4>::new();
     groups.push(Some(GroupName::new(b"staff")?))?;
-    assert_eq!(rt; groups.pop(), Some(Some(GroupName::new(b"staff")?)));
+    assert!(rt; groups.pop() == Some(Some(GroupName::new(b"staff")?)));
     Ok(())
 }
 
@@ -53,7 +53,7 @@ fn a_vector_of_references_which_have_no_default(rt: HostRuntime) -> Result<(), F
     let mut references = StaticVec::<Option<&u32>, 2>::new();
     references.push(Some(&one))?;
     references.push(Some(&two))?;
-    assert_eq!(rt; references.pop(), Some(Some(&2)));
+    assert!(rt; references.pop() == Some(Some(&2)));
     Ok(())
 }
 
@@ -63,6 +63,6 @@ fn an_allocated_vector_of_references(rt: HostRuntime) -> Result<(), Fail> {
     let mut references = PolymorphicVec::<&u32>::new(rt.alloc(), 2)?;
     references.push(&one)?;
     references.push(&two)?;
-    assert_eq!(rt; references.as_slice(), [&1, &2].as_slice());
+    assert!(rt; references.as_slice() == [&1, &2].as_slice());
     Ok(())
 }

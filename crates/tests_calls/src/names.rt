@@ -8,9 +8,9 @@ use std::test::Fail;
 #[test]
 fn a_name_that_obeys_the_rules(rt: HostRuntime) -> Result<(), Fail> {
     let name = GroupName::new(b"ab-1")?;
-    assert_eq!(rt; name.as_str(), "ab-1");
-    assert_eq!(rt; GroupName::new(b"1a"), Err(InvalidContent));
-    assert_eq!(rt; GroupName::new(&[b'a'; 32]), Err(ExceedsMaximumLength));
+    assert!(rt; name.as_str() == "ab-1");
+    assert!(rt; GroupName::new(b"1a") == Err(InvalidContent));
+    assert!(rt; GroupName::new(&[b'a'; 32]) == Err(ExceedsMaximumLength));
     Ok(())
 }
 
@@ -18,10 +18,10 @@ fn a_name_that_obeys_the_rules(rt: HostRuntime) -> Result<(), Fail> {
 #[test]
 fn a_change_that_breaks_the_rules_is_refused(rt: HostRuntime) -> Result<(), Fail> {
     let mut name = GroupName::new(b"staff")?;
-    assert_eq!(rt; name.push_bytes(b"-2"), Ok(()));
-    assert_eq!(rt; name.insert(0, b'1'), Err(InvalidContent)); // no name begins with a digit
-    assert_eq!(rt; name.truncate(0), Err(InvalidContent)); // no name is empty
-    assert_eq!(rt; name.as_str(), "staff-2");
+    assert!(rt; name.push_bytes(b"-2") == Ok(()));
+    assert!(rt; name.insert(0, b'1') == Err(InvalidContent)); // no name begins with a digit
+    assert!(rt; name.truncate(0) == Err(InvalidContent)); // no name is empty
+    assert!(rt; name.as_str() == "staff-2");
     Ok(())
 }
 
@@ -29,7 +29,7 @@ fn a_change_that_breaks_the_rules_is_refused(rt: HostRuntime) -> Result<(), Fail
 #[test]
 fn a_name_of_the_bytes_before_a_zero(rt: HostRuntime) -> Result<(), Fail> {
     let name = GroupName::from_c_str(b"staff\0\0\0")?;
-    assert_eq!(rt; name.as_str(), "staff");
+    assert!(rt; name.as_str() == "staff");
     Ok(())
 }
 
@@ -38,9 +38,9 @@ fn a_name_of_the_bytes_before_a_zero(rt: HostRuntime) -> Result<(), Fail> {
 fn a_text_that_is_known_to_be_accepted(rt: HostRuntime) -> Result<(), Fail> {
     let name = GroupName::new(b"staff")?;
     let same = GroupName::new_unchecked(name.as_bytes());
-    assert_eq!(rt; same, name);
+    assert!(rt; same == name);
     let same = GroupName::new_unchecked_const(name.as_bytes());
-    assert_eq!(rt; same, name);
+    assert!(rt; same == name);
     Ok(())
 }
 
@@ -48,10 +48,10 @@ fn a_text_that_is_known_to_be_accepted(rt: HostRuntime) -> Result<(), Fail> {
 #[test]
 fn the_bytes_of_a_name(rt: HostRuntime) -> Result<(), Fail> {
     let name = GroupName::new(b"staff")?;
-    assert_eq!(rt; name.as_bytes(), b"staff".as_slice());
-    assert_eq!(rt; name.as_bytes_const(), b"staff".as_slice());
-    assert_eq!(rt; name.as_str(), "staff");
-    assert_eq!(rt; name.as_string().capacity(), 31);
+    assert!(rt; name.as_bytes() == b"staff".as_slice());
+    assert!(rt; name.as_bytes_const() == b"staff".as_slice());
+    assert!(rt; name.as_str() == "staff");
+    assert!(rt; name.as_string().capacity() == 31);
     Ok(())
 }
 
@@ -60,12 +60,12 @@ fn the_bytes_of_a_name(rt: HostRuntime) -> Result<(), Fail> {
 #[test]
 fn how_long_a_name_is_and_may_be(rt: HostRuntime) -> Result<(), Fail> {
     let name = GroupName::new(b"staff")?;
-    assert_eq!(rt; name.len(), 5);
-    assert_eq!(rt; name.capacity(), 31);
-    assert_eq!(rt; GroupName::max_len(), 31);
+    assert!(rt; name.len() == 5);
+    assert!(rt; name.capacity() == 31);
+    assert!(rt; GroupName::max_len() == 31);
     assert!(rt; !name.is_empty());
     assert!(rt; !name.is_full());
-    assert_eq!(rt; name.remaining_capacity(), 26);
+    assert!(rt; name.remaining_capacity() == 26);
     Ok(())
 }
 
@@ -73,9 +73,9 @@ fn how_long_a_name_is_and_may_be(rt: HostRuntime) -> Result<(), Fail> {
 #[test]
 fn where_bytes_occur_in_a_name(rt: HostRuntime) -> Result<(), Fail> {
     let name = GroupName::new(b"a-b-c")?;
-    assert_eq!(rt; name.find(b"-"), Some(1));
-    assert_eq!(rt; name.rfind(b"-"), Some(3));
-    assert_eq!(rt; name.find(b"--"), None);
+    assert!(rt; name.find(b"-") == Some(1));
+    assert!(rt; name.rfind(b"-") == Some(3));
+    assert!(rt; name.find(b"--") == None);
     Ok(())
 }
 
@@ -83,10 +83,10 @@ fn where_bytes_occur_in_a_name(rt: HostRuntime) -> Result<(), Fail> {
 #[test]
 fn a_name_is_extended(rt: HostRuntime) -> Result<(), Fail> {
     let mut name = GroupName::new(b"staff")?;
-    assert_eq!(rt; name.push_bytes(b"-2"), Ok(()));
-    assert_eq!(rt; name.push(b'A'), Err(InvalidContent));
-    assert_eq!(rt; name.push(b'a'), Ok(()));
-    assert_eq!(rt; name.as_str(), "staff-2a");
+    assert!(rt; name.push_bytes(b"-2") == Ok(()));
+    assert!(rt; name.push(b'A') == Err(InvalidContent));
+    assert!(rt; name.push(b'a') == Ok(()));
+    assert!(rt; name.as_str() == "staff-2a");
     Ok(())
 }
 
@@ -94,10 +94,10 @@ fn a_name_is_extended(rt: HostRuntime) -> Result<(), Fail> {
 #[test]
 fn bytes_are_inserted_into_a_name(rt: HostRuntime) -> Result<(), Fail> {
     let mut name = GroupName::new(b"staff")?;
-    assert_eq!(rt; name.insert(0, b'1'), Err(InvalidContent));
-    assert_eq!(rt; name.insert(0, b'a'), Ok(()));
-    assert_eq!(rt; name.insert_bytes(0, b"x-"), Ok(()));
-    assert_eq!(rt; name.as_str(), "x-astaff");
+    assert!(rt; name.insert(0, b'1') == Err(InvalidContent));
+    assert!(rt; name.insert(0, b'a') == Ok(()));
+    assert!(rt; name.insert_bytes(0, b"x-") == Ok(()));
+    assert!(rt; name.as_str() == "x-astaff");
     Ok(())
 }
 
@@ -106,17 +106,17 @@ fn bytes_are_inserted_into_a_name(rt: HostRuntime) -> Result<(), Fail> {
 fn a_path_accepts_each_text_that_fits(rt: HostRuntime) {
     let mut path = Semantic::<TrailingSlashRules, 255>::default();
     path.insert_bytes_unchecked(0, &[47]);
-    assert_eq!(rt; path.as_str(), "/");
+    assert!(rt; path.as_str() == "/");
 }
 
 // Shows: Semantic::pop, Semantic::remove
 #[test]
 fn bytes_of_a_name_are_removed_one_by_one(rt: HostRuntime) -> Result<(), Fail> {
     let mut name = GroupName::new(b"a-1")?;
-    assert_eq!(rt; name.pop(), Ok(Some(b'1')));
-    assert_eq!(rt; name.remove(9), Ok(None));
-    assert_eq!(rt; name.remove(0), Err(InvalidContent)); // "-" is no name
-    assert_eq!(rt; name.as_str(), "a-");
+    assert!(rt; name.pop() == Ok(Some(b'1')));
+    assert!(rt; name.remove(9) == Ok(None));
+    assert!(rt; name.remove(0) == Err(InvalidContent)); // "-" is no name
+    assert!(rt; name.as_str() == "a-");
     Ok(())
 }
 
@@ -124,9 +124,9 @@ fn bytes_of_a_name_are_removed_one_by_one(rt: HostRuntime) -> Result<(), Fail> {
 #[test]
 fn a_range_of_a_name_is_removed(rt: HostRuntime) -> Result<(), Fail> {
     let mut name = GroupName::new(b"abc-1")?;
-    assert_eq!(rt; name.remove_range(0, 3), Err(InvalidContent));
-    assert_eq!(rt; name.remove_range(1, 3), Ok(()));
-    assert_eq!(rt; name.as_str(), "a1");
+    assert!(rt; name.remove_range(0, 3) == Err(InvalidContent));
+    assert!(rt; name.remove_range(1, 3) == Ok(()));
+    assert!(rt; name.as_str() == "a1");
     Ok(())
 }
 
@@ -136,10 +136,10 @@ fn the_bytes_of_a_name_of_which_the_answer_is_true_are_removed(
     rt: HostRuntime,
 ) -> Result<(), Fail> {
     let mut name = GroupName::new(b"a-b-c")?;
-    assert_eq!(rt; name.retain(|byte| byte == b'-'), Ok(()));
-    assert_eq!(rt; name.as_str(), "abc");
-    assert_eq!(rt; name.retain(|_| true), Err(InvalidContent)); // no name is empty
-    assert_eq!(rt; name.as_str(), "abc");
+    assert!(rt; name.retain(|byte| byte == b'-') == Ok(()));
+    assert!(rt; name.as_str() == "abc");
+    assert!(rt; name.retain(|_| true) == Err(InvalidContent)); // no name is empty
+    assert!(rt; name.as_str() == "abc");
     Ok(())
 }
 
@@ -147,11 +147,11 @@ fn the_bytes_of_a_name_of_which_the_answer_is_true_are_removed(
 #[test]
 fn the_start_and_the_end_of_a_name_are_removed(rt: HostRuntime) -> Result<(), Fail> {
     let mut name = GroupName::new(b"old-staff-2")?;
-    assert_eq!(rt; name.strip_prefix(b"old-"), Ok(true));
-    assert_eq!(rt; name.strip_prefix(b"old-"), Ok(false));
-    assert_eq!(rt; name.strip_suffix(b"-2"), Ok(true));
-    assert_eq!(rt; name.strip_suffix(b"staff"), Err(InvalidContent));
-    assert_eq!(rt; name.as_str(), "staff");
+    assert!(rt; name.strip_prefix(b"old-") == Ok(true));
+    assert!(rt; name.strip_prefix(b"old-") == Ok(false));
+    assert!(rt; name.strip_suffix(b"-2") == Ok(true));
+    assert!(rt; name.strip_suffix(b"staff") == Err(InvalidContent));
+    assert!(rt; name.as_str() == "staff");
     Ok(())
 }
 
@@ -159,9 +159,9 @@ fn the_start_and_the_end_of_a_name_are_removed(rt: HostRuntime) -> Result<(), Fa
 #[test]
 fn a_name_is_shortened(rt: HostRuntime) -> Result<(), Fail> {
     let mut name = GroupName::new(b"staff")?;
-    assert_eq!(rt; name.truncate(2), Ok(()));
-    assert_eq!(rt; name.truncate(0), Err(InvalidContent));
-    assert_eq!(rt; name.as_str(), "st");
+    assert!(rt; name.truncate(2) == Ok(()));
+    assert!(rt; name.truncate(0) == Err(InvalidContent));
+    assert!(rt; name.as_str() == "st");
     Ok(())
 }
 
@@ -169,8 +169,8 @@ fn a_name_is_shortened(rt: HostRuntime) -> Result<(), Fail> {
 #[test]
 fn the_text_that_stands_for_all_that_mean_the_same(rt: HostRuntime) -> Result<(), Fail> {
     let path = Semantic::<TrailingSlashRules, 255>::new(b"/tmp//")?;
-    assert_eq!(rt; path.normalize().as_str(), "/tmp");
-    assert_eq!(rt; path.as_str(), "/tmp//");
+    assert!(rt; path.normalize().as_str() == "/tmp");
+    assert!(rt; path.as_str() == "/tmp//");
     assert!(rt; path.eq_str("/tmp"));
     Ok(())
 }
@@ -190,8 +190,8 @@ fn a_path_is_compared_with_a_text(rt: HostRuntime) -> Result<(), Fail> {
 fn a_name_for_c(rt: HostRuntime) -> Result<(), Fail> {
     let name = GroupName::new(b"abc")?;
     let mut out = [255; 5];
-    assert_eq!(rt; name.copy_with_nul(&mut out), Some(4));
-    assert_eq!(rt; out, [97, 98, 99, 0, 255]);
+    assert!(rt; name.copy_with_nul(&mut out) == Some(4));
+    assert!(rt; out == [97, 98, 99, 0, 255]);
     Ok(())
 }
 
@@ -200,6 +200,6 @@ fn a_name_for_c(rt: HostRuntime) -> Result<(), Fail> {
 fn a_name_as_a_text_of_std(rt: HostRuntime) -> Result<(), Fail> {
     let name = GroupName::new(b"staff")?;
     let text = name.to_text(rt.alloc())?;
-    assert_eq!(rt; text.as_str(), "staff");
+    assert!(rt; text.as_str() == "staff");
     Ok(())
 }

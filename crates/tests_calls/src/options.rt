@@ -7,11 +7,11 @@ use std::test::Fail;
 #[test]
 fn an_option_of_std_and_back(rt: HostRuntime) {
     let option = RelocatableOption::from(Some(80));
-    assert_eq!(rt; option, RelocatableOption::Some(80));
-    assert_eq!(rt; option.to_option(), Some(80));
-    assert_eq!(rt; Option::from(option), Some(80));
+    assert!(rt; option == RelocatableOption::Some(80));
+    assert!(rt; option.to_option() == Some(80));
+    assert!(rt; Option::from(option) == Some(80));
     let nothing: RelocatableOption<u64> = RelocatableOption::None;
-    assert_eq!(rt; nothing.to_option(), None);
+    assert!(rt; nothing.to_option() == None);
 }
 
 // Shows: RelocatableOption::is_some, RelocatableOption::is_none, Default for RelocatableOption
@@ -25,7 +25,7 @@ fn whether_there_is_a_value(rt: HostRuntime) {
 #[test]
 fn the_value_is_borrowed(rt: HostRuntime) {
     let port = RelocatableOption::Some(80);
-    assert_eq!(rt; port.as_option_ref(), Some(&80));
+    assert!(rt; port.as_option_ref() == Some(&80));
     assert!(rt; port.as_ref() == RelocatableOption::Some(&80));
 }
 
@@ -36,11 +36,11 @@ fn the_value_is_changed_in_its_place(rt: HostRuntime) {
     if let Some(value) = port.as_option_mut() {
         *value = 443;
     }
-    assert_eq!(rt; port, RelocatableOption::Some(443));
+    assert!(rt; port == RelocatableOption::Some(443));
     if let RelocatableOption::Some(value) = port.as_mut() {
         *value = 22;
     }
-    assert_eq!(rt; port, RelocatableOption::Some(22));
+    assert!(rt; port == RelocatableOption::Some(22));
 }
 
 // Shows: RelocatableOption::as_deref, RelocatableOption::as_deref_mut
@@ -58,9 +58,9 @@ fn what_the_value_dereferences_to(rt: HostRuntime) -> Result<(), Fail> {
 #[test]
 fn the_value_is_known_to_be_there(rt: HostRuntime) {
     let port = RelocatableOption::Some(80);
-    assert_eq!(rt; port.unwrap(), 80);
-    assert_eq!(rt; port.expect("it was set"), 80);
-    assert_eq!(rt; port.unwrap_unchecked(), 80);
+    assert!(rt; port.unwrap() == 80);
+    assert!(rt; port.expect("it was set") == 80);
+    assert!(rt; port.unwrap_unchecked() == 80);
 }
 
 // Shows: RelocatableOption::unwrap_or, RelocatableOption::unwrap_or_default
@@ -69,20 +69,20 @@ fn the_value_is_known_to_be_there(rt: HostRuntime) {
 fn another_value_in_place_of_none(rt: HostRuntime) {
     let port = RelocatableOption::Some(80);
     let nothing: RelocatableOption<u64> = RelocatableOption::None;
-    assert_eq!(rt; port.unwrap_or(22), 80);
-    assert_eq!(rt; nothing.unwrap_or(22), 22);
-    assert_eq!(rt; nothing.unwrap_or_default(), 0);
-    assert_eq!(rt; nothing.unwrap_or_else(|| 443), 443);
+    assert!(rt; port.unwrap_or(22) == 80);
+    assert!(rt; nothing.unwrap_or(22) == 22);
+    assert!(rt; nothing.unwrap_or_default() == 0);
+    assert!(rt; nothing.unwrap_or_else(|| 443) == 443);
 }
 
 // Shows: RelocatableOption::map, RelocatableOption::map_or
 #[test]
 fn what_a_function_returns_of_the_value(rt: HostRuntime) {
     let port = RelocatableOption::Some(80u64);
-    assert_eq!(rt; port.map(|port| port / 2), RelocatableOption::Some(40));
-    assert_eq!(rt; port.map_or(0, |port| port / 4), 20);
+    assert!(rt; port.map(|port| port / 2) == RelocatableOption::Some(40));
+    assert!(rt; port.map_or(0, |port| port / 4) == 20);
     let nothing: RelocatableOption<u64> = RelocatableOption::None;
-    assert_eq!(rt; nothing.map_or(0, |port| port / 4), 0);
+    assert!(rt; nothing.map_or(0, |port| port / 4) == 0);
 }
 
 // Shows: RelocatableOption::inspect
@@ -90,8 +90,8 @@ fn what_a_function_returns_of_the_value(rt: HostRuntime) {
 fn the_value_is_looked_at_on_its_way(rt: HostRuntime) {
     let mut seen = 0;
     let port = RelocatableOption::Some(80).inspect(|port| seen = *port);
-    assert_eq!(rt; seen, 80);
-    assert_eq!(rt; port, RelocatableOption::Some(80));
+    assert!(rt; seen == 80);
+    assert!(rt; port == RelocatableOption::Some(80));
 }
 
 // Shows: RelocatableOption::and_then
@@ -101,22 +101,16 @@ fn an_option_of_the_value(rt: HostRuntime) {
         0 => RelocatableOption::Some(number / 2),
         _ => RelocatableOption::None,
     };
-    assert_eq!(rt;
-        RelocatableOption::Some(80).and_then(half),
-        RelocatableOption::Some(40)
-    );
-    assert_eq!(rt;
-        RelocatableOption::Some(5).and_then(half),
-        RelocatableOption::None
-    );
+    assert!(rt; RelocatableOption::Some(80).and_then(half) == RelocatableOption::Some(40));
+    assert!(rt; RelocatableOption::Some(5).and_then(half) == RelocatableOption::None);
 }
 
 // Shows: RelocatableOption::filter, RelocatableOption::is_some_and
 #[test]
 fn a_value_that_is_tested(rt: HostRuntime) {
     let port = RelocatableOption::Some(80u64);
-    assert_eq!(rt; port.filter(|port| *port < 1024), port);
-    assert_eq!(rt; port.filter(|port| *port > 1024), RelocatableOption::None);
+    assert!(rt; port.filter(|port| *port < 1024) == port);
+    assert!(rt; port.filter(|port| *port > 1024) == RelocatableOption::None);
     assert!(rt; port.is_some_and(|port| port < 1024));
 }
 
@@ -125,29 +119,26 @@ fn a_value_that_is_tested(rt: HostRuntime) {
 fn none_becomes_an_error(rt: HostRuntime) {
     let port = RelocatableOption::Some(80);
     let nothing: RelocatableOption<u64> = RelocatableOption::None;
-    assert_eq!(rt; port.ok_or("no port"), Ok(80));
-    assert_eq!(rt; nothing.ok_or("no port"), Err("no port"));
+    assert!(rt; port.ok_or("no port") == Ok(80));
+    assert!(rt; nothing.ok_or("no port") == Err("no port"));
 }
 
 // Shows: RelocatableOption::zip
 #[test]
 fn two_values_or_none(rt: HostRuntime) {
     let port = RelocatableOption::Some(80);
-    assert_eq!(rt;
-        port.zip(RelocatableOption::Some('a')),
-        RelocatableOption::Some((80, 'a'))
-    );
+    assert!(rt; port.zip(RelocatableOption::Some('a')) == RelocatableOption::Some((80, 'a')));
     let nothing: RelocatableOption<char> = RelocatableOption::None;
-    assert_eq!(rt; port.zip(nothing), RelocatableOption::None);
+    assert!(rt; port.zip(nothing) == RelocatableOption::None);
 }
 
 // Shows: RelocatableOption::replace, RelocatableOption::take
 #[test]
 fn a_value_is_put_in_and_taken_out(rt: HostRuntime) {
     let mut port = RelocatableOption::None;
-    assert_eq!(rt; port.replace(80), RelocatableOption::None);
-    assert_eq!(rt; port.replace(443), RelocatableOption::Some(80));
-    assert_eq!(rt; port.take(), RelocatableOption::Some(443));
+    assert!(rt; port.replace(80) == RelocatableOption::None);
+    assert!(rt; port.replace(443) == RelocatableOption::Some(80));
+    assert!(rt; port.take() == RelocatableOption::Some(443));
     assert!(rt; port.is_none());
 }
 
@@ -155,11 +146,8 @@ fn a_value_is_put_in_and_taken_out(rt: HostRuntime) {
 #[test]
 fn a_value_is_taken_if_it_passes_a_test(rt: HostRuntime) {
     let mut port = RelocatableOption::Some(80);
-    assert_eq!(rt; port.take_if(|port| *port > 1024), RelocatableOption::None);
-    assert_eq!(rt;
-        port.take_if(|port| *port < 1024),
-        RelocatableOption::Some(80)
-    );
+    assert!(rt; port.take_if(|port| *port > 1024) == RelocatableOption::None);
+    assert!(rt; port.take_if(|port| *port < 1024) == RelocatableOption::Some(80));
     assert!(rt; port.is_none());
 }
 

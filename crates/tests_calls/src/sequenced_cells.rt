@@ -7,9 +7,9 @@ use std::test::Fail;
 #[test]
 fn a_value_is_written_and_read(rt: HostRuntime) -> Result<(), Fail> {
     let (cell, mut writer, mut reader) = SequencedByteAtomic::<u64, 8>::new(rt.alloc(), 7)?;
-    assert_eq!(rt; cell.try_write(&mut writer, 9), Ok(()));
-    assert_eq!(rt; cell.try_read(&mut reader), Ok(9));
-    assert_eq!(rt; cell.close(writer), Ok(9));
+    assert!(rt; cell.try_write(&mut writer, 9) == Ok(()));
+    assert!(rt; cell.try_read(&mut reader) == Ok(9));
+    assert!(rt; cell.close(writer) == Ok(9));
     Ok(())
 }
 
@@ -17,11 +17,11 @@ fn a_value_is_written_and_read(rt: HostRuntime) -> Result<(), Fail> {
 #[test]
 fn each_write_raises_the_version_by_two(rt: HostRuntime) -> Result<(), Fail> {
     let (cell, mut writer, mut reader) = SequencedByteAtomic::<u64, 8>::new(rt.alloc(), 7)?;
-    assert_eq!(rt; cell.version(&mut reader), 0);
-    assert_eq!(rt; cell.try_write(&mut writer, 9), Ok(()));
-    assert_eq!(rt; cell.version(&mut reader), 2);
-    assert_eq!(rt; cell.words(), 2); // one of the version, one of the value
-    assert_eq!(rt; cell.close(writer), Ok(9));
+    assert!(rt; cell.version(&mut reader) == 0);
+    assert!(rt; cell.try_write(&mut writer, 9) == Ok(()));
+    assert!(rt; cell.version(&mut reader) == 2);
+    assert!(rt; cell.words() == 2); // one of the version, one of the value
+    assert!(rt; cell.close(writer) == Ok(9));
     Ok(())
 }
 
@@ -29,9 +29,9 @@ fn each_write_raises_the_version_by_two(rt: HostRuntime) -> Result<(), Fail> {
 #[test]
 fn a_writer_reads_what_it_wrote(rt: HostRuntime) -> Result<(), Fail> {
     let (cell, mut writer, _reader) = SequencedByteAtomic::<u64, 8>::new(rt.alloc(), 7)?;
-    assert_eq!(rt; cell.try_write(&mut writer, 9), Ok(()));
-    assert_eq!(rt; cell.read_own(&mut writer), Ok(9));
-    assert_eq!(rt; cell.close(writer), Ok(9));
+    assert!(rt; cell.try_write(&mut writer, 9) == Ok(()));
+    assert!(rt; cell.read_own(&mut writer) == Ok(9));
+    assert!(rt; cell.close(writer) == Ok(9));
     Ok(())
 }
 
@@ -40,9 +40,9 @@ fn a_writer_reads_what_it_wrote(rt: HostRuntime) -> Result<(), Fail> {
 fn a_seat_for_another_reader(rt: HostRuntime) -> Result<(), Fail> {
     let (cell, mut writer, _reader) = SequencedByteAtomic::<u64, 8>::new(rt.alloc(), 7)?;
     let mut other = cell.reader(rt.alloc(), &mut writer).unwrap();
-    assert_eq!(rt; cell.try_read(&mut other), Ok(7));
+    assert!(rt; cell.try_read(&mut other) == Ok(7));
     cell.merge_reader(&mut writer, other);
-    assert_eq!(rt; cell.close(writer), Ok(7));
+    assert!(rt; cell.close(writer) == Ok(7));
     Ok(())
 }
 
@@ -51,8 +51,8 @@ fn a_seat_for_another_reader(rt: HostRuntime) -> Result<(), Fail> {
 fn a_seat_for_another_writer(rt: HostRuntime) -> Result<(), Fail> {
     let (cell, mut writer, _reader) = SequencedByteAtomic::<u64, 8>::new(rt.alloc(), 7)?;
     let mut other = cell.writer(rt.alloc(), &mut writer).unwrap();
-    assert_eq!(rt; cell.try_write(&mut other, 9), Ok(()));
+    assert!(rt; cell.try_write(&mut other, 9) == Ok(()));
     cell.merge(&mut writer, other);
-    assert_eq!(rt; cell.close(writer), Ok(9));
+    assert!(rt; cell.close(writer) == Ok(9));
     Ok(())
 }

@@ -60,8 +60,8 @@ fn a_struct_is_its_fields(rt: HostRuntime) {
         high: 2,
         mode: 258,
     };
-    assert_eq!(rt; settings.to_fields(), (1, 2, 258));
-    assert_eq!(rt; Settings::from_fields((1, 2, 258)), Some(settings));
+    assert!(rt; settings.to_fields() == (1, 2, 258));
+    assert!(rt; Settings::from_fields((1, 2, 258)) == Some(settings));
 }
 
 // Shows: Fields
@@ -71,9 +71,9 @@ fn a_struct_in_a_cell(rt: HostRuntime) -> Result<(), Fail> {
         rt.alloc(),
         Fields(SETTINGS),
     )?;
-    assert_eq!(rt; cell.try_write(&mut writer, Fields(FALLING)), Ok(()));
-    assert_eq!(rt; cell.try_read(&mut reader), Ok(Fields(FALLING)));
-    assert_eq!(rt; cell.close(writer), Ok(Fields(FALLING)));
+    assert!(rt; cell.try_write(&mut writer, Fields(FALLING)) == Ok(()));
+    assert!(rt; cell.try_read(&mut reader) == Ok(Fields(FALLING)));
+    assert!(rt; cell.close(writer) == Ok(Fields(FALLING)));
     Ok(())
 }
 
@@ -81,16 +81,16 @@ fn a_struct_in_a_cell(rt: HostRuntime) -> Result<(), Fail> {
 #[test]
 fn what_is_read_derefs_to_the_struct(rt: HostRuntime) {
     let stored = Fields::from(SETTINGS);
-    assert_eq!(rt; stored.mode, SETTINGS.mode);
-    assert_eq!(rt; *stored, SETTINGS);
+    assert!(rt; stored.mode == SETTINGS.mode);
+    assert!(rt; *stored == SETTINGS);
 }
 
 #[test]
 fn the_bytes_of_a_struct(rt: HostRuntime) {
     let mut bytes = [0; 4];
     Fields(SETTINGS).encode(&mut bytes);
-    assert_eq!(rt; bytes, [1, 2, 2, 1]);
-    assert_eq!(rt; Fields::decode(&bytes), Some(Fields(SETTINGS)));
+    assert!(rt; bytes == [1, 2, 2, 1]);
+    assert!(rt; Fields::decode(&bytes) == Some(Fields(SETTINGS)));
 }
 
 // Shows: ValueRule, ValueRule::is_held
@@ -114,8 +114,8 @@ fn all_values_of_a_cell_obey_a_rule(rt: HostRuntime) -> Result<(), Fail> {
         Fields(ordered),
     )?;
     let read = cell.try_read(&mut reader);
-    assert_eq!(rt; read.map(|Fields(read)| width(&read)), Ok(1));
-    assert_eq!(rt; cell.close(writer), Ok(Fields(ordered)));
+    assert!(rt; read.map(|Fields(read)| width(&read)) == Ok(1));
+    assert!(rt; cell.close(writer) == Ok(Fields(ordered)));
     Ok(())
 }
 
@@ -123,25 +123,24 @@ fn all_values_of_a_cell_obey_a_rule(rt: HostRuntime) -> Result<(), Fail> {
 #[test]
 fn the_value_that_obeys_a_rule(rt: HostRuntime) {
     let ordered = Ruled::<Settings, InOrder>::new(SETTINGS);
-    assert_eq!(rt; ordered.get(), SETTINGS);
+    assert!(rt; ordered.get() == SETTINGS);
 }
 
 // Shows: Ruled::try_new
 #[test]
 fn a_value_is_tested_once(rt: HostRuntime) {
     let ordered = Ruled::<Settings, InOrder>::try_new(SETTINGS);
-    assert_eq!(rt; ordered.map(|ordered| ordered.get()), Some(SETTINGS));
-    assert_eq!(rt; Ruled::<Settings, InOrder>::try_new(FALLING), None);
+    assert!(rt; ordered.map(|ordered| ordered.get()) == Some(SETTINGS));
+    assert!(rt; Ruled::<Settings, InOrder>::try_new(FALLING) == None);
 }
 
 #[test]
 fn bytes_of_no_ruled_value(rt: HostRuntime) {
     let mut bytes = [0; 4];
     Fields(FALLING).encode(&mut bytes);
-    assert_eq!(rt; Fields::<Ruled<Settings, InOrder>>::decode(&bytes), None);
+    assert!(rt; Fields::<Ruled<Settings, InOrder>>::decode(&bytes) == None);
     bytes = [1, 2, 2, 1];
-    assert_eq!(rt;
-        Fields::<Ruled<Settings, InOrder>>::decode(&bytes),
-        Some(Fields(Ruled::new(SETTINGS)))
+    assert!(rt;
+        Fields::<Ruled<Settings, InOrder>>::decode(&bytes) == Some(Fields(Ruled::new(SETTINGS)))
     );
 }

@@ -9,10 +9,10 @@ fn iter_yields_keys_with_their_values(rt: HostRuntime) -> Result<(), Fail> {
     map.insert(80, 'a')?;
     map.insert(22, 'b')?;
     let mut items = map.iter();
-    assert_eq!(rt; (items.len(), items.size_hint()), (2, (2, Some(2))));
-    assert_eq!(rt; items.next(), Some((&80, &'a')));
-    assert_eq!(rt; items.next(), Some((&22, &'b')));
-    assert_eq!(rt; items.next(), None);
+    assert!(rt; (items.len(), items.size_hint()) == (2, (2, Some(2))));
+    assert!(rt; items.next() == Some((&80, &'a')));
+    assert!(rt; items.next() == Some((&22, &'b')));
+    assert!(rt; items.next() == None);
     Ok(())
 }
 
@@ -26,7 +26,7 @@ fn a_loop_goes_through_a_map(rt: HostRuntime) -> Result<(), Fail> {
     for (port, name) in &map {
         last = Some((*port, *name));
     }
-    assert_eq!(rt; last, Some((22, 'b')));
+    assert!(rt; last == Some((22, 'b')));
     Ok(())
 }
 
@@ -37,7 +37,7 @@ fn a_loop_takes_a_map_apart(rt: HostRuntime) -> Result<(), Fail> {
     map.insert(80, 'a')?;
     map.insert(22, 'b')?;
     let mut items = map.into_iter();
-    assert_eq!(rt; (items.len(), items.size_hint()), (2, (2, Some(2))));
+    assert!(rt; (items.len(), items.size_hint()) == (2, (2, Some(2))));
     for (port, name) in items {
         assert!(rt; (port, name) == (80, 'a') || (port, name) == (22, 'b'));
     }
@@ -52,8 +52,8 @@ fn a_drain_takes_keys_and_values_out(rt: HostRuntime) -> Result<(), Fail> {
     map.insert(80, 'a')?;
     map.insert(22, 'b')?;
     let mut items = map.drain();
-    assert_eq!(rt; (items.len(), items.size_hint()), (2, (2, Some(2))));
-    assert_eq!(rt; items.next(), Some((80, 'a')));
+    assert!(rt; (items.len(), items.size_hint()) == (2, (2, Some(2))));
+    assert!(rt; items.next() == Some((80, 'a')));
     drop(items); // the key 22 and 'b' are dropped
     assert!(rt; map.is_empty());
     Ok(())
@@ -66,10 +66,10 @@ fn keys_come_in_slot_order(rt: HostRuntime) -> Result<(), Fail> {
     map.insert(80, 'a')?;
     map.insert(22, 'b')?;
     let mut keys = map.keys();
-    assert_eq!(rt; (keys.len(), keys.size_hint()), (2, (2, Some(2))));
-    assert_eq!(rt; keys.next(), Some(&80));
-    assert_eq!(rt; keys.next(), Some(&22));
-    assert_eq!(rt; keys.next(), None);
+    assert!(rt; (keys.len(), keys.size_hint()) == (2, (2, Some(2))));
+    assert!(rt; keys.next() == Some(&80));
+    assert!(rt; keys.next() == Some(&22));
+    assert!(rt; keys.next() == None);
     Ok(())
 }
 
@@ -80,10 +80,10 @@ fn values_come_in_slot_order_of_their_keys(rt: HostRuntime) -> Result<(), Fail> 
     map.insert(80, 'a')?;
     map.insert(22, 'b')?;
     let mut values = map.values();
-    assert_eq!(rt; (values.len(), values.size_hint()), (2, (2, Some(2))));
-    assert_eq!(rt; values.next(), Some(&'a'));
-    assert_eq!(rt; values.next(), Some(&'b'));
-    assert_eq!(rt; values.next(), None);
+    assert!(rt; (values.len(), values.size_hint()) == (2, (2, Some(2))));
+    assert!(rt; values.next() == Some(&'a'));
+    assert!(rt; values.next() == Some(&'b'));
+    assert!(rt; values.next() == None);
     Ok(())
 }
 
@@ -95,13 +95,13 @@ fn a_map_is_gone_through_from_both_ends(rt: HostRuntime) -> Result<(), Fail> {
     map.insert(22, 'b')?;
     map.insert(443, 'c')?;
     let mut items = map.iter();
-    assert_eq!(rt; items.next_back(), Some((&443, &'c')));
-    assert_eq!(rt; items.next(), Some((&80, &'a')));
-    assert_eq!(rt; items.next_back(), Some((&22, &'b')));
-    assert_eq!(rt; items.next(), None);
-    assert_eq!(rt; map.keys().rev().next(), Some(&443));
-    assert_eq!(rt; map.values().next_back(), Some(&'c'));
-    assert_eq!(rt; map.into_iter().rev().next(), Some((443, 'c')));
+    assert!(rt; items.next_back() == Some((&443, &'c')));
+    assert!(rt; items.next() == Some((&80, &'a')));
+    assert!(rt; items.next_back() == Some((&22, &'b')));
+    assert!(rt; items.next() == None);
+    assert!(rt; map.keys().rev().next() == Some(&443));
+    assert!(rt; map.values().next_back() == Some(&'c'));
+    assert!(rt; map.into_iter().rev().next() == Some((443, 'c')));
     Ok(())
 }
 
@@ -116,10 +116,10 @@ fn what_is_still_to_come_is_printed_and_cloned(rt: HostRuntime) -> Result<(), Fa
     items.next();
     let (keys, values) = (map.keys(), map.values());
     let text = format!(in rt.alloc(); "{items:?} {keys:?} {values:?}")?;
-    assert_eq!(rt; text.as_str(), "[(22, 'b')] [80, 22] ['a', 'b']");
+    assert!(rt; text.as_str() == "[(22, 'b')] [80, 22] ['a', 'b']");
     let (mut rest, keys, values) = (items.clone()?, keys.clone()?, values.clone()?);
-    assert_eq!(rt; rest.next(), Some((&22, &'b')));
-    assert_eq!(rt; (items.len(), keys.len(), values.len()), (1, 2, 2));
+    assert!(rt; rest.next() == Some((&22, &'b')));
+    assert!(rt; (items.len(), keys.len(), values.len()) == (1, 2, 2));
     Ok(())
 }
 
@@ -132,6 +132,6 @@ fn a_drain_prints_what_is_still_to_come(rt: HostRuntime) -> Result<(), Fail> {
     let mut items = map.drain();
     items.next();
     let text = format!(in rt.alloc(); "{items:?}")?;
-    assert_eq!(rt; text.as_str(), "[(22, 'b')]");
+    assert!(rt; text.as_str() == "[(22, 'b')]");
     Ok(())
 }

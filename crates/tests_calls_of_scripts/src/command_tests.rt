@@ -13,13 +13,10 @@ use std::test::Fail;
 #[test]
 fn one_command_has_one_reply(rt: HostRuntime) {
     let mut queue = FixedSizeQueue::<u64, 1>::new();
-    assert_eq!(rt; queue.run_command(QueueCommand::Push(7)), Reply::Bool(true));
-    assert_eq!(rt;
-        queue.run_command(QueueCommand::Push(8)),
-        Reply::Bool(false)
-    ); // full
-    assert_eq!(rt; queue.run_command(QueueCommand::Pop), Reply::Value(7));
-    assert_eq!(rt; queue.run_command(QueueCommand::Pop), Reply::None);
+    assert!(rt; queue.run_command(QueueCommand::Push(7)) == Reply::Bool(true));
+    assert!(rt; queue.run_command(QueueCommand::Push(8)) == Reply::Bool(false)); // full
+    assert!(rt; queue.run_command(QueueCommand::Pop) == Reply::Value(7));
+    assert!(rt; queue.run_command(QueueCommand::Pop) == Reply::None);
 }
 
 // Shows: QueueCommand, ix_commands::run_queue
@@ -33,8 +30,8 @@ fn commands_run_on_a_queue(rt: HostRuntime) -> Result<(), Fail> {
     ];
     let replies = run_queue(rt.alloc(), &mut queue, &commands)?;
     let wanted = [Reply::Bool(true), Reply::Value(7), Reply::Number(1)];
-    assert_eq!(rt; replies.as_slice(), wanted.as_slice());
-    assert_eq!(rt; queue.pop(), Some(8));
+    assert!(rt; replies.as_slice() == wanted.as_slice());
+    assert!(rt; queue.pop() == Some(8));
     Ok(())
 }
 
@@ -49,10 +46,7 @@ fn commands_run_on_a_vector(rt: HostRuntime) -> Result<(), Fail> {
     ];
     let replies = run_vector(rt.alloc(), &mut vector, &commands)?;
     let full = Reply::Error(ReplyError::InsertWouldExceedCapacity);
-    assert_eq!(rt;
-        replies.as_slice(),
-        [Reply::Done, full, Reply::Value(7)].as_slice()
-    );
+    assert!(rt; replies.as_slice() == [Reply::Done, full, Reply::Value(7)].as_slice());
     Ok(())
 }
 
@@ -67,8 +61,8 @@ fn commands_run_on_a_string(rt: HostRuntime) -> Result<(), Fail> {
     ];
     let replies = run_string(rt.alloc(), &mut string, &commands)?;
     let wanted = [Reply::Done, Reply::Key(2), Reply::Value(b'o')];
-    assert_eq!(rt; replies.as_slice(), wanted.as_slice());
-    assert_eq!(rt; string.as_str(), "hell");
+    assert!(rt; replies.as_slice() == wanted.as_slice());
+    assert!(rt; string.as_str() == "hell");
     Ok(())
 }
 
@@ -83,7 +77,7 @@ fn commands_run_on_a_slot_table(rt: HostRuntime) -> Result<(), Fail> {
     ];
     let replies = run_slot_table(rt.alloc(), &mut table, &commands)?;
     let wanted = [Reply::Key(0), Reply::Entry(0, 7), Reply::Value(7)];
-    assert_eq!(rt; replies.as_slice(), wanted.as_slice());
+    assert!(rt; replies.as_slice() == wanted.as_slice());
     Ok(())
 }
 
@@ -99,7 +93,7 @@ fn commands_run_on_a_slot_map(rt: HostRuntime) -> Result<(), Fail> {
     ];
     let replies = run_slot_map(rt.alloc(), &mut map, &commands)?;
     let wanted = [Reply::Key(key), Reply::Value(7), Reply::None];
-    assert_eq!(rt; replies.as_slice(), wanted.as_slice());
+    assert!(rt; replies.as_slice() == wanted.as_slice());
     Ok(())
 }
 
@@ -114,10 +108,7 @@ fn commands_run_on_a_flat_map(rt: HostRuntime) -> Result<(), Fail> {
     ];
     let replies = run_map(rt.alloc(), &mut map, &commands)?;
     let held = Reply::Error(ReplyError::KeyAlreadyExists);
-    assert_eq!(rt;
-        replies.as_slice(),
-        [Reply::Done, held, Reply::Value(7)].as_slice()
-    );
+    assert!(rt; replies.as_slice() == [Reply::Done, held, Reply::Value(7)].as_slice());
     Ok(())
 }
 
@@ -127,9 +118,6 @@ fn commands_run_on_whatever_runs_them(rt: HostRuntime) -> Result<(), Fail> {
     let mut queue = FixedSizeQueue::<u64, 2>::new();
     let commands = [QueueCommand::Push(7), QueueCommand::Full];
     let replies = run_all(rt.alloc(), &mut queue, &commands)?;
-    assert_eq!(rt;
-        replies.as_slice(),
-        [Reply::Bool(true), Reply::Bool(false)].as_slice()
-    );
+    assert!(rt; replies.as_slice() == [Reply::Bool(true), Reply::Bool(false)].as_slice());
     Ok(())
 }

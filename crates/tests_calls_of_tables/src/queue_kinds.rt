@@ -12,7 +12,7 @@ fn a_queue_that_is_stored_inline(rt: HostRuntime) {
     let mut queue = FixedSizeQueue::<u64, 2>::new();
     assert!(rt; queue == FixedSizeQueue::default());
     assert!(rt; queue.push(1));
-    assert_eq!(rt; queue.capacity(), 2);
+    assert!(rt; queue.capacity() == 2);
 }
 
 // Shows: Queue, Queue::new
@@ -20,9 +20,9 @@ fn a_queue_that_is_stored_inline(rt: HostRuntime) {
 fn a_queue_in_memory_of_an_allocator(rt: HostRuntime) -> Result<(), Fail> {
     let mut queue = Queue::<u64>::new(rt.alloc(), 2)?;
     assert!(rt; queue.push(1));
-    assert_eq!(rt; queue.peek(), Some(&1));
+    assert!(rt; queue.peek() == Some(&1));
     queue.clear();
-    assert_eq!(rt; queue.pop(), None);
+    assert!(rt; queue.pop() == None);
     Ok(())
 }
 
@@ -30,9 +30,8 @@ fn a_queue_in_memory_of_an_allocator(rt: HostRuntime) -> Result<(), Fail> {
 #[test]
 fn how_much_memory_a_queue_takes(rt: HostRuntime) {
     let size = Queue::<u64>::memory_size(100);
-    assert_eq!(rt;
-        size,
-        MemorySize {
+    assert!(rt;
+        size == MemorySize {
             bytes: 900,
             blocks: 2
         }
@@ -45,8 +44,8 @@ fn a_copy_in_memory_of_any_allocator(rt: HostRuntime) -> Result<(), Fail> {
     let mut queue = Queue::<u64>::new(rt.alloc(), 2)?;
     queue.push(1);
     let mut copy = queue.try_clone_in(rt.alloc())?;
-    assert_eq!(rt; copy.pop(), Some(1));
-    assert_eq!(rt; queue.len(), 1);
+    assert!(rt; copy.pop() == Some(1));
+    assert!(rt; queue.len() == 1);
     Ok(())
 }
 
@@ -68,7 +67,7 @@ fn a_queue_that_is_made_in_two_steps(rt: HostRuntime) -> Result<(), Fail> {
     let uninit = RelocatableQueue::<u64>::new_uninit(2);
     let mut queue = uninit.init(rt.alloc())?;
     assert!(rt; queue.push(1));
-    assert_eq!(rt; queue.capacity(), 2);
+    assert!(rt; queue.capacity() == 2);
     Ok(())
 }
 
@@ -76,7 +75,7 @@ fn a_queue_that_is_made_in_two_steps(rt: HostRuntime) -> Result<(), Fail> {
 #[test]
 fn a_queue_over_a_table(rt: HostRuntime) {
     let mut queue = MetaQueue::from_table(InlineTable::<u64, 2>::new());
-    assert_eq!(rt; queue.capacity(), 2);
+    assert!(rt; queue.capacity() == 2);
     assert!(rt; queue.push(1));
 }
 
@@ -86,8 +85,8 @@ fn a_copy_of_an_inline_queue(rt: HostRuntime) -> Result<(), Fail> {
     let mut queue = FixedSizeQueue::<u64, 2>::new();
     queue.push(1);
     let copy = queue.clone()?;
-    assert_eq!(rt; queue.pop(), Some(1));
-    assert_eq!(rt; copy.peek(), Some(&1));
+    assert!(rt; queue.pop() == Some(1));
+    assert!(rt; copy.peek() == Some(&1));
     Ok(())
 }
 
@@ -102,7 +101,7 @@ fn queues_are_compared_by_their_items(rt: HostRuntime) {
     other.push(2);
     assert!(rt; queue != other);
     assert!(rt; queue < other);
-    assert_eq!(rt; other.cmp(&queue), Greater);
+    assert!(rt; other.cmp(&queue) == Greater);
 }
 
 // Shows: Hash for MetaQueue
@@ -113,12 +112,12 @@ fn equal_queues_have_one_hash(rt: HostRuntime) {
     queue.push(1);
     turned.push(0);
     turned.push(1);
-    assert_eq!(rt; turned.pop(), Some(0));
+    assert!(rt; turned.pop() == Some(0));
     let mut hasher = DefaultHasher::new();
     queue.hash(&mut hasher);
     let mut other = DefaultHasher::new();
     turned.hash(&mut other);
-    assert_eq!(rt; hasher.finish(), other.finish());
+    assert!(rt; hasher.finish() == other.finish());
 }
 
 // Shows: Debug for MetaQueue
@@ -128,5 +127,5 @@ fn a_queue_is_printed_as_a_list(rt: HostRuntime) {
     queue.push(1);
     queue.push(2);
     let text = InlineText::<80>::of(format_args!("{queue:?}"));
-    assert_eq!(rt; text.as_str(), "[1, 2]");
+    assert!(rt; text.as_str() == "[1, 2]");
 }

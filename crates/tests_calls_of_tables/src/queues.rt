@@ -9,20 +9,20 @@ fn the_oldest_item_comes_first(rt: HostRuntime) {
     assert!(rt; queue.push(1));
     assert!(rt; queue.push(2));
     assert!(rt; !queue.push(3));
-    assert_eq!(rt; queue.pop(), Some(1));
-    assert_eq!(rt; queue.pop(), Some(2));
-    assert_eq!(rt; queue.pop(), None);
+    assert!(rt; queue.pop() == Some(1));
+    assert!(rt; queue.pop() == Some(2));
+    assert!(rt; queue.pop() == None);
 }
 
 // Shows: MetaQueue::try_push, MetaQueue::is_full, MetaQueue::remaining_capacity
 #[test]
 fn a_full_queue_hands_the_item_back(rt: HostRuntime) {
     let mut queue = FixedSizeQueue::<u64, 1>::new();
-    assert_eq!(rt; queue.remaining_capacity(), 1);
-    assert_eq!(rt; queue.try_push(1), Ok(()));
+    assert!(rt; queue.remaining_capacity() == 1);
+    assert!(rt; queue.try_push(1) == Ok(()));
     assert!(rt; queue.is_full());
-    assert_eq!(rt; queue.try_push(2), Err(2));
-    assert_eq!(rt; queue.pop(), Some(1));
+    assert!(rt; queue.try_push(2) == Err(2));
+    assert!(rt; queue.pop() == Some(1));
 }
 
 // Shows: FixedSizeQueue
@@ -32,18 +32,18 @@ fn a_full_queue_refuses_an_item_or_makes_room(rt: HostRuntime) {
     assert!(rt; queue.push(1));
     assert!(rt; queue.push(2));
     assert!(rt; !queue.push(3));
-    assert_eq!(rt; queue.push_with_overflow(3), Some(1));
-    assert_eq!(rt; queue.pop(), Some(2));
+    assert!(rt; queue.push_with_overflow(3) == Some(1));
+    assert!(rt; queue.pop() == Some(2));
 }
 
 // Shows: MetaQueue::push_with_overflow
 #[test]
 fn the_oldest_item_makes_room(rt: HostRuntime) {
     let mut queue = FixedSizeQueue::<u64, 2>::new();
-    assert_eq!(rt; queue.push_with_overflow(1), None);
-    assert_eq!(rt; queue.push_with_overflow(2), None);
-    assert_eq!(rt; queue.push_with_overflow(3), Some(1));
-    assert_eq!(rt; queue.pop(), Some(2));
+    assert!(rt; queue.push_with_overflow(1) == None);
+    assert!(rt; queue.push_with_overflow(2) == None);
+    assert!(rt; queue.push_with_overflow(3) == Some(1));
+    assert!(rt; queue.pop() == Some(2));
 }
 
 // Shows: MetaQueue::len, MetaQueue::capacity, MetaQueue::is_empty
@@ -52,8 +52,8 @@ fn how_many_items_wait(rt: HostRuntime) -> Result<(), Fail> {
     let mut queue = Queue::<u64>::new(rt.alloc(), 5)?;
     assert!(rt; queue.is_empty());
     queue.push(7);
-    assert_eq!(rt; queue.len(), 1);
-    assert_eq!(rt; queue.capacity(), 5);
+    assert!(rt; queue.len() == 1);
+    assert!(rt; queue.capacity() == 5);
     Ok(())
 }
 
@@ -61,12 +61,12 @@ fn how_many_items_wait(rt: HostRuntime) -> Result<(), Fail> {
 #[test]
 fn the_oldest_item_and_the_newest_one(rt: HostRuntime) {
     let mut queue = FixedSizeQueue::<u64, 3>::new();
-    assert_eq!(rt; queue.peek(), None);
+    assert!(rt; queue.peek() == None);
     queue.push(1);
     queue.push(2);
-    assert_eq!(rt; queue.peek(), Some(&1));
-    assert_eq!(rt; queue.back(), Some(&2));
-    assert_eq!(rt; queue.len(), 2);
+    assert!(rt; queue.peek() == Some(&1));
+    assert!(rt; queue.back() == Some(&2));
+    assert!(rt; queue.len() == 2);
 }
 
 // Shows: MetaQueue::peek_mut
@@ -78,8 +78,8 @@ fn the_oldest_item_is_changed_in_its_place(rt: HostRuntime) {
     if let Some(front) = queue.peek_mut() {
         *front = 5;
     }
-    assert_eq!(rt; queue.pop(), Some(5));
-    assert_eq!(rt; queue.pop(), Some(2));
+    assert!(rt; queue.pop() == Some(5));
+    assert!(rt; queue.pop() == Some(2));
 }
 
 // Shows: MetaQueue::back_mut, MetaQueue::pop_back
@@ -91,9 +91,9 @@ fn the_newest_item_is_changed_and_taken_back(rt: HostRuntime) {
     if let Some(back) = queue.back_mut() {
         *back = 5;
     }
-    assert_eq!(rt; queue.pop_back(), Some(5));
-    assert_eq!(rt; queue.pop_back(), Some(1));
-    assert_eq!(rt; queue.pop_back(), None);
+    assert!(rt; queue.pop_back() == Some(5));
+    assert!(rt; queue.pop_back() == Some(1));
+    assert!(rt; queue.pop_back() == None);
 }
 
 // Shows: MetaQueue::get, MetaQueue::get_unchecked, Index<usize> for MetaQueue
@@ -102,10 +102,10 @@ fn an_item_by_an_index_that_is_known_to_be_below_the_length(rt: HostRuntime) {
     let mut queue = FixedSizeQueue::<u64, 3>::new();
     queue.push(7);
     queue.push(8);
-    assert_eq!(rt; queue.len(), 2);
-    assert_eq!(rt; queue.get(1), 8);
-    assert_eq!(rt; queue.get_unchecked(0), 7);
-    assert_eq!(rt; queue[1], 8);
+    assert!(rt; queue.len() == 2);
+    assert!(rt; queue.get(1) == 8);
+    assert!(rt; queue.get_unchecked(0) == 7);
+    assert!(rt; queue[1] == 8);
 }
 
 // Shows: MetaQueue::get_ref
@@ -114,9 +114,9 @@ fn an_item_by_its_index_from_the_oldest_one(rt: HostRuntime) {
     let mut queue = FixedSizeQueue::<u64, 3>::new();
     queue.push(7);
     queue.push(8);
-    assert_eq!(rt; queue.get_ref(0), Some(&7));
-    assert_eq!(rt; queue.get_ref(1), Some(&8));
-    assert_eq!(rt; queue.get_ref(2), None);
+    assert!(rt; queue.get_ref(0) == Some(&7));
+    assert!(rt; queue.get_ref(1) == Some(&8));
+    assert!(rt; queue.get_ref(2) == None);
 }
 
 // Shows: MetaQueue::get_mut_ref
@@ -128,7 +128,7 @@ fn an_item_is_changed_in_its_place(rt: HostRuntime) {
     if let Some(item) = queue.get_mut_ref(1) {
         *item = 9;
     }
-    assert_eq!(rt; queue.get_ref(1), Some(&9));
+    assert!(rt; queue.get_ref(1) == Some(&9));
     assert!(rt; queue.get_mut_ref(2).is_none());
 }
 
@@ -150,7 +150,7 @@ fn the_newest_items_are_dropped(rt: HostRuntime) {
     queue.push(2);
     queue.push(3);
     queue.truncate(2);
-    assert_eq!(rt; queue.back(), Some(&2));
+    assert!(rt; queue.back() == Some(&2));
     queue.clear();
     assert!(rt; queue.is_empty());
 }
@@ -162,10 +162,10 @@ fn a_waiting_item_is_removed(rt: HostRuntime) {
     queue.push(7);
     queue.push(8);
     queue.push(9);
-    assert_eq!(rt; queue.remove(1), Some(8));
-    assert_eq!(rt; queue.remove(2), None); // two items are left
-    assert_eq!(rt; queue.pop(), Some(7));
-    assert_eq!(rt; queue.pop(), Some(9));
+    assert!(rt; queue.remove(1) == Some(8));
+    assert!(rt; queue.remove(2) == None); // two items are left
+    assert!(rt; queue.pop() == Some(7));
+    assert!(rt; queue.pop() == Some(9));
 }
 
 // Shows: MetaQueue::retain
@@ -176,9 +176,9 @@ fn some_items_stay_in_their_order(rt: HostRuntime) {
     queue.push(2);
     queue.push(3);
     queue.retain(|item| *item != 2);
-    assert_eq!(rt; queue.pop(), Some(1));
-    assert_eq!(rt; queue.pop(), Some(3));
-    assert_eq!(rt; queue.pop(), None);
+    assert!(rt; queue.pop() == Some(1));
+    assert!(rt; queue.pop() == Some(3));
+    assert!(rt; queue.pop() == None);
 }
 
 // Shows: MetaQueue::for_each_mut
@@ -188,8 +188,8 @@ fn each_waiting_item_is_changed(rt: HostRuntime) {
     queue.push(10);
     queue.push(20);
     queue.for_each_mut(|item| *item /= 10);
-    assert_eq!(rt; queue.pop(), Some(1));
-    assert_eq!(rt; queue.pop(), Some(2));
+    assert!(rt; queue.pop() == Some(1));
+    assert!(rt; queue.pop() == Some(2));
 }
 
 // Shows: MetaQueue::iter, IntoIterator for &'a MetaQueue
@@ -199,14 +199,14 @@ fn the_items_from_the_oldest_to_the_newest(rt: HostRuntime) {
     queue.push(1);
     queue.push(2);
     let mut items = queue.iter();
-    assert_eq!(rt; items.len(), 2);
-    assert_eq!(rt; items.next(), Some(&1));
-    assert_eq!(rt; items.next_back(), Some(&2));
+    assert!(rt; items.len() == 2);
+    assert!(rt; items.next() == Some(&1));
+    assert!(rt; items.next_back() == Some(&2));
     let mut all = 0;
     for item in &queue {
         all ^= *item;
     }
-    assert_eq!(rt; all, 3);
+    assert!(rt; all == 3);
 }
 
 // Shows: Iter, Iterator for Iter, DoubleEndedIterator for Iter, ExactSizeIterator for Iter
@@ -219,10 +219,10 @@ fn an_iterator_goes_on_at_either_end(rt: HostRuntime) -> Result<(), Fail> {
     queue.push_with_overflow(3);
     let mut items = queue.iter();
     let copy = items.clone()?;
-    assert_eq!(rt; items.next(), Some(&2));
-    assert_eq!(rt; items.next_back(), Some(&3));
-    assert_eq!(rt; items.next(), None);
-    assert_eq!(rt; (copy.len(), copy.size_hint()), (2, (2, Some(2))));
+    assert!(rt; items.next() == Some(&2));
+    assert!(rt; items.next_back() == Some(&3));
+    assert!(rt; items.next() == None);
+    assert!(rt; (copy.len(), copy.size_hint()) == (2, (2, Some(2))));
     Ok(())
 }
 
@@ -235,9 +235,9 @@ fn a_drained_queue_is_empty_and_takes_items_again(rt: HostRuntime) {
     queue.push(2);
     queue.push(3);
     let mut items = queue.drain();
-    assert_eq!(rt; (items.len(), items.size_hint()), (3, (3, Some(3))));
-    assert_eq!(rt; items.next(), Some(1));
-    assert_eq!(rt; items.next_back(), Some(3));
+    assert!(rt; (items.len(), items.size_hint()) == (3, (3, Some(3))));
+    assert!(rt; items.next() == Some(1));
+    assert!(rt; items.next_back() == Some(3));
     drop(items); // drops the 2
     assert!(rt; queue.is_empty());
     assert!(rt; queue.push(4));
@@ -251,8 +251,8 @@ fn the_items_are_moved_out(rt: HostRuntime) {
     queue.push(1);
     queue.push(2);
     let mut items = queue.into_iter();
-    assert_eq!(rt; (items.len(), items.size_hint()), (2, (2, Some(2))));
-    assert_eq!(rt; items.next_back(), Some(2));
-    assert_eq!(rt; items.next(), Some(1));
-    assert_eq!(rt; items.next(), None);
+    assert!(rt; (items.len(), items.size_hint()) == (2, (2, Some(2))));
+    assert!(rt; items.next_back() == Some(2));
+    assert!(rt; items.next() == Some(1));
+    assert!(rt; items.next() == None);
 }

@@ -10,14 +10,14 @@ fn a_map_is_gone_through_in_rising_order_of_the_indexes(rt: HostRuntime) {
     ports.insert_at(2, 443);
     ports.insert(80);
     let mut items = ports.iter();
-    assert_eq!(rt; items.len(), 2);
-    assert_eq!(rt; items.next(), Some((SlotMapKey::new(0, 0), &80)));
-    assert_eq!(rt; items.size_hint(), (1, Some(1)));
+    assert!(rt; items.len() == 2);
+    assert!(rt; items.next() == Some((SlotMapKey::new(0, 0), &80)));
+    assert!(rt; items.size_hint() == (1, Some(1)));
     let mut last = None;
     for (key, port) in &ports {
         last = Some((key.index(), *port));
     }
-    assert_eq!(rt; last, Some((2, 443)));
+    assert!(rt; last == Some((2, 443)));
 }
 
 // Shows: MetaSlotMap::keys, Keys, Iterator for Keys, ExactSizeIterator for Keys
@@ -28,11 +28,11 @@ fn keys_and_values_come_alone(rt: HostRuntime) {
     ports.insert_at(2, 443);
     ports.insert(80);
     let mut keys = ports.keys();
-    assert_eq!(rt; keys.next(), Some(SlotMapKey::new(0, 0)));
-    assert_eq!(rt; (keys.len(), keys.next()), (1, Some(SlotMapKey::new(2, 0))));
+    assert!(rt; keys.next() == Some(SlotMapKey::new(0, 0)));
+    assert!(rt; (keys.len(), keys.next()) == (1, Some(SlotMapKey::new(2, 0))));
     let mut values = ports.values();
-    assert_eq!(rt; values.next(), Some(&80));
-    assert_eq!(rt; (values.len(), values.last().copied()), (1, Some(443)));
+    assert!(rt; values.next() == Some(&80));
+    assert!(rt; (values.len(), values.last().copied()) == (1, Some(443)));
 }
 
 // Shows: DoubleEndedIterator for Iter, DoubleEndedIterator for Keys, DoubleEndedIterator for Values
@@ -43,12 +43,12 @@ fn a_map_is_gone_through_from_both_ends(rt: HostRuntime) {
     ports.insert(443);
     ports.insert(22);
     let mut items = ports.iter();
-    assert_eq!(rt; items.next_back(), Some((SlotMapKey::new(2, 0), &22)));
-    assert_eq!(rt; items.next(), Some((SlotMapKey::new(0, 0), &80)));
-    assert_eq!(rt; items.next_back(), Some((SlotMapKey::new(1, 0), &443)));
-    assert_eq!(rt; items.next(), None);
-    assert_eq!(rt; ports.keys().rev().next(), Some(SlotMapKey::new(2, 0)));
-    assert_eq!(rt; ports.values().next_back(), Some(&22));
+    assert!(rt; items.next_back() == Some((SlotMapKey::new(2, 0), &22)));
+    assert!(rt; items.next() == Some((SlotMapKey::new(0, 0), &80)));
+    assert!(rt; items.next_back() == Some((SlotMapKey::new(1, 0), &443)));
+    assert!(rt; items.next() == None);
+    assert!(rt; ports.keys().rev().next() == Some(SlotMapKey::new(2, 0)));
+    assert!(rt; ports.values().next_back() == Some(&22));
 }
 
 // Shows: MetaSlotMap::drain, Drain, Iterator for Drain, ExactSizeIterator for Drain
@@ -59,11 +59,11 @@ fn a_drain_removes_what_it_does_not_yield_too(rt: HostRuntime) {
     let web = ports.insert(80).expect(&rt, "there is room");
     ports.insert(443);
     let mut items = ports.drain();
-    assert_eq!(rt; items.next(), Some((web, 80)));
-    assert_eq!(rt; items.len(), 1);
+    assert!(rt; items.next() == Some((web, 80)));
+    assert!(rt; items.len() == 1);
     drop(items); // 443 is dropped
     assert!(rt; ports.is_empty());
-    assert_eq!(rt; ports.insert(22), Some(SlotMapKey::new(1, 1)));
+    assert!(rt; ports.insert(22) == Some(SlotMapKey::new(1, 1)));
 }
 
 // Shows: Debug for Iter, Debug for Keys, Debug for Values, Debug for Drain
@@ -77,12 +77,12 @@ fn what_is_still_to_come_is_printed_and_cloned(rt: HostRuntime) -> Result<(), Fa
     items.next();
     let (keys, values) = (ports.keys(), ports.values());
     let text = format!(in rt.alloc(); "{items:?} {keys:?} {values:?}")?;
-    assert_eq!(rt; text.as_str(), "[(1, 0, 443)] [(0, 0), (1, 0)] [80, 443]");
+    assert!(rt; text.as_str() == "[(1, 0, 443)] [(0, 0), (1, 0)] [80, 443]");
     let (mut rest, keys, values) = (items.clone()?, keys.clone()?, values.clone()?);
-    assert_eq!(rt; rest.next(), Some((SlotMapKey::new(1, 0), &443)));
-    assert_eq!(rt; (items.len(), keys.len(), values.len()), (1, 2, 2));
+    assert!(rt; rest.next() == Some((SlotMapKey::new(1, 0), &443)));
+    assert!(rt; (items.len(), keys.len(), values.len()) == (1, 2, 2));
     let items = ports.drain();
     let text = format!(in rt.alloc(); "{items:?}")?;
-    assert_eq!(rt; text.as_str(), "[(0, 0, 80), (1, 0, 443)]");
+    assert!(rt; text.as_str() == "[(0, 0, 80), (1, 0, 443)]");
     Ok(())
 }

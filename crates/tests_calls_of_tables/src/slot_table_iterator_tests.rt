@@ -9,10 +9,10 @@ fn iter_yields_keys_in_rising_order_with_their_values(rt: HostRuntime) {
     table.insert_at(SlotTableKey::new(2), 'c');
     table.insert('a');
     let mut items = table.iter();
-    assert_eq!(rt; (items.len(), items.size_hint()), (2, (2, Some(2))));
-    assert_eq!(rt; items.next(), Some((SlotTableKey::new(0), &'a')));
-    assert_eq!(rt; items.next(), Some((SlotTableKey::new(2), &'c')));
-    assert_eq!(rt; items.next(), None);
+    assert!(rt; (items.len(), items.size_hint()) == (2, (2, Some(2))));
+    assert!(rt; items.next() == Some((SlotTableKey::new(0), &'a')));
+    assert!(rt; items.next() == Some((SlotTableKey::new(2), &'c')));
+    assert!(rt; items.next() == None);
 }
 
 // Shows: IntoIterator for &'a MetaSlotTable
@@ -25,7 +25,7 @@ fn a_loop_goes_through_a_table(rt: HostRuntime) {
     for (key, value) in &table {
         last = Some((key, *value));
     }
-    assert_eq!(rt; last, Some((SlotTableKey::new(1), 'b')));
+    assert!(rt; last == Some((SlotTableKey::new(1), 'b')));
 }
 
 // Shows: IntoIterator for MetaSlotTable, IntoIter, Iterator for IntoIter
@@ -36,10 +36,10 @@ fn into_iter_yields_the_values_themselves(rt: HostRuntime) {
     table.insert('a');
     table.insert('b');
     let mut items = table.into_iter();
-    assert_eq!(rt; (items.len(), items.size_hint()), (2, (2, Some(2))));
-    assert_eq!(rt; items.next(), Some((SlotTableKey::new(0), 'a')));
-    assert_eq!(rt; items.next(), Some((SlotTableKey::new(1), 'b')));
-    assert_eq!(rt; items.next(), None);
+    assert!(rt; (items.len(), items.size_hint()) == (2, (2, Some(2))));
+    assert!(rt; items.next() == Some((SlotTableKey::new(0), 'a')));
+    assert!(rt; items.next() == Some((SlotTableKey::new(1), 'b')));
+    assert!(rt; items.next() == None);
 }
 
 // Shows: MetaSlotTable::drain, Drain, Iterator for Drain, ExactSizeIterator for Drain
@@ -50,11 +50,11 @@ fn a_drain_takes_the_values_out_and_keeps_the_memory(rt: HostRuntime) {
     table.insert('a');
     table.insert('b');
     let mut items = table.drain();
-    assert_eq!(rt; (items.len(), items.size_hint()), (2, (2, Some(2))));
-    assert_eq!(rt; items.next(), Some((SlotTableKey::new(0), 'a')));
+    assert!(rt; (items.len(), items.size_hint()) == (2, (2, Some(2))));
+    assert!(rt; items.next() == Some((SlotTableKey::new(0), 'a')));
     drop(items); // 'b' is dropped
     assert!(rt; table.is_empty());
-    assert_eq!(rt; table.insert('c'), Some(SlotTableKey::new(1)));
+    assert!(rt; table.insert('c') == Some(SlotTableKey::new(1)));
 }
 
 // Shows: MetaSlotTable::keys, Keys, Iterator for Keys, ExactSizeIterator for Keys
@@ -64,10 +64,10 @@ fn keys_rise(rt: HostRuntime) {
     table.insert_at(SlotTableKey::new(2), 'c');
     table.insert('a');
     let mut keys = table.keys();
-    assert_eq!(rt; (keys.len(), keys.size_hint()), (2, (2, Some(2))));
-    assert_eq!(rt; keys.next(), Some(SlotTableKey::new(0)));
-    assert_eq!(rt; keys.next(), Some(SlotTableKey::new(2)));
-    assert_eq!(rt; keys.next(), None);
+    assert!(rt; (keys.len(), keys.size_hint()) == (2, (2, Some(2))));
+    assert!(rt; keys.next() == Some(SlotTableKey::new(0)));
+    assert!(rt; keys.next() == Some(SlotTableKey::new(2)));
+    assert!(rt; keys.next() == None);
 }
 
 // Shows: MetaSlotTable::values, Values, Parts, Iterator for Parts, ExactSizeIterator for Parts
@@ -77,10 +77,10 @@ fn values_come_in_rising_order_of_their_keys(rt: HostRuntime) {
     table.insert_at(SlotTableKey::new(2), 'c');
     table.insert('a');
     let mut values = table.values();
-    assert_eq!(rt; (values.len(), values.size_hint()), (2, (2, Some(2))));
-    assert_eq!(rt; values.next(), Some(&'a'));
-    assert_eq!(rt; values.next(), Some(&'c'));
-    assert_eq!(rt; values.next(), None);
+    assert!(rt; (values.len(), values.size_hint()) == (2, (2, Some(2))));
+    assert!(rt; values.next() == Some(&'a'));
+    assert!(rt; values.next() == Some(&'c'));
+    assert!(rt; values.next() == None);
 }
 
 // Shows: DoubleEndedIterator for Iter, DoubleEndedIterator for IntoIter
@@ -92,15 +92,15 @@ fn a_table_is_gone_through_from_both_ends(rt: HostRuntime) {
     table.insert('b');
     table.insert('c');
     let mut items = table.iter();
-    assert_eq!(rt; items.next_back(), Some((SlotTableKey::new(2), &'c')));
-    assert_eq!(rt; items.next(), Some((SlotTableKey::new(0), &'a')));
-    assert_eq!(rt; items.next_back(), Some((SlotTableKey::new(1), &'b')));
-    assert_eq!(rt; items.next(), None);
-    assert_eq!(rt; table.keys().rev().next(), Some(SlotTableKey::new(2)));
-    assert_eq!(rt; table.values().next_back(), Some(&'c'));
+    assert!(rt; items.next_back() == Some((SlotTableKey::new(2), &'c')));
+    assert!(rt; items.next() == Some((SlotTableKey::new(0), &'a')));
+    assert!(rt; items.next_back() == Some((SlotTableKey::new(1), &'b')));
+    assert!(rt; items.next() == None);
+    assert!(rt; table.keys().rev().next() == Some(SlotTableKey::new(2)));
+    assert!(rt; table.values().next_back() == Some(&'c'));
     let mut items = table.into_iter().rev();
-    assert_eq!(rt; items.next(), Some((SlotTableKey::new(2), 'c')));
-    assert_eq!(rt; items.next(), Some((SlotTableKey::new(1), 'b')));
+    assert!(rt; items.next() == Some((SlotTableKey::new(2), 'c')));
+    assert!(rt; items.next() == Some((SlotTableKey::new(1), 'b')));
 }
 
 // Shows: Debug for Iter, Debug for Keys, Debug for Parts
@@ -114,10 +114,10 @@ fn what_is_still_to_come_is_printed_and_cloned(rt: HostRuntime) -> Result<(), Fa
     items.next();
     let (keys, values) = (table.keys(), table.values());
     let text = format!(in rt.alloc(); "{items:?} {keys:?} {values:?}")?;
-    assert_eq!(rt; text.as_str(), "[(1, 'b')] [0, 1] ['a', 'b']");
+    assert!(rt; text.as_str() == "[(1, 'b')] [0, 1] ['a', 'b']");
     let (mut rest, keys, values) = (items.clone()?, keys.clone()?, values.clone()?);
-    assert_eq!(rt; rest.next(), Some((SlotTableKey::new(1), &'b')));
-    assert_eq!(rt; (items.len(), keys.len(), values.len()), (1, 2, 2));
+    assert!(rt; rest.next() == Some((SlotTableKey::new(1), &'b')));
+    assert!(rt; (items.len(), keys.len(), values.len()) == (1, 2, 2));
     Ok(())
 }
 
@@ -128,11 +128,11 @@ fn iterators_that_take_values_print_them(rt: HostRuntime) -> Result<(), Fail> {
     table.insert('a');
     let items = table.drain();
     let text = format!(in rt.alloc(); "{items:?}")?;
-    assert_eq!(rt; text.as_str(), "[(0, 'a')]");
+    assert!(rt; text.as_str() == "[(0, 'a')]");
     drop(items);
     table.insert('b');
     let items = table.into_iter();
     let text = format!(in rt.alloc(); "{items:?}")?;
-    assert_eq!(rt; text.as_str(), "[(0, 'b')]");
+    assert!(rt; text.as_str() == "[(0, 'b')]");
     Ok(())
 }

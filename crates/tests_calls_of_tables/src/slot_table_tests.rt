@@ -13,19 +13,19 @@ use std::test::Fail;
 #[test]
 fn a_table_chooses_the_key_of_a_value(rt: HostRuntime) {
     let mut table = FixedSizeSlotTable::<char, 2>::new();
-    assert_eq!(rt; table.insert('a'), Some(SlotTableKey::new(0)));
-    assert_eq!(rt; table.remaining_capacity(), 1);
-    assert_eq!(rt; table.insert('b'), Some(SlotTableKey::new(1)));
+    assert!(rt; table.insert('a') == Some(SlotTableKey::new(0)));
+    assert!(rt; table.remaining_capacity() == 1);
+    assert!(rt; table.insert('b') == Some(SlotTableKey::new(1)));
     assert!(rt; table.is_full());
-    assert_eq!(rt; table.insert('c'), None); // 'c' is dropped
+    assert!(rt; table.insert('c') == None); // 'c' is dropped
 }
 
 // Shows: MetaSlotTable::try_insert
 #[test]
 fn a_full_table_hands_the_value_back(rt: HostRuntime) {
     let mut table = FixedSizeSlotTable::<char, 1>::new();
-    assert_eq!(rt; table.try_insert('a'), Ok(SlotTableKey::new(0)));
-    assert_eq!(rt; table.try_insert('b'), Err('b'));
+    assert!(rt; table.try_insert('a') == Ok(SlotTableKey::new(0)));
+    assert!(rt; table.try_insert('b') == Err('b'));
 }
 
 // Shows: MetaSlotTable
@@ -34,11 +34,11 @@ fn a_full_table_hands_the_value_back(rt: HostRuntime) {
 fn a_key_that_was_removed_is_used_next(rt: HostRuntime) {
     let mut table = FixedSizeSlotTable::<char, 3>::new();
     let key = table.insert('a').expect(&rt, "there is room");
-    assert_eq!(rt; table.next_free_key(), Some(SlotTableKey::new(1)));
-    assert_eq!(rt; table.remove(key), Some('a'));
+    assert!(rt; table.next_free_key() == Some(SlotTableKey::new(1)));
+    assert!(rt; table.remove(key) == Some('a'));
     assert!(rt; !table.contains(key));
-    assert_eq!(rt; table.remove(key), None);
-    assert_eq!(rt; table.next_free_key(), Some(key));
+    assert!(rt; table.remove(key) == None);
+    assert!(rt; table.next_free_key() == Some(key));
 }
 
 // Shows: MetaSlotTable::next_free_key
@@ -46,8 +46,8 @@ fn a_key_that_was_removed_is_used_next(rt: HostRuntime) {
 fn a_value_may_know_its_own_key(rt: HostRuntime) {
     let mut table = FixedSizeSlotTable::<(SlotTableKey, char), 3>::new();
     if let Some(key) = table.next_free_key() {
-        assert_eq!(rt; table.insert((key, 'a')), Some(key));
-        assert_eq!(rt; table.get(key), Some(&(key, 'a')));
+        assert!(rt; table.insert((key, 'a')) == Some(key));
+        assert!(rt; table.get(key) == Some(&(key, 'a')));
     }
 }
 
@@ -58,7 +58,7 @@ fn insert_at_drops_the_value_that_was_there(rt: HostRuntime) {
     let key = SlotTableKey::new(2);
     assert!(rt; table.insert_at(key, 'a'));
     assert!(rt; table.insert_at(key, 'b'));
-    assert_eq!(rt; table.get(key), Some(&'b'));
+    assert!(rt; table.get(key) == Some(&'b'));
     assert!(rt; !table.insert_at(SlotTableKey::new(3), 'c')); // out of range
 }
 
@@ -67,9 +67,9 @@ fn insert_at_drops_the_value_that_was_there(rt: HostRuntime) {
 fn try_insert_at_returns_the_value_that_was_there(rt: HostRuntime) {
     let mut table = FixedSizeSlotTable::<char, 3>::new();
     let key = SlotTableKey::new(2);
-    assert_eq!(rt; table.try_insert_at(key, 'a'), Ok(None));
-    assert_eq!(rt; table.try_insert_at(key, 'b'), Ok(Some('a')));
-    assert_eq!(rt; table.try_insert_at(SlotTableKey::new(3), 'c'), Err('c'));
+    assert!(rt; table.try_insert_at(key, 'a') == Ok(None));
+    assert!(rt; table.try_insert_at(key, 'b') == Ok(Some('a')));
+    assert!(rt; table.try_insert_at(SlotTableKey::new(3), 'c') == Err('c'));
 }
 
 // Shows: MetaSlotTable::get, MetaSlotTable::get_mut
@@ -80,9 +80,9 @@ fn a_value_is_read_and_written_in_its_place(rt: HostRuntime) {
     if let Some(value) = table.get_mut(key) {
         *value = 'b';
     }
-    assert_eq!(rt; table.get(key), Some(&'b'));
-    assert_eq!(rt; table.get(SlotTableKey::new(1)), None); // a free key
-    assert_eq!(rt; table.get(SlotTableKey::new(usize::MAX)), None); // out of range
+    assert!(rt; table.get(key) == Some(&'b'));
+    assert!(rt; table.get(SlotTableKey::new(1)) == None); // a free key
+    assert!(rt; table.get(SlotTableKey::new(usize::MAX)) == None); // out of range
 }
 
 // Shows: Index<SlotTableKey> for MetaSlotTable
@@ -90,7 +90,7 @@ fn a_value_is_read_and_written_in_its_place(rt: HostRuntime) {
 fn a_key_that_is_known_to_be_held_indexes_the_table(rt: HostRuntime) {
     let mut table = FixedSizeSlotTable::<char, 3>::new();
     if let Some(key) = table.insert('a') {
-        assert_eq!(rt; table[key], 'a');
+        assert!(rt; table[key] == 'a');
     }
 }
 
@@ -103,8 +103,8 @@ fn unchecked_calls_ask_for_what_they_do_not_test(rt: HostRuntime) {
     if let Some(key) = table.next_free_key() {
         table.insert_at_unchecked(key, 'a'); // `key` is free
         *table.get_unchecked_mut(key) = 'b'; // and now it is held
-        assert_eq!(rt; *table.get_unchecked(key), 'b');
-        assert_eq!(rt; table.remove_unchecked(key), 'b');
+        assert!(rt; *table.get_unchecked(key) == 'b');
+        assert!(rt; table.remove_unchecked(key) == 'b');
     }
     assert!(rt; table.is_empty());
 }
@@ -118,13 +118,13 @@ fn counted_calls_bound_their_work(rt: HostRuntime) {
     let mut table = FixedSizeSlotTable::<char, 3>::new();
     let mut touches = Touches::new(); // of proofs alone: it takes no bytes
     let key = SlotTableKey::new(0);
-    assert_eq!(rt; table.insert_counted('a', &mut touches), Some(key));
+    assert!(rt; table.insert_counted('a', &mut touches) == Some(key));
     assert!(rt; table.insert_at_counted(key, 'b', &mut touches));
     if let Some(value) = table.get_mut_counted(key, &mut touches) {
         *value = 'c';
     }
-    assert_eq!(rt; table.get_counted(key, &mut touches), Some(&'c'));
-    assert_eq!(rt; table.remove_counted(key, &mut touches), Some('c'));
+    assert!(rt; table.get_counted(key, &mut touches) == Some(&'c'));
+    assert!(rt; table.remove_counted(key, &mut touches) == Some('c'));
     assert!(rt; !table.contains_counted(key, &mut touches));
 }
 
@@ -138,7 +138,7 @@ fn unchecked_calls_are_counted_too(rt: HostRuntime) {
         table.insert_at_unchecked_counted(key, 'a', &mut touches);
         *table.get_unchecked_mut_counted(key, &mut touches) = 'b';
         let removed = table.remove_unchecked_counted(key, &mut touches);
-        assert_eq!(rt; removed, 'b');
+        assert!(rt; removed == 'b');
     }
     assert!(rt; table.is_empty());
 }
@@ -149,7 +149,7 @@ fn a_table_knows_how_many_values_it_has(rt: HostRuntime) {
     let mut table = FixedSizeSlotTable::<char, 3>::new();
     assert!(rt; table.is_empty());
     table.insert('a');
-    assert_eq!(rt; (table.len(), table.capacity()), (1, 3));
+    assert!(rt; (table.len(), table.capacity()) == (1, 3));
     assert!(rt; !table.is_empty() && !table.is_full());
 }
 
@@ -161,7 +161,7 @@ fn after_clear_the_key_removed_last_comes_first(rt: HostRuntime) {
     table.insert('b');
     table.clear();
     assert!(rt; table.is_empty());
-    assert_eq!(rt; table.next_free_key(), Some(SlotTableKey::new(1)));
+    assert!(rt; table.next_free_key() == Some(SlotTableKey::new(1)));
 }
 
 // Shows: MetaSlotTable::for_each_mut
@@ -171,8 +171,8 @@ fn each_value_is_changed_in_its_place(rt: HostRuntime) {
     table.insert('a');
     table.insert('b');
     table.for_each_mut(|_, value| *value = value.to_ascii_uppercase());
-    assert_eq!(rt; table.get(SlotTableKey::new(0)), Some(&'A'));
-    assert_eq!(rt; table.get(SlotTableKey::new(1)), Some(&'B'));
+    assert!(rt; table.get(SlotTableKey::new(0)) == Some(&'A'));
+    assert!(rt; table.get(SlotTableKey::new(1)) == Some(&'B'));
 }
 
 // Shows: MetaSlotTable::retain
@@ -182,8 +182,8 @@ fn some_values_are_kept_and_the_others_dropped(rt: HostRuntime) {
     table.insert('a');
     table.insert('b');
     table.retain(|_, value| *value != 'a');
-    assert_eq!(rt; table.len(), 1);
-    assert_eq!(rt; table.get(SlotTableKey::new(1)), Some(&'b'));
+    assert!(rt; table.len() == 1);
+    assert!(rt; table.get(SlotTableKey::new(1)) == Some(&'b'));
 }
 
 // Shows: Clone for FixedSizeSlotTable, PartialEq for MetaSlotTable
@@ -193,7 +193,7 @@ fn a_clone_has_the_same_keys(rt: HostRuntime) -> Result<(), Fail> {
     table.insert('a');
     let mut copy = table.clone()?;
     assert!(rt; copy == table);
-    assert_eq!(rt; copy.remove(SlotTableKey::new(0)), Some('a'));
+    assert!(rt; copy.remove(SlotTableKey::new(0)) == Some('a'));
     assert!(rt; copy != table);
     Ok(())
 }
@@ -205,7 +205,7 @@ fn a_clone_may_have_another_allocator(rt: HostRuntime) -> Result<(), Fail> {
     table.insert('a');
     let copy = table.try_clone_in(rt.alloc())?;
     assert!(rt; copy == table);
-    assert_eq!(rt; copy.capacity(), 3);
+    assert!(rt; copy.capacity() == 3);
     Ok(())
 }
 
@@ -213,16 +213,16 @@ fn a_clone_may_have_another_allocator(rt: HostRuntime) -> Result<(), Fail> {
 #[test]
 fn the_default_table_is_empty(rt: HostRuntime) {
     let table = FixedSizeSlotTable::<char, 3>::default();
-    assert_eq!(rt; (table.len(), table.capacity()), (0, 3));
+    assert!(rt; (table.len(), table.capacity()) == (0, 3));
 }
 
 // Shows: SlotTable, SlotTable::new, SlotTable::memory_size
 #[test]
 fn a_table_is_allocated_in_one_call(rt: HostRuntime) -> Result<(), Fail> {
     let size = SlotTable::<u64, Global>::memory_size(100);
-    assert_eq!(rt; (size.bytes, size.blocks), (2500, 3));
+    assert!(rt; (size.bytes, size.blocks) == (2500, 3));
     let mut table = SlotTable::<u64>::new(rt.alloc(), 100)?; // takes as much
-    assert_eq!(rt; table.insert(5), Some(SlotTableKey::new(0)));
+    assert!(rt; table.insert(5) == Some(SlotTableKey::new(0)));
     Ok(())
 }
 
@@ -234,7 +234,7 @@ fn a_table_that_got_no_memory_is_tried_again(rt: HostRuntime) -> Result<(), Fail
         Ok(table) => table,
         Err(error) => error.into_uninit().init(rt.alloc())?, // once more
     };
-    assert_eq!(rt; table.insert('a'), Some(SlotTableKey::new(0)));
+    assert!(rt; table.insert('a') == Some(SlotTableKey::new(0)));
     Ok(())
 }
 
@@ -243,7 +243,7 @@ fn a_table_that_got_no_memory_is_tried_again(rt: HostRuntime) -> Result<(), Fail
 fn a_table_is_made_in_two_steps(rt: HostRuntime) -> Result<(), Fail> {
     let uninit = RelocatableSlotTable::<char, Global>::new_uninit(3);
     let mut table = uninit.init(rt.alloc())?;
-    assert_eq!(rt; table.insert('a'), Some(SlotTableKey::new(0)));
+    assert!(rt; table.insert('a') == Some(SlotTableKey::new(0)));
     Ok(())
 }
 
@@ -251,7 +251,7 @@ fn a_table_is_made_in_two_steps(rt: HostRuntime) -> Result<(), Fail> {
 #[test]
 fn a_family_makes_tables_for_any_allocator(rt: HostRuntime) -> Result<(), Fail> {
     let table = SlotTableFamily::<char>::with_capacity(rt.alloc(), 3)?;
-    assert_eq!(rt; table.capacity(), 3);
+    assert!(rt; table.capacity() == 3);
     Ok(())
 }
 
@@ -261,8 +261,8 @@ fn a_table_stands_over_tables_of_any_kind(rt: HostRuntime) {
     let values = InlineTable::<char, 2>::new();
     let links = InlineTable::<Link, 2>::new();
     let mut table = MetaSlotTable::from_tables(values, links);
-    assert_eq!(rt; table.capacity(), 2);
-    assert_eq!(rt; table.insert('a'), Some(SlotTableKey::new(0)));
+    assert!(rt; table.capacity() == 2);
+    assert!(rt; table.insert('a') == Some(SlotTableKey::new(0)));
 }
 
 // Shows: Debug for MetaSlotTable
@@ -272,7 +272,7 @@ fn a_table_prints_its_keys_and_values(rt: HostRuntime) -> Result<(), Fail> {
     table.insert_at(SlotTableKey::new(2), 'c');
     table.insert('a');
     let text = format!(in rt.alloc(); "{table:?}")?;
-    assert_eq!(rt; text.as_str(), "{0: 'a', 2: 'c'}");
+    assert!(rt; text.as_str() == "{0: 'a', 2: 'c'}");
     Ok(())
 }
 
@@ -281,10 +281,10 @@ fn a_table_prints_its_keys_and_values(rt: HostRuntime) -> Result<(), Fail> {
 #[test]
 fn a_key_is_a_number(rt: HostRuntime) -> Result<(), Fail> {
     let key = SlotTableKey::new(3);
-    assert_eq!(rt; key.value(), 3);
+    assert!(rt; key.value() == 3);
     assert!(rt; key < SlotTableKey::new(4));
     let text = format!(in rt.alloc(); "{key}")?;
-    assert_eq!(rt; text.as_str(), "3");
+    assert!(rt; text.as_str() == "3");
     Ok(())
 }
 
@@ -292,7 +292,7 @@ fn a_key_is_a_number(rt: HostRuntime) -> Result<(), Fail> {
 #[test]
 fn the_default_key_is_in_range_of_no_table(rt: HostRuntime) {
     let key = SlotTableKey::default();
-    assert_eq!(rt; key.value(), usize::MAX);
+    assert!(rt; key.value() == usize::MAX);
     let table = FixedSizeSlotTable::<char, 3>::new();
     default_key_law(&table);
     assert!(rt; !table.contains(key));

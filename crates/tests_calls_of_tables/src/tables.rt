@@ -14,10 +14,10 @@ use std::test::Fail;
 #[test]
 fn an_item_is_put_into_a_place_and_taken_out(rt: HostRuntime) {
     let mut table = InlineTable::<char, 2>::new();
-    assert_eq!(rt; table.len(), 2);
+    assert!(rt; table.len() == 2);
     table.put(1, 'a');
-    assert_eq!(rt; *table.get(1), 'a');
-    assert_eq!(rt; table.take(1), 'a');
+    assert!(rt; *table.get(1) == 'a');
+    assert!(rt; table.take(1) == 'a');
     table.end();
 }
 
@@ -25,10 +25,10 @@ fn an_item_is_put_into_a_place_and_taken_out(rt: HostRuntime) {
 #[test]
 fn a_table_in_memory_of_an_allocator(rt: HostRuntime) -> Result<(), Fail> {
     let mut table = HeapTable::<u64>::new(rt.alloc(), 3)?;
-    assert_eq!(rt; table.len(), 3);
+    assert!(rt; table.len() == 3);
     table.put(0, 7);
     *table.get_mut(0) = 8;
-    assert_eq!(rt; table.take(0), 8);
+    assert!(rt; table.take(0) == 8);
     table.end();
     Ok(())
 }
@@ -38,11 +38,11 @@ fn a_table_in_memory_of_an_allocator(rt: HostRuntime) -> Result<(), Fail> {
 #[test]
 fn an_item_that_is_moved_out_leaves_its_bytes(rt: HostRuntime) {
     let mut place = MaybeMoved::new(7u64);
-    assert_eq!(rt; *place.get(), 7);
+    assert!(rt; *place.get() == 7);
     *place.get_mut() = 8;
-    assert_eq!(rt; place.take(), 8);
+    assert!(rt; place.take() == 8);
     let _bytes = place.copy_moved();
-    assert_eq!(rt; MaybeMoved::new(9u64).into_item(), 9);
+    assert!(rt; MaybeMoved::new(9u64).into_item() == 9);
 }
 
 // Shows: FilledInlineTable, FilledInlineTable::len
@@ -51,11 +51,11 @@ fn an_item_that_is_moved_out_leaves_its_bytes(rt: HostRuntime) {
 fn an_inline_table_of_copy_items(rt: HostRuntime) {
     let mut ages = FilledInlineTable::<u16, 3>::new(0);
     ages.put(2, 40);
-    assert_eq!(rt; ages.take(2), 40);
+    assert!(rt; ages.take(2) == 40);
     let mut ones = FilledInlineTable::<u16, 3>::full(1);
-    assert_eq!(rt; ones.len(), 3);
+    assert!(rt; ones.len() == 3);
     *ones.get_mut(0) = 7;
-    assert_eq!(rt; (*ones.get(0), *ones.get(2)), (7, 1));
+    assert!(rt; (*ones.get(0), *ones.get(2)) == (7, 1));
 }
 
 // Shows: FilledHeapTable, FilledHeapTable::new, FilledHeapTable::full, FilledHeapTable::memory_size
@@ -63,13 +63,12 @@ fn an_inline_table_of_copy_items(rt: HostRuntime) {
 fn a_table_of_copy_items_in_one_block(rt: HostRuntime) -> Result<(), Fail> {
     let mut ages = FilledHeapTable::<u16>::new(rt.alloc(), 3, 0)?;
     ages.put(2, 40);
-    assert_eq!(rt; ages.take(2), 40);
+    assert!(rt; ages.take(2) == 40);
     let ones = FilledHeapTable::<u16>::full(rt.alloc(), 3, 1)?;
-    assert_eq!(rt; *ones.get(2), 1);
+    assert!(rt; *ones.get(2) == 1);
     let size = FilledHeapTable::<u16>::memory_size(3);
-    assert_eq!(rt;
-        size,
-        MemorySize {
+    assert!(rt;
+        size == MemorySize {
             bytes: 6,
             blocks: 1
         }
@@ -81,9 +80,8 @@ fn a_table_of_copy_items_in_one_block(rt: HostRuntime) -> Result<(), Fail> {
 #[test]
 fn how_much_memory_a_table_takes(rt: HostRuntime) {
     let size = HeapTable::<u64>::memory_size(100);
-    assert_eq!(rt;
-        size,
-        MemorySize {
+    assert!(rt;
+        size == MemorySize {
             bytes: 900,
             blocks: 2
         }
@@ -94,17 +92,15 @@ fn how_much_memory_a_table_takes(rt: HostRuntime) {
 #[test]
 fn how_much_memory_two_blocks_take(rt: HostRuntime) {
     let size = MemorySize::of_items::<u64>(3);
-    assert_eq!(rt;
-        size,
-        MemorySize {
+    assert!(rt;
+        size == MemorySize {
             bytes: 24,
             blocks: 1
         }
     );
     let both = size.saturating_add(MemorySize::of_items::<u8>(5));
-    assert_eq!(rt;
-        both,
-        MemorySize {
+    assert!(rt;
+        both == MemorySize {
             bytes: 29,
             blocks: 2
         }
@@ -116,11 +112,11 @@ fn how_much_memory_two_blocks_take(rt: HostRuntime) {
 #[test]
 fn a_row_of_places(rt: HostRuntime) -> Result<(), Fail> {
     let mut slots = RawSlots::<u64>::new(rt.alloc(), 3)?;
-    assert_eq!(rt; slots.len(), 3);
+    assert!(rt; slots.len() == 3);
     slots.put(0, 7);
     *slots.get_mut(0) = 8;
-    assert_eq!(rt; *slots.get(0), 8);
-    assert_eq!(rt; slots.take(0), 8);
+    assert!(rt; *slots.get(0) == 8);
+    assert!(rt; slots.take(0) == 8);
     slots.end();
     Ok(())
 }
@@ -129,9 +125,8 @@ fn a_row_of_places(rt: HostRuntime) -> Result<(), Fail> {
 #[test]
 fn how_much_memory_a_row_of_places_takes(rt: HostRuntime) {
     let size = RawSlots::<u64>::memory_size(100);
-    assert_eq!(rt;
-        size,
-        MemorySize {
+    assert!(rt;
+        size == MemorySize {
             bytes: 900,
             blocks: 2
         }
@@ -145,11 +140,11 @@ fn how_much_memory_a_row_of_places_takes(rt: HostRuntime) {
 fn a_table_whose_calls_are_counted(rt: HostRuntime) {
     let mut touches = Touches::new();
     let mut table = Counted::new(InlineTable::<u64, 2>::new());
-    assert_eq!(rt; table.len(), 2);
+    assert!(rt; table.len() == 2);
     table.put(1, 7, &mut touches);
     *table.get_mut(1, &mut touches) = 8;
-    assert_eq!(rt; *table.get(1, &mut touches), 8);
-    assert_eq!(rt; table.take(1, &mut touches), 8);
+    assert!(rt; *table.get(1, &mut touches) == 8);
+    assert!(rt; table.take(1, &mut touches) == 8);
     table.end();
 }
 
@@ -160,7 +155,7 @@ fn a_container_of_any_kind_that_is_made_in_two_steps(rt: HostRuntime) -> Result<
         U::new_uninit(2).init(alloc)
     }
     let mut vector = of_two::<UninitVec<u64>>(rt.alloc())?;
-    assert_eq!(rt; vector.push(1), Ok(()));
+    assert!(rt; vector.push(1) == Ok(()));
     let mut queue = of_two::<UninitQueue<u64>>(rt.alloc())?;
     assert!(rt; queue.push(1));
     Ok(())
@@ -171,7 +166,7 @@ fn a_container_of_any_kind_that_is_made_in_two_steps(rt: HostRuntime) -> Result<
 fn what_was_not_initialised_is_tried_again(rt: HostRuntime) -> Result<(), Fail> {
     let error = InitError::new(UninitVec::<u64>::new_uninit(2));
     let vector = error.into_uninit().init(rt.alloc())?;
-    assert_eq!(rt; vector.capacity(), 2);
+    assert!(rt; vector.capacity() == 2);
     Ok(())
 }
 
@@ -180,7 +175,7 @@ fn what_was_not_initialised_is_tried_again(rt: HostRuntime) -> Result<(), Fail> 
 fn a_capacity_without_memory(rt: HostRuntime) -> Result<(), Fail> {
     let uninit = Uninit::<VecFamily<u64>>::new_uninit(2);
     let vector = uninit.init(rt.alloc())?;
-    assert_eq!(rt; vector.capacity(), 2);
+    assert!(rt; vector.capacity() == 2);
     Ok(())
 }
 
@@ -189,10 +184,10 @@ fn a_capacity_without_memory(rt: HostRuntime) -> Result<(), Fail> {
 #[test]
 fn a_container_of_a_family(rt: HostRuntime) -> Result<(), Fail> {
     let vector = VecFamily::<u64>::with_capacity(rt.alloc(), 2)?;
-    assert_eq!(rt; vector.capacity(), 2);
+    assert!(rt; vector.capacity() == 2);
     let string = StringFamily::with_capacity(rt.alloc(), 3)?;
-    assert_eq!(rt; string.capacity(), 3);
+    assert!(rt; string.capacity() == 3);
     let queue = QueueFamily::<u64>::with_capacity(rt.alloc(), 4)?;
-    assert_eq!(rt; queue.capacity(), 4);
+    assert!(rt; queue.capacity() == 4);
     Ok(())
 }

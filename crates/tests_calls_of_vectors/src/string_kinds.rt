@@ -18,7 +18,7 @@ use std::test::Fail;
 #[test]
 fn a_string_that_is_stored_inline(rt: HostRuntime) {
     let string = StaticString::<8>::new();
-    assert_eq!(rt; StaticString::<8>::capacity(), 8);
+    assert!(rt; StaticString::<8>::capacity() == 8);
     assert!(rt; string.is_empty());
     assert!(rt; string == StaticString::default());
 }
@@ -27,11 +27,11 @@ fn a_string_that_is_stored_inline(rt: HostRuntime) {
 #[test]
 fn an_inline_string_is_changed(rt: HostRuntime) -> Result<(), Fail> {
     let mut string = StaticString::<8>::from_bytes(b"ho")?;
-    assert_eq!(rt; string.len(), 2);
-    assert_eq!(rt; string.insert_bytes(1, b"ell"), Ok(()));
-    assert_eq!(rt; string.as_str(), "hello");
-    assert_eq!(rt; string.push(0), Err(InvalidCharacter));
-    assert_eq!(rt; string.rfind(b"l"), Some(3));
+    assert!(rt; string.len() == 2);
+    assert!(rt; string.insert_bytes(1, b"ell") == Ok(()));
+    assert!(rt; string.as_str() == "hello");
+    assert!(rt; string.push(0) == Err(InvalidCharacter));
+    assert!(rt; string.rfind(b"l") == Some(3));
     Ok(())
 }
 
@@ -39,11 +39,11 @@ fn an_inline_string_is_changed(rt: HostRuntime) -> Result<(), Fail> {
 #[test]
 fn a_string_of_bytes(rt: HostRuntime) -> Result<(), Fail> {
     let string = StaticString::<4>::from_bytes(b"abc")?;
-    assert_eq!(rt; string.as_bytes_const(), b"abc".as_slice());
+    assert!(rt; string.as_bytes_const() == b"abc".as_slice());
     let refused = StaticString::<4>::from_bytes(b"abcde");
-    assert_eq!(rt; refused, Err(InsertWouldExceedCapacity));
+    assert!(rt; refused == Err(InsertWouldExceedCapacity));
     let refused = StaticString::<4>::from_bytes(b"ab\0c");
-    assert_eq!(rt; refused, Err(InvalidCharacter));
+    assert!(rt; refused == Err(InvalidCharacter));
     Ok(())
 }
 
@@ -51,23 +51,23 @@ fn a_string_of_bytes(rt: HostRuntime) -> Result<(), Fail> {
 #[test]
 fn a_string_of_bytes_that_are_known_to_fit(rt: HostRuntime) {
     let string = StaticString::<4>::from_bytes_unchecked(&[97, 98]);
-    assert_eq!(rt; string.as_str(), "ab");
+    assert!(rt; string.as_str() == "ab");
 }
 
 // Shows: StaticString::from_bytes_unchecked_restricted
 #[test]
 fn a_string_of_the_first_bytes(rt: HostRuntime) {
     let string = StaticString::<4>::from_bytes_unchecked_restricted(&[97, 98, 0], 2);
-    assert_eq!(rt; string.as_str(), "ab");
+    assert!(rt; string.as_str() == "ab");
 }
 
 // Shows: StaticString::from_bytes_truncated, StaticString::from_str_truncated
 #[test]
 fn a_text_that_is_too_long_is_cut(rt: HostRuntime) -> Result<(), Fail> {
     let string = StaticString::<4>::from_bytes_truncated(b"abcdef")?;
-    assert_eq!(rt; string.as_str(), "abcd");
+    assert!(rt; string.as_str() == "abcd");
     let string = StaticString::<4>::from_str_truncated("ab")?;
-    assert_eq!(rt; string.as_str(), "ab");
+    assert!(rt; string.as_str() == "ab");
     Ok(())
 }
 
@@ -75,7 +75,7 @@ fn a_text_that_is_too_long_is_cut(rt: HostRuntime) -> Result<(), Fail> {
 #[test]
 fn a_string_of_the_bytes_before_a_zero(rt: HostRuntime) -> Result<(), Fail> {
     let string = StaticString::<4>::from_c_str(b"ab\0cdefg")?;
-    assert_eq!(rt; string.as_str(), "ab");
+    assert!(rt; string.as_str() == "ab");
     Ok(())
 }
 
@@ -85,7 +85,7 @@ fn a_string_of_a_text(rt: HostRuntime) -> Result<(), Fail> {
     let string = StaticString::<4>::from_str("ab")?;
     let same = StaticString::<4>::try_from("ab")?;
     assert!(rt; string == same);
-    assert_eq!(rt; StaticString::<4>::from_str("é"), Err(InvalidCharacter));
+    assert!(rt; StaticString::<4>::from_str("é") == Err(InvalidCharacter));
     Ok(())
 }
 
@@ -102,9 +102,9 @@ fn a_string_of_a_slice_or_an_array(rt: HostRuntime) -> Result<(), Fail> {
 #[test]
 fn a_string_in_memory_of_an_allocator(rt: HostRuntime) -> Result<(), Fail> {
     let mut string = PolymorphicString::new(rt.alloc(), 4)?;
-    assert_eq!(rt; string.push_bytes(b"abcd"), Ok(()));
-    assert_eq!(rt; string.push(b'e'), Err(InsertWouldExceedCapacity));
-    assert_eq!(rt; string.as_str(), "abcd");
+    assert!(rt; string.push_bytes(b"abcd") == Ok(()));
+    assert!(rt; string.push(b'e') == Err(InsertWouldExceedCapacity));
+    assert!(rt; string.as_str() == "abcd");
     Ok(())
 }
 
@@ -115,8 +115,8 @@ fn a_copy_of_an_allocated_string(rt: HostRuntime) -> Result<(), Fail> {
     string.push_bytes(b"abc")?;
     let mut copy = string.try_clone()?;
     copy.push(b'd')?;
-    assert_eq!(rt; copy.as_str(), "abcd");
-    assert_eq!(rt; string.as_str(), "abc");
+    assert!(rt; copy.as_str() == "abcd");
+    assert!(rt; string.as_str() == "abc");
     Ok(())
 }
 
@@ -128,7 +128,7 @@ fn a_string_that_got_no_memory_is_tried_again(rt: HostRuntime) -> Result<(), Fai
         Ok(string) => string,
         Err(error) => error.into_uninit().init(rt.alloc())?, // once more
     };
-    assert_eq!(rt; string.push_bytes(b"later"), Ok(()));
+    assert!(rt; string.push_bytes(b"later") == Ok(()));
     Ok(())
 }
 
@@ -137,8 +137,8 @@ fn a_string_that_got_no_memory_is_tried_again(rt: HostRuntime) -> Result<(), Fai
 fn a_string_that_is_made_in_two_steps(rt: HostRuntime) -> Result<(), Fail> {
     let uninit = RelocatableString::<Global>::new_uninit(2);
     let mut string = uninit.init(rt.alloc())?;
-    assert_eq!(rt; string.push(b'a'), Ok(()));
-    assert_eq!(rt; string.capacity(), 2);
+    assert!(rt; string.push(b'a') == Ok(()));
+    assert!(rt; string.capacity() == 2);
     Ok(())
 }
 
@@ -150,7 +150,7 @@ fn an_allocated_string_of_a_text(rt: HostRuntime) -> Result<(), Fail> {
     let same = PolymorphicString::try_from_str(rt.alloc(), "staff")?;
     assert!(rt; string == same);
     let refused = PolymorphicString::try_from_bytes(rt.alloc(), b"st\0");
-    assert_eq!(rt; refused.err(), Some(StringCreationError::InvalidCharacter));
+    assert!(rt; refused.err() == Some(StringCreationError::InvalidCharacter));
     Ok(())
 }
 
@@ -158,9 +158,8 @@ fn an_allocated_string_of_a_text(rt: HostRuntime) -> Result<(), Fail> {
 #[test]
 fn how_much_memory_a_string_takes(rt: HostRuntime) {
     let size = PolymorphicString::<Global>::memory_size(31);
-    assert_eq!(rt;
-        size,
-        MemorySize {
+    assert!(rt;
+        size == MemorySize {
             bytes: 31,
             blocks: 1
         }
@@ -170,7 +169,7 @@ fn how_much_memory_a_string_takes(rt: HostRuntime) {
 // Shows: HeapStringKind::name
 #[test]
 fn the_name_of_a_kind(rt: HostRuntime) {
-    assert_eq!(rt; Polymorphic::name(), "PolymorphicString");
+    assert!(rt; Polymorphic::name() == "PolymorphicString");
 }
 
 // Shows: PartialEq for StaticString, Ord for StaticString, PartialOrd for StaticString
@@ -192,7 +191,7 @@ fn allocated_strings_are_compared(rt: HostRuntime) -> Result<(), Fail> {
     let longer = PolymorphicString::try_from_str(rt.alloc(), "abcd")?;
     assert!(rt; string != longer);
     assert!(rt; string < longer);
-    assert_eq!(rt; longer.cmp(&string), Greater);
+    assert!(rt; longer.cmp(&string) == Greater);
     Ok(())
 }
 
@@ -205,7 +204,7 @@ fn equal_texts_have_one_hash(rt: HostRuntime) -> Result<(), Fail> {
     inline.hash(&mut hasher);
     let mut other = DefaultHasher::new();
     allocated.hash(&mut other);
-    assert_eq!(rt; hasher.finish(), other.finish());
+    assert!(rt; hasher.finish() == other.finish());
     Ok(())
 }
 
@@ -214,10 +213,10 @@ fn equal_texts_have_one_hash(rt: HostRuntime) -> Result<(), Fail> {
 fn numbers_are_written_into_a_string(rt: HostRuntime) -> Result<(), Fail> {
     let mut name = StaticString::<12>::new();
     write!(name, "sensor-{}", 7)?;
-    assert_eq!(rt; name.as_str(), "sensor-7");
+    assert!(rt; name.as_str() == "sensor-7");
     let mut line = PolymorphicString::new(rt.alloc(), 4)?;
     assert!(rt; write!(line, "{}/{}", 12, 345).is_err());
-    assert_eq!(rt; line.as_str(), "12/");
+    assert!(rt; line.as_str() == "12/");
     Ok(())
 }
 
@@ -226,12 +225,9 @@ fn numbers_are_written_into_a_string(rt: HostRuntime) -> Result<(), Fail> {
 fn an_inline_string_is_printed(rt: HostRuntime) -> Result<(), Fail> {
     let string = StaticString::<5>::from_bytes(b"a\tb")?;
     let text = InlineText::<80>::of(format_args!("{string}"));
-    assert_eq!(rt; text.as_str(), "a\\tb");
+    assert!(rt; text.as_str() == "a\\tb");
     let text = InlineText::<80>::of(format_args!("{string:?}"));
-    assert_eq!(rt;
-        text.as_str(),
-        "StaticString<5> { len: 3, data: \"a\\tb\" }"
-    );
+    assert!(rt; text.as_str() == "StaticString<5> { len: 3, data: \"a\\tb\" }");
     Ok(())
 }
 
@@ -241,12 +237,9 @@ fn an_allocated_string_is_printed(rt: HostRuntime) -> Result<(), Fail> {
     let mut string = PolymorphicString::new(rt.alloc(), 4)?;
     string.push_bytes(b"ab")?;
     let text = InlineText::<80>::of(format_args!("{string}"));
-    assert_eq!(rt; text.as_str(), "ab");
+    assert!(rt; text.as_str() == "ab");
     let text = InlineText::<80>::of(format_args!("{string:?}"));
-    assert_eq!(rt;
-        text.as_str(),
-        "PolymorphicString { capacity: 4, len: 2, data: \"ab\" }"
-    );
+    assert!(rt; text.as_str() == "PolymorphicString { capacity: 4, len: 2, data: \"ab\" }");
     Ok(())
 }
 
@@ -254,10 +247,10 @@ fn an_allocated_string_is_printed(rt: HostRuntime) -> Result<(), Fail> {
 #[test]
 fn calls_of_texts(rt: HostRuntime) -> Result<(), Fail> {
     let string = StaticString::<8>::from_bytes(b" 42 ")?;
-    assert_eq!(rt; string.trim(), "42");
-    assert_eq!(rt; string.trim().parse::<u64>(), Ok(42));
+    assert!(rt; string.trim() == "42");
+    assert!(rt; string.trim().parse::<u64>() == Ok(42));
     let string = PolymorphicString::try_from_str(rt.alloc(), "42")?;
-    assert_eq!(rt; string.parse::<u64>(), Ok(42));
+    assert!(rt; string.parse::<u64>() == Ok(42));
     Ok(())
 }
 
@@ -280,23 +273,23 @@ fn a_function_over_all_that_is_a_text(rt: HostRuntime) -> Result<(), Fail> {
 // Shows: ix_string::string::escape_byte, EscapedByte, EscapedByte::as_str
 #[test]
 fn how_a_byte_is_printed(rt: HostRuntime) {
-    assert_eq!(rt; escape_byte(b'a').as_str(), "a");
-    assert_eq!(rt; escape_byte(9).as_str(), "\\t");
-    assert_eq!(rt; escape_byte(1).as_str(), "\\x01");
+    assert!(rt; escape_byte(b'a').as_str() == "a");
+    assert!(rt; escape_byte(9).as_str() == "\\t");
+    assert!(rt; escape_byte(1).as_str() == "\\x01");
 }
 
 // Shows: ix_string::string::as_escaped_string
 #[test]
 fn how_bytes_are_printed(rt: HostRuntime) -> Result<(), Fail> {
     let text = as_escaped_string(rt.alloc(), b"a\tb\x01")?;
-    assert_eq!(rt; text.as_str(), "a\\tb\\x01");
+    assert!(rt; text.as_str() == "a\\tb\\x01");
     Ok(())
 }
 
 // Shows: ix_string::string::strnlen
 #[test]
 fn the_length_of_a_text_that_ends_with_a_zero(rt: HostRuntime) {
-    assert_eq!(rt; strnlen(b"ab\0c", 4), 2);
-    assert_eq!(rt; strnlen(b"ab\0c", 1), 1);
-    assert_eq!(rt; strnlen(b"ab", 4), 2);
+    assert!(rt; strnlen(b"ab\0c", 4) == 2);
+    assert!(rt; strnlen(b"ab\0c", 1) == 1);
+    assert!(rt; strnlen(b"ab", 4) == 2);
 }

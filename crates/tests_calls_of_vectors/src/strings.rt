@@ -12,13 +12,10 @@ fn a_function_takes_a_string_of_any_kind(rt: HostRuntime) -> Result<(), Fail> {
         string.push(b'\n')
     }
     let mut inline = StaticString::<8>::new();
-    assert_eq!(rt; push_line(&mut inline, b"ab"), Ok(()));
-    assert_eq!(rt; inline.as_str(), "ab\n");
+    assert!(rt; push_line(&mut inline, b"ab") == Ok(()));
+    assert!(rt; inline.as_str() == "ab\n");
     let mut allocated = PolymorphicString::new(rt.alloc(), 1)?;
-    assert_eq!(rt;
-        push_line(&mut allocated, b"ab"),
-        Err(InsertWouldExceedCapacity)
-    );
+    assert!(rt; push_line(&mut allocated, b"ab") == Err(InsertWouldExceedCapacity));
     Ok(())
 }
 
@@ -26,11 +23,11 @@ fn a_function_takes_a_string_of_any_kind(rt: HostRuntime) -> Result<(), Fail> {
 #[test]
 fn the_bytes_of_a_string(rt: HostRuntime) -> Result<(), Fail> {
     let string = StaticString::<8>::from_bytes(b"staff")?;
-    assert_eq!(rt; string.as_bytes(), b"staff".as_slice());
-    assert_eq!(rt; string.as_str(), "staff");
-    assert_eq!(rt; string.as_bytes().iter().copied().max(), Some(b't'));
-    assert_eq!(rt; string.as_bytes().len(), 5);
-    assert_eq!(rt; string.as_bytes()[0], b's');
+    assert!(rt; string.as_bytes() == b"staff".as_slice());
+    assert!(rt; string.as_str() == "staff");
+    assert!(rt; string.as_bytes().iter().copied().max() == Some(b't'));
+    assert!(rt; string.as_bytes().len() == 5);
+    assert!(rt; string.as_bytes()[0] == b's');
     Ok(())
 }
 
@@ -39,9 +36,9 @@ fn the_bytes_of_a_string(rt: HostRuntime) -> Result<(), Fail> {
 fn how_many_bytes_there_are_and_how_many_fit(rt: HostRuntime) -> Result<(), Fail> {
     let mut string = PolymorphicString::new(rt.alloc(), 8)?;
     string.push_bytes(b"staff")?;
-    assert_eq!(rt; string.len(), 5);
-    assert_eq!(rt; string.capacity(), 8);
-    assert_eq!(rt; string.remaining_capacity(), 3);
+    assert!(rt; string.len() == 5);
+    assert!(rt; string.capacity() == 8);
+    assert!(rt; string.remaining_capacity() == 3);
     Ok(())
 }
 
@@ -49,23 +46,23 @@ fn how_many_bytes_there_are_and_how_many_fit(rt: HostRuntime) -> Result<(), Fail
 #[test]
 fn a_full_string_refuses_a_byte(rt: HostRuntime) {
     let mut string = StaticString::<2>::new();
-    assert_eq!(rt; string.push(b'a'), Ok(()));
-    assert_eq!(rt; string.push(0), Err(InvalidCharacter));
-    assert_eq!(rt; string.push(b'b'), Ok(()));
+    assert!(rt; string.push(b'a') == Ok(()));
+    assert!(rt; string.push(0) == Err(InvalidCharacter));
+    assert!(rt; string.push(b'b') == Ok(()));
     assert!(rt; string.is_full());
-    assert_eq!(rt; string.push(b'c'), Err(InsertWouldExceedCapacity));
-    assert_eq!(rt; string.as_str(), "ab");
+    assert!(rt; string.push(b'c') == Err(InsertWouldExceedCapacity));
+    assert!(rt; string.as_str() == "ab");
 }
 
 // Shows: String::push_bytes, String::push_str
 #[test]
 fn a_text_is_appended_or_nothing(rt: HostRuntime) {
     let mut string = StaticString::<8>::new();
-    assert_eq!(rt; string.push_bytes(b"dev"), Ok(()));
-    assert_eq!(rt; string.push_str("/shm"), Ok(()));
-    assert_eq!(rt; string.push_str("/a"), Err(InsertWouldExceedCapacity));
-    assert_eq!(rt; string.push_bytes(b"\x80"), Err(InvalidCharacter));
-    assert_eq!(rt; string.as_str(), "dev/shm");
+    assert!(rt; string.push_bytes(b"dev") == Ok(()));
+    assert!(rt; string.push_str("/shm") == Ok(()));
+    assert!(rt; string.push_str("/a") == Err(InsertWouldExceedCapacity));
+    assert!(rt; string.push_bytes(b"\x80") == Err(InvalidCharacter));
+    assert!(rt; string.as_str() == "dev/shm");
 }
 
 // Shows: String::insert, String::insert_bytes
@@ -73,11 +70,11 @@ fn a_text_is_appended_or_nothing(rt: HostRuntime) {
 fn bytes_are_inserted_at_an_index(rt: HostRuntime) -> Result<(), Fail> {
     let mut string = StaticString::<8>::new();
     string.insert_bytes(0, b"ho")?;
-    assert_eq!(rt; string.len(), 2);
-    assert_eq!(rt; string.insert_bytes(1, b"ell"), Ok(()));
-    assert_eq!(rt; string.insert(0, b'>'), Ok(()));
-    assert_eq!(rt; string.insert(0, 0), Err(InvalidCharacter));
-    assert_eq!(rt; string.as_str(), ">hello");
+    assert!(rt; string.len() == 2);
+    assert!(rt; string.insert_bytes(1, b"ell") == Ok(()));
+    assert!(rt; string.insert(0, b'>') == Ok(()));
+    assert!(rt; string.insert(0, 0) == Err(InvalidCharacter));
+    assert!(rt; string.as_str() == ">hello");
     Ok(())
 }
 
@@ -86,17 +83,17 @@ fn bytes_are_inserted_at_an_index(rt: HostRuntime) -> Result<(), Fail> {
 fn an_empty_string_has_room_for_a_letter(rt: HostRuntime) {
     let mut string = StaticString::<2>::new();
     string.insert_bytes_unchecked(0, &[97]);
-    assert_eq!(rt; string.as_str(), "a");
+    assert!(rt; string.as_str() == "a");
 }
 
 // Shows: String::remove, String::pop
 #[test]
 fn bytes_are_removed_one_by_one(rt: HostRuntime) -> Result<(), Fail> {
     let mut string = StaticString::<8>::from_bytes(b"abc")?;
-    assert_eq!(rt; string.remove(0), Some(b'a'));
-    assert_eq!(rt; string.remove(2), None);
-    assert_eq!(rt; string.pop(), Some(b'c'));
-    assert_eq!(rt; string.as_str(), "b");
+    assert!(rt; string.remove(0) == Some(b'a'));
+    assert!(rt; string.remove(2) == None);
+    assert!(rt; string.pop() == Some(b'c'));
+    assert!(rt; string.as_str() == "b");
     Ok(())
 }
 
@@ -105,9 +102,9 @@ fn bytes_are_removed_one_by_one(rt: HostRuntime) -> Result<(), Fail> {
 fn a_range_of_bytes_is_removed(rt: HostRuntime) -> Result<(), Fail> {
     let mut string = StaticString::<8>::from_bytes(b"abcdef")?;
     assert!(rt; string.remove_range(1, 4));
-    assert_eq!(rt; string.as_str(), "af");
+    assert!(rt; string.as_str() == "af");
     assert!(rt; !string.remove_range(1, 2));
-    assert_eq!(rt; string.as_str(), "af");
+    assert!(rt; string.as_str() == "af");
     Ok(())
 }
 
@@ -116,9 +113,9 @@ fn a_range_of_bytes_is_removed(rt: HostRuntime) -> Result<(), Fail> {
 fn a_string_is_shortened(rt: HostRuntime) -> Result<(), Fail> {
     let mut string = StaticString::<8>::from_bytes(b"abc")?;
     string.truncate(5);
-    assert_eq!(rt; string.len(), 3);
+    assert!(rt; string.len() == 3);
     string.truncate(2);
-    assert_eq!(rt; string.as_str(), "ab");
+    assert!(rt; string.as_str() == "ab");
     string.clear();
     assert!(rt; string.is_empty());
     Ok(())
@@ -128,10 +125,10 @@ fn a_string_is_shortened(rt: HostRuntime) -> Result<(), Fail> {
 #[test]
 fn where_bytes_occur(rt: HostRuntime) -> Result<(), Fail> {
     let string = StaticString::<8>::from_bytes(b"a/b/c")?;
-    assert_eq!(rt; string.find(b"/"), Some(1));
-    assert_eq!(rt; string.rfind(b"/"), Some(3));
-    assert_eq!(rt; string.find(b"//"), None);
-    assert_eq!(rt; string.rfind(b""), Some(5));
+    assert!(rt; string.find(b"/") == Some(1));
+    assert!(rt; string.rfind(b"/") == Some(3));
+    assert!(rt; string.find(b"//") == None);
+    assert!(rt; string.rfind(b"") == Some(5));
     Ok(())
 }
 
@@ -153,7 +150,7 @@ fn the_start_and_the_end_are_removed(rt: HostRuntime) -> Result<(), Fail> {
     assert!(rt; string.strip_prefix(b"lib_"));
     assert!(rt; !string.strip_prefix(b"lib_"));
     assert!(rt; string.strip_suffix(b".rs"));
-    assert_eq!(rt; string.as_str(), "maps");
+    assert!(rt; string.as_str() == "maps");
     Ok(())
 }
 
@@ -162,7 +159,7 @@ fn the_start_and_the_end_are_removed(rt: HostRuntime) -> Result<(), Fail> {
 fn the_bytes_of_which_the_answer_is_true_are_removed(rt: HostRuntime) -> Result<(), Fail> {
     let mut string = StaticString::<8>::from_bytes(b"a-b--c")?;
     string.retain(|byte| byte == b'-');
-    assert_eq!(rt; string.as_str(), "abc");
+    assert!(rt; string.as_str() == "abc");
     Ok(())
 }
 
@@ -171,10 +168,10 @@ fn the_bytes_of_which_the_answer_is_true_are_removed(rt: HostRuntime) -> Result<
 fn a_text_for_c(rt: HostRuntime) -> Result<(), Fail> {
     let string = StaticString::<8>::from_bytes(b"abc")?;
     let mut out = [255; 5];
-    assert_eq!(rt; string.copy_with_nul(&mut out), Some(4));
-    assert_eq!(rt; out, [97, 98, 99, 0, 255]);
+    assert!(rt; string.copy_with_nul(&mut out) == Some(4));
+    assert!(rt; out == [97, 98, 99, 0, 255]);
     let mut short = [255; 3];
-    assert_eq!(rt; string.copy_with_nul(&mut short), None);
+    assert!(rt; string.copy_with_nul(&mut short) == None);
     Ok(())
 }
 
@@ -184,8 +181,8 @@ fn a_string_is_compared_with_bytes(rt: HostRuntime) -> Result<(), Fail> {
     let string = StaticString::<8>::from_bytes(b"abc")?;
     assert!(rt; string.eq_bytes(b"abc"));
     assert!(rt; !string.eq_str("abd"));
-    assert_eq!(rt; string.cmp_bytes(b"abd"), Less);
-    assert_eq!(rt; string.cmp_bytes(b"abc"), Equal);
-    assert_eq!(rt; string.cmp_bytes(b"ab"), Greater);
+    assert!(rt; string.cmp_bytes(b"abd") == Less);
+    assert!(rt; string.cmp_bytes(b"abc") == Equal);
+    assert!(rt; string.cmp_bytes(b"ab") == Greater);
     Ok(())
 }

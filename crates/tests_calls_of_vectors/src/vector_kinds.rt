@@ -12,8 +12,8 @@ use std::test::Fail;
 #[test]
 fn a_vector_that_is_stored_inline(rt: HostRuntime) {
     let vector = StaticVec::<u64, 4>::new();
-    assert_eq!(rt; StaticVec::<u64, 4>::capacity(), 4);
-    assert_eq!(rt; vector.capacity(), 4);
+    assert!(rt; StaticVec::<u64, 4>::capacity() == 4);
+    assert!(rt; vector.capacity() == 4);
     assert!(rt; vector == StaticVec::default());
 }
 
@@ -21,11 +21,11 @@ fn a_vector_that_is_stored_inline(rt: HostRuntime) {
 #[test]
 fn an_inline_vector_is_filled_and_emptied(rt: HostRuntime) {
     let mut vector = StaticVec::<u64, 2>::new();
-    assert_eq!(rt; vector.push(1), Ok(()));
-    assert_eq!(rt; vector.insert(0, 2), Ok(()));
-    assert_eq!(rt; vector.push(3), Err(InsertWouldExceedCapacity));
-    assert_eq!(rt; vector.as_slice(), [2, 1].as_slice());
-    assert_eq!(rt; vector.pop(), Some(1));
+    assert!(rt; vector.push(1) == Ok(()));
+    assert!(rt; vector.insert(0, 2) == Ok(()));
+    assert!(rt; vector.push(3) == Err(InsertWouldExceedCapacity));
+    assert!(rt; vector.as_slice() == [2, 1].as_slice());
+    assert!(rt; vector.pop() == Some(1));
 }
 
 // Shows: PolymorphicVec, PolymorphicVec::new
@@ -33,9 +33,9 @@ fn an_inline_vector_is_filled_and_emptied(rt: HostRuntime) {
 fn a_vector_in_memory_of_an_allocator(rt: HostRuntime) -> Result<(), Fail> {
     let mut squares = PolymorphicVec::<u64>::new(rt.alloc(), 3)?;
     squares.extend_from_slice(&[0, 1, 4])?;
-    assert_eq!(rt; squares.push(9), Err(InsertWouldExceedCapacity));
-    assert_eq!(rt; squares.as_slice(), [0, 1, 4].as_slice());
-    assert_eq!(rt; squares.pop(), Some(4));
+    assert!(rt; squares.push(9) == Err(InsertWouldExceedCapacity));
+    assert!(rt; squares.as_slice() == [0, 1, 4].as_slice());
+    assert!(rt; squares.pop() == Some(4));
     Ok(())
 }
 
@@ -43,7 +43,7 @@ fn a_vector_in_memory_of_an_allocator(rt: HostRuntime) -> Result<(), Fail> {
 #[test]
 fn a_full_vector_of_what_a_function_returns(rt: HostRuntime) -> Result<(), Fail> {
     let squares = PolymorphicVec::<usize>::from_fn(rt.alloc(), 4, |n| n * n)?;
-    assert_eq!(rt; squares.as_slice(), [0, 1, 4, 9].as_slice());
+    assert!(rt; squares.as_slice() == [0, 1, 4, 9].as_slice());
     assert!(rt; squares.is_full());
     Ok(())
 }
@@ -52,9 +52,8 @@ fn a_full_vector_of_what_a_function_returns(rt: HostRuntime) -> Result<(), Fail>
 #[test]
 fn how_much_memory_a_vector_takes(rt: HostRuntime) {
     let size = PolymorphicVec::<u64>::memory_size(100);
-    assert_eq!(rt;
-        size,
-        MemorySize {
+    assert!(rt;
+        size == MemorySize {
             bytes: 800,
             blocks: 1
         }
@@ -68,8 +67,8 @@ fn a_copy_in_memory_of_the_same_allocator(rt: HostRuntime) -> Result<(), Fail> {
     vector.push(1)?;
     let mut copy = vector.try_clone()?;
     copy.push(2)?;
-    assert_eq!(rt; copy.as_slice(), [1, 2].as_slice());
-    assert_eq!(rt; vector.as_slice(), [1].as_slice());
+    assert!(rt; copy.as_slice() == [1, 2].as_slice());
+    assert!(rt; vector.as_slice() == [1].as_slice());
     Ok(())
 }
 
@@ -81,7 +80,7 @@ fn a_vector_that_got_no_memory_is_tried_again(rt: HostRuntime) -> Result<(), Fai
         Ok(vector) => vector,
         Err(error) => error.into_uninit().init(rt.alloc())?, // once more
     };
-    assert_eq!(rt; vector.extend_from_slice(&[1, 2, 3]), Ok(()));
+    assert!(rt; vector.extend_from_slice(&[1, 2, 3]) == Ok(()));
     Ok(())
 }
 
@@ -90,8 +89,8 @@ fn a_vector_that_got_no_memory_is_tried_again(rt: HostRuntime) -> Result<(), Fai
 fn a_vector_that_is_made_in_two_steps(rt: HostRuntime) -> Result<(), Fail> {
     let uninit = RelocatableVec::<u64>::new_uninit(2);
     let mut vector = uninit.init(rt.alloc())?;
-    assert_eq!(rt; vector.push(1), Ok(()));
-    assert_eq!(rt; vector.capacity(), 2);
+    assert!(rt; vector.push(1) == Ok(()));
+    assert!(rt; vector.capacity() == 2);
     Ok(())
 }
 
@@ -99,9 +98,9 @@ fn a_vector_that_is_made_in_two_steps(rt: HostRuntime) -> Result<(), Fail> {
 #[test]
 fn a_vector_of_the_items_of_an_iterator(rt: HostRuntime) -> Result<(), Fail> {
     let vector = StaticVec::<u64, 4>::try_from_iter([1, 2, 3])?;
-    assert_eq!(rt; vector.as_slice(), [1, 2, 3].as_slice());
+    assert!(rt; vector.as_slice() == [1, 2, 3].as_slice());
     let refused = StaticVec::<u64, 2>::try_from_iter([1, 2, 3]);
-    assert_eq!(rt; refused.err(), Some(InsertWouldExceedCapacity));
+    assert!(rt; refused.err() == Some(InsertWouldExceedCapacity));
     Ok(())
 }
 
@@ -110,9 +109,9 @@ fn a_vector_of_the_items_of_an_iterator(rt: HostRuntime) -> Result<(), Fail> {
 fn a_vector_is_split_in_two(rt: HostRuntime) -> Result<(), Fail> {
     let mut vector = StaticVec::<u64, 4>::try_from_iter([1, 2, 3])?;
     let tail = vector.split_off(1)?;
-    assert_eq!(rt; vector.as_slice(), [1].as_slice());
-    assert_eq!(rt; tail.as_slice(), [2, 3].as_slice());
-    assert_eq!(rt; vector.split_off(2).err(), Some(OutOfBounds));
+    assert!(rt; vector.as_slice() == [1].as_slice());
+    assert!(rt; tail.as_slice() == [2, 3].as_slice());
+    assert!(rt; vector.split_off(2).err() == Some(OutOfBounds));
     Ok(())
 }
 
@@ -121,9 +120,9 @@ fn a_vector_is_split_in_two(rt: HostRuntime) -> Result<(), Fail> {
 fn a_vector_of_clones_of_the_items_of_a_slice(rt: HostRuntime) -> Result<(), Fail> {
     let numbers: &[u64] = &[1, 2, 3];
     let vector = StaticVec::<u64, 4>::try_from(numbers)?;
-    assert_eq!(rt; vector.as_slice(), numbers);
+    assert!(rt; vector.as_slice() == numbers);
     let refused = StaticVec::<u64, 2>::try_from(numbers);
-    assert_eq!(rt; refused.err(), Some(InsertWouldExceedCapacity));
+    assert!(rt; refused.err() == Some(InsertWouldExceedCapacity));
     Ok(())
 }
 
@@ -131,7 +130,7 @@ fn a_vector_of_clones_of_the_items_of_a_slice(rt: HostRuntime) -> Result<(), Fai
 #[test]
 fn a_vector_of_clones_of_the_items_of_an_array(rt: HostRuntime) -> Result<(), Fail> {
     let vector = StaticVec::<u64, 4>::try_from(&[1, 2])?;
-    assert_eq!(rt; vector.as_slice(), [1, 2].as_slice());
+    assert!(rt; vector.as_slice() == [1, 2].as_slice());
     Ok(())
 }
 
@@ -139,9 +138,9 @@ fn a_vector_of_clones_of_the_items_of_an_array(rt: HostRuntime) -> Result<(), Fa
 #[test]
 fn an_array_that_does_not_fit_comes_back(rt: HostRuntime) {
     let vector = StaticVec::<u64, 2>::try_from([1, 2]);
-    assert_eq!(rt; vector.map(|vector| vector.len()), Ok(2));
+    assert!(rt; vector.map(|vector| vector.len()) == Ok(2));
     let refused = StaticVec::<u64, 2>::try_from([1, 2, 3]);
-    assert_eq!(rt; refused.err(), Some([1, 2, 3]));
+    assert!(rt; refused.err() == Some([1, 2, 3]));
 }
 
 // Shows: Clone for StaticVec
@@ -151,7 +150,7 @@ fn a_copy_of_an_inline_vector(rt: HostRuntime) -> Result<(), Fail> {
     vector.push(1)?;
     let copy = vector.clone()?;
     vector.push(2)?;
-    assert_eq!(rt; copy.as_slice(), [1].as_slice());
+    assert!(rt; copy.as_slice() == [1].as_slice());
     Ok(())
 }
 
@@ -163,7 +162,7 @@ fn inline_vectors_are_compared(rt: HostRuntime) -> Result<(), Fail> {
     let greater = StaticVec::<u64, 3>::try_from_iter([1, 3])?;
     assert!(rt; vector != longer);
     assert!(rt; vector < longer);
-    assert_eq!(rt; greater.cmp(&longer), Greater);
+    assert!(rt; greater.cmp(&longer) == Greater);
     Ok(())
 }
 
@@ -177,7 +176,7 @@ fn capacities_do_not_matter_where_vectors_are_compared(rt: HostRuntime) -> Resul
     assert!(rt; vector == other);
     other.push(2)?;
     assert!(rt; vector < other);
-    assert_eq!(rt; other.cmp(&vector), Greater);
+    assert!(rt; other.cmp(&vector) == Greater);
     Ok(())
 }
 
@@ -191,7 +190,7 @@ fn equal_items_have_one_hash(rt: HostRuntime) -> Result<(), Fail> {
     inline.hash(&mut hasher);
     let mut other = DefaultHasher::new();
     allocated.hash(&mut other);
-    assert_eq!(rt; hasher.finish(), other.finish());
+    assert!(rt; hasher.finish() == other.finish());
     Ok(())
 }
 
@@ -200,9 +199,9 @@ fn equal_items_have_one_hash(rt: HostRuntime) -> Result<(), Fail> {
 fn the_items_are_moved_out(rt: HostRuntime) -> Result<(), Fail> {
     let vector = StaticVec::<u64, 3>::try_from_iter([1, 2])?;
     let mut items = vector.into_iter();
-    assert_eq!(rt; items.next(), Some(1));
-    assert_eq!(rt; items.next_back(), Some(2));
-    assert_eq!(rt; items.next(), None);
+    assert!(rt; items.next() == Some(1));
+    assert!(rt; items.next_back() == Some(2));
+    assert!(rt; items.next() == None);
     Ok(())
 }
 
@@ -212,9 +211,9 @@ fn the_allocated_items_are_moved_out(rt: HostRuntime) -> Result<(), Fail> {
     let mut vector = PolymorphicVec::<u64>::new(rt.alloc(), 3)?;
     vector.extend_from_slice(&[1, 2])?;
     let mut items = vector.into_iter();
-    assert_eq!(rt; items.next(), Some(1));
-    assert_eq!(rt; items.next(), Some(2));
-    assert_eq!(rt; items.next(), None);
+    assert!(rt; items.next() == Some(1));
+    assert!(rt; items.next() == Some(2));
+    assert!(rt; items.next() == None);
     Ok(())
 }
 
@@ -229,7 +228,7 @@ fn a_loop_over_the_items_of_an_inline_vector(rt: HostRuntime) -> Result<(), Fail
     for item in &vector {
         all ^= *item;
     }
-    assert_eq!(rt; all, 3);
+    assert!(rt; all == 3);
     Ok(())
 }
 
@@ -245,7 +244,7 @@ fn a_loop_over_the_items_of_an_allocated_vector(rt: HostRuntime) -> Result<(), F
     for item in &vector {
         all ^= *item;
     }
-    assert_eq!(rt; all, 3);
+    assert!(rt; all == 3);
     Ok(())
 }
 
@@ -253,15 +252,15 @@ fn a_loop_over_the_items_of_an_allocated_vector(rt: HostRuntime) -> Result<(), F
 #[test]
 fn calls_of_slices_that_look(rt: HostRuntime) -> Result<(), Fail> {
     let vector = StaticVec::<u64, 4>::try_from_iter([1, 3, 5])?;
-    assert_eq!(rt; vector.len(), 3);
-    assert_eq!(rt; vector[1], 3);
-    assert_eq!(rt; vector.get(3), None);
-    assert_eq!(rt; vector.first(), Some(&1));
-    assert_eq!(rt; vector.last(), Some(&5));
+    assert!(rt; vector.len() == 3);
+    assert!(rt; vector[1] == 3);
+    assert!(rt; vector.get(3) == None);
+    assert!(rt; vector.first() == Some(&1));
+    assert!(rt; vector.last() == Some(&5));
     assert!(rt; vector.contains(&3));
     assert!(rt; vector.starts_with(&[1, 3]));
-    assert_eq!(rt; vector.binary_search(&5), Ok(2));
-    assert_eq!(rt; vector.chunks(2).count(), 2);
+    assert!(rt; vector.binary_search(&5) == Ok(2));
+    assert!(rt; vector.chunks(2).count() == 2);
     Ok(())
 }
 
@@ -270,10 +269,10 @@ fn calls_of_slices_that_look(rt: HostRuntime) -> Result<(), Fail> {
 fn calls_of_slices_that_change_items(rt: HostRuntime) -> Result<(), Fail> {
     let mut vector = StaticVec::<u64, 4>::try_from_iter([5, 1, 3])?;
     vector.sort_unstable();
-    assert_eq!(rt; vector.as_slice(), [1, 3, 5].as_slice());
+    assert!(rt; vector.as_slice() == [1, 3, 5].as_slice());
     vector[0] = 7;
     vector.reverse();
-    assert_eq!(rt; vector.as_slice(), [5, 3, 7].as_slice());
+    assert!(rt; vector.as_slice() == [5, 3, 7].as_slice());
     Ok(())
 }
 
@@ -283,10 +282,10 @@ fn calls_of_slices_on_an_allocated_vector(rt: HostRuntime) -> Result<(), Fail> {
     let mut vector = PolymorphicVec::<u64>::new(rt.alloc(), 4)?;
     vector.extend_from_slice(&[5, 1])?;
     vector.sort_unstable();
-    assert_eq!(rt; vector.len(), 2);
-    assert_eq!(rt; vector[0], 1);
+    assert!(rt; vector.len() == 2);
+    assert!(rt; vector[0] == 1);
     vector[0] = 7;
-    assert_eq!(rt; vector.first(), Some(&7));
+    assert!(rt; vector.first() == Some(&7));
     assert!(rt; vector.contains(&5));
     Ok(())
 }
@@ -303,8 +302,8 @@ fn sum_of<V: convert::AsSlice<u64>>(items: &V) -> u64 {
 #[test]
 fn a_function_over_all_that_is_a_slice(rt: HostRuntime) -> Result<(), Fail> {
     let inline = StaticVec::<u64, 3>::try_from_iter([1, 2])?;
-    assert_eq!(rt; sum_of(&inline), 3);
+    assert!(rt; sum_of(&inline) == 3);
     let allocated = PolymorphicVec::<u64>::from_fn(rt.alloc(), 3, |n| n as u64)?;
-    assert_eq!(rt; sum_of(&allocated), 3);
+    assert!(rt; sum_of(&allocated) == 3);
     Ok(())
 }

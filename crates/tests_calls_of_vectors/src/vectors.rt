@@ -13,11 +13,11 @@ fn a_function_takes_a_vector_of_any_kind(rt: HostRuntime) -> Result<(), Fail> {
         vector.push(item)
     }
     let mut inline = StaticVec::<u64, 2>::try_from_iter([1, 2])?;
-    assert_eq!(rt; keep_last(&mut inline, 3), Ok(()));
-    assert_eq!(rt; inline.as_slice(), [2, 3].as_slice());
+    assert!(rt; keep_last(&mut inline, 3) == Ok(()));
+    assert!(rt; inline.as_slice() == [2, 3].as_slice());
     let mut allocated = PolymorphicVec::<u64>::new(rt.alloc(), 2)?;
-    assert_eq!(rt; keep_last(&mut allocated, 1), Ok(()));
-    assert_eq!(rt; allocated.as_slice(), [1].as_slice());
+    assert!(rt; keep_last(&mut allocated, 1) == Ok(()));
+    assert!(rt; allocated.as_slice() == [1].as_slice());
     Ok(())
 }
 
@@ -25,20 +25,20 @@ fn a_function_takes_a_vector_of_any_kind(rt: HostRuntime) -> Result<(), Fail> {
 #[test]
 fn a_full_vector_refuses_an_item(rt: HostRuntime) {
     let mut vector = StaticVec::<u64, 2>::new();
-    assert_eq!(rt; vector.push(1), Ok(()));
-    assert_eq!(rt; vector.push(2), Ok(()));
+    assert!(rt; vector.push(1) == Ok(()));
+    assert!(rt; vector.push(2) == Ok(()));
     assert!(rt; vector.is_full());
-    assert_eq!(rt; vector.push(3), Err(InsertWouldExceedCapacity));
-    assert_eq!(rt; vector.as_slice(), [1, 2].as_slice());
+    assert!(rt; vector.push(3) == Err(InsertWouldExceedCapacity));
+    assert!(rt; vector.as_slice() == [1, 2].as_slice());
 }
 
 // Shows: Vector::try_push
 #[test]
 fn a_full_vector_hands_the_item_back(rt: HostRuntime) {
     let mut vector = StaticVec::<u64, 1>::new();
-    assert_eq!(rt; vector.try_push(1), Ok(()));
-    assert_eq!(rt; vector.try_push(2), Err(2));
-    assert_eq!(rt; vector.as_slice(), [1].as_slice());
+    assert!(rt; vector.try_push(1) == Ok(()));
+    assert!(rt; vector.try_push(2) == Err(2));
+    assert!(rt; vector.as_slice() == [1].as_slice());
 }
 
 // Shows: Vector::push_unchecked
@@ -47,7 +47,7 @@ fn a_new_vector_has_room(rt: HostRuntime) {
     let mut vector = StaticVec::<u64, 2>::new();
     vector.push_unchecked(7);
     vector.push_unchecked(8);
-    assert_eq!(rt; vector.as_slice(), [7, 8].as_slice());
+    assert!(rt; vector.as_slice() == [7, 8].as_slice());
 }
 
 // Shows: Vector::pop, Vector::is_empty
@@ -55,9 +55,9 @@ fn a_new_vector_has_room(rt: HostRuntime) {
 fn the_last_item_is_popped_first(rt: HostRuntime) -> Result<(), Fail> {
     let mut vector = StaticVec::<u64, 4>::new();
     vector.extend_from_slice(&[1, 2])?;
-    assert_eq!(rt; vector.pop(), Some(2));
-    assert_eq!(rt; vector.pop(), Some(1));
-    assert_eq!(rt; vector.pop(), None);
+    assert!(rt; vector.pop() == Some(2));
+    assert!(rt; vector.pop() == Some(1));
+    assert!(rt; vector.pop() == None);
     assert!(rt; vector.is_empty());
     Ok(())
 }
@@ -67,9 +67,9 @@ fn the_last_item_is_popped_first(rt: HostRuntime) -> Result<(), Fail> {
 fn how_many_items_there_are_and_how_many_fit(rt: HostRuntime) -> Result<(), Fail> {
     let mut vector = PolymorphicVec::<u64>::new(rt.alloc(), 5)?;
     vector.extend_from_slice(&[1, 2])?;
-    assert_eq!(rt; vector.len(), 2);
-    assert_eq!(rt; vector.capacity(), 5);
-    assert_eq!(rt; vector.remaining_capacity(), 3);
+    assert!(rt; vector.len() == 2);
+    assert!(rt; vector.capacity() == 5);
+    assert!(rt; vector.remaining_capacity() == 3);
     Ok(())
 }
 
@@ -79,7 +79,7 @@ fn the_items_are_a_slice(rt: HostRuntime) -> Result<(), Fail> {
     let mut vector = StaticVec::<u64, 4>::new();
     vector.extend_from_slice(&[3, 1, 2])?;
     vector.as_mut_slice().sort_unstable();
-    assert_eq!(rt; vector.as_slice(), [1, 2, 3].as_slice());
+    assert!(rt; vector.as_slice() == [1, 2, 3].as_slice());
     Ok(())
 }
 
@@ -89,10 +89,10 @@ fn items_from_the_last_to_the_first(rt: HostRuntime) -> Result<(), Fail> {
     let mut vector = StaticVec::<u64, 4>::new();
     vector.extend_from_slice(&[1, 2, 3])?;
     let mut items = vector.iter().rev();
-    assert_eq!(rt; items.next(), Some(&3));
-    assert_eq!(rt; items.next(), Some(&2));
-    assert_eq!(rt; items.next(), Some(&1));
-    assert_eq!(rt; items.next(), None);
+    assert!(rt; items.next() == Some(&3));
+    assert!(rt; items.next() == Some(&2));
+    assert!(rt; items.next() == Some(&1));
+    assert!(rt; items.next() == None);
     Ok(())
 }
 
@@ -104,7 +104,7 @@ fn each_item_is_changed(rt: HostRuntime) -> Result<(), Fail> {
     for item in vector.iter_mut() {
         *item /= 10;
     }
-    assert_eq!(rt; vector.as_slice(), [1, 2, 3].as_slice());
+    assert!(rt; vector.as_slice() == [1, 2, 3].as_slice());
     Ok(())
 }
 
@@ -112,25 +112,22 @@ fn each_item_is_changed(rt: HostRuntime) -> Result<(), Fail> {
 #[test]
 fn an_item_is_inserted_at_an_index(rt: HostRuntime) {
     let mut vector = StaticVec::<u64, 3>::new();
-    assert_eq!(rt; vector.insert(0, 3), Ok(()));
-    assert_eq!(rt; vector.insert(0, 1), Ok(()));
-    assert_eq!(rt; vector.insert(7, 9), Err(OutOfBounds));
-    assert_eq!(rt; vector.insert(1, 2), Ok(()));
-    assert_eq!(rt; vector.insert(1, 9), Err(InsertWouldExceedCapacity));
-    assert_eq!(rt; vector.as_slice(), [1, 2, 3].as_slice());
+    assert!(rt; vector.insert(0, 3) == Ok(()));
+    assert!(rt; vector.insert(0, 1) == Ok(()));
+    assert!(rt; vector.insert(7, 9) == Err(OutOfBounds));
+    assert!(rt; vector.insert(1, 2) == Ok(()));
+    assert!(rt; vector.insert(1, 9) == Err(InsertWouldExceedCapacity));
+    assert!(rt; vector.as_slice() == [1, 2, 3].as_slice());
 }
 
 // Shows: Vector::try_insert
 #[test]
 fn a_refused_insertion_hands_the_item_back(rt: HostRuntime) {
     let mut vector = StaticVec::<u64, 1>::new();
-    assert_eq!(rt; vector.try_insert(1, 5), Err((OutOfBounds, 5)));
-    assert_eq!(rt; vector.try_insert(0, 5), Ok(()));
-    assert_eq!(rt;
-        vector.try_insert(0, 6),
-        Err((InsertWouldExceedCapacity, 6))
-    );
-    assert_eq!(rt; vector.as_slice(), [5].as_slice());
+    assert!(rt; vector.try_insert(1, 5) == Err((OutOfBounds, 5)));
+    assert!(rt; vector.try_insert(0, 5) == Ok(()));
+    assert!(rt; vector.try_insert(0, 6) == Err((InsertWouldExceedCapacity, 6)));
+    assert!(rt; vector.as_slice() == [5].as_slice());
 }
 
 // Shows: Vector::remove
@@ -138,9 +135,9 @@ fn a_refused_insertion_hands_the_item_back(rt: HostRuntime) {
 fn an_item_is_removed_and_the_later_ones_follow(rt: HostRuntime) -> Result<(), Fail> {
     let mut vector = StaticVec::<u64, 4>::new();
     vector.extend_from_slice(&[1, 2, 3])?;
-    assert_eq!(rt; vector.remove(0), Some(1));
-    assert_eq!(rt; vector.remove(2), None);
-    assert_eq!(rt; vector.as_slice(), [2, 3].as_slice());
+    assert!(rt; vector.remove(0) == Some(1));
+    assert!(rt; vector.remove(2) == None);
+    assert!(rt; vector.as_slice() == [2, 3].as_slice());
     Ok(())
 }
 
@@ -149,9 +146,9 @@ fn an_item_is_removed_and_the_later_ones_follow(rt: HostRuntime) -> Result<(), F
 fn the_last_item_takes_the_place_of_a_removed_one(rt: HostRuntime) -> Result<(), Fail> {
     let mut vector = StaticVec::<u64, 4>::new();
     vector.extend_from_slice(&[1, 2, 3])?;
-    assert_eq!(rt; vector.swap_remove(0), Some(1));
-    assert_eq!(rt; vector.as_slice(), [3, 2].as_slice());
-    assert_eq!(rt; vector.swap_remove(5), None);
+    assert!(rt; vector.swap_remove(0) == Some(1));
+    assert!(rt; vector.as_slice() == [3, 2].as_slice());
+    assert!(rt; vector.swap_remove(5) == None);
     Ok(())
 }
 
@@ -162,12 +159,12 @@ fn all_items_of_another_vector_are_moved(rt: HostRuntime) -> Result<(), Fail> {
     let mut second = StaticVec::<u64, 3>::new();
     first.extend_from_slice(&[1, 2])?;
     second.push(3)?;
-    assert_eq!(rt; first.append(&mut second), Ok(()));
-    assert_eq!(rt; first.as_slice(), [1, 2, 3].as_slice());
+    assert!(rt; first.append(&mut second) == Ok(()));
+    assert!(rt; first.as_slice() == [1, 2, 3].as_slice());
     assert!(rt; second.is_empty());
     second.push(4)?;
-    assert_eq!(rt; first.append(&mut second), Err(InsertWouldExceedCapacity));
-    assert_eq!(rt; second.as_slice(), [4].as_slice());
+    assert!(rt; first.append(&mut second) == Err(InsertWouldExceedCapacity));
+    assert!(rt; second.as_slice() == [4].as_slice());
     Ok(())
 }
 
@@ -177,9 +174,9 @@ fn a_vector_is_shortened(rt: HostRuntime) -> Result<(), Fail> {
     let mut vector = StaticVec::<u64, 4>::new();
     vector.extend_from_slice(&[1, 2, 3])?;
     vector.truncate(5);
-    assert_eq!(rt; vector.len(), 3);
+    assert!(rt; vector.len() == 3);
     vector.truncate(1);
-    assert_eq!(rt; vector.as_slice(), [1].as_slice());
+    assert!(rt; vector.as_slice() == [1].as_slice());
     vector.clear();
     assert!(rt; vector.is_empty());
     Ok(())
@@ -191,7 +188,7 @@ fn some_items_are_kept(rt: HostRuntime) -> Result<(), Fail> {
     let mut vector = StaticVec::<u64, 4>::new();
     vector.extend_from_slice(&[1, 2, 3, 4])?;
     vector.retain(|item| *item % 2 == 0);
-    assert_eq!(rt; vector.as_slice(), [2, 4].as_slice());
+    assert!(rt; vector.as_slice() == [2, 4].as_slice());
     Ok(())
 }
 
@@ -201,7 +198,7 @@ fn of_equal_items_in_a_row_the_first_stays(rt: HostRuntime) -> Result<(), Fail> 
     let mut vector = StaticVec::<u64, 4>::new();
     vector.extend_from_slice(&[1, 1, 2, 1])?;
     vector.dedup();
-    assert_eq!(rt; vector.as_slice(), [1, 2, 1].as_slice());
+    assert!(rt; vector.as_slice() == [1, 2, 1].as_slice());
     Ok(())
 }
 
@@ -211,11 +208,11 @@ fn a_drained_vector_is_empty_and_can_be_filled_again(rt: HostRuntime) -> Result<
     let mut vector = StaticVec::<u64, 2>::new();
     vector.extend_from_slice(&[1, 2])?;
     let mut items = vector.drain();
-    assert_eq!(rt; (items.len(), items.size_hint()), (2, (2, Some(2))));
-    assert_eq!(rt; items.next(), Some(1));
+    assert!(rt; (items.len(), items.size_hint()) == (2, (2, Some(2))));
+    assert!(rt; items.next() == Some(1));
     drop(items); // drops the 2
     assert!(rt; vector.is_empty());
-    assert_eq!(rt; vector.push(3), Ok(()));
+    assert!(rt; vector.push(3) == Ok(()));
     Ok(())
 }
 
@@ -223,54 +220,45 @@ fn a_drained_vector_is_empty_and_can_be_filled_again(rt: HostRuntime) -> Result<
 #[test]
 fn many_items_are_appended_or_none(rt: HostRuntime) {
     let mut vector = StaticVec::<u64, 3>::new();
-    assert_eq!(rt; vector.extend_from_slice(&[1, 2]), Ok(()));
-    assert_eq!(rt;
-        vector.extend_from_slice(&[3, 4]),
-        Err(InsertWouldExceedCapacity)
-    );
-    assert_eq!(rt; vector.as_slice(), [1, 2].as_slice());
+    assert!(rt; vector.extend_from_slice(&[1, 2]) == Ok(()));
+    assert!(rt; vector.extend_from_slice(&[3, 4]) == Err(InsertWouldExceedCapacity));
+    assert!(rt; vector.as_slice() == [1, 2].as_slice());
 }
 
 // Shows: Vector::extend_from_slice_unchecked, StaticVec::extend_from_slice_unchecked
 #[test]
 fn there_is_room_for_all_items(rt: HostRuntime) {
     let mut vector = StaticVec::<u64, 3>::new();
-    assert_eq!(rt; vector.extend_from_slice_unchecked(&[1, 2, 3]), Ok(()));
-    assert_eq!(rt; vector.as_slice(), [1, 2, 3].as_slice());
+    assert!(rt; vector.extend_from_slice_unchecked(&[1, 2, 3]) == Ok(()));
+    assert!(rt; vector.as_slice() == [1, 2, 3].as_slice());
 }
 
 // Shows: Vector::extend_from_iter
 #[test]
 fn the_items_of_an_iterator_are_appended_or_none(rt: HostRuntime) {
     let mut vector = StaticVec::<u64, 3>::new();
-    assert_eq!(rt; vector.extend_from_iter([1, 2]), Ok(()));
-    assert_eq!(rt;
-        vector.extend_from_iter([3, 4]),
-        Err(InsertWouldExceedCapacity)
-    );
-    assert_eq!(rt; vector.as_slice(), [1, 2].as_slice());
+    assert!(rt; vector.extend_from_iter([1, 2]) == Ok(()));
+    assert!(rt; vector.extend_from_iter([3, 4]) == Err(InsertWouldExceedCapacity));
+    assert!(rt; vector.as_slice() == [1, 2].as_slice());
 }
 
 // Shows: Vector::resize
 #[test]
 fn a_vector_is_filled_up_with_one_item(rt: HostRuntime) {
     let mut vector = StaticVec::<u64, 3>::new();
-    assert_eq!(rt; vector.resize(3, 7), Ok(()));
-    assert_eq!(rt; vector.as_slice(), [7, 7, 7].as_slice());
-    assert_eq!(rt; vector.resize(1, 8), Ok(()));
-    assert_eq!(rt; vector.as_slice(), [7].as_slice());
-    assert_eq!(rt; vector.resize(4, 9), Err(InsertWouldExceedCapacity));
+    assert!(rt; vector.resize(3, 7) == Ok(()));
+    assert!(rt; vector.as_slice() == [7, 7, 7].as_slice());
+    assert!(rt; vector.resize(1, 8) == Ok(()));
+    assert!(rt; vector.as_slice() == [7].as_slice());
+    assert!(rt; vector.resize(4, 9) == Err(InsertWouldExceedCapacity));
 }
 
 // Shows: Vector::resize_with
 #[test]
 fn a_vector_is_filled_up_with_what_a_function_returns(rt: HostRuntime) {
     let mut vector = StaticVec::<Option<u64>, 3>::new();
-    assert_eq!(rt; vector.resize_with(2, || Some(7)), Ok(()));
-    assert_eq!(rt; vector.as_slice(), [Some(7), Some(7)].as_slice());
-    assert_eq!(rt;
-        vector.resize_with(4, || None),
-        Err(InsertWouldExceedCapacity)
-    );
-    assert_eq!(rt; vector.len(), 2);
+    assert!(rt; vector.resize_with(2, || Some(7)) == Ok(()));
+    assert!(rt; vector.as_slice() == [Some(7), Some(7)].as_slice());
+    assert!(rt; vector.resize_with(4, || None) == Err(InsertWouldExceedCapacity));
+    assert!(rt; vector.len() == 2);
 }

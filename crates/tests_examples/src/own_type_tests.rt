@@ -15,10 +15,10 @@ fn temperatures_in_cells(rt: HostRuntime) {
     let warm = Temperature {
         millikelvin: 293_150,
     };
-    assert_eq!(rt; through_bytes(&warm), Some(warm));
+    assert!(rt; through_bytes(&warm) == Some(warm));
     let cell = FixedSizeByteAtomic::<Temperature, 8>::new(Temperature { millikelvin: 0 });
     cell.write(warm);
-    assert_eq!(rt; cell.read().assume_consistent(), Some(warm));
+    assert!(rt; cell.read().assume_consistent() == Some(warm));
 }
 
 #[test]
@@ -26,12 +26,9 @@ fn temperatures_as_json(rt: HostRuntime) {
     let warm = Temperature {
         millikelvin: 293_150,
     };
-    assert_eq!(rt; warm.to_value(rt.alloc()), Ok(Value::from(293_150u64)));
-    assert_eq!(rt; Temperature::from_value(&Value::from(293_150u64)), Ok(warm));
-    assert_eq!(rt;
-        Temperature::from_value(&Value::Null),
-        Err(JsonFault::WrongKind)
-    );
+    assert!(rt; warm.to_value(rt.alloc()) == Ok(Value::from(293_150u64)));
+    assert!(rt; Temperature::from_value(&Value::from(293_150u64)) == Ok(warm));
+    assert!(rt; Temperature::from_value(&Value::Null) == Err(JsonFault::WrongKind));
 }
 
 #[test]
@@ -41,9 +38,9 @@ fn a_connection_in_an_arena(rt: HostRuntime) {
     assert!(rt; connection.inbox.push(7));
     assert!(rt; connection.inbox.push(8));
     assert!(rt; !connection.inbox.push(9));
-    assert_eq!(rt; connection.path.capacity(), 64);
-    assert_eq!(rt; connection.path.push_bytes(b"/dev"), Ok(()));
-    assert_eq!(rt; connection.inbox.pop(), Some(7));
+    assert!(rt; connection.path.capacity() == 64);
+    assert!(rt; connection.path.push_bytes(b"/dev") == Ok(()));
+    assert!(rt; connection.inbox.pop() == Some(7));
 }
 
 #[test]
@@ -53,9 +50,9 @@ fn a_station_among_others(rt: HostRuntime) {
     let (station, writer) = empty_station(rt.alloc(), name).expect(&rt, "there is memory");
     assert!(rt; add_station(&mut stations, station));
     let station = stations.pop().expect(&rt, "the station is in the queue");
-    assert_eq!(rt; station.name, name);
+    assert!(rt; station.name == name);
     assert!(rt; station.services.is_empty() && station.ports.is_empty());
-    assert_eq!(rt; station.limit.close(writer).ok(), Some(100));
+    assert!(rt; station.limit.close(writer).ok() == Some(100));
 }
 
 #[test]
@@ -66,31 +63,28 @@ fn fields_come_back(rt: HostRuntime) {
     });
     let mut bytes = [0; 16];
     range.encode(&mut bytes);
-    assert_eq!(rt;
-        bytes,
-        [
-            1, 0, 0, 0, 0, 0, 0, 0, 255, 255, 255, 255, 255, 255, 255, 255
-        ]
+    assert!(rt;
+        bytes
+            == [
+                1, 0, 0, 0, 0, 0, 0, 0, 255, 255, 255, 255, 255, 255, 255, 255
+            ]
     );
-    assert_eq!(rt; range_through_bytes(range), Some(range));
+    assert!(rt; range_through_bytes(range) == Some(range));
     let pose = Fields(Pose {
         x: 258,
         y: 3,
         time: 65_536,
     });
     pose.encode(&mut bytes);
-    assert_eq!(rt; bytes, [2, 1, 0, 0, 3, 0, 0, 0, 0, 0, 1, 0, 0, 0, 0, 0]);
-    assert_eq!(rt; pose_through_bytes(pose), Some(pose));
+    assert!(rt; bytes == [2, 1, 0, 0, 3, 0, 0, 0, 0, 0, 1, 0, 0, 0, 0, 0]);
+    assert!(rt; pose_through_bytes(pose) == Some(pose));
 }
 
 #[test]
 fn bytes_of_a_range_that_falls_are_no_range(rt: HostRuntime) {
     let mut bytes = [0; 16];
     bytes[0] = 1;
-    assert_eq!(rt; Fields::<Range>::decode(&bytes), None);
+    assert!(rt; Fields::<Range>::decode(&bytes) == None);
     bytes[8] = 1;
-    assert_eq!(rt;
-        Fields::<Range>::decode(&bytes),
-        Some(Fields(Range { low: 1, high: 1 }))
-    );
+    assert!(rt; Fields::<Range>::decode(&bytes) == Some(Fields(Range { low: 1, high: 1 })));
 }

@@ -32,10 +32,10 @@ fn a_session_is_opened_heard_and_closed_in_either_map(rt: HostRuntime) {
         last_heard: 5,
     });
     let mut few = FewSessions::new();
-    assert_eq!(rt; closed_after_a_visit(&mut few, camera, radar), wanted);
-    assert_eq!(rt; close(&mut few, &camera), None);
+    assert!(rt; closed_after_a_visit(&mut few, camera, radar) == wanted);
+    assert!(rt; close(&mut few, &camera) == None);
     let state = RandomState::new(&rt).expect(&rt, "a seed is drawn");
     let mut many = ManySessions::with_hasher(state);
-    assert_eq!(rt; closed_after_a_visit(&mut many, camera, radar), wanted);
-    assert_eq!(rt; close(&mut many, &camera), None);
+    assert!(rt; closed_after_a_visit(&mut many, camera, radar) == wanted);
+    assert!(rt; close(&mut many, &camera) == None);
 }
