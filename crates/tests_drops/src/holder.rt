@@ -67,14 +67,16 @@ pub fn check_copy<D: Drop, E: Drop>(
     findings.expect_same_at(found, (0, *dropped, *end), *allowed as usize, place);
 }
 
-/// Clones a container, which was filled, for each row.
-pub fn check_clones<H: Clone + Drop>(
+/// Fills an empty container by the calls, and clones it for each row.
+pub fn check_clones<'a, C: Copy, H: Holder<'a, C> + Clone + Drop>(
     findings: &Findings,
-    holder: &H,
-    notes: &Notes,
+    holder: &mut H,
+    calls: &[C],
+    notes: &'a Notes,
     rows: &[CopyRow],
     place: &str,
 ) {
+    fill(holder, calls, notes);
     for row in rows {
         notes.allow_clones(row.0);
         check_copy(findings, holder.clone(), notes, row, place);

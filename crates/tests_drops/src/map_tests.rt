@@ -12,10 +12,10 @@ use crate::map_tests::Call::{
     Clear, Drain, Each, Forget, Get, GetOrInsert, Insert, KeepOdd, Remove, RemoveEntry, Replace,
     TryInsert, Write,
 };
-use ix_flatmap::{FixedSizeFlatMap, FlatMap, KeyIndex, MetaMap, Pair, UninitFlatMap};
-use ix_hashmap::{FixedSizeHashMap, HashMap, UninitHashMap};
+use ix_flatmap::{FixedSizeFlatMap, FlatMap, KeyIndex, MetaMap, Pair};
+use ix_hashmap::{FixedSizeHashMap, HashMap};
 use ix_slottable::Link;
-use ix_tables::{RelocatableContainer, Table};
+use ix_tables::Table;
 use linked_list_allocator::LocalHeap;
 use std::alloc::{AllocError, Global};
 use std::hash::{Hash, Hasher};
@@ -216,8 +216,9 @@ const ROWS: &[Row<Call>] = &[
     (THREE, Forget(1), (11_9, 0, 2233)),
 ];
 
+// A relocatable map has the type of an allocated one.
 #[test]
-fn each_kind(rt: HostRuntime) -> Result<(), Fail> {
+fn each_type(rt: HostRuntime) -> Result<(), Fail> {
     let findings = Findings::new();
     let (notes, alloc) = (Notes::new(0), rt.alloc());
     for (number, row) in ROWS.iter().enumerate() {
@@ -225,21 +226,10 @@ fn each_kind(rt: HostRuntime) -> Result<(), Fail> {
         check_row(&findings, fixed, &notes, number, row, "a fixed flat map");
         let allocated = FlatMap::<NotedKey, Noted, Global>::new(alloc, 3);
         check_row(&findings, allocated, &notes, number, row, "a flat map");
-        let relocatable = UninitFlatMap::<NotedKey, Noted>::new_uninit(3).init(alloc);
-        check_row(&findings, relocatable, &notes, number, row, "in two steps");
         let fixed = made(FixedSizeHashMap::<NotedKey, Noted, 3>::new());
         check_row(&findings, fixed, &notes, number, row, "a fixed hash map");
         let allocated = HashMap::<NotedKey, Noted, Global>::new(alloc, 3);
         check_row(&findings, allocated, &notes, number, row, "a hash map");
-        let relocatable = UninitHashMap::<NotedKey, Noted>::new_uninit(3).init(alloc);
-        check_row(
-            &findings,
-            relocatable,
-            &notes,
-            number,
-            row,
-            "hashed, in two steps",
-        );
     }
     findings.verdict()
 }
@@ -278,8 +268,14 @@ const COPIES: &[CopyRow] = &[
 fn check_flat_copies(findings: &Findings, alloc: Global, heap: &LocalHeap) {
     let notes = Notes::new(0);
     let mut fixed = FixedSizeFlatMap::<NotedKey, Noted, 4>::new();
-    fill(&mut fixed, THREE, &notes);
-    check_clones(findings, &fixed, &notes, COPIES, "a fixed flat map");
+    check_clones(
+        findings,
+        &mut fixed,
+        THREE,
+        &notes,
+        COPIES,
+        "a fixed flat map",
+    );
     match FlatMap::<NotedKey, Noted, Global>::new(alloc, 4) {
         Ok(mut map) => {
             fill(&mut map, THREE, &notes);
@@ -296,8 +292,14 @@ fn check_flat_copies(findings: &Findings, alloc: Global, heap: &LocalHeap) {
 fn check_hashed_copies(findings: &Findings, alloc: Global, heap: &LocalHeap) {
     let notes = Notes::new(0);
     let mut fixed = FixedSizeHashMap::<NotedKey, Noted, 4>::new();
-    fill(&mut fixed, THREE, &notes);
-    check_clones(findings, &fixed, &notes, COPIES, "a fixed hash map");
+    check_clones(
+        findings,
+        &mut fixed,
+        THREE,
+        &notes,
+        COPIES,
+        "a fixed hash map",
+    );
     match HashMap::<NotedKey, Noted, Global>::new(alloc, 4) {
         Ok(mut map) => {
             fill(&mut map, THREE, &notes);

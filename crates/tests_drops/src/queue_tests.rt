@@ -124,7 +124,7 @@ const OF_NONE: &[Row<Call>] = &[
 ];
 
 #[test]
-fn each_kind(rt: HostRuntime) -> Result<(), Fail> {
+fn each_type(rt: HostRuntime) -> Result<(), Fail> {
     let findings = Findings::new();
     let notes = Notes::new(0);
     for (number, row) in ROWS.iter().enumerate() {
@@ -148,8 +148,7 @@ fn copies(rt: HostRuntime) -> Result<(), Fail> {
     let findings = Findings::new();
     let notes = Notes::new(0);
     let mut fixed = FixedSizeQueue::<Noted, 3>::new();
-    fill(&mut fixed, THREE, &notes);
-    check_clones(&findings, &fixed, &notes, COPIES, "fixed");
+    check_clones(&findings, &mut fixed, THREE, &notes, COPIES, "fixed");
     match (
         Queue::<Noted>::new(rt.alloc(), 3),
         LocalHeap::new(rt.alloc(), 512),

@@ -5,11 +5,9 @@ use crate::holder::{
 use crate::slot_tests::Call::{
     Clear, Drain, Each, Forget, Insert, InsertAt, KeepOdd, Remove, TryInsert, TryInsertAt, Write,
 };
-use ix_slotmap::{FixedSizeSlotMap, MetaSlotMap, SlotMap, SlotMapKey, UninitSlotMap};
-use ix_slottable::{
-    FixedSizeSlotTable, Link, MetaSlotTable, SlotTable, SlotTableKey, UninitSlotTable,
-};
-use ix_tables::{MaybeMoved, RelocatableContainer, Table};
+use ix_slotmap::{FixedSizeSlotMap, MetaSlotMap, SlotMap, SlotMapKey};
+use ix_slottable::{FixedSizeSlotTable, Link, MetaSlotTable, SlotTable, SlotTableKey};
+use ix_tables::{MaybeMoved, Table};
 use linked_list_allocator::LocalHeap;
 use std::alloc::{AllocError, Global};
 use std::test::Fail;
@@ -192,37 +190,26 @@ const RETIRED_ROWS: &[Row<Call>] = &[
     (THREE, KeepOdd, (99_2_9, 0, 13)),
 ];
 
-/// Checks slot tables of each kind.
+/// Checks slot tables of each type: a relocatable one has that of an allocated one.
 fn check_tables(findings: &Findings, alloc: Global, number: usize, row: &Row<Call>) {
     let notes = Notes::new(0);
     let fixed = made(FixedSizeSlotTable::<Noted, 3>::new());
     check_row(findings, fixed, &notes, number, row, "a fixed table");
     let allocated = SlotTable::<Noted, Global>::new(alloc, 3);
     check_row(findings, allocated, &notes, number, row, "a table");
-    let relocatable = UninitSlotTable::<Noted>::new_uninit(3).init(alloc);
-    check_row(findings, relocatable, &notes, number, row, "in two steps");
 }
 
-/// Checks slot maps of each kind, whose places start at `generation`.
+/// Checks slot maps of each type, whose places start at `generation`.
 fn check_maps(findings: &Findings, alloc: Global, generation: u32, number: usize, row: &Row<Call>) {
     let notes = Notes::new(0);
     let fixed = made(FixedSizeSlotMap::<Noted, 3>::starting_at(generation));
     check_row(findings, fixed, &notes, number, row, "a fixed map");
     let allocated = SlotMap::<Noted, Global>::starting_at(alloc, 3, generation);
     check_row(findings, allocated, &notes, number, row, "a map");
-    let relocatable = UninitSlotMap::<Noted>::starting_at(3, generation).init(alloc);
-    check_row(
-        findings,
-        relocatable,
-        &notes,
-        number,
-        row,
-        "a map in two steps",
-    );
 }
 
 #[test]
-fn each_kind(rt: HostRuntime) -> Result<(), Fail> {
+fn each_type(rt: HostRuntime) -> Result<(), Fail> {
     let findings = Findings::new();
     for (number, row) in ROWS.iter().enumerate() {
         check_tables(&findings, rt.alloc(), number, row);
@@ -246,8 +233,7 @@ const EMPTY_COPIES: &[CopyRow] = &[(0, 0, 0)];
 fn check_table_copies(findings: &Findings, alloc: Global, heap: &LocalHeap) {
     let notes = Notes::new(0);
     let mut fixed = FixedSizeSlotTable::<Noted, 4>::new();
-    fill(&mut fixed, THREE, &notes);
-    check_clones(findings, &fixed, &notes, COPIES, "a fixed table");
+    check_clones(findings, &mut fixed, THREE, &notes, COPIES, "a fixed table");
     match SlotTable::<Noted, Global>::new(alloc, 4) {
         Ok(mut table) => {
             fill(&mut table, THREE, &notes);
@@ -272,8 +258,7 @@ fn check_map_copies(
 ) {
     let notes = Notes::new(0);
     let mut fixed = FixedSizeSlotMap::<Noted, 4>::starting_at(generation);
-    fill(&mut fixed, calls, &notes);
-    check_clones(findings, &fixed, &notes, rows, "a fixed map");
+    check_clones(findings, &mut fixed, calls, &notes, rows, "a fixed map");
     match SlotMap::<Noted, Global>::starting_at(alloc, 4, generation) {
         Ok(mut map) => {
             fill(&mut map, calls, &notes);

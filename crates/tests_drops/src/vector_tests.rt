@@ -174,7 +174,7 @@ const ROWS: &[Row<Call>] = &[
 ];
 
 /// Runs the rows on a vector of each kind.
-fn check_kinds<'a>(findings: &Findings, alloc: Global, notes: &'a Notes) {
+fn check_types<'a>(findings: &Findings, alloc: Global, notes: &'a Notes) {
     for (number, row) in ROWS.iter().enumerate() {
         let fixed = made(StaticVec::<Noted<'a>, 4>::new());
         check_row(findings, fixed, notes, number, row, "fixed");
@@ -184,9 +184,9 @@ fn check_kinds<'a>(findings: &Findings, alloc: Global, notes: &'a Notes) {
 }
 
 #[test]
-fn each_kind(rt: HostRuntime) -> Result<(), Fail> {
+fn each_type(rt: HostRuntime) -> Result<(), Fail> {
     let findings = Findings::new();
-    check_kinds(&findings, rt.alloc(), &Notes::new(0));
+    check_types(&findings, rt.alloc(), &Notes::new(0));
     findings.verdict()
 }
 
@@ -198,8 +198,7 @@ fn copies(rt: HostRuntime) -> Result<(), Fail> {
     let findings = Findings::new();
     let notes = Notes::new(0);
     let mut fixed = StaticVec::<Noted, 4>::new();
-    fill(&mut fixed, THREE, &notes);
-    check_clones(&findings, &fixed, &notes, COPIES, "fixed");
+    check_clones(&findings, &mut fixed, THREE, &notes, COPIES, "fixed");
     match LocalHeap::new(rt.alloc(), 1024) {
         Ok(heap) => check_allocated(&findings, &heap, &notes),
         Err(_) => findings.miss("a heap"),
