@@ -5,8 +5,8 @@ A block begins at a line ```rust or ```antt. The line before it names a file of 
 <!-- crates/examples/src/registry.rt: Registry register -->, the block is these items, each with its docs. The word imports
 stands for the lines of the file that import words of contracts.
 
-A block may not name no file, or differ from what it quotes, and a line that names a file may not stand alone; what is written is
-what a block quotes.
+A block may not name no file, or differ from what it quotes, and a line that names a file may not stand alone, or above a block in
+another language; what is written is what a block quotes.
 """
 
 import os
