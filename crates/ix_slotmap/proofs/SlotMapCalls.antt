@@ -15,7 +15,7 @@ use Rattle.ix_slotmap.specs.SlotMapSteps.{is_raisable, slot_map_set_at, slot_map
 use Rattle.ix_slottable.specs.SlotTableCalls.{SomeCallOn, IsCallableOnEach}
 use Rattle.ix_slottable.proofs.SlotTableCalls.{FoldsTo-first, entries_from-take, entries_from-split}
 
-keys_same : (key other : SlotKey) → key.index ≡ other.index → key.generation ≡ other.generation → key ≡ other
+pub keys_same : (key other : SlotKey) → key.index ≡ other.index → key.generation ≡ other.generation → key ≡ other
 keys_same key other index generation =
     ap (λ (n : ℕ). let k : SlotKey = record { index = n; generation = key.generation } in k) index
     ∙ ap (λ (n : ℕ). let k : SlotKey = record { index = other.index; generation = n } in k) generation

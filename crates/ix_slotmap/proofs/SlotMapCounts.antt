@@ -1,9 +1,10 @@
 -- How many keys are held and how many places are free, after each step of a slot map; and what clearing it leaves.
-use Rattle.std.proofs.Common.{◌≡◌, ◌≢◌, ℕ, zero, suc, ◌+◌, ◌<◌, ◌≤◌, inl, inr, List, [], ◌∷◌, length, set, Bool, true, false, Option, Some, None, IsSome, refl, sym, ap, ◌∙◌, subst, arith}
-use Rattle.std.specs.Prelude.{if◌then◌else◌, is_some, count_by}
+use Rattle.std.proofs.Common.{◌≡◌, ◌≢◌, ℕ, zero, suc, ◌+◌, ◌<◌, ◌≤◌, inl, inr, List, [], ◌∷◌, length, set, Bool, true, false, Option, Some, None, IsSome, refl, sym, ap, ap₂, ◌∙◌, subst, arith}
+use Rattle.std.specs.Prelude.{if◌then◌else◌, is_some, count_by, nat_eq}
 use Rattle.std.specs.List.{fold, range_with_len}
 use Rattle.std.specs.Option.{option_flatten}
-use Rattle.std.proofs.lemmas.Bool.{cases_eq, cases_lt, cases_Bool}
+use Rattle.std.proofs.lemmas.Bool.{cases_eq, cases_lt, cases_Bool, eqb-true, lt-ltb}
+use Rattle.std.proofs.lemmas.Bool.Decides.{nat_tests}
 use Rattle.std.proofs.lemmas.List.{get_or-set_same, length-set}
 use Rattle.std.proofs.lemmas.List.Sums.{sum_by-cons, sum_by-set}
 use Rattle.ix_tables.specs.Places.{place_at}
@@ -11,10 +12,10 @@ use Rattle.ix_tables.proofs.Places.{place_at_within, held_item}
 use Rattle.ix_slottable.proofs.SlotTables.{place_at_past}
 use Rattle.ix_slottable.proofs.SlotTableCalls.{fold-range_with_len}
 use Rattle.ix_slottable.specs.SlotTableState.{value_at, IsFree}
-use Rattle.ix_slotmap.specs.Generations.{SlotKey, SlotMapState, generation_at, key_at, place_value, slot_map_value, slot_map_len, IsDead}
-use Rattle.ix_slotmap.specs.SlotMapSteps.{is_raisable, slot_map_set_at, slot_map_fill, slot_map_replace, slot_map_vacate, slot_map_retire, slot_map_remove_at, slot_map_clear}
-use Rattle.ix_slotmap.proofs.Generations.{one_if_held}
-use Rattle.ix_slotmap.proofs.SlotMapCalls.{content_of, slot_map_value-key_at, held_key, SettlesPlace, SettlesPlace-slot_map_remove_at}
+use Rattle.ix_slotmap.specs.Generations.{SlotKey, SlotMapState, greatest_generation, generation_at, key_at, place_value, slot_map_value, slot_map_len, IsDead}
+use Rattle.ix_slotmap.specs.SlotMapSteps.{is_raisable, slot_map_set_at, slot_map_fill, slot_map_replace, slot_map_vacate, slot_map_retire, slot_map_remove_at, slot_map_clear, SlotMapRemove}
+use Rattle.ix_slotmap.proofs.Generations.{one_if_held, if_none}
+use Rattle.ix_slotmap.proofs.SlotMapCalls.{keys_same, content_of, slot_map_value-key_at, held_key, SettlesPlace, SettlesPlace-slot_map_remove_at}
 
 module _ {T : Type 0} where
   -- another content of a place
@@ -163,6 +164,56 @@ module _ {T : Type 0} where
               let is : slot_map_remove_at s place ≡ slot_map_retire s place = removal s place (Some value) at ∙ ap (λ (b : Bool). if b then slot_map_vacate s place else slot_map_retire s place) last in
               subst (Removes s place) (sym is) (retired value at (subst (SettlesPlace s place) is (SettlesPlace-slot_map_remove_at s place (slot_map_remove_at s place) refl)))
         ]
+
+  -- the key of a place with a value is removed: what a call of `remove` promises
+  module _ (s : SlotMapState T) (place : ℕ) (long : length s.generations ≡ length s.slots.values) (value : T) (at : place_value s place ≡ Some value) (new : SlotMapState T) where
+    same_place : (key : SlotKey) → key ≢ key_at s place → key.index ≡ place → nat_eq (generation_at s key.index) key.generation ≡ false
+    same_place key apart here = elim (cases_Bool (nat_eq (generation_at s key.index) key.generation)) [
+      | inl same ↦
+          let generation = eqb-true (generation_at s key.index) key.generation same in
+          absurd (apart (keys_same key (key_at s place) here (sym generation ∙ ap (generation_at s) here)))
+      | inr other ↦ other
+    ]
+
+    removed : new ≡ slot_map_remove_at s place → slot_map_len new + 1 ≡ slot_map_len s → (generation_at s place < greatest_generation → length new.slots.free ≡ length s.slots.free + 1)
+        → SlotMapRemove s (key_at s place) new (Some value)
+    removed is count room =
+        let all = subst (Removes s place) (sym is) (removes s place long) in
+        let thin = subst (ThinsMap s) (sym is) (ThinsMap-slot_map_remove_at s place) in record {
+          value = sym (slot_map_value-key_at s place ∙ at);
+          map = is;
+          killed = λ some. all.killed (held s place long value at);
+          refused = λ none. absurd (cc);
+          kept = λ key apart. elim (cases_eq key.index place) [
+            | inl here ↦
+                if_none _ _ (ap (place_value new) here ∙ all.gone)
+                ∙ sym (ap (λ b. if b then place_value s key.index else None) (same_place key apart here))
+            | inr there ↦ ap₂ (λ generation content. if nat_eq generation key.generation then content else None) (all.settles.generations key.index there) (ap option_flatten (all.settles.kept key.index there))
+          ];
+          dead = all.dead;
+          count = λ some. count;
+          room = λ some less. room less;
+          grows = thin.room;
+        }
+
+    pub SlotMapRemove-vacates : generation_at s place < greatest_generation → new ≡ slot_map_vacate s place → SlotMapRemove s (key_at s place) new (Some value)
+    SlotMapRemove-vacates less is =
+        let raisable : is_raisable s place ≡ true = lt-ltb _ _ less in
+        removed (is ∙ sym (removal s place (Some value) at ∙ ap (λ (b : Bool). if b then slot_map_vacate s place else slot_map_retire s place) raisable))
+        (ap (λ (t : SlotMapState T). slot_map_len t + 1) is ∙ slot_map_len-slot_map_vacate s place (held s place long value at))
+        (λ less. let one = ap (λ (t : SlotMapState T). length t.slots.free) is in omega (arith, one))
+
+    pub SlotMapRemove-retires : generation_at s place ≡ greatest_generation → new ≡ slot_map_retire s place → SlotMapRemove s (key_at s place) new (Some value)
+    SlotMapRemove-retires last is =
+        let raised : is_raisable s place ≡ false = grind (arith, nat_tests) in
+        removed (is ∙ sym (removal s place (Some value) at ∙ ap (λ (b : Bool). if b then slot_map_vacate s place else slot_map_retire s place) raised))
+        (ap (λ (t : SlotMapState T). slot_map_len t + 1) is ∙ slot_map_len-slot_map_retire s place (held s place long value at))
+        (λ less. absurd (omega (arith, less, last)))
+
+  pub SlotMapRemove-held_key : (s : SlotMapState T) (key : SlotKey) (place : ℕ) (new : SlotMapState T) (result : Option T) → IsSome (slot_map_value s key) → place ≡ key.index
+      → SlotMapRemove s (key_at s place) new result → SlotMapRemove s key new result
+  SlotMapRemove-held_key s key place new result held same step =
+      subst (λ k. SlotMapRemove s k new result) (ap (key_at s) same ∙ sym (held_key s key held).0) step
 
   -- a place whose value is written or removed
   pub ThinsMap-retained : (s : SlotMapState T) (place : ℕ) (value left : T) (keep : Bool) (new : SlotMapState T) → place_value s place ≡ Some value

@@ -2,7 +2,7 @@
 use Rattle.std.proofs.Common.{◌≡◌, ℕ, zero, suc, ◌∷◌, ◌+◌, ◌*◌, ◌/◌, ◌%◌, ◌<◌, ◌≤◌, ◌↔◌, inl, inr, List, length, set, get_or, Option, Some, None, IsSome, Bool, true, false, refl, sym, ap, ◌∙◌, subst, arith}
 use Rattle.std.specs.Prelude.{IsTrue, if◌then◌else◌, count_by, nat_eq, map, replicate}
 use Rattle.std.specs.Option.{option_flatten}
-use Rattle.std.proofs.lemmas.Bool.{cases_eq, eqb-true, eq-eqb}
+use Rattle.std.proofs.lemmas.Bool.{cases_eq, cases_lt, eqb-true, eq-eqb}
 use Rattle.std.proofs.lemmas.Bool.Decides.{nat_tests}
 use Rattle.std.proofs.Math.ListN.{get_or-map}
 use Rattle.std.proofs.Math.Seq.{map-set_same}
@@ -12,12 +12,13 @@ use Rattle.std.proofs.lemmas.List.Folds.{sum_by-replicate}
 use Rattle.ix_tables.proofs.Places.{place_at_within}
 use Rattle.ix_tables.specs.Places.{place_at}
 use Rattle.ix_slottable.specs.SlotTableState.{SlotTableState, value_at, IsFree, IsWellFormed, slot_table_new}
-use Rattle.ix_slotmap.specs.Generations.{SlotKey, SlotMapState, greatest_generation, generation_at, place_value, slot_map_value, IsRetired, is_retired, IsSlotMapFormed, slot_map_new}
+use Rattle.ix_slotmap.specs.Generations.{SlotKey, SlotMapState, greatest_generation, generation_at, key_at, place_value, slot_map_value, IsRetired, is_retired, IsSlotMapFormed, slot_map_new}
 use Rattle.ix_slottable.specs.SlotTableSteps.{slot_table_set, slot_table_fill, slot_table_vacate, SlotTableInsert, SlotTableInsertAt, SlotTableRemove}
-use Rattle.ix_slotmap.specs.SlotMapSteps.{slot_map_fill, slot_map_replace, slot_map_vacate, slot_map_retire}
+use Rattle.ix_slotmap.specs.SlotMapSteps.{slot_map_fill, slot_map_replace, slot_map_vacate, slot_map_retire, SlotMapRemove}
 use Rattle.ix_slottable.proofs.SlotTableSteps.{SlotTableInsert-fills, SlotTableInsertAt-fills, SlotTableRemove-vacates}
 use Rattle.ix_tables.proofs.VacantTables.{place_at-replicate}
 use Rattle.ix_slotmap.proofs.Generations.{one_if_retired, if_none, free_of_usable, retired_count-room}
+use Rattle.ix_slotmap.proofs.SlotMapCounts.{SlotMapRemove-vacates, SlotMapRemove-retires}
 use Rattle.ix_slotmap.specs.inner.Words.{word_at, retired_word, word_generation, word_generations, IsWordOf, HasWords}
 
 word_generation-below : (word : ℕ) → word < retired_word → word_generation word ≡ word / 2
@@ -92,6 +93,21 @@ module _ {T : Type 0} (slots : SlotTableState (Option T)) (words : List ℕ) whe
         go (Some (Some value)) at = let word = held_word place value below at in (
           λ odd. subst (λ c. IsSome (option_flatten c)) (sym at) refl,
           λ held. eq-eqb (word_at words place % 2) 1 (omega (arith, word.0)),
+        )
+
+    -- a place is free exactly if its word is even and less than that of a retired place
+    pub free_by_word : (place : ℕ) → place < length slots.values → ((word_at words place % 2 ≡ 0) × (word_at words place < retired_word)) ↔ (value_at slots place ≡ None)
+    free_by_word place below = go (value_at slots place) refl
+      where
+        go : (content : Option (Option T)) → value_at slots place ≡ content → ((word_at words place % 2 ≡ 0) × (word_at words place < retired_word)) ↔ (value_at slots place ≡ None)
+        go None at = let word = free_word place below at in (λ even. at, λ free. (omega (arith, word.0), omega (arith, word.0, word.1)))
+        go (Some None) at = let word = retired_word_at place below at in (
+          λ even. absurd (let less = even.1 in omega (arith, word.0, less)),
+          λ free. absurd (let no : Some None ≡ None = sym at ∙ free in cc),
+        )
+        go (Some (Some value)) at = let word = held_word place value below at in (
+          λ even. absurd (let zero = even.0 in omega (arith, word.0, zero)),
+          λ free. absurd (let no : Some (Some value) ≡ None = sym at ∙ free in cc),
         )
 
     -- a place is retired exactly if its word is that of such places
@@ -309,7 +325,7 @@ module _ {T : Type 0} (slots : SlotTableState (Option T)) (words : List ℕ) whe
         below : place < length slots.values
         below = place_at_within slots.values place (Some was.0) was.1
 
-        pub vacates : (value : Option T) → generation_at s place < greatest_generation → SlotTableRemove slots key slots' (Some value) → words' ≡ set words place (word_at words place + 1)
+        vacates : (value : Option T) → generation_at s place < greatest_generation → SlotTableRemove slots key slots' (Some value) → words' ≡ set words place (word_at words place + 1)
             → HasWords is_retired slots' words' retired × (state_of slots' words' ≡ slot_map_vacate s place)
         vacates value less step words_are =
             let slots_are = SlotTableRemove-vacates slots key slots' value step ∙ ap (slot_table_vacate slots) same in
@@ -323,12 +339,55 @@ module _ {T : Type 0} (slots : SlotTableState (Option T)) (words : List ℕ) whe
             let stepped = replaced place slots' words' was.0 below was.1 value (subst (λ t. generation_at t place < greatest_generation) (sym is) less) (ap (λ (t : SlotTableState (Option T)). t.values) slots_are) words_are in
             (stepped.holds, both words' slots_are stepped.shown ∙ ap (λ t. slot_map_replace t place value) is)
 
-        pub retires : generation_at s place ≡ greatest_generation → slots' ≡ slot_table_set slots key None → words' ≡ set words place (word_at words place + 1)
+        retires : generation_at s place ≡ greatest_generation → slots' ≡ slot_table_set slots key None → words' ≡ set words place (word_at words place + 1)
             → HasWords is_retired slots' words' (retired + 1) × (state_of slots' words' ≡ slot_map_retire s place)
         retires last sets words_are =
             let slots_are = sets ∙ ap (λ k. slot_table_set slots k None) same in
             let stepped = retired_now place slots' words' was.0 below was.1 (subst (λ t. generation_at t place ≡ greatest_generation) (sym is) last) (ap (λ (t : SlotTableState (Option T)). t.values) slots_are) words_are in
             (stepped.holds, both words' slots_are stepped.shown ∙ ap (λ t. slot_map_retire t place) is)
+
+        value_in : (content : Option T) (value : T) → value_at slots key ≡ Some content → content ≡ Some value → place_value s place ≡ Some value
+        value_in content value at some =
+            ap (λ t. place_value t place) (sym is) ∙ (ap (λ k. option_flatten (value_at slots k)) (sym same) ∙ (ap option_flatten at ∙ some))
+
+        generations_len : length s.generations ≡ length s.slots.values
+        generations_len =
+            ap (λ (t : SlotMapState T). length t.generations) (sym is) ∙ (length-map words word_generation ∙ (has.lengths ∙ ap (λ (t : SlotMapState T). length t.slots.values) is))
+
+        pub word_fits : word_at words place + 1 ≤ 18446744073709551615
+        word_fits = let most = word_within place below in omega (arith, most)
+
+        -- the word after that of the value is that of a retired place exactly if the generation is the greatest
+        last_by_word : word_at words place + 1 ≡ retired_word → generation_at s place ≡ greatest_generation
+        last_by_word last =
+            let word = held_word place was.0 below was.1 in
+            let same = ap (λ t. generation_at t place) is in omega (arith, word.0, same, last)
+
+        less_by_word : (word_at words place + 1 ≡ retired_word → ⊥) → generation_at s place < greatest_generation
+        less_by_word more =
+            let word = held_word place was.0 below was.1 in
+            let same = ap (λ t. generation_at t place) is in
+            elim (cases_lt (generation_at s place) greatest_generation) [
+              | inl less ↦ less
+              | inr most ↦ absurd (more (omega (arith, word.0, word.1, same, most)))
+            ]
+
+        -- the key of the place is removed, and the place is free
+        pub removes : (content : Option T) (value : T) → (word_at words place + 1 ≡ retired_word → ⊥) → SlotTableRemove slots key slots' (Some content) → content ≡ Some value
+            → words' ≡ set words place (word_at words place + 1) → HasWords is_retired slots' words' retired × SlotMapRemove s (key_at s place) (state_of slots' words') (Some value)
+        removes content value more step some words_are =
+            let less = less_by_word more in
+            let vacant = vacates content less step words_are in
+            (vacant.0, SlotMapRemove-vacates s place generations_len value (value_in content value (sym step.value) some) (state_of slots' words') less vacant.1)
+
+        -- the key of the place is removed, and the place is retired
+        pub removes_last : (content : Option T) (value : T) → word_at words place + 1 ≡ retired_word → value_at slots key ≡ Some content → content ≡ Some value
+            → slots' ≡ slot_table_set slots key None → words' ≡ set words place (word_at words place + 1)
+            → HasWords is_retired slots' words' (retired + 1) × SlotMapRemove s (key_at s place) (state_of slots' words') (Some value)
+        removes_last content value word at some sets words_are =
+            let last = last_by_word word in
+            let retires_it = retires last sets words_are in
+            (retires_it.0, SlotMapRemove-retires s place generations_len value (value_in content value at some) (state_of slots' words') last retires_it.1)
 
         -- the next generation is read where it was written
         pub reads_raised : (new : SlotMapState T) → new.generations ≡ set s.generations place (generation_at s place + 1) → generation_at new place ≡ generation_at s place + 1

@@ -7,7 +7,7 @@ ghost use Rattle.ix_tables.specs.contracts.cells.maybe_moved.MaybeMoved as moved
 ghost use Rattle.ix_slottable.specs.SlotTableState.{IsFree, entries_from};
 ghost use Rattle.ix_slottable.specs.SlotTableSteps.{SlotTableInsert};
 ghost use Rattle.ix_slotmap.specs.Generations.{SlotKey, SlotMapState, greatest_generation, generation_at, key_at, slot_key_eq, place_value, slot_map_value, IsRetired, IsDead, retired_count, slot_map_len, held_entries, slot_map_entries, IsSlotMapFormed, DeadAreNotHeld, KeysRise, ListsExactly};
-ghost use Rattle.ix_slotmap.specs.SlotMapSteps.{slot_map_set, slot_map_set_at, slot_map_fill, slot_map_replace, slot_map_vacate, slot_map_retire, slot_map_clear, SlotMapInsert, SlotMapInsertAt, SlotMapRemove};
+ghost use Rattle.ix_slotmap.specs.SlotMapSteps.{slot_map_set, slot_map_set_at, slot_map_fill, slot_map_clear, SlotMapInsert, SlotMapInsertAt, SlotMapRemove};
 
 use crate::slotmap::{Content, Iter, RETIRED, SlotMapKey, WordTable, drop_values};
 use ix_slottable::slottable::{Link, MetaSlotTable, SlotTableKey};
@@ -266,10 +266,7 @@ impl<T, S: Table<MaybeMoved<T>>, L: Table<Link>, G: Table<u64>> MetaSlotMap<
         if !self.is_held(key, touches) {
             return None;
         }
-        if key.generation() == u32::MAX {
-            return self.retire(key.index(), touches);
-        }
-        self.vacate(key.index(), touches)
+        self.remove_held(key.index(), touches)
     }
 
     /// Returns the key of a place that is not retired.
@@ -313,6 +310,17 @@ impl<T, S: Table<MaybeMoved<T>>, L: Table<Link>, G: Table<u64>> MetaSlotMap<
         ensures touches { touches.new ≡ touches.old + 1 }
     {
         self.words.get(index, touches) % 2 == 1
+    }
+
+    /// Returns `true` if a place is free.
+    #[inline]
+    pub(crate) fn is_free(&self, index: usize, touches: &mut Touches) -> bool
+        requires within { index < length self.now.slots.values }
+        ensures value { IsTrue result ↔ IsFree self.now.slots index }
+        ensures touches { touches.new ≡ touches.old + 1 }
+    {
+        let word = self.words.get(index, touches);
+        word % 2 == 0 && word < RETIRED
     }
 
     /// Returns `true` if a place is retired.
@@ -417,41 +425,24 @@ impl<T, S: Table<MaybeMoved<T>>, L: Table<Link>, G: Table<u64>> MetaSlotMap<
         (self.words.raise(index, 1, touches) / 2) as u32
     }
 
-    /// Removes the value from a place, whose generation is less than the greatest, and returns it.
+    /// Removes the key of a place that holds a value, and returns the value.
     #[inline]
-    fn vacate(&mut self, index: usize, touches: &mut Touches) -> Option<T>
-        requires held { IsSome (place_value self.old index) }
-        requires generation { generation_at self.old index < greatest_generation }
-        ensures value { result ≡ place_value self.old index }
-        ensures map { self.new ≡ slot_map_vacate self.old index }
-        ensures count { slot_map_len self.new + 1 ≡ slot_map_len self.old }
-        ensures raised { generation_at self.new index ≡ generation_at self.old index + 1 }
+    pub(crate) fn remove_held(&mut self, index: usize, touches: &mut Touches) -> Option<T>
+        requires { IsSome (place_value self.old index) }
+        ensures step { SlotMapRemove self.old (key_at self.old index) self.new result }
         ensures touches { touches.new ≤ touches.old + 7 }
         ensures rises { touches.old ≤ touches.new }
-    {
-        let place = SlotTableKey::new(index);
-        let content = self.slots.remove_unchecked_counted(place, touches);
-        self.words.raise(index, 1, touches);
-        Some(content.into_item())
-    }
-
-    /// Removes the value from a place with the greatest generation, which is retired then, and returns it.
-    #[inline]
-    fn retire(&mut self, index: usize, touches: &mut Touches) -> Option<T>
-        requires held { IsSome (place_value self.old index) }
-        requires generation { generation_at self.old index ≡ greatest_generation }
-        ensures value { result ≡ place_value self.old index }
-        ensures map { self.new ≡ slot_map_retire self.old index }
-        ensures count { slot_map_len self.new + 1 ≡ slot_map_len self.old }
-        ensures touches { touches.new ≡ touches.old + 4 }
     {
         // Each place is retired once, so that their number fits.
         let _capacity = self.capacity();
         let place = SlotTableKey::new(index);
-        let value = self.slots.get_unchecked_mut_counted(place, touches).take();
-        self.words.raise(index, 1, touches);
-        self.retired += 1;
-        Some(value)
+        // Raised first, so that the generation is compared once: after the greatest one comes the word of a retired place.
+        if self.words.raise(index, 1, touches) == RETIRED {
+            self.retired += 1;
+            return Some(self.slots.get_unchecked_mut_counted(place, touches).take());
+        }
+        let content = self.slots.remove_unchecked_counted(place, touches);
+        Some(content.into_item())
     }
 
     /// Returns a mutable reference to the value in a place.

@@ -131,7 +131,6 @@ impl<T, S: Table<MaybeMoved<T>>, L: Table<Link>, G: Table<u64>> MetaSlotMap<
         if !self.has_value(index, &mut touches) {
             return None;
         }
-        let key = self.key_of(index, &mut touches);
-        self.remove_counted(key, &mut touches)
+        self.remove_held(index, &mut touches)
     }
 }

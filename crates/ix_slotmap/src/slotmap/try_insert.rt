@@ -62,14 +62,14 @@ impl<T, S: Table<MaybeMoved<T>>, L: Table<Link>, G: Table<u64>> MetaSlotMap<
         ensures touches { touches.new ≤ touches.old + 20 }
         ensures rises { touches.old ≤ touches.new }
     {
-        if index >= self.capacity() || self.is_retired(index, touches) {
+        if index >= self.capacity() {
             return Err(value);
         }
-        if !self.has_value(index, touches) {
+        if self.is_free(index, touches) {
             let generation = self.fill(index, value, touches);
             return Ok((SlotMapKey::new(index, generation), None));
         }
-        if self.generation(index, touches) == u32::MAX {
+        if self.is_retired(index, touches) || self.generation(index, touches) == u32::MAX {
             return Err(value);
         }
         let (generation, replaced) = self.replace(index, value, touches);
