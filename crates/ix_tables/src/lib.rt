@@ -1,6 +1,6 @@
 //! Tables, under queues and maps: fixed rows of places, each empty or holding one item.
 //!
-//! A [`Table`] is inline ([`InlineTable`]) or allocates once, when it is made ([`HeapTable`]), so one container serves every
+//! A [`Table`] is inline ([`InlineTable`]) or allocates only when it is made ([`HeapTable`]), so one container serves every
 //! kind of storage. Contracts see a table as a list of optional items, whatever memory they lie in.
 #![tactic(auto)]
 

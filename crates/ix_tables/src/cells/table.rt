@@ -10,7 +10,7 @@ pub const MAX_FIXED_CAPACITY: usize = 4_294_967_295;
 /// A fixed row of places, each empty or holding one item.
 ///
 /// Places are indexed from 0. A table can't be asked whether a place holds an item: its owner knows. The owner takes
-/// every item out before it consumes the table by [`Table::end`]; a table can't be dropped.
+/// every item out before it consumes the table by [`Table::end`]; no table but a filled one can be dropped.
 ///
 /// Every call is O(1) and does not allocate, but `end`, which may take O(`len`): an inline table drops its places.
 pub trait Table<T>: Sized {
