@@ -18,11 +18,13 @@ from crates import ROOT, libraries_of_crates
 from checks.items import paths, text_of
 from checks.pages import DOCUMENTS, FILES, headings, is_file, is_path, paragraphs
 
-# Words that the code does not have: of Rust, its std and its crates, of the kit, and what stands for a name of the reader's.
+# Words that the code does not have: of Rust, its std and its crates, of the kit, what stands for a name of the reader's, and what
+# was removed.
 WORDS = set("""
     AtomicCell Deref MaybeUninit Mutex SecondaryMap SendError memmove no_std python3 replace_with rustc scope slab xmllint
     Handles Wait allow dac8208d650f15bf holes lemma trusted
     CRATE FILE FUNCTION MODULE SUBJECT WHAT_IS_WRONG my_program
+    inline_len
 """.split())
 # Words of upstream that this library does not have.
 UPSTREAM = set("""
