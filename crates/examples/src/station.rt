@@ -1,4 +1,4 @@
-//! A struct of a program's own, which has one of each container.
+//! A struct of a program's own, which has one of each container but a hash map.
 ghost use Rattle.std.specs.Prelude.{◌≡◌, IfOk};
 ghost use Rattle.ix_cells.specs.Bounded.{bounded_push, has_room};
 ghost use Rattle.ix_maps.specs.Generations.{slot_map_new};
