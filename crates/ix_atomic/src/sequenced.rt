@@ -9,7 +9,7 @@
 //! own; no place belongs to two seats. [`merge`](SequencedByteAtomic::merge) and
 //! [`merge_reader`](SequencedByteAtomic::merge_reader) bring together what two seats know.
 //!
-//! The holders of seats write and read, and no one ever blocks another. A writer's seat can't be dropped, so a function that
+//! The holders of seats write and read, and no one ever waits for another. A writer's seat can't be dropped, so a function that
 //! holds one can't return early by `?`: `writer` and `reader` never fail, and the result of a write is matched.
 //!
 //! iceoryx2-bb-container has no such cell: the documentation of its `MaybeTorn` asks users to bring this synchronization.

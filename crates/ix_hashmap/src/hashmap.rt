@@ -1,7 +1,7 @@
 //! Hash maps: bounded maps from keys of your own to values, for keys that implement `Hash`.
 //!
 //! [`FixedSizeHashMap`] is stored inline, [`HashMap`] and [`RelocatableHashMap`] allocate only when they are made. Their calls
-//! are those of [`MetaMap`](ix_flatmap::map::MetaMap), and take O(1) time on average. A program that writes
+//! are those of [`MetaMap`](ix_flatmap::map::MetaMap), and those with a key take O(1) time on average. A program that writes
 //! `for (key, value) in &map` names `ix_flatmap` in `crates.txt` too.
 
 mod buckets;

@@ -6,7 +6,7 @@ ghost use Rattle.ix_atomic.specs.laws.ArrayLaws.{array_encoding-len, array_encod
 
 use crate::byte_atomic::AtomicCopy;
 
-/// Writes the encodings of the values to `out`, one behind the other. O(`out.len()`).
+/// Writes the encodings of the values to `out`, one behind the other. O(`N + out.len()`).
 #[inline]
 pub fn encode_array<T: AtomicCopy, const N: usize>(values: &[T; N], out: &mut [u8])
     requires { length out.old ≡ N * T.SIZE }
@@ -21,8 +21,8 @@ pub fn encode_array<T: AtomicCopy, const N: usize>(values: &[T; N], out: &mut [u
     }
 }
 
-/// Returns the `N` values with these encodings, one behind the other, or `None` if there are none. O(`bytes.len()`); the
-/// first one is decoded twice.
+/// Returns the `N` values with these encodings, one behind the other, or `None` if there are none. O(`N + bytes.len()`);
+/// the first one is decoded twice.
 #[inline]
 pub fn decode_array<T: AtomicCopy, const N: usize>(bytes: &[u8]) -> Option<[T; N]>
     requires { length bytes.now ≡ N * T.SIZE }

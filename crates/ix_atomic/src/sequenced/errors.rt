@@ -27,7 +27,7 @@ impl fmt::Display for Interfered {
 
 impl Error for Interfered {}
 
-/// The error of a write that did not begin. It holds the versions that the call loaded.
+/// The error of a write that did not begin. `Busy` holds the versions that the call loaded.
 #[derive(Clone, Copy, Debug, PartialEq, Eq)]
 pub enum TryWriteError {
     /// Another write is in progress, or began before this one could.

@@ -18,9 +18,10 @@ use std::mem::size_of_val;
 
 /// The index of a flat map: below which place each pair lies. Keys are compared one by one.
 ///
-/// A call that looks for a key compares it with the keys of the map in slot order, up to the equal one. If the keys are in
-/// the first places and take at most eight bytes, it compares eight at a time, and so up to seven after that one, or 32 at a
-/// time if there are 128 keys or more; in any case it compares no key twice.
+/// A call that looks for a key compares it with the keys of the map in slot order, up to the equal one. If no place below
+/// the bound is free and keys take at most eight bytes, it compares eight at a time, and so up to seven after that one, or 32
+/// at a time if there are 128 keys or more; in any case it compares no key twice. A key that is looked up by its bytes is
+/// compared with one at a time.
 #[derive(Debug, Drop)]
 pub struct Bound {
     /// Each place with a pair is below this one.

@@ -40,7 +40,8 @@ impl<K: Eq + Drop, V: Drop, S: Table<Pair<K, V>>, L: Table<Link>, I: KeyIndex<K,
     ghost use Rattle.ix_flatmap.specs.MapDrain.{drain_items, drain_left, drain_lender};
 
     /// Returns an iterator that removes all keys, each with its value, in slot order. Those that are not taken are dropped with it,
-    /// and the map is as [`MetaMap::clear`] leaves it then. O(1), and O(capacity) for all of its items together.
+    /// and the map is as [`MetaMap::clear`] leaves it then. O(1), and O(capacity) for all of its items together, on average in a
+    /// hash map.
     #[inline]
     pub fn drain(&mut self) -> Drain<'_, K, V, S, L, I>
         ensures items { drain_items result ≡ map_items self.old }
@@ -86,7 +87,7 @@ impl<K: Eq + Drop, V: Drop, S: Table<Pair<K, V>>, L: Table<Link>, I: KeyIndex<K,
     ghost remaining = { item_count drain_items };
 
     /// Removes the next key and returns it with its value, or `None` after the last one. O(the number of free places before
-    /// it).
+    /// it), on average in a hash map.
     #[inline]
     fn next(&mut self) -> Option<(K, V)> {
         if self.map.is_empty() {

@@ -22,7 +22,7 @@ impl<
 
     ghost laws = { same_items_per K.eq V.eq K.Eq.laws V.laws };
 
-    /// Returns `true` if the maps are equal. Looks for each key of one in the other.
+    /// Returns `true` if the maps are equal. Looks for each key of either in the other.
     fn eq(&self, other: &Self) -> bool {
         has_each_of(self, other.iter()) && has_each_of(other, self.iter())
     }

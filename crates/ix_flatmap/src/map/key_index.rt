@@ -56,7 +56,7 @@ pub trait KeyIndex<K: Eq + Drop, V: Drop>: PairIndex<Pair<K, V>> {
         ensures { option_map (λ entry. (entry.0, entry.1.now)) result
             ≡ map_entry K.eq pairs.now key.now };
 
-    /// What is asked of keys that are found by these bytes of theirs, beside that keys with equal bytes are equal.
+    /// What is asked of keys that are found by these bytes of theirs, beside that keys are equal exactly if their bytes are.
     ghost AreFoundBy: { (K → List ℕ) → Type 0 };
 
     /// Returns the place of the key with these bytes, and the pair there, or `None` if there is none.

@@ -115,7 +115,7 @@ impl<K: Eq + Drop, V: Drop, S: Table<Pair<K, V>>, L: Table<Link>, I: KeyIndex<K,
 
     /// Returns a reference to the value of the key with these bytes, or `None` if the map has none. The bytes are not copied.
     ///
-    /// Keys are equal if their bytes are, and those of a hash map feed a hasher their bytes in one write, as strings do.
+    /// Keys are equal exactly if their bytes are, and those of a hash map feed a hasher their bytes in one write, as strings do.
     #[inline]
     pub fn get_bytes(&self, bytes: &[u8]) -> Option<&V>
     where
@@ -288,7 +288,7 @@ impl<K: Eq + Drop, V: Drop, S: Table<Pair<K, V>>, L: Table<Link>, I: KeyIndex<K,
         self.pairs.len()
     }
 
-    /// Calls `callback` with each key in slot order, until it returns [`CallbackProgression::Stop`].
+    /// Calls `callback` with each key in slot order, until it returns [`CallbackProgression::Stop`]. O(capacity).
     pub fn list_keys<F: FnMut(&K) -> CallbackProgression>(&self, mut callback: F)
         requires { F.IsAlwaysCallable callback }
         ensures { (last : F) × ListsUntilStop F.FnMut callback (map_keys self.now) last }
@@ -325,7 +325,7 @@ impl<K: Eq + Drop, V: Drop, S: Table<Pair<K, V>>, L: Table<Link>, I: KeyIndex<K,
         Iter::new(self.pairs.iter())
     }
 
-    /// Returns the key that [`MetaMap::list_keys`] lists after `n` others, or `None` if there are at most `n` keys.
+    /// Returns the key that [`MetaMap::list_keys`] lists after `n` others, or `None` if there are at most `n` keys. O(capacity).
     pub fn nth_key(&self, n: usize) -> Option<&K>
         ensures { option_copied result ≡ slice_get (map_keys self.now) n }
     {

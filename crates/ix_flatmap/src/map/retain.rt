@@ -49,7 +49,7 @@ impl<K: Eq + Drop, V: Drop, S: Table<Pair<K, V>>, L: Table<Link>, I: KeyIndex<K,
     }
 
     /// Keeps the keys for which `f` returns `true`, and removes the others, as [`MetaMap::remove`] does, and drops them with their
-    /// values. O(capacity), with one call for each key.
+    /// values. O(capacity), on average in a hash map, with one call for each key.
     ///
     /// Calls `f` with each key in slot order and a mutable reference to its value. A key for which it returns `false` is removed
     /// right after that call.

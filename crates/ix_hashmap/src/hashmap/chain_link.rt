@@ -18,7 +18,7 @@ pub struct ChainLink {
     pub(crate) next: u32,
 }
 
-/// The number for no place. No map with chains has so many places.
+/// The number for no place. No map with chains has a place of this number.
 pub(crate) const NO_PLACE: u32 = 4_294_967_295;
 
 /// The link of four buckets without a place, and of a place without a next one.

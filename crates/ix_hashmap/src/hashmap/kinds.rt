@@ -85,7 +85,8 @@ impl<
 
     ghost is_empty_with = { λ capacity map. map ≡ slot_table_new capacity };
 
-    /// Creates an empty map with room for `capacity` keys. O(`capacity`), with at most four allocations.
+    /// Creates an empty map with room for `capacity` keys. O(`capacity`), with at most four allocations. Returns `AllocError`
+    /// as `HashMap::new` does.
     #[inline]
     fn with_capacity(
         alloc: A,
@@ -112,8 +113,8 @@ impl<K: Eq + Hash + Drop, V: Drop, A: Allocator + Copy, B: BuildHasher + Drop> C
 
     ghost is_empty_with = { λ capacity map. map ≡ slot_table_new capacity };
 
-    /// Creates an empty map with room for `capacity` keys. O(`capacity`), with at most four allocations. If one fails, what
-    /// makes the hashers is dropped.
+    /// Creates an empty map with room for `capacity` keys. O(`capacity`), with at most four allocations. Returns `AllocError`
+    /// as `HashMap::new` does; then what makes the hashers is dropped.
     #[inline]
     fn with_capacity(
         with_hasher: WithHasher<A, B>,

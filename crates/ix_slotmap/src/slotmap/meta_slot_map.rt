@@ -27,8 +27,8 @@ use std::marker::{Model, PhantomData};
 /// [`MetaSlotMap::remove`] makes a place the first. A key or an index out of range, up to the greatest numbers, is an
 /// ordinary case, for which calls return `false` or `None`.
 ///
-/// A place takes the bytes of a value, as a [`MaybeMoved`] (`C`), of a link and of a word, in which its generation is. The
-/// word says whether a value is there; what a retired place has is the bytes of its last value.
+/// A place takes the bytes of a value, as a [`MaybeMoved`] (`C`), of its mark or tag, of a link and of a word, in which its
+/// generation is. The word says whether a value is there; what a retired place has is the bytes of its last value.
 ///
 /// Each call takes O(1) time unless its docs say otherwise; dropping a map takes O(capacity). No call allocates but those
 /// that make one.

@@ -14,7 +14,7 @@ pub struct Link {
     pub(crate) next: usize,
 }
 
-/// The number for no key. No table has so many places.
+/// The number for no key. No table has a key of this number.
 pub(crate) const NO_KEY: usize = usize::MAX;
 
 impl Link {

@@ -46,7 +46,7 @@ impl SlotTableKey {
     }
 }
 
-/// The key with the greatest number, `usize::MAX`: no table has so many keys, as [`default_key_law`] says.
+/// The key with the greatest number, `usize::MAX`, which is out of range in every table, as [`default_key_law`] says.
 impl Default for SlotTableKey {
     ghost is_default = { λ key. key ≡ 18446744073709551615 };
 

@@ -5,8 +5,8 @@ use std::error::Error;
 use std::fmt;
 use std::marker::Model;
 
-/// The error of [`RelocatableContainer::init`]: an allocation failed. It holds the uninitialised container, and
-/// contracts see it as that container.
+/// The error of [`RelocatableContainer::init`]: there is no memory for the capacity. It holds the uninitialised container,
+/// and contracts see it as that container.
 #[derive(Drop)]
 pub struct InitError<U> {
     uninit: U,
@@ -81,7 +81,7 @@ pub trait RelocatableContainer<A>: Sized {
 
     /// Allocates from `alloc` and returns the empty container.
     ///
-    /// Returns `self` in an [`InitError`] if an allocation fails; nothing stays allocated then.
+    /// Returns `self` in an [`InitError`] if an allocation fails or the capacity is too great; nothing stays allocated then.
     fn init(self, alloc: A) -> Result<Self::Ready, InitError<Self>>
         ensures value { IfOk result (is_empty_with (capacity_of self)) }
         ensures refused { IfErr result (λ error. error ≡ self) };
