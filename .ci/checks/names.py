@@ -1,4 +1,4 @@
-"""Looks up what README.md, CHANGELOG.md and docs/ name, and fails if something is not there.
+"""Looks up what README.md, CHANGELOG.md and docs/*.md name, and fails if something is not there.
 
 - A file or a folder in backticks is one, from the root or as the end of a path; a link leads to a page and to a heading of it.
 - Each word in backticks stands in the code, or in WORDS or UPSTREAM. `Type::call` is a member of the type.
@@ -42,6 +42,7 @@ PLANTS = (
     ("`Table::end`", "`Table::clear`"),
     ("`MetaQueue::push`", "`MetaSlotMap::push`"),
     ("EXAMPLES.md#where-the-proofs-stand", "EXAMPLES.md#where-the-proofs-lie"),
+    ("(#getting-started)", "(#to-begin-with)"),
     ("(docs/api/README.md)", "(docs/reference/README.md)"),
     ("wrong bodies", "437 wrong bodies"),
 )
@@ -101,15 +102,15 @@ def unknown_words(text):
                 yield member, f"{owner} has no {member}"
 
 
-def lost_links(text, folder):
-    """Yields each link to a page or a heading that there is not."""
-    for page, heading in LINK.findall(text):
-        path = os.path.normpath(os.path.join(folder, page))
-        if "://" in page or not page and not heading:
+def lost_links(text, page):
+    """Yields each link of a page that leads to no page, or to no heading of one."""
+    for target, heading in LINK.findall(text):
+        path = os.path.normpath(os.path.join(os.path.dirname(page), target)) if target else page
+        if "://" in target:
             continue
-        if page and not os.path.exists(os.path.join(ROOT, path)):
-            yield page, f"there is no page {path}"
-        elif page and heading and heading not in headings(path):
+        if not os.path.exists(os.path.join(ROOT, path)):
+            yield target, f"there is no page {path}"
+        elif heading and heading not in headings(path):
             yield heading, f"{path} has no heading {heading}"
 
 
@@ -144,24 +145,24 @@ def foreign_words(text, room):
                 yield name, f"no call or definition is called {name}, and no clause in {', '.join(room)}"
 
 
-def faults(text, room, folder):
+def faults(text, room, page):
     """Yields each untrue word of a paragraph, and what is wrong with it."""
     yield from unknown_words(text)
-    yield from lost_links(text, folder)
+    yield from lost_links(text, page)
     yield from foreign_clauses(text, room)
     yield from foreign_words(text, room)
     yield from ((count, f"a script counts that: {count}") for count in COUNT.findall(text))
 
 
-def missed(text, room, folder):
+def missed(text, room, page):
     """Yields each misspelt word and each plant that is let through in a paragraph."""
     for span in SPAN.finditer(text):
         for word in re.finditer(r"[^\W\d]\w\w+", span.group()):
             end = span.start() + word.end()
-            if not any(faults(f"{text[:end]}q{text[end:]}", room, folder)):
+            if not any(faults(f"{text[:end]}q{text[end:]}", room, page)):
                 yield word.group(), f"nothing is said of {word.group()}q"
     for right, wrong in PLANTS:
-        if right in text and not any(faults(text.replace(right, wrong), room, folder)):
+        if right in text and not any(faults(text.replace(right, wrong), room, page)):
             yield right, f"nothing is said of {wrong}"
 
 
@@ -178,6 +179,6 @@ def check():
     pages = [(path, *place) for path in DOCUMENTS for place in places(path)]
     found = [f"no page has {right}, which is to be misspelt" for right, _ in PLANTS if not any(right in text for _, _, text, _ in pages)]
     for path, line, text, room in pages:
-        wrong = list(faults(text, room, os.path.dirname(path))) or missed(text, room, os.path.dirname(path))
+        wrong = list(faults(text, room, path)) or missed(text, room, path)
         found += [f"{path}:{line + text[: text.find(word)].count(chr(10))}: {it}" for word, it in wrong]
     return [*found, *unlisted()]
