@@ -1,9 +1,9 @@
 """The reference in docs/api/: a page for each public module, from the sources of the library's crates.
 
-A page begins with the module's main type and the table of its calls by task. Then come the lines that import the items, a line on each
+A page begins with the module's main type, if it has one, and its calls by task. Then come the lines that import the items, a line on each
 item, the traits of its types, and each item with its signature, docs, errors, conditions, examples and promises, and where the words
-of its contract are defined; behind them what proofs and containers of one's own need. docs/api/README.md lists all pages and items,
-and the page of each call.
+of its contract are defined; behind them what proofs and containers of one's own need. docs/api/README.md lists all pages,
+and most items and calls.
 
 It fails if a page is another than the sources make, if docs would be lost, if an example names a call that is not there, if a facade
 does not pass on all that a module has, if a signature has a private type, if a link leads nowhere or a heading is long, if nothing

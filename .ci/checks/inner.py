@@ -1,4 +1,4 @@
-"""Shows that specs/inner/ has what private contracts alone rest on, and the rest of specs/ what public ones do.
+"""Shows that no public contract cites specs/inner/, and that public contracts rest on the rest of specs/.
 
 It fails if a public item of the library, hidden or not, cites an inner word in its contract or in what an impl of a trait pins, and
 if a file of specs/ outside inner/ and laws/ uses one of them. And it fails if a definition outside of these is one that no public contract rests

@@ -1,4 +1,4 @@
-"""Compares each block of README.md and docs/ in Rattle or antt with the file that it quotes, or with items of that file.
+"""Compares each block of README.md and docs/*.md in Rattle or antt with the file that it quotes, or with items of that file.
 
 A block begins at a line ```rust or ```antt. The line before it names a file of this repository, as in
 <!-- crates/examples/src/registry.rt -->, and the block is that whole file. Where names follow, as in

@@ -1,7 +1,7 @@
 """Fails if a call of a slot table or of a slot map could look at places that it does not count.
 
 A contract bounds the counter that a call is passed, but can't keep the call from a counter of its own. So here no function of
-their modules but those of `WALKS` has a loop, or calls anything but the others and what `CALLS` lists; none that is passed a
+their modules but those of `WALKS` and of kinds.rt has a loop, or calls anything but the others and what `CALLS` lists; none that is passed a
 counter makes one, or calls what makes one without passing its own; and a plain call is its counted form and nothing else.
 `SCANS` has wrong bodies by which the check itself is tried, and `DETOURS` those of functions that are passed a counter.
 """
