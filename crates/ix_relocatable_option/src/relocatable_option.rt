@@ -15,7 +15,8 @@ use std::ops::{AsDeref, DerefMut};
 /// An optional value: `Some` with a value, or `None`.
 ///
 /// It has the most used calls of [`Option`], and [`RelocatableOption::to_option`] leads to the others. It is made by its
-/// variants, or by [`From`] of an [`Option`]. Every call is O(1) unless its docs say otherwise, and does not allocate.
+/// variants, or by [`From`] of an [`Option`]. Every call is O(1) and does not allocate, but for what closures and
+/// the value's own clone, comparison, hash, default and drop do.
 ///
 /// Options are ordered by their values, and `None` is less than each `Some`.
 ///
@@ -70,7 +71,7 @@ impl<T> RelocatableOption<T> {
         }
     }
 
-    /// Returns an option of what the value dereferences to, as `&str` for a string.
+    /// Returns an option of what the value dereferences to, as `&str` for std's `String`.
     #[inline]
     pub fn as_deref<'a>(&'a self) -> RelocatableOption<T::Shown>
     where

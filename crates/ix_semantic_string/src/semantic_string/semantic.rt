@@ -13,8 +13,8 @@ use ix_string::{StaticString, String, strnlen};
 use std::alloc::{AllocError, Global};
 use std::marker::{Model, PhantomData};
 
-/// A string of at most `CAPACITY` bytes that the rules `R` accept, always. It is stored inline, can be copied and does not
-/// allocate. Contracts see it as the list of its bytes.
+/// A string of at most `CAPACITY` bytes that the rules `R` accept, always. It is stored inline and can be copied;
+/// [`Semantic::to_text`] alone allocates. Contracts see it as the list of its bytes.
 ///
 /// Each change is judged by the whole text that it would lead to, and a call that is refused leaves the string unchanged.
 /// Strings are compared and hashed by their normal forms, and `Display` prints the bytes escaped, as

@@ -6,8 +6,8 @@ ghost use Rattle.ix_semantic_string.specs.laws.SampleRulesLaws.{IsText-without_t
 use crate::semantic_string::Rules;
 use ix_string::{StaticString, String};
 
-/// Rules that accept every text, and under which slashes at the end of a text mean nothing: `/tmp` and `/tmp/` are equal.
-/// A text of slashes alone means `/`.
+/// Rules that accept every text of at most 255 bytes, and under which slashes at the end of a text mean nothing: `/tmp` and
+/// `/tmp/` are equal. A text of slashes alone means `/`.
 #[derive(Clone, Copy, Debug)]
 pub struct TrailingSlashRules;
 
@@ -26,7 +26,7 @@ impl Rules<255> for TrailingSlashRules {
         false
     }
 
-    /// Returns the text without the slashes at its end, or `/` if it has only slashes.
+    /// Returns the text without the slashes at its end, or `/` if it is one or more slashes.
     fn normalize(text: &StaticString<255>) -> StaticString<255> {
         let mut normal = *text;
         normal.truncate(meaning_len(text.as_bytes()));

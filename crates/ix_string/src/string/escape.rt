@@ -49,7 +49,7 @@ impl fmt::Display for EscapedByte {
     }
 }
 
-/// Prints the text in quotes, as `EscapedByte("a")`.
+/// Prints the text as `{:?}` prints a `str`, as `EscapedByte("a")`.
 impl fmt::Debug for EscapedByte {
     fn fmt<W: fmt::Write>(&self, f: &mut fmt::Formatter<W>) -> fmt::Result {
         f.debug_tuple("EscapedByte").field(&self.as_str()).finish()

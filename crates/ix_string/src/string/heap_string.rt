@@ -21,7 +21,7 @@ use std::fmt;
 use std::hash::{Hash, Hasher};
 use std::marker::{Model, PhantomData};
 
-/// A string in memory of the allocator `A`. It is allocated once, when the string is made, and deallocated when the
+/// A string in memory of the allocator `A`. It is allocated when the string is made, and deallocated when the
 /// string is dropped. Contracts see the string as a bounded list.
 ///
 /// The two kinds `K` have names of their own, [`PolymorphicString`](crate::PolymorphicString) and

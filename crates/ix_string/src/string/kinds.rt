@@ -1,4 +1,4 @@
-//! The kinds of heap strings: made in one step, and made in two.
+//! The kinds of heap strings: polymorphic and relocatable ones.
 ghost use Rattle.std.specs.Prelude.{◌≡◌, ℕ, List, codes, IsOk, IfOk};
 ghost use Rattle.ix_tables.specs.Bounded.{bounded_new};
 
@@ -10,10 +10,10 @@ use std::marker::PhantomData;
 
 /// The kind of a [`HeapString`](crate::HeapString), whose name its `Debug` text begins with.
 pub trait HeapStringKind {
-    /// The name of the kind's type.
+    /// The name of this kind of string, as `PolymorphicString`.
     ghost text: { List ℕ };
 
-    /// Returns the name of the kind's type.
+    /// Returns the name of this kind of string, as `PolymorphicString`.
     fn name() -> &'static str
         ensures { result.now ≡ text };
 }
@@ -78,7 +78,7 @@ impl<A: Allocator + Copy> PolymorphicString<A> {
     }
 }
 
-/// A string that is made in two steps: an [`UninitString`] has a capacity, and its `init` allocates the memory from the
+/// A string that can be made in two steps: an [`UninitString`] has a capacity, and its `init` allocates the memory from the
 /// allocator `A`.
 ///
 /// This is `RelocatableString` of iceoryx2-bb-container.

@@ -14,7 +14,7 @@ use std::marker::Model;
 /// it as the list of its bytes: `string` in a contract is that list, with no field `items`, and `bounded` of [`String`] has
 /// the bytes and the capacity.
 ///
-/// `CAPACITY` can be any number, 0 too. The unused bytes of the value are zeros.
+/// `CAPACITY` can be any number, 0 too. The unused ones of its `CAPACITY` bytes are zeros.
 ///
 /// This is `StaticString` of iceoryx2-bb-container.
 #[derive(Clone, Copy)]

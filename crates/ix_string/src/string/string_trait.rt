@@ -20,11 +20,11 @@ use std::str;
 /// A list of bytes from 1 to 127, with a capacity that their number does not exceed. Contracts see it as a bounded
 /// list.
 ///
-/// The memory for `capacity` bytes is allocated when the string is made: no call of this trait allocates. A call that
+/// The room for `capacity` bytes is there once the string is made: no call of this trait allocates. A call that
 /// is refused leaves the string unchanged. Lengths and indexes are counted in bytes, and indexes start at 0.
 ///
-/// Strings are compared and hashed by their bytes, whatever their capacities, and `Display` prints the bytes escaped,
-/// as [`as_escaped_string`](crate::as_escaped_string) does.
+/// Strings are compared and hashed by their bytes, those in allocated memory whatever their capacities, and `Display`
+/// prints the bytes escaped, as [`as_escaped_string`](crate::as_escaped_string) does.
 ///
 /// This is `String` of iceoryx2-bb-container.
 pub trait String: Debug + Display + Eq + Ord + Hash {

@@ -121,8 +121,9 @@ impl<R: Rules<CAPACITY>, const CAPACITY: usize> Semantic<R, CAPACITY> {
         Ok(removed)
     }
 
-    /// Removes the `n` bytes from index `idx` on, shifting all later bytes to the left. Does nothing if there are fewer than
-    /// `n` bytes from `idx` on, or if `idx` is greater than the length. O(`CAPACITY`) beside the rules.
+    /// Removes the `n` bytes from index `idx` on, shifting all later bytes to the left. Changes nothing, and returns `Ok` once
+    /// the rules are asked, if there are fewer than `n` bytes from `idx` on, or if `idx` is greater than the length.
+    /// O(`CAPACITY`) beside the rules.
     ///
     /// Returns [`SemanticStringError::InvalidContent`] if the rules do not accept the other bytes.
     pub fn remove_range(&mut self, idx: usize, n: usize) -> Result<(), SemanticStringError>
