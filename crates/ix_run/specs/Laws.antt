@@ -20,11 +20,11 @@ header_line c s = header_text (record { container = c; storage = s })
 abbrev pub IsU64 : ℕ → Type 0
 IsU64 n = n < 2 ^ 64
 
--- the numbers of a key are those of the keys that calls return
+-- the index is a u64, and the generation is one of a slot map
 abbrev pub IsSlotKey : SlotKey → Type 0
 IsSlotKey key = IsU64 key.index × (key.generation ≤ greatest_generation)
 
--- the numbers of a reply are those that the calls return
+-- the numbers of a reply are u64s, and this holds of its key
 abbrev pub HasU64sAnd : {K : Type 0} → (K → Type 0) → Reply K ℕ → Type 0
 HasU64sAnd Is (reply.Number n) = IsU64 n
 HasU64sAnd Is (reply.Key k) = Is k

@@ -23,7 +23,7 @@ abbrev pub lines_of : List ℕ → List (List ℕ)
 lines_of [] = []
 lines_of (b ∷ bytes) = if nat_eq b line_feed then [] ∷ lines_of bytes else onto_first b (lines_of bytes)
 
--- a line of at most MAX_LINE_LEN bytes, or None for a longer one, which no command is
+-- a line of at most MAX_LINE_LEN bytes, or None for a longer one, which is read as no command
 abbrev pub LimitedLine : Type 0
 LimitedLine = Option (List ℕ)
 

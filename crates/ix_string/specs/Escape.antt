@@ -5,7 +5,7 @@ use Rattle.std.specs.Prelude.{ℕ, ◌+◌, ◌/◌, ◌%◌, ◌==◌, ◌&&◌
 abbrev pub hex_digit : ℕ → ℕ
 hex_digit n = if nat_lt n 10 then 48 + n else 87 + n
 
--- 9, 13 and 10 become letters, 32 to 127 stay, and every other byte becomes two hexadecimal digits
+-- 9, 13 and 10 become `\t`, `\r` and `\n`, 32 to 127 stay, and every other byte becomes `\x` and two hexadecimal digits
 abbrev pub escaped_byte : ℕ → List ℕ
 escaped_byte b =
     if b == 9 then codes "\\t"

@@ -63,11 +63,12 @@ ApartSeats {T} views = (seat other : ℕ) (view view' : SeatView T) (place : ℕ
 abbrev pub HaveOwners : {T : Type 0} → ℕ → List (SeatView T) → Type 0
 HaveOwners {T} count views = (place : ℕ) → 0 < place → place < count → (seat : ℕ) × (view : SeatView T) × (get_elem? views seat ≡ some view) × Contains view.places place
 
--- the shares of all seats, in units that are the whole right halved so often
+-- no part of the seats' shares was halved more often than this
 abbrev pub AllWithin : {T : Type 0} → ℕ → List (SeatView T) → Type 0
 AllWithin depth [] = Unit {0}
 AllWithin depth (view ∷ views) = AreWithin depth view.share × AllWithin depth views
 
+-- the shares of all seats, in units that are the whole right halved so often
 abbrev pub all_units : {T : Type 0} → ℕ → List (SeatView T) → ℕ
 all_units depth [] = 0
 all_units depth (view ∷ views) = units depth view.share + all_units depth views

@@ -35,11 +35,12 @@ next_byte place latest act = unwrap_or (stored_at place act) latest
 abbrev pub loads_agree : ℕ → ℕ → List Act → Bool
 loads_agree place first acts = steps_pass (load_agrees place) (next_byte place) first acts
 
--- the writer's steps are in turn; the state is the number of bytes that the write in progress has stored
+-- a write is in progress that has stored so many bytes
 abbrev pub has_stored : ℕ → Option ℕ → Bool
 has_stored count None = false
 has_stored count (Some stored) = nat_eq stored count
 
+-- the writer's steps are in turn; the state is the number of bytes that the write in progress has stored
 abbrev pub is_in_turn : ℕ → Option ℕ → VersionedStep → Bool
 is_in_turn len stored Begin = is_none stored
 is_in_turn len stored (Store place byte) = has_stored place stored && nat_lt place len

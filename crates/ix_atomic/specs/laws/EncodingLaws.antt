@@ -82,7 +82,7 @@ u64_encoding-one_value = unsigned_encoding-one_value w64
 pub u32_encoding-one_value : (m n : ℕ) → m < 2 ^ 32 → n < 2 ^ 32 → to_le_bytes w32 m ≡ to_le_bytes w32 n → m ≡ n
 u32_encoding-one_value = unsigned_encoding-one_value w32
 
--- two values one after another have one encoding, if the first of them has always as many bytes
+-- no two pairs have the same encoding, if no two of their parts have, and the first part has always as many bytes
 pub pair_encoding-one_value : {A B : Type 0} (IsA : A → Type 0) (IsB : B → Type 0) (encode_a : A → List ℕ) (encode_b : B → List ℕ) (size : ℕ)
     → ((a : A) → IsA a → length (encode_a a) ≡ size)
     → ((v w : A) → IsA v → IsA w → encode_a v ≡ encode_a w → v ≡ w)

@@ -9,7 +9,7 @@ use Rattle.ix_hashmap.specs.declared.hashmap.chain_link.ChainLink.{ChainLink}
 use Rattle.ix_hashmap.specs.declared.hashmap.hashed.TheConstants.{FACTOR}
 use Rattle.ix_flatmap.specs.declared.map.Pair.{Pair}
 
--- the number for no place: no table with chains has so many
+-- the number for no place: no table with chains has a place of this number
 abbrev pub no_place : ℕ
 no_place = 4294967295
 
@@ -61,7 +61,7 @@ links_set_next links place next = slice_set links place (let link = slice_index_
 abbrev pub links_insert_first : List ChainLink → ℕ → ℕ → List ChainLink
 links_insert_first links bucket place = links_set_head (links_set_next links place (head_at links bucket)) bucket place
 
--- the places that are met from this one on, in at most so many steps
+-- the places that are met from this one on, at most so many
 abbrev pub places_met : ℕ → List ChainLink → ℕ → List ℕ
 places_met zero links place = []
 places_met (suc steps) links place = if nat_eq place no_place then [] else place ∷ places_met steps links (next_at links place)

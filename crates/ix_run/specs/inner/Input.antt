@@ -6,7 +6,7 @@ use Rattle.ix_run.specs.declared.run.devices.fault.ScriptFault.{ScriptFault}
 use Rattle.ix_run.specs.declared.run.devices.fault.ScriptFault.TheVariants as fault
 use Rattle.ix_run.specs.declared.run.devices.limits.TheConstants.{MAX_LINE_LEN}
 
--- the first count bytes of a buffer, or None if the line has more bytes than the buffer
+-- the first count bytes of a buffer, or None if these are more than MAX_LINE_LEN
 abbrev pub buffered_line : List ℕ → ℕ → LimitedLine
 buffered_line buffer count = if nat_le count MAX_LINE_LEN then Some (take count buffer) else None
 

@@ -25,7 +25,7 @@ abbrev pub word_generations : List ℕ → List ℕ
 word_generations words = map word_generation words
 
 module _ {C : Type 0} (is_retired : Option C → Bool) where
-  -- twice the generation, and one more if a value is there
+  -- twice the generation, and one more if a value is there; a retired place has the word of one
   abbrev pub place_word : Option C → ℕ → ℕ
   place_word content generation = if is_retired content then retired_word else 2 * generation + (if is_some content then 1 else 0)
 

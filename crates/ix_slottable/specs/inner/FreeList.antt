@@ -4,7 +4,7 @@ use Rattle.ix_tables.specs.Places.{place_at, IsHeldAt}
 use Rattle.ix_slottable.specs.declared.slottable.link.Link.{Link}
 use Rattle.ix_slottable.specs.SlotTableState.{SlotTableState, held_count, IsWellFormed}
 
--- the number for no key: no table has so many places
+-- the number for no key: no table has a place of this number
 abbrev pub no_key : ℕ
 no_key = 18446744073709551615
 
@@ -26,7 +26,7 @@ abbrev pub last_or : ℕ → List ℕ → ℕ
 last_or other [] = other
 last_or other (key ∷ keys) = last_or key keys
 
--- the keys met from this key on by at most so many steps to the next one
+-- the keys met from this key on, at most so many
 abbrev pub links_keys_from : ℕ → List (Option Link) → ℕ → List ℕ
 links_keys_from zero links key = []
 links_keys_from (suc steps) links key =
