@@ -71,8 +71,8 @@ impl BufferPool {
         }
     }
 
-    /// Gives a buffer back and returns what is in it, or `None` if the handle is not of a buffer that is lent. The handle is
-    /// dead then. The buffer is free, unless its place has had all of its handles, 2³² of them.
+    /// Gives a buffer back and returns what is in it, or `None` if the handle is not of a buffer that is lent. A handle that
+    /// found one is dead then. The buffer is free, unless its place has had all of its handles, 2³² of them.
     pub fn give_back(&mut self, handle: SlotMapKey) -> Option<Buffer>
         ensures value { result ≡ slot_map_value self.old.lent handle }
         ensures killed { IsSome result → IsDead self.new.lent handle }

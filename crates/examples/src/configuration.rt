@@ -8,7 +8,7 @@ use ix_atomic::{ReaderSeat, SequencedByteAtomic, TryWriteError, WriterSeat};
 /// The limit. `Limit::new(alloc, 100)?` is a limit of 100, a writer's seat, and a reader's.
 pub type Limit = SequencedByteAtomic<u64, 8>;
 
-/// Sets the limit, unless another thread sets it right now: it is the last of all limits that were set.
+/// Sets the limit, unless another thread sets it right now, or no version is left: it is the last of all limits that were set.
 pub fn set_limit(
     limit: &Limit,
     writer: &mut WriterSeat<u64>,

@@ -3,7 +3,8 @@ ghost use Rattle.std.specs.Prelude.{◌≡◌, ◌≤◌, Some};
 
 use ix_atomic::{AtomicCopy, AtomicFields, Fields};
 
-/// Where something was, and when. `SequencedByteAtomic::<Fields<Pose>, 16>::new(alloc, Fields(pose))?` is a cell of it.
+/// Where something was, and when. `SequencedByteAtomic::<Fields<Pose>, 16>::new(alloc, Fields(pose))?` is a cell of it, with a
+/// writer's seat and a reader's.
 #[derive(Clone, Copy, PartialEq, Eq, Debug)]
 pub struct Pose {
     pub x: u32,

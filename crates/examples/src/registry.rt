@@ -39,7 +39,8 @@ pub fn port_of(registry: &Registry, handle: SlotMapKey) -> Option<u16>
     Some(service.port)
 }
 
-/// Removes the service with this handle and returns it, or `None` if there is no such service. The handle is dead then.
+/// Removes the service with this handle and returns it, or `None` if there is no such service. A handle that found one is
+/// dead then.
 pub fn unregister(registry: &mut Registry, handle: SlotMapKey) -> Option<Service>
     ensures value { result ≡ slot_map_value registry.old handle }
     ensures dead { IsSome result → IsDead registry.new handle }
@@ -50,8 +51,8 @@ pub fn unregister(registry: &mut Registry, handle: SlotMapKey) -> Option<Service
     registry.remove(handle)
 }
 
-/// Removes the service with this handle, and registers others, as many as there is room for. The handle finds none of them,
-/// whichever places they get.
+/// Removes the service with this handle, and registers others, as many as there is room for. If the handle found a service, it
+/// finds none of them, whichever places they get.
 pub fn hand_over(registry: &mut Registry, handle: SlotMapKey, services: &[Service])
     ensures dead { IsSome (slot_map_value registry.old handle) → slot_map_value registry.new handle ≡ None }
     ensures registry { registry.new

@@ -10,8 +10,8 @@ use crate::configuration::Limit;
 use ix_atomic::{ReaderSeat, WriterSeat};
 use std::alloc::Global;
 
-/// Raises the limit from `last` to `value`, unless that is less, or another thread sets it right now. Returns whether it did, and
-/// then `last` is `value`.
+/// Raises the limit from `last` to `value`, unless that is less, another thread sets it right now, or no version is left. Returns
+/// whether it did, and then `last` is `value`.
 pub fn raise_limit(limit: &Limit, writer: &mut WriterSeat<u64>, last: &mut u64, value: u64) -> bool
     requires { writer.old.cell ≡ limit.now }
     ensures cell { writer.new.cell ≡ writer.old.cell }

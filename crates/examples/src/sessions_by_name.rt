@@ -15,14 +15,14 @@ pub struct Seen {
     pub last_heard: u64,
 }
 
-/// At most 16 sessions. A look-up compares the name with each of them.
+/// At most 16 sessions. A look-up may compare the name with each of them.
 pub type FewSessions<N> = FixedSizeFlatMap<N, Seen, 16>;
 
-/// At most 1,024 sessions. A look-up compares the name with those whose hashes lie near its own.
+/// At most 1,024 sessions. A look-up may compare the name with those in its bucket.
 ///
 /// Peers choose their names, so the hasher is std's `RandomState`, which draws a seed: a map is made by
 /// `ManySessions::with_hasher(RandomState::new(&rt)?)`. By a seed that is known, as that of the default hasher, a stranger finds 1,024
-/// names with one bucket, and each look-up compares a name with all of them. No contract here depends on the hasher.
+/// names with one bucket, and a look-up may compare a name with all of them. No contract here depends on the hasher.
 pub type ManySessions<N> = FixedSizeHashMap<N, Seen, 1024, RandomState>;
 
 /// Opens the session of a peer at `time`. Returns an error if the peer has one, or if there is no room.

@@ -28,7 +28,7 @@ pub fn make(alloc: Global, range: Range) -> Result<(SharedRange, Writer, Reader)
     SharedRange::new(alloc, Fields(range))
 }
 
-/// Sets the range, unless another thread sets it right now. Returns whether it did.
+/// Sets the range, unless another thread sets it right now, or no version is left. Returns whether it did.
 pub fn set_range(cell: &SharedRange, seat: &mut Writer, range: Range) -> bool
     requires { seat.old.cell ≡ cell.now }
     ensures cell { seat.new.cell ≡ seat.old.cell }

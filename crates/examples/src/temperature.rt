@@ -9,7 +9,7 @@ use std::alloc::Global;
 /// A temperature in thousandths of a kelvin.
 ///
 /// `FixedSizeByteAtomic::<Temperature, 8>::new(temperature)` and `SequencedByteAtomic::<Temperature, 8>::new(alloc, temperature)?`
-/// are cells of it.
+/// are a cell of it, and one with a writer's seat and a reader's.
 #[derive(Clone, Copy, PartialEq, Eq, Debug)]
 pub struct Temperature {
     pub millikelvin: u64,

@@ -9,7 +9,7 @@ use std::alloc::AllocError;
 pub enum QueueCommand<T> {
     /// `push X`: appends the item, unless the queue is full.
     Push(T),
-    /// `over X`: appends the item, after removing the oldest one if the queue is full.
+    /// `over X`: appends the item, after removing the oldest one if the queue is full; at capacity 0 it returns X.
     Over(T),
     /// `pop`: removes the oldest item.
     Pop,
@@ -154,7 +154,7 @@ impl<T: Copy> Clone for SlotMapCommand<T> {
     }
 }
 
-/// A command of a flat map from `K` to `V`.
+/// A command of a map from `K` to `V`.
 #[derive(Copy, PartialEq, Eq, Debug)]
 pub enum MapCommand<K, V> {
     /// `insert K V`: inserts the value at key K, unless the map has the key.

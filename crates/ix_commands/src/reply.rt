@@ -44,9 +44,9 @@ pub enum ReplyError {
     InsertWouldExceedCapacity,
     /// A byte is 0 or above 127.
     InvalidCharacter,
-    /// The flat map has the key.
+    /// The map has the key.
     KeyAlreadyExists,
-    /// The flat map has no room.
+    /// The map has no room.
     IsFull,
     /// The index is greater than the string's length. The string is not asked.
     IndexPastEnd,

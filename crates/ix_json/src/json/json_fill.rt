@@ -39,7 +39,8 @@ pub trait JsonFill {
         ensures fault { IfErr result (λ fault. fault ≡ OutOfMemory) }
         ensures memory { is_infallible self.now → IsOk result };
 
-    /// Takes in all entries of `value`, in their order, behind those that are there. Does not allocate.
+    /// Takes in all entries of `value`, in their order: a vector or a queue behind its items, a map in its free places. Does not
+    /// allocate.
     ///
     /// Returns the first reason why `value` does not have such entries or there is no room for them, and never
     /// [`JsonFault::OutOfMemory`]. The container is unchanged then, and what was read is dropped.

@@ -48,7 +48,7 @@ pub trait JsonForm: Sized {
 /// A value that is always read back from its JSON form, which is never null. Vectors of such items have a form.
 ///
 /// The integers of at most 64 bits, `bool`, [`StaticString`](ix_string::StaticString) and fixed vectors of items are items.
-/// Queues, flat maps, options and semantic strings have the form alone.
+/// Queues, maps, options and semantic strings have the form alone.
 pub trait JsonItem: JsonForm {
     /// Each value is read back from its tree.
     ghost always_read_back: { (item : Self) → Self.is_read_back item };

@@ -105,9 +105,10 @@ fn insert_members<
 /// of its key, as of a [`StaticString`], or else that of its value. Members after that one are not read.
 ///
 /// The slot order of the map that is read is that of the keys. So a map is read back as it was if it is the one that inserting its
-/// keys in their order makes of a new map. Any other is read back with the same keys and values, at other places.
+/// keys in their order makes of a new map. Any other is read back with the same keys and values, maybe at other
+/// places.
 ///
-/// O(`CAPACITY`) for each member, with as many calls of the values' conversion as there are keys.
+/// O(`CAPACITY`), and as much again for each member, with as many calls of the values' conversion as there are keys.
 impl<
     V: JsonItem + Drop,
     I: KeyIndex<StaticString<N>, V> + InlineIndex<Pair<StaticString<N>, V>, CAPACITY> + Drop,

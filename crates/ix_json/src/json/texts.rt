@@ -44,7 +44,7 @@ pub(super) fn text_from_string<const CAPACITY: usize>(
 /// A text.
 ///
 /// Reading returns [`JsonFault::WrongKind`] if the value is not a text, otherwise [`JsonFault::TooLong`] if it has more
-/// than `CAPACITY` bytes, and otherwise [`JsonFault::BadByte`] if one of them is 0 or above 127. O(`len`).
+/// than `CAPACITY` bytes, and otherwise [`JsonFault::BadByte`] if one of them is 0 or above 127. O(`CAPACITY`).
 impl<const CAPACITY: usize> JsonForm for StaticString<CAPACITY> {
     ghost use Rattle.serde_json.specs.Data.{string};
     ghost use Rattle.ix_json.specs.JsonTree.{text_read};

@@ -72,9 +72,9 @@ pub fn script_law()
         (slot_map_new (capacity_of storage) (first_generation start)) }
 {}
 
-/// A line spells at most one command. By any table of forms, the commands of lines are the texts of a name and numbers; and
-/// what is made of the text of a name and numbers is what that form makes of the numbers. The same is true of tables of forms
-/// with a key, and no line is a command by a table of either sort.
+/// A line spells at most one command. By any table of forms, the lines that are commands are texts of a name and numbers; and if
+/// the names are distinct words, what is made of the text of a name and numbers is what that form makes of the numbers. The same
+/// is true of tables of forms with a key, and no line is a command by two tables, one of each sort.
 pub fn spelling_law<C>()
     ensures text { (forms : List (Form C)) (line : List ℕ) (command : C)
         → command_of forms line ≡ Some command

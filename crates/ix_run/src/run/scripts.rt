@@ -42,8 +42,8 @@ fn run_script<R: Read, W: Write>(
 ///
 /// O(length of the input and of the replies) beside the calls of the container. Allocates the container of an allocated or
 /// a relocatable kind from `alloc`, and nothing else: the input is read in pieces of at most 32,768 bytes, and the replies
-/// wait in a buffer of that size. All of them are written before the next read. The writer is flushed once, at the end.
-/// Interrupted reads and writes are tried again.
+/// wait in a buffer of that size. All of them are written before the next read. Without a fault the writer is flushed once, at the
+/// end. Interrupted reads and writes are tried again.
 ///
 /// Returns [`ScriptFault::Read`] if a read fails or the input has no end after 18,446,744,073,709,551,615 reads,
 /// [`ScriptFault::Write`] if a write or the flush fails or a write takes no byte, and [`ScriptFault::OutOfMemory`] if there

@@ -21,7 +21,7 @@ pub(crate) const MAX_REPLY_LEN: usize = 72;
 /// The maximum capacity that a header may name for a container in the machine's memory or in an arena.
 pub const MAX_CAPACITY: usize = 1000;
 
-/// The maximum number of numbers in a list: each takes at least two of the 200 bytes of a line.
+/// No list has more numbers: each takes at least two of the 200 bytes of a line.
 pub const MAX_NUMBERS: usize = 100;
 
 /// The number of reads of an input, and of tries of a write that is interrupted.

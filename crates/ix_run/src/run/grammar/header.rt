@@ -22,7 +22,7 @@ pub enum Container {
     /// `table`: a slot table of numbers.
     SlotTable,
     /// `slot`: a slot map of numbers. The number is the generation of its places at first, if the header ends by `at G`.
-    /// It is 0 if the header does not.
+    /// Without the number, that generation is 0.
     SlotMap(Option<u32>),
     /// `flat`: a flat map from numbers to numbers.
     FlatMap,
