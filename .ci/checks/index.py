@@ -26,8 +26,9 @@ stands under "Example" is the body of a proved test, which is handed the machine
 a page share stands at the first of them. In a program a `Result` has to be used, by `?`, `match` or `let _ = ..`.
 
 A line `impl<..>` shows the bounds of the calls below it. `T: Drop` says that a value of `T` may be let go: a type is so if it is
-`Copy`, or by `#[derive(Drop)]`. The `ghost` members of an impl are what contracts know of it. A type is `Send` if all that it
-is made of is, and so `Sync`: its items, its allocator, its closures.
+`Copy`, or by `#[derive(Drop)]` or an `impl`. The `ghost` members of an impl are what contracts know of it. A type is `Send` if all
+that it is made of is, and so `Sync`: its items, its allocator, its closures; one that holds a `&` is `Send` if what that refers to
+is `Sync`.
 
 [Lemmas](lemmas.md) has the laws and lemmas for proofs of your own.
 
