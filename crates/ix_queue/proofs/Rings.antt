@@ -259,7 +259,7 @@ module _ {T : Type 0} where
       }
 
   -- the front item is removed
-  pub Shows-queue_pop : (list : Bounded T) (row row' : List (Option T)) (start start' len capacity : ℕ) → Shows list row start len → len ≢ 0 → row' ≡ set row start None → capacity ≡ length row' → start' ≡ ring_next start capacity → Shows (queue_pop list) row' start' (len - 1)
+  pub Shows-queue_pop : (list : Bounded T) (row row' : List (Option T)) (start start' len capacity : ℕ) → Shows list row start len → len ≢ 0 → row' ≡ set row start None → capacity ≡ length row → start' ≡ ring_next start capacity → Shows (queue_pop list) row' start' (len - 1)
   Shows-queue_pop list row row' start start' len capacity shows some taken rows at =
       let facts = facts_of list row start len shows in
       let ring = facts.ring in
@@ -268,7 +268,7 @@ module _ {T : Type 0} where
       let kept = length-set row start None in
       let less = length-drop 1 list.items in
       let rest = ap (λ r. drop 1 r ++ None ∷ []) ring.in_turn ∙ drop-row_of_none list.items (length row) (omega arith) fits in
-      Shows-from (queue_pop list) _ row' _ start' (len - 1) taken (at ∙ ap (ring_next start) (rows ∙ ap length taken ∙ kept)) (record {
+      Shows-from (queue_pop list) _ row' _ start' (len - 1) taken (at ∙ ap (ring_next start) rows) (record {
         ring = IsRingOf-set_next (drop 1 list.items) row start None (ring.below (omega arith)) (omega arith) rest;
         rows = kept ∙ facts.rows;
         counted = omega arith;

@@ -28,10 +28,13 @@ impl<T, S: Table<T>> MetaQueue<T, S> {
         T: Drop,
         ensures items { drain_items result ≡ self.old.items }
         ensures capacity { drain_capacity result ≡ self.old.capacity }
+        ensures known { S.IsLen self.old.capacity }
         // With these two a caller knows that the queue is empty once the iterator is dropped.
         ensures same_reference { drain_lender result ≡ self.entry.ghost_name }
         ensures stays { DrainKeepsAlong result }
     {
+        // Names the capacity, for what is known of it.
+        let _capacity = self.capacity();
         Drain { queue: self }
     }
 }

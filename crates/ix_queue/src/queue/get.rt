@@ -17,6 +17,7 @@ impl<T, S: Table<T>> MetaQueue<T, S> {
     pub fn back(&self) -> Option<&T>
         ensures value { option_copied result ≡ vec_last self.now }
         ensures empty { IsNone result ↔ (self.now.items ≡ []) }
+        ensures known { S.IsLen self.now.capacity }
     {
         let len = self.len();
         if len == 0 {
@@ -32,6 +33,7 @@ impl<T, S: Table<T>> MetaQueue<T, S> {
             T.row self.entry result (queue_set_back self.old) self.old) }
         ensures value { option_copied_mut result ≡ vec_last self.old }
         ensures empty { IsNone result ↔ (self.old.items ≡ []) }
+        ensures known { S.IsLen self.old.capacity }
     {
         let len = self.len();
         if len == 0 {
@@ -46,6 +48,7 @@ impl<T, S: Table<T>> MetaQueue<T, S> {
     pub fn get_ref(&self, index: usize) -> Option<&T>
         ensures value { option_copied result ≡ slice_get self.now.items index }
         ensures within { IsSome result ↔ (index < length self.now.items) }
+        ensures known { S.IsLen self.now.capacity }
     {
         if index < self.len() {
             Some(self.item_at(index))
@@ -61,6 +64,7 @@ impl<T, S: Table<T>> MetaQueue<T, S> {
             T.row self.entry result (queue_set self.old index) self.old) }
         ensures value { option_copied_mut result ≡ slice_get self.old.items index }
         ensures within { IsSome result ↔ (index < length self.old.items) }
+        ensures known { S.IsLen self.old.capacity }
     {
         if index < self.len() {
             Some(self.item_at_mut(index))
@@ -73,7 +77,8 @@ impl<T, S: Table<T>> MetaQueue<T, S> {
     pub fn contains(&self, item: &T) -> bool
     where
         T: PartialEq,
-        ensures { result ≡ list_any (λ other. T.eq other item.now) self.now.items }
+        ensures value { result ≡ list_any (λ other. T.eq other item.now) self.now.items }
+        ensures known { S.IsLen self.now.capacity }
     {
         self.iter().any(|other| other == item)
     }

@@ -36,7 +36,8 @@ impl<'a, T, S: Table<T>> Iter<'a, T, S> {
     /// Returns an iterator over all items. O(1).
     #[inline]
     pub(crate) fn new(queue: &'a MetaQueue<T, S>) -> Self
-        ensures { result ≡ queue.now.items }
+        ensures items { result ≡ queue.now.items }
+        ensures known { S.IsLen queue.now.capacity }
     {
         Iter {
             queue,

@@ -94,7 +94,7 @@ impl<T, S: Table<T>> MetaQueue<T, S> {
     #[inline]
     pub fn capacity(&self) -> usize
         ensures value { result ≡ self.now.capacity }
-        // Of an inline queue: the capacity is that of its type.
+        // The capacity of an inline queue is that of its type: every method says so.
         ensures known { S.IsLen self.now.capacity }
     {
         self.table.len()
@@ -115,9 +115,10 @@ impl<T, S: Table<T>> MetaQueue<T, S> {
     /// Returns `true` if the queue has no items.
     #[inline]
     pub fn is_empty(&self) -> bool
-        ensures { IsTrue result ↔ (self.now.items ≡ []) }
+        ensures value { IsTrue result ↔ (self.now.items ≡ []) }
+        ensures known { S.IsLen self.now.capacity }
     {
-        self.len == 0
+        self.len() == 0
     }
 
     /// Returns `true` if the number of items is the capacity. A queue of capacity 0 is both empty and full.
@@ -125,6 +126,7 @@ impl<T, S: Table<T>> MetaQueue<T, S> {
     pub fn is_full(&self) -> bool
         ensures value { IsTrue result ↔ IsFull self.now }
         ensures room { OnFalse result (length self.now.items < self.now.capacity) }
+        ensures known { S.IsLen self.now.capacity }
     {
         self.len == self.table.len()
     }
@@ -134,6 +136,7 @@ impl<T, S: Table<T>> MetaQueue<T, S> {
     pub fn remaining_capacity(&self) -> usize
         ensures value { length self.now.items + result ≡ self.now.capacity }
         ensures full { result ≡ 0 ↔ IsFull self.now }
+        ensures known { S.IsLen self.now.capacity }
     {
         self.capacity() - self.len()
     }
@@ -148,6 +151,7 @@ impl<T, S: Table<T>> MetaQueue<T, S> {
         ensures full { OnFalse result (IsFull self.old) }
         ensures refused { OnFalse result (self.new ≡ self.old) }
         ensures within { IsWithin self.new }
+        ensures known { S.IsLen self.old.capacity }
     {
         let capacity = self.table.len();
         let has_room = self.len < capacity;
@@ -168,6 +172,7 @@ impl<T, S: Table<T>> MetaQueue<T, S> {
         ensures returned { IfErr result (λ returned. returned ≡ value) }
         ensures refused { OnErr result (self.new ≡ self.old) }
         ensures within { IsWithin self.new }
+        ensures known { S.IsLen self.old.capacity }
     {
         let capacity = self.table.len();
         if self.len == capacity {
@@ -185,6 +190,7 @@ impl<T, S: Table<T>> MetaQueue<T, S> {
         ensures queue { self.new ≡ queue_overflow self.old value }
         ensures full { IsSome result ↔ IsFull self.old }
         ensures within { IsWithin self.new }
+        ensures known { S.IsLen self.old.capacity }
     {
         let capacity = self.table.len();
         if self.len < capacity {
@@ -208,14 +214,16 @@ impl<T, S: Table<T>> MetaQueue<T, S> {
         ensures queue { self.new ≡ queue_pop self.old }
         ensures empty { IsNone result ↔ (self.old.items ≡ []) }
         ensures room { IsSome result → length self.new.items < self.new.capacity }
+        ensures known { S.IsLen self.old.capacity }
     {
+        let capacity = self.table.len();
         let start = self.start;
         let len = self.len;
         if len == 0 {
             return None;
         }
         let item = self.table.take(start);
-        self.start = next_after(start, self.table.len());
+        self.start = next_after(start, capacity);
         self.len = len - 1;
         Some(item)
     }
@@ -227,13 +235,15 @@ impl<T, S: Table<T>> MetaQueue<T, S> {
         ensures queue { self.new ≡ vec_pop self.old }
         ensures empty { IsNone result ↔ (self.old.items ≡ []) }
         ensures room { IsSome result → length self.new.items < self.new.capacity }
+        ensures known { S.IsLen self.old.capacity }
     {
+        let capacity = self.table.len();
         let len = self.len;
         if len == 0 {
             return None;
         }
         let last = len - 1;
-        let place = place_after(self.start, last, self.table.len());
+        let place = place_after(self.start, last, capacity);
         let item = self.table.take(place);
         self.len = last;
         Some(item)
@@ -243,7 +253,8 @@ impl<T, S: Table<T>> MetaQueue<T, S> {
     pub fn clear(&mut self)
     where
         T: Drop,
-        ensures { self.new ≡ bounded_new self.old.capacity }
+        ensures queue { self.new ≡ bounded_new self.old.capacity }
+        ensures known { S.IsLen self.old.capacity }
     {
         while let Some(item) = self.pop() {
             drop(item);
@@ -255,8 +266,9 @@ impl<T, S: Table<T>> MetaQueue<T, S> {
     pub fn peek(&self) -> Option<&T>
         ensures value { option_copied result ≡ queue_front self.now }
         ensures empty { IsNone result ↔ (self.now.items ≡ []) }
+        ensures known { S.IsLen self.now.capacity }
     {
-        if self.len == 0 {
+        if self.len() == 0 {
             return None;
         }
         Some(self.table.get(self.start))
@@ -269,8 +281,9 @@ impl<T, S: Table<T>> MetaQueue<T, S> {
             T.row self.entry result (queue_set_front self.old) self.old) }
         ensures value { option_copied_mut result ≡ queue_front self.old }
         ensures empty { IsNone result ↔ (self.old.items ≡ []) }
+        ensures known { S.IsLen self.old.capacity }
     {
-        if self.len == 0 {
+        if self.len() == 0 {
             None
         } else {
             Some(self.front_mut())
@@ -283,7 +296,8 @@ impl<T, S: Table<T>> MetaQueue<T, S> {
     where
         T: Copy,
         requires { index < length self.now.items }
-        ensures { slice_get self.now.items index ≡ Some result }
+        ensures value { slice_get self.now.items index ≡ Some result }
+        ensures known { S.IsLen self.now.capacity }
     {
         *self.item_at(index)
     }
@@ -294,7 +308,8 @@ impl<T, S: Table<T>> MetaQueue<T, S> {
     where
         T: Copy,
         requires { index < length self.now.items }
-        ensures { slice_get self.now.items index ≡ Some result }
+        ensures value { slice_get self.now.items index ≡ Some result }
+        ensures known { S.IsLen self.now.capacity }
     {
         self.get(index)
     }
@@ -302,7 +317,8 @@ impl<T, S: Table<T>> MetaQueue<T, S> {
     /// Returns an iterator over the items, the front item first. O(1), and O(`len`) for all of its items together.
     #[inline]
     pub fn iter(&self) -> Iter<'_, T, S>
-        ensures { result ≡ self.now.items }
+        ensures items { result ≡ self.now.items }
+        ensures known { S.IsLen self.now.capacity }
     {
         Iter::new(self)
     }
@@ -311,7 +327,8 @@ impl<T, S: Table<T>> MetaQueue<T, S> {
     #[inline]
     pub(crate) fn item_at(&self, index: usize) -> &T
         requires { index < length self.now.items }
-        ensures { slice_get self.now.items index ≡ Some result.now }
+        ensures value { slice_get self.now.items index ≡ Some result.now }
+        ensures known { S.IsLen self.now.capacity }
     {
         self.table
             .get(place_after(self.start, index, self.table.len()))

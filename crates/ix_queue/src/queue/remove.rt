@@ -13,6 +13,7 @@ impl<T, S: Table<T>> MetaQueue<T, S> {
         ensures value { result ≡ slice_get self.old.items index }
         ensures queue { self.new ≡ queue_remove self.old index }
         ensures refused { length self.old.items ≤ index → self.new ≡ self.old }
+        ensures known { S.IsLen self.old.capacity }
     {
         let len = self.len();
         if index >= len {

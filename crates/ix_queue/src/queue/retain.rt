@@ -15,7 +15,8 @@ impl<T, S: Table<T>> MetaQueue<T, S> {
     pub fn truncate(&mut self, len: usize)
     where
         T: Drop,
-        ensures { self.new ≡ vec_truncate self.old len }
+        ensures queue { self.new ≡ vec_truncate self.old len }
+        ensures known { S.IsLen self.old.capacity }
     {
         while self.len() > len {
             drop(self.pop_back());
@@ -33,6 +34,7 @@ impl<T, S: Table<T>> MetaQueue<T, S> {
             → Computes (λ g item left next. CalledAtMut F.FnMut g item tt next left) f change
             → self.new.items ≡ map change self.old.items }
         ensures capacity { self.new.capacity ≡ self.old.capacity }
+        ensures known { S.IsLen self.old.capacity }
     {
         for i in 0..self.len() {
             f(self.item_at_mut(i));
@@ -52,6 +54,7 @@ impl<T, S: Table<T>> MetaQueue<T, S> {
         ensures filtered { (test : T → Bool) → Computes (CalledAt F.FnMut) f test
             → self.new.items ≡ filter test self.old.items }
         ensures capacity { self.new.capacity ≡ self.old.capacity }
+        ensures known { S.IsLen self.old.capacity }
     {
         let capacity = self.capacity();
         // The ring turns once: what is kept goes from the front to the back.

@@ -4,4 +4,4 @@ use Rattle.ix_queue.proofs.queue.iter.IterIterator.next.Goals as goal
 
 pub returns-clause-steps : goal.returns-clause-steps
 returns-clause-steps g c =
-    sym c.self.view_is ∙ slice_range-first _ _ _ _ c.self.invariant c.if-index-self.false c.item_at.ensures
+    sym c.self.view_is ∙ slice_range-first _ _ _ _ c.self.invariant c.if-index-self.false c.item_at.ensures.value

@@ -6,6 +6,6 @@ pub get-requires : goal.get-requires
 get-requires g c =
     IsHeldAt-item _ _ _ _ c.args.index _ _ (record { sound = c.self.invariant; is = c.self.view_is }) c.requires c.len.ensures.value c.place_after.ensures
 
-pub returns : goal.returns
-returns g c =
+pub returns-clause-value : goal.returns-clause-value
+returns-clause-value g c =
     sym (place_at-item _ _ _ _ c.args.index _ _ (record { sound = c.self.invariant; is = c.self.view_is }) c.requires c.len.ensures.value c.place_after.ensures) ∙ c.get.ensures

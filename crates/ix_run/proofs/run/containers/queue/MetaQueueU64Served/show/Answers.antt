@@ -5,4 +5,4 @@ use Rattle.ix_run.proofs.run.containers.queue.MetaQueueU64Served.show.Goals as g
 pub returns : goal.returns
 returns g c =
     let shown = c.append_items.ensures (λ (items : List ℕ). map decimal items) (YieldsTexts-first (λ item. item.now) (λ items. items) decimal) in
-    rw (items_text-map decimal c.iter.result, c.iter.ensures) at shown
+    rw (items_text-map decimal c.iter.result, c.iter.ensures.items) at shown
