@@ -7,6 +7,8 @@ pub mod cells;
 pub mod closures;
 /// How many items a container holds, how many more fit, and the capacity of inline kinds.
 pub mod counts;
+/// The capacity of inline queues.
+pub mod inline_queues;
 /// How many keys a map holds, and how many more fit.
 pub mod map_counts;
 /// What a queue has.
