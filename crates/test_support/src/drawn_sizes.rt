@@ -4,30 +4,24 @@ use crate::Findings;
 /// The greatest size that is drawn.
 const GREATEST: u64 = 300_000;
 
-/// Calls `make` with `count` sizes from 0 to 300,000, drawn so that each number of digits comes, and notes the first size
-/// at which it returns `false`, and `name`.
+/// Calls `make` with sizes from 0 to 300,000, one drawn for each number of binary digits, and notes the first size at which it
+/// returns `false`, and `name`.
 ///
 /// It is for calls that allocate, where there is memory for all sizes: a call that returns `AllocError` there has made up
 /// its want of memory.
 ///
 /// ```text
-/// check_drawn_sizes(&findings, 300, "a queue", |n| Queue::<u64, _>::new(alloc, n).is_ok());
+/// check_drawn_sizes(&findings, "a queue", |n| Queue::<u64, _>::new(alloc, n).is_ok());
 /// ```
-pub fn check_drawn_sizes<F: Fn(usize) -> bool>(
-    findings: &Findings,
-    count: usize,
-    name: &str,
-    make: F,
-)
+pub fn check_drawn_sizes<F: Fn(usize) -> bool>(findings: &Findings, name: &str, make: F)
     requires { F.IsAlwaysCallable make }
 {
     let mut state = 20_261_126u64;
-    for draw in 0..count {
+    for shift in 0..17u32 {
         state = state
             .wrapping_mul(6_364_136_223_846_793_005)
             .wrapping_add(1_442_695_040_888_963_407);
-        // A shift, so that small sizes come as often as large ones.
-        let size = ((state >> 33) % (GREATEST + 1)) >> (draw % 17);
+        let size = ((state >> 33) % (GREATEST + 1)) >> shift;
         findings.expect_at(make(size as usize), size as usize, name);
     }
 }

@@ -106,7 +106,6 @@ pub(crate) const FLAT_SIZES: &[(usize, u16)] = &[
     (8, 8 + 1 + 8),
     (16, 16 + 1 + 16),
     (33, 33 + 3 + 33),
-    (200, 200 + 13 + 200),
 ];
 
 /// The capacity of a hash map, and the number of blocks of 16 bytes that it takes: 16 bytes for each pair, one for its mark, 16 for
@@ -128,13 +127,13 @@ fn each_making(rt: HostRuntime) -> Result<(), Fail> {
         check_makings(&findings, alloc, FLAT_SIZES, name, |heap: &LocalHeap, n| {
             read_map(&findings, *making, heap, alloc, n, true, || heap.used())
         });
-        check_drawn_sizes(&findings, 60, name, |n| {
+        check_drawn_sizes(&findings, name, |n| {
             read_map(&findings, *making, alloc, alloc, n, false, || 0).is_some()
         });
         check_makings(&findings, alloc, HASH_SIZES, name, |heap: &LocalHeap, n| {
             read_hashed(&findings, *making, heap, alloc, n, || heap.used())
         });
-        check_drawn_sizes(&findings, 20, name, |n| {
+        check_drawn_sizes(&findings, name, |n| {
             read_hashed(&findings, *making, alloc, alloc, n, || 0).is_some()
         });
         for past_all in &[usize::MAX, usize::MAX / 16] {

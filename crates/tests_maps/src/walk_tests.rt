@@ -14,8 +14,8 @@ use std::alloc::{AllocError, Global};
 use std::test::Fail;
 use test_support::{Findings, Numbers};
 
-/// The number of commands that a walk runs on one map.
-const COMMANDS: usize = 600;
+/// The number of commands that a walk runs on one map: enough to fill one of 60 places.
+const COMMANDS: usize = 150;
 
 /// Draws a command that changes a map, with a key below `keys`.
 fn drawn_command(numbers: &mut Numbers, keys: u64) -> MapCommand<u64, u64> {
@@ -96,7 +96,7 @@ fn walk<S: Table<Pair<u64, u64>>, L: Table<Link>, I: KeyIndex<u64, u64> + Drop>(
     let keys = capacity.saturating_add(capacity / 2).saturating_add(2) as u64;
     let mut numbers = Numbers::new(capacity as u64);
     for step in 0..COMMANDS {
-        if step % 64 == 63 {
+        if step % 32 == 31 {
             map.for_each_mut(|_, value| *value = value.wrapping_add(1));
             map.retain(|key, value| !is_divided(*key, *value, 3));
             slow.raise_and_retain(3);

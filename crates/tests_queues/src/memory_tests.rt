@@ -61,7 +61,7 @@ fn each_making(rt: HostRuntime) -> Result<(), Fail> {
         check_makings(&findings, alloc, SIZES, name, |heap: &LocalHeap, n| {
             read_made(&findings, *making, (heap, alloc), n, || heap.used())
         });
-        check_drawn_sizes(&findings, 200, name, |n| {
+        check_drawn_sizes(&findings, name, |n| {
             read_made(&findings, *making, (alloc, alloc), n, || 0).is_some()
         });
     }

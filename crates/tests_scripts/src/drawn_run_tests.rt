@@ -11,7 +11,7 @@ const COMMANDS: &[QueueCommand<u64>] = &[QueueCommand::Len; 300_000];
 fn long_lists(rt: HostRuntime) -> Result<(), Fail> {
     let findings = Findings::new();
     let alloc = rt.alloc();
-    check_drawn_sizes(&findings, 40, "a run of commands", |count| {
+    check_drawn_sizes(&findings, "a run of commands", |count| {
         let mut queue = FixedSizeQueue::<u64, 1>::new();
         match COMMANDS.get(..count) {
             Some(commands) => run_queue(alloc, &mut queue, commands).is_ok_and(

@@ -119,7 +119,6 @@ const TABLES: &[(usize, u16)] = &[
     (8, 4 + 1 + 8),
     (16, 8 + 1 + 16),
     (33, 17 + 3 + 33),
-    (200, 100 + 13 + 200),
 ];
 
 /// The capacity of a map, and the number of blocks of 16 bytes that it takes: 8 bytes for each value, one for its mark, 16
@@ -140,7 +139,7 @@ fn check_kind(findings: &Findings, alloc: Global, kind: Kind, sizes: &[(usize, u
         check_makings(findings, alloc, sizes, name, |heap: &LocalHeap, n| {
             read_made(findings, how, heap, alloc, n, || heap.used())
         });
-        check_drawn_sizes(findings, 60, name, |n| {
+        check_drawn_sizes(findings, name, |n| {
             let drawn = match kind {
                 Table => Table,
                 Map(_) => Map((n % 65_536) as u32),

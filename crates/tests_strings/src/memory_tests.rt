@@ -103,7 +103,7 @@ fn drawn_sizes(rt: HostRuntime) -> Result<(), Fail> {
     let findings = Findings::new();
     let alloc = rt.alloc();
     for (making, name, _) in MAKINGS {
-        check_drawn_sizes(&findings, 100, name, |capacity| {
+        check_drawn_sizes(&findings, name, |capacity| {
             read_made(&findings, *making, alloc, alloc, capacity, || 0).is_some()
         });
         for past_all in &[usize::MAX, usize::MAX / 2 + 1] {
@@ -130,7 +130,7 @@ fn drawn_texts(rt: HostRuntime) -> Result<(), Fail> {
     let findings = Findings::new();
     let alloc = rt.alloc();
     if let Ok(letters) = PolymorphicVec::from_fn(alloc, 300_000, |_| b'a') {
-        check_drawn_sizes(&findings, 40, "a text", |n| {
+        check_drawn_sizes(&findings, "a text", |n| {
             let letters = &letters.as_slice()[..n.min(letters.len())];
             is_printed(alloc, letters) == Ok(true)
         });

@@ -194,7 +194,7 @@ fn drawn_sizes(rt: HostRuntime) -> Result<(), Fail> {
     let findings = Findings::new();
     let alloc = rt.alloc();
     for (making, name) in MAKINGS {
-        check_drawn_sizes(&findings, 100, name, |n| {
+        check_drawn_sizes(&findings, name, |n| {
             read_made(&findings, *making, alloc, alloc, n, || 0).is_some()
         });
         // As many marks alone have no more than `isize::MAX` bytes.
