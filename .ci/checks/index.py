@@ -16,7 +16,7 @@ INDEX = "README.md"
 INTRODUCTION = """# Reference
 
 Made from the sources by `.ci/check --write`: the public items of each module, each with its contract. The
-[README](../../README.md#how-to-read-a-contract) explains how to read a contract; [CHOOSING.md](../CHOOSING.md) says which
+[guide](../GUIDE.md#how-to-read-a-contract) explains how to read a contract; [CHOOSING.md](../CHOOSING.md) says which
 container to take, and which call.
 
 A page begins with the main type of its module and the calls by task. A call has its signature and its docs first. "Errors" says
@@ -142,5 +142,5 @@ class Places:
         lines += ["the others are in the table of traits of each page.", "", "| call | of |", "|---|---|"]
         for call, owners in sorted(self.listed.items()):
             lines.append(f"| `{call}` | {', '.join(f'[`{name}`]({link})' for name, link in owners)} |")
-        lines += ["", "## Words of contracts", "", "Words of the kit's logic that clauses use, beside those that the README explains.", "", *kit_table()]
+        lines += ["", "## Words of contracts", "", "Words of the kit's logic that clauses use, beside those that the guide explains.", "", *kit_table()]
         return self.linked("\n".join(lines) + "\n", INDEX)

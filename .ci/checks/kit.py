@@ -1,5 +1,5 @@
 """The words of the kit's logic that clauses of the library use, for docs/api/README.md: each row has the words that it explains, how they
-are written, and what that means. The README's section on contracts explains others."""
+are written, and what that means. The guide's section on contracts explains others."""
 
 KIT = (
     # What any clause may have.

@@ -42,7 +42,7 @@ PLANTS = (
     ("`Table::end`", "`Table::clear`"),
     ("`MetaQueue::push`", "`MetaSlotMap::push`"),
     ("EXAMPLES.md#where-the-proofs-stand", "EXAMPLES.md#where-the-proofs-lie"),
-    ("(#getting-started)", "(#to-begin-with)"),
+    ("(#run-it)", "(#walk-it)"),
     ("(docs/api/README.md)", "(docs/reference/README.md)"),
     ("wrong bodies", "437 wrong bodies"),
 )

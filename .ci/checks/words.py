@@ -1,7 +1,7 @@
 """The words of clauses: where a page of the reference says what each of them means.
 
 A word leads to the file of specs/ that defines it, to the type, the constant or the error of the library that it is, or to the trait
-whose ghost member it is. A word of the kit's logic has a line in KIT, which docs/api/README.md lists, if the README's section on
+whose ghost member it is. A word of the kit's logic has a line in KIT, which docs/api/README.md lists, if the guide's section on
 contracts does not explain it. It fails if a clause has a word that none of these explains, and if no clause has a word of KIT.
 
 cd .ci && python3 -m checks.words    prints the words that nothing explains, each with a call that has it
@@ -16,7 +16,7 @@ from checks.items import text_of
 from checks.kit import KIT
 from crates import ROOT
 
-SECTION = re.compile(r"^## How to read a contract$(.*?)^## ", re.M | re.S)
+SECTION = re.compile(r"^## How to read a contract$(.*?)\Z", re.M | re.S)
 BLOCK = re.compile(r"^```.*?^```$", re.M | re.S)
 USE = re.compile(r"ghost use ([^\s;{]+?)(?:\.\{([^}]*)\}| as (\w+));")
 DEFINED = re.compile(r"Rattle\.(ix_\w+)\.specs\.([\w.]+)")
@@ -34,9 +34,9 @@ SUFFIXES = {"now", "old", "new", "entry", "exit", "ghost_name", "pre", "post", "
 
 
 @functools.lru_cache(maxsize=None)
-def explained_by_readme():
-    """Returns the words that the README's section on contracts explains, symbols too."""
-    spans = re.findall(r"`([^`]+)`", BLOCK.sub("", SECTION.search(text_of("README.md")).group(1)))
+def explained_by_guide():
+    """Returns the words that the guide's section on contracts explains, symbols too."""
+    spans = re.findall(r"`([^`]+)`", BLOCK.sub("", SECTION.search(text_of("docs/GUIDE.md")).group(1)))
     return {word for span in spans for word in [*re.findall(r"[^\W\d][\w-]*", span), *SYMBOL.findall(span)]}
 
 
@@ -148,7 +148,7 @@ class Words:
 
 def explained():
     """Returns the words that are no one's of the library, and explained."""
-    return explained_by_kit() | explained_by_readme()
+    return explained_by_kit() | explained_by_guide()
 
 
 def faults(used):

@@ -1,11 +1,12 @@
 //! A cache of 64 values by their keys, which evicts the key that was used least recently.
 ghost use Rattle.std.specs.Prelude.{◌≡◌, ◌≢◌, ◌↔◌, ◌<◌, ℕ, [], None, Some, IsSome, IsNone, IfSome, drop, length, nat_eq, count_by};
-ghost use Rattle.ix_maps.specs.MapState.{map_value};
-ghost use Rattle.ix_maps.specs.SlotTableState.{slot_table_new};
-ghost use Rattle.ix_maps.specs.QueueSteps.{queue_front};
+ghost use Rattle.ix_flatmap.specs.MapState.{map_value};
+ghost use Rattle.ix_slottable.specs.SlotTableState.{slot_table_new};
+ghost use Rattle.ix_queue.specs.QueueSteps.{queue_front};
 ghost use Rattle.examples.specs.InStep.{IsInStep, used_last};
 
-use ix_maps::{FixedSizeHashMap, FixedSizeQueue};
+use ix_hashmap::FixedSizeHashMap;
+use ix_queue::FixedSizeQueue;
 
 /// The value of each key.
 pub type Values = FixedSizeHashMap<u64, u64, 64>;

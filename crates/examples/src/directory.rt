@@ -1,9 +1,9 @@
 //! A directory of services, by names of any type that can be compared.
 ghost use Rattle.std.specs.Prelude.{◌≡◌, ◌↔◌, false, Some, None, Err, IsTrue, IsSome, IsOk, OnErr, slice_get};
-ghost use Rattle.ix_maps.specs.MapState.{map_value};
-ghost use Rattle.ix_maps.specs.declared.flatmap.MapError.TheVariants.{KeyAlreadyExists, IsFull};
+ghost use Rattle.ix_flatmap.specs.MapState.{map_value};
+ghost use Rattle.ix_flatmap.specs.declared.flatmap.MapError.TheVariants.{KeyAlreadyExists, IsFull};
 
-use ix_maps::{FixedSizeFlatMap, MapError};
+use ix_flatmap::{FixedSizeFlatMap, MapError};
 
 /// The ports of at most 32 services. `Directory::new()` is empty.
 pub type Directory<N> = FixedSizeFlatMap<N, u16, 32>;

@@ -1,7 +1,7 @@
 //! A loop that removes items from a vector of any kind.
 ghost use Rattle.std.specs.Prelude.{◌≡◌, ◌%◌, All};
 
-use ix_cells::Vector;
+use ix_vector::Vector;
 
 /// Removes the odd numbers.
 pub fn keep_even<V: Vector<u64>>(vector: &mut V)

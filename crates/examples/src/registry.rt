@@ -1,10 +1,10 @@
 //! A registry of services, whose handles are dead for good once their service is removed.
 ghost use Rattle.std.specs.Prelude.{◌≡◌, ◌≢◌, ◌↔◌, [], None, Some, IsSome, IfSome, IsNone, fold, option_map};
-ghost use Rattle.ix_maps.specs.Generations.{SlotKey, slot_map_value, IsDead};
-ghost use Rattle.ix_maps.specs.SlotMapSteps.{slot_map_insert, slot_map_remove};
+ghost use Rattle.ix_slotmap.specs.Generations.{SlotKey, slot_map_value, IsDead};
+ghost use Rattle.ix_slotmap.specs.SlotMapSteps.{slot_map_insert, slot_map_remove};
 
-use ix_maps::slotmap::dead_keys_law;
-use ix_maps::{FixedSizeSlotMap, SlotMapKey};
+use ix_slotmap::slotmap::dead_keys_law;
+use ix_slotmap::{FixedSizeSlotMap, SlotMapKey};
 use ix_string::StaticString;
 
 /// A service that a handle finds.

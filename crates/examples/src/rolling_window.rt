@@ -1,8 +1,8 @@
 //! A rolling window: the last samples of a stream.
 ghost use Rattle.std.specs.Prelude.{◌≡◌, ◌≤◌, ◌-◌, length, drop};
-ghost use Rattle.ix_cells.specs.declared.cells.table.TheConstants.{MAX_FIXED_CAPACITY};
+ghost use Rattle.ix_tables.specs.declared.cells.table.TheConstants.{MAX_FIXED_CAPACITY};
 
-use ix_maps::FixedSizeQueue;
+use ix_queue::FixedSizeQueue;
 
 /// Returns the last `SIZE` samples, the oldest first, or all samples if there are fewer.
 pub fn last_samples<const SIZE: usize>(samples: &[u64]) -> FixedSizeQueue<u64, SIZE>

@@ -1,23 +1,24 @@
-//! A program that keeps the last two of three numbers, and the names of two ports.
+//! Keeps the newest three samples.
 #![tactic(auto)]
 
-use ix_flatmap::FlatMap;
+ghost use Rattle.std.specs.Prelude.{◌≡◌, ◌↔◌, length, IsSome};
+
 use ix_queue::FixedSizeQueue;
 
+/// Adds a sample, and returns the oldest one if there were three.
+fn add(samples: &mut FixedSizeQueue<u64, 3>, sample: u64) -> Option<u64>
+    ensures { IsSome result ↔ (length samples.old.items ≡ 3) }
+{
+    samples.push_with_overflow(sample)
+}
+
 fn main(rt: HostRuntime) -> Result<(), anyhow::Error> {
-    let mut latest = FixedSizeQueue::<u64, 2>::new(); // inline
-    for number in [1, 2, 3] {
-        if let Some(oldest) = latest.push_with_overflow(number) {
-            println!(rt; "{oldest} made room for {number}")?;
+    let mut samples = FixedSizeQueue::new();
+    for sample in [5, 6, 7, 8] {
+        if let Some(oldest) = add(&mut samples, sample) {
+            println!(rt; "{oldest} made room for {sample}")?;
         }
     }
-    println!(rt; "latest: {latest:?}")?;
-
-    let mut ports = FlatMap::<u16, &str>::new(rt.alloc(), 2)?; // allocated: AllocError
-    ports.insert(80, "web")?; // MapError
-    ports.insert(22, "shell")?;
-    for (port, name) in &ports {
-        println!(rt; "{port} {name}")?;
-    }
+    println!(rt; "{samples:?}")?;
     Ok(())
 }
