@@ -24,6 +24,8 @@ from crates import ROOT, files, libraries_of_crates, read
 BESIDE = (".ci/check-test", ".ci/wrong-bodies-test", ".ci/first-program", "stress/refusals 80")
 PART = re.compile(r"^rt: (\w+)(?:: its tests are)? (proved|NOT PROVED|is kept)\b")
 LAST = re.compile(r"^(\d+) passed, (\d+) failed$")
+# What `rt ci` says of tests that passed.
+QUIET = re.compile(r"^(test .* ok|tests: \d+|test result: ok\b.*)$")
 
 
 class Gate:
@@ -62,7 +64,7 @@ class Gate:
             said.append(line)
             if is_shown:
                 self.say(line.rstrip("\n"))
-        self.end(command, result == [0], "" if is_shown else "".join(said))
+        self.end(command.removeprefix(f"{folder}/"), result == [0], "" if is_shown else "".join(said))
         return result == [0]
 
     def prove(self, tree):
@@ -80,7 +82,7 @@ class Gate:
                 block.append(line)
             elif LAST.match(line):
                 last = line.rstrip("\n")
-            elif not re.match(r"^test .* ok$", line):
+            elif not QUIET.match(line):
                 self.say(line.rstrip("\n"))
         return last, result[0]
 
