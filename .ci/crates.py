@@ -1,6 +1,5 @@
-"""The crates of this repository: what each stands on, and a hash of their files."""
+"""The crates of this repository, and what each stands on."""
 
-import hashlib
 import os
 
 ROOT = os.path.dirname(os.path.dirname(os.path.abspath(__file__)))
@@ -49,8 +48,3 @@ def files(crate, parts):
             folders.sort()
             for name in sorted(names):
                 yield os.path.relpath(os.path.join(folder, name), ROOT)
-
-
-def digest(lines):
-    """Returns a hash of lines."""
-    return hashlib.sha256("\n".join(lines).encode()).hexdigest()

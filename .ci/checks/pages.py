@@ -8,7 +8,7 @@ from crates import ROOT, read
 
 ENDINGS = (".rt", ".antt", ".edit", ".md", ".py", ".c", ".txt", ".unproved", ".svg", ".rs")
 # Parts of paths that stand for any name.
-ANY = {"CRATE", "FILE", "FUNCTION", "MODULE", "SUBJECT", "WHAT_IS_WRONG", "my_program"}
+ANY = {"CRATE", "FILE", "FUNCTION", "MODULE", "SUBJECT", "WHAT_IT_DOES_WRONG", "my_program"}
 BLOCK = re.compile(r"^(?:<!--[^\n]*-->\n)?```.*?^```$", re.M | re.S)
 
 
