@@ -4,10 +4,8 @@
 - Each word in backticks stands in the code, or in WORDS or UPSTREAM. `Type::call` is a member of the type.
 - A clause behind its calls, as in `push` (`full`), or before them, as in `full` of `push`, is one of theirs. In a section about
   crates, each word in the last column of a table is a clause there, a call or a definition.
-- No page states how many wrong bodies, tests or scripts there are: scripts count them.
+- No page states how many mutants, tests or scripts there are: scripts count them.
 - docs/EXAMPLES.md names each file of the crate of examples.
-
-Then each word in backticks is misspelt in turn in a copy of its paragraph, and PLANTS are put into it: all have to be refused.
 """
 
 import os
@@ -23,7 +21,7 @@ from checks.pages import DOCUMENTS, FILES, headings, is_file, is_path, paragraph
 WORDS = set("""
     AtomicCell Deref MaybeUninit Mutex SecondaryMap SendError memmove no_std python3 replace_with rustc scope slab xmllint
     Handles Wait allow dac8208d650f15bf holes lemma trusted
-    CRATE FILE FUNCTION MODULE SUBJECT WHAT_IS_WRONG my_program
+    CRATE FILE FUNCTION MODULE SUBJECT WHAT_IT_DOES_WRONG my_program
     inline_len
 """.split())
 # Words of upstream that this library does not have.
@@ -32,20 +30,6 @@ UPSTREAM = set("""
     VectorMemoryLayoutMetrics __internal_ __internal_insert _unchecked as_bytes_with_nul as_c_str const_memory_size memory_size
     placement_default
 """.split())
-# Texts and untrue ones in their places.
-PLANTS = (
-    ("`push_with_overflow` (`full`)", "`push_with_overflow` (`refused`)"),
-    ("(`distinct`); `len` (`distinct`)", "(`distinct`); `is_full` (`distinct`)"),
-    ("`absent` of `strip_prefix`", "`kept` of `strip_prefix`"),
-    ("`value` and `queue` of", "`value` and `kept` of"),
-    ("`value`, `full`, `fits`, `refused`", "`value`, `full`, `fits`, `whole`"),
-    ("`Table::end`", "`Table::clear`"),
-    ("`MetaQueue::push`", "`MetaSlotMap::push`"),
-    ("EXAMPLES.md#where-the-proofs-stand", "EXAMPLES.md#where-the-proofs-lie"),
-    ("(#run-it)", "(#walk-it)"),
-    ("(docs/api/README.md)", "(docs/reference/README.md)"),
-    ("wrong bodies", "437 wrong bodies"),
-)
 CODE = {".antt": r"--.*", ".rt": r"//.*", ".rs": r"//.*", ".unproved": r"//.*", ".c": r"//.*", ".py": r"(?s:\"\"\".*?\"\"\")|(?m:#.*$)"}
 WORD = re.compile(r"[^\W\d]\w*")
 SPAN = re.compile(r"`([^`]+)`")
@@ -56,7 +40,7 @@ CLAUSE = re.compile(r"(?!true$|false$)[a-z]\w*$")
 TOKEN = re.compile(r"\([^()]*\)|`[^`]+`|[;.|]")
 NAMES = r"`\w+`(?:(?:,| and|, and)\s+`\w+`)*"
 OF = re.compile(rf"(`,\s+)?({NAMES})\s+of\s+(?:the\s+)?((?:`[^`]+`(?:,| and|, and)\s+)*?`[^`]+`)(?!\w|\s+of\b|(?:,| and)\s+`[^`]+`(?!\s+of\b))")
-COUNT = re.compile(r"\b\d[\d,]*\s+(?:wrong bodies|must-fail edits|edits|tests|scripts|functions|public functions)\b")
+COUNT = re.compile(r"\b\d[\d,]*\s+(?:mutants|must-fail edits|edits|tests|scripts|functions|public functions)\b")
 
 CRATES = libraries_of_crates()
 CONTRACTS = Contracts()
@@ -154,18 +138,6 @@ def faults(text, room, page):
     yield from ((count, f"a script counts that: {count}") for count in COUNT.findall(text))
 
 
-def missed(text, room, page):
-    """Yields each misspelt word and each plant that is let through in a paragraph."""
-    for span in SPAN.finditer(text):
-        for word in re.finditer(r"[^\W\d]\w\w+", span.group()):
-            end = span.start() + word.end()
-            if not any(faults(f"{text[:end]}q{text[end:]}", room, page)):
-                yield word.group(), f"nothing is said of {word.group()}q"
-    for right, wrong in PLANTS:
-        if right in text and not any(faults(text.replace(right, wrong), room, page)):
-            yield right, f"nothing is said of {wrong}"
-
-
 def unlisted():
     """Yields each example that the list of examples does not have."""
     listed = set(SPAN.findall(text_of("docs/EXAMPLES.md")))
@@ -176,9 +148,9 @@ def unlisted():
 
 def check():
     """Returns what is wrong."""
-    pages = [(path, *place) for path in DOCUMENTS for place in places(path)]
-    found = [f"no page has {right}, which is to be misspelt" for right, _ in PLANTS if not any(right in text for _, _, text, _ in pages)]
-    for path, line, text, room in pages:
-        wrong = list(faults(text, room, path)) or missed(text, room, path)
-        found += [f"{path}:{line + text[: text.find(word)].count(chr(10))}: {it}" for word, it in wrong]
+    found = []
+    for path in DOCUMENTS:
+        for line, text, room in places(path):
+            wrong = faults(text, room, path)
+            found += [f"{path}:{line + text[: text.find(word)].count(chr(10))}: {it}" for word, it in wrong]
     return [*found, *unlisted()]

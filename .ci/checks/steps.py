@@ -3,7 +3,7 @@ takes memory.
 
 Contracts count the loads and stores of a seat that is lent. They don't see a load without a seat, a kind of step that does not
 count, an allocation, or how a byte cell walks. So the text is compared with the table below, line by line, in the order of the
-text. Then each wrong body of PLANTS is planted in a copy in memory, and has to be refused.
+text.
 """
 import glob
 import os
@@ -155,53 +155,8 @@ def differs(texts):
     ] or (["the order"] if wanted != found else [])
 
 
-CELL, BYTES = "sequenced/sequenced_byte_atomic.rt", "byte_atomic/fixed_size_byte_atomic.rt"
-BOXED = "byte_atomic/relocatable_byte_atomic.rt"
-CLAIM = "let found = shared.compare_exchange::<Claim>(&mut seat.seat, 0, loaded, odd);"
-FIRST = "let loaded = shared.load::<LoadVersion>(&mut seat.seat, 0);"
-WRITER = "let writer = self.table.shared.split_seat::<NewWriter>(&mut seat.seat);"
-READER = "let reader = self.table.shared.split_seat::<NewReader>(&mut seat.seat);"
-READ = "MaybeTorn::new(array::from_fn(|i| self.bytes[i].load(Ordering::Relaxed)))"
-STORED = "cell.store(*byte, Ordering::Relaxed);"
-PLANTS = {
-    "try_write waits by a load without a seat": (CELL, FIRST, "while shared.peek(0) % 2 == 1 {} " + FIRST),
-    "merge waits by a load without a seat": (CELL, "shared.join_seat::<Merge>(seat, other);", "while shared.peek(0) % 2 == 1 {} shared.join_seat::<Merge>(seat, other);"),
-    "writer waits through a reader's seat": (CELL, WRITER, "if let Ok(mut spy) = self.reader(_alloc, seat) { for _ in 0..u64::MAX { if self.version(&mut spy) % 2 == 0 { break; } } } " + WRITER),
-    "merge waits in a function of another file": ("sequenced.rt", "mod data_words;", "mod data_words; fn wait<R>(shared: &R) { while shared.peek(0) % 2 == 1 {} }"),
-    "merge calls a function of another file": (CELL, "shared.join_seat::<Merge>(seat, other);", "crate::sequenced::wait(&shared); shared.join_seat::<Merge>(seat, other);"),
-    "try_write has a second seat": (CELL, FIRST, "let twin = shared.split_seat::<NewWriter>(&mut seat.seat); " + FIRST),
-    "reader allocates a vector by a macro": (CELL, READER, "let _words = vec![in _alloc; 0u64; 8]?; " + READER),
-    "reader makes a writer's seat": (CELL, READER, "if let Ok(twin) = self.writer(_alloc, seat) { self.merge(seat, twin); } " + READER),
-    "reader makes a seat by hand": (CELL, READER, READER + " let twin = WriterSeat { seat: reader };"),
-    "reader makes a seat out of nothing": (CELL, READER, "let reader = self.table.shared.load_new_seat::<LoadVersion>(0).1;"),
-    "reader allocates": (CELL, READER, "let _box = Box::new(_alloc, 0u64)?; " + READER),
-    "new leaks its words": (CELL, "Ok((SequencedByteAtomic { table }", "words.leak(); Ok((SequencedByteAtomic { table }"),
-    "new takes eight times the room": ("sequenced/data_words.rt", "let mut words = Vec::new(alloc);", "let mut words = Vec::with_capacity(alloc, 8 * bytes.len())?;"),
-    "new refuses above 256 bytes": (CELL, "(isize::MAX as usize / size_of::<u64>() - 1) * 8", "256"),
-    "close is unfinished from a version on": (CELL, "closed.word(0) % 2 == 1", "closed.word(0) % 2 == 1 || closed.word(0) > 200_000"),
-    "close does not look whether a write is in progress": (CELL, "if is_unfinished {", "if false {"),
-    "read loads until two reads agree": (BYTES, READ, "let first = array::from_fn(|i| self.bytes[i].load(Ordering::Relaxed)); " + READ),
-    "write reads its own bytes": (BYTES, STORED, STORED + " let _torn = Self::read(self);"),
-    "read of a boxed cell reads twice": (BOXED, "self.cell.read()", "{ let _ = self.cell.read(); self.cell.read() }"),
-    "write of a boxed cell writes nothing above 1,000 bytes": (BOXED, "self.cell.write(value);", "if SIZE <= 1000 { self.cell.write(value); }"),
-    "init of a boxed cell refuses above 4,096 bytes": (BOXED, "if SIZE > MAX_SIZE {", "if SIZE > MAX_SIZE || SIZE > 4096 {"),
-    "try_write encodes while the cell is busy": (CELL, CLAIM, CLAIM + " value.encode(&mut bytes);"),
-    "write walks its bytes once more": (BYTES, STORED, STORED + " let _is_zero = self.bytes.iter().any(|byte| byte.as_ptr() == 0);"),
-    "write stores the complement first": (BYTES, STORED, "cell.store(255 - *byte, Ordering::Relaxed); " + STORED),
-    "write leaves the bytes past 256": (BYTES, ".zip(&encoding)", ".zip(&encoding).take(256)"),
-    "a kind of step is not counted": ("sequenced/rule.rt", "/// The load of the bytes", "impl<T: AtomicCopy> Play<(), SeatView<T>> for Peeks {}\n/// The load of the bytes"),
-}
-
-
 def check():
     """Returns what is wrong."""
     root = os.path.join(ROOT, "crates", "ix_atomic", "src")
     files = glob.glob(os.path.join(root, "**", "*.rt"), recursive=True)
-    texts = {os.path.relpath(file, root): open(file, encoding="utf-8").read() for file in files}
-    wrong = differs(texts)
-    for plant, (name, old, new) in PLANTS.items():
-        if texts[name].count(old) != 1:
-            wrong.append(f"cannot be planted: {plant}")
-        elif not differs({**texts, name: texts[name].replace(old, new)}):
-            wrong.append(f"is not refused: {plant}")
-    return wrong
+    return differs({os.path.relpath(file, root): open(file, encoding="utf-8").read() for file in files})

@@ -3,7 +3,6 @@
 A contract bounds the counter that a call is passed, but can't keep the call from a counter of its own. So here no function of
 their modules but those of `WALKS` and of kinds.rt has a loop, or calls anything but the others and what `CALLS` lists; none that is passed a
 counter makes one, or calls what makes one without passing its own; and a plain call is its counted form and nothing else.
-`SCANS` has wrong bodies by which the check itself is tried, and `DETOURS` those of functions that are passed a counter.
 """
 
 import re
@@ -40,19 +39,6 @@ FUNCTION = re.compile(r"( *)(?:pub(?:\(crate\))? )?fn (\w+)")
 LOOP = re.compile(r"\b(?:for|while|loop)\b")
 CALL = re.compile(r"(\.|(?:\w+::)*)\b(\w+!?)(?:::<[^>]*>)?\s*\(")
 KEYWORDS = {"if", "match", "in", "let", "return", "unreachable!"}
-SCANS = (
-    "for place in 0..self.capacity() { let _ = self.key_of(place, &mut Touches::new()); }",
-    "let mut place = 0; while self.is_free(place, &mut Touches::new()) { place += 1; }",
-    "let _ = self.iter().count();",
-    "let _ = self.iter().next();",
-    "let _ = self.keys().next();",
-    "let _ = self.values().next();",
-    "let _ = (0..self.capacity()).all(|place| self.contains(SlotTableKey::new(place)));",
-    "let _ = self.held_from(0);",
-    "let _ = self.held_before(1);",
-    "drop_all(&mut self.values, &mut self.links);",
-)
-DETOURS = ("let _ = self.contains(key);", "let _ = self.slots.contains(key);", "let _ = self.get(key).is_some();", "let _ = &self[key];")
 
 
 class Function:
@@ -132,23 +118,9 @@ class Judge:
             yield f"{it.place} is not its counted form alone"
 
 
-def missed(texts, judge):
-    """Yields each function and each wrong first line of it that is let through, if a call of a container makes it."""
-    for path, text in texts.items():
-        lines = text.splitlines()
-        for number, it in enumerate(functions(path, text)):
-            if it.is_walk() or "self" not in it.head:
-                continue
-            for scan in SCANS + (DETOURS if COUNTER in it.head else ()):
-                at = it.first + (lines[it.first].strip() == "{")
-                wrong = list(functions(path, "\n".join([*lines[:at], scan, *lines[at:]])))[number]
-                if not any(judge.faults(wrong)):
-                    yield f"{it.place}: nothing is said of `{scan}`"
-
-
 def check():
     """Returns what is wrong."""
     texts = {path: text_of(path) for files in FILES.values() for path in files}
     empty = [f"there is no file {pattern} of {crate}" for (crate, pattern), files in FILES.items() if not files]
     judge = Judge([it for path, text in texts.items() for it in functions(path, text)])
-    return [*empty, *(fault for it in judge.checked for fault in judge.faults(it)), *missed(texts, judge)]
+    return [*empty, *(fault for it in judge.checked for fault in judge.faults(it))]
