@@ -1,6 +1,6 @@
 """The examples of calls and types: bodies of tests that name what they show.
 
-Above a test of a crate `tests_calls..` stand lines `// Shows: MetaQueue, MetaQueue::try_push, Clone for FixedSizeQueue`. A name is
+Above a test of a crate `doc_examples..` stand lines `// Shows: MetaQueue, MetaQueue::try_push, Clone for FixedSizeQueue`. A name is
 a type or a trait, alone or with a call of it, a function behind its module, or a trait and a type that has it. Where several
 pages have a name, as `Iter::next`, the example is shown on those that have a type of its body.
 
@@ -34,7 +34,7 @@ def read():
     """Returns the examples, and a fault for each file with a `Shows` that is above no test."""
     found, faults = [], []
     for crate in libraries_of_crates():
-        for path in paths(crate, "src/**/*.rt") if crate.startswith("tests_calls") else ():
+        for path in paths(crate, "src/**/*.rt") if crate.startswith("doc_examples") else ():
             text = text_of(path)
             tests = [(shows, body) for shows, between, body in SHOWS.findall(text) if "#[test]" in between]
             if sum(shows.count("// Shows: ") for shows, _ in tests) != text.count("// Shows:"):
