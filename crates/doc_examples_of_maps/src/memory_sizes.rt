@@ -10,12 +10,9 @@ use ix_maps::slottable::{FixedSizeSlotTable, SlotTable};
 use ix_string::{PolymorphicString, StaticString};
 use std::alloc::Global;
 use std::mem::size_of;
-use std::test::Fail;
-use test_support::Findings;
 
 #[test]
-fn inline() -> Result<(), Fail> {
-    let findings = Findings::new();
+fn inline(rt: HostRuntime) {
     // The second container has 8 places more than the first.
     for (few, more, bytes, container) in [
         (
@@ -79,14 +76,12 @@ fn inline() -> Result<(), Fail> {
             "a hash map",
         ),
     ] {
-        findings.expect_same(few.wrapping_add(8 * bytes), more, container);
+        assert_eq!(rt; few.wrapping_add(8 * bytes), more, "{container}");
     }
-    findings.verdict()
 }
 
 #[test]
-fn allocated() -> Result<(), Fail> {
-    let findings = Findings::new();
+fn allocated(rt: HostRuntime) {
     for (size, bytes, blocks, container) in [
         (
             PolymorphicVec::<u64, Global>::memory_size(1),
@@ -128,7 +123,6 @@ fn allocated() -> Result<(), Fail> {
             "a hash map",
         ),
     ] {
-        findings.expect_same((size.bytes, size.blocks), (bytes, blocks), container);
+        assert_eq!(rt; (size.bytes, size.blocks), (bytes, blocks), "{container}");
     }
-    findings.verdict()
 }
