@@ -1,10 +1,9 @@
 //! What the crates of tests share: [`Findings`], which note what a test did not expect, [`check_rows`], which runs a table
-//! of commands and the replies to them, [`walk`], which runs random commands on two containers, [`SlowTable`], of which slow
-//! containers are made, items that note their drops, [`hash_of`], [`order_of`] and [`check_text`], which know a value by a
-//! trait alone, [`fed_by`], which tells what a value feeds to a hasher, [`check_makings`], which has heaps of a few blocks,
-//! [`read_with`], which reads how many bytes are in use with a container, [`check_memory_sizes`], which knows how many it
-//! takes, [`check_drawn_sizes`], which has ample memory, [`check_equality`] of maps of any kind, and
-//! [`devices`] that fail.
+//! of commands and the replies to them, [`reply_of_option`] and [`reply_of_key`], which make such replies, items that note their
+//! drops, [`hash_of`], [`order_of`] and [`check_text`], which know a value by a trait alone, [`fed_by`], which tells what a value
+//! feeds to a hasher, [`check_makings`], which has heaps of a few blocks, [`read_with`], which reads how many bytes are in use
+//! with a container, [`check_memory_sizes`], which knows how many it takes, [`check_drawn_sizes`], which has ample memory,
+//! [`check_equality`] of maps of any kind, and [`devices`] that fail.
 //!
 //! ```text
 //! let notes = Notes::new(0);
@@ -22,11 +21,9 @@ mod findings;
 mod makings;
 mod maps;
 mod noted;
-mod numbers;
 mod recorder;
+mod replies;
 mod rows;
-mod slow_table;
-mod walks;
 
 pub use blocks::{check_makings, check_memory_sizes, check_room, check_sizes};
 pub use by_traits::{check_display, check_printed, check_text, hash_of, order_of};
@@ -35,8 +32,6 @@ pub use findings::Findings;
 pub use makings::{MAKINGS, Making, read_again, read_with};
 pub use maps::check_equality;
 pub use noted::{Noted, Notes};
-pub use numbers::Numbers;
 pub use recorder::fed_by;
+pub use replies::{reply_of_key, reply_of_option};
 pub use rows::{check_rows, check_tables, made};
-pub use slow_table::{SlowTable, reply_of_key, reply_of_option};
-pub use walks::walk;

@@ -1,7 +1,6 @@
 //! Tests of maps beside their contracts, for flat maps and hash maps: worked examples on each kind of map, in each memory and by
 //! several hashers, keys of several types, each function once, how often keys are compared and values are cloned, how long a call
-//! takes, when keys and values are dropped, calls that go through all keys, drains and clones, too little memory, and random calls
-//! beside a plain slow map.
+//! takes, when keys and values are dropped, calls that go through all keys, drains and clones, and too little memory.
 #![tactic(auto)]
 
 #[cfg(test)]
@@ -31,14 +30,10 @@ mod row_tests;
 #[cfg(test)]
 mod rows;
 #[cfg(test)]
-mod slow_map;
-#[cfg(test)]
 mod small_key_tests;
 #[cfg(test)]
 mod text_key_tests;
 #[cfg(test)]
 mod time_tests;
-#[cfg(test)]
-mod walk_tests;
 #[cfg(test)]
 mod whole_tests;

@@ -1,4 +1,4 @@
-//! Tests that cross crates: runs of commands, readers of lines, scripts of every container, devices that fail, a slow queue.
+//! Tests that cross crates: runs of commands, readers of lines, scripts of every container, devices that fail.
 #![tactic(auto)]
 
 #[cfg(test)]
@@ -8,10 +8,6 @@ mod container_script_tests;
 #[cfg(test)]
 mod drawn_run_tests;
 #[cfg(test)]
-mod findings_tests;
-#[cfg(test)]
-mod oracle;
-#[cfg(test)]
 mod reading_tests;
 #[cfg(test)]
 mod run_tests;
@@ -19,7 +15,5 @@ mod run_tests;
 mod script_tests;
 #[cfg(test)]
 mod slot_run_tests;
-#[cfg(test)]
-mod slow_queue;
 #[cfg(test)]
 mod text_run_tests;

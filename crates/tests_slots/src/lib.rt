@@ -1,6 +1,6 @@
 //! Tests of slot tables and of slot maps beside their contracts: worked examples on each kind of either and in each memory,
-//! each function once, keys and texts, how often tables are called, when values are dropped, too little memory, and random
-//! calls beside a plain slow table or map. And functions over any slot table, as a user would write them.
+//! each function once, keys and texts, how often tables are called, when values are dropped, and too little memory.
+//! And functions over any slot table, as a user would write them.
 #![tactic(auto)]
 
 #[cfg(test)]
@@ -20,14 +20,10 @@ mod memory_tests;
 #[cfg(test)]
 mod row_tests;
 #[cfg(test)]
-mod slow_map;
-#[cfg(test)]
 mod table_counting_tests;
 #[cfg(test)]
 mod table_rows;
 #[cfg(test)]
 mod table_tests;
-#[cfg(test)]
-mod walk_tests;
 #[cfg(test)]
 mod whole_tests;
