@@ -1,6 +1,6 @@
 //! Tests of byte-wise atomic cells and sequenced cells beside their contracts: the encoding of each type, bytes that are
-//! torn, each function once, too little memory, and threads that share a cell. And a type with an encoding, as a user would
-//! write it.
+//! torn, each function once, and threads that share a cell. And a type with an encoding, as a user would write it. In
+//! unproved/, which no proof reads: further lists of steps, pairs and arrays, the printed errors, and too little memory.
 #![tactic(auto)]
 
 #[cfg(test)]
@@ -8,13 +8,7 @@ mod cell_tests;
 #[cfg(test)]
 mod encoding_tests;
 #[cfg(test)]
-mod encodings_of_parts;
-#[cfg(test)]
-mod error_tests;
-#[cfg(test)]
 mod foo;
-#[cfg(test)]
-mod memory_tests;
 #[cfg(test)]
 mod readings;
 #[cfg(test)]

@@ -9,29 +9,29 @@ use std::test::Fail;
 use test_support::Findings;
 
 /// Operation 1 stores the byte.
-fn store(place: usize, byte: u8) -> Step {
+pub fn store(place: usize, byte: u8) -> Step {
     let act = Act::Store { place, byte };
     Step { op: 1, act }
 }
 
 /// Operation 2 loads the byte.
-fn load(place: usize, byte: u8) -> Step {
+pub fn load(place: usize, byte: u8) -> Step {
     let act = Act::Load { place, byte };
     Step { op: 2, act }
 }
 
 /// Another operation does the same.
-fn by(op: u64, step: Step) -> Step {
+pub fn by(op: u64, step: Step) -> Step {
     Step { op, act: step.act }
 }
 
 /// The writer stores the byte.
-fn write(place: usize, byte: u8) -> VersionedStep {
+pub fn write(place: usize, byte: u8) -> VersionedStep {
     VersionedStep::Store { place, byte }
 }
 
 /// Reader 1 loads the version.
-fn version(version: u64) -> VersionedStep {
+pub fn version(version: u64) -> VersionedStep {
     VersionedStep::LoadVersion { reader: 1, version }
 }
 
@@ -45,12 +45,12 @@ fn read_by(reader: u64, place: usize, byte: u8) -> VersionedStep {
 }
 
 /// Reader 2 loads the byte.
-fn read(place: usize, byte: u8) -> VersionedStep {
+pub fn read(place: usize, byte: u8) -> VersionedStep {
     read_by(2, place, byte)
 }
 
 /// Checks that `replay` returns `legal` for each of these lists.
-fn check_plain(findings: &Findings, first: &[u8], lists: &[&[Step]], legal: bool) {
+pub fn check_plain(findings: &Findings, first: &[u8], lists: &[&[Step]], legal: bool) {
     let place = if legal { "legal" } else { "illegal" };
     for (row, steps) in lists.iter().enumerate() {
         findings.expect_same_at(replay(first, steps), legal, row, place);
@@ -58,7 +58,7 @@ fn check_plain(findings: &Findings, first: &[u8], lists: &[&[Step]], legal: bool
 }
 
 /// Checks that `replay_versioned` returns `legal` for each of these lists.
-fn check_versioned(findings: &Findings, first: &[u8], lists: &[&[VersionedStep]], legal: bool) {
+pub fn check_versioned(findings: &Findings, first: &[u8], lists: &[&[VersionedStep]], legal: bool) {
     let place = if legal { "legal" } else { "illegal" };
     for (row, steps) in lists.iter().enumerate() {
         findings.expect_same_at(replay_versioned(first, steps), legal, row, place);
@@ -76,212 +76,12 @@ fn plain_examples() -> Result<(), Fail> {
 }
 
 #[test]
-fn plain_places() -> Result<(), Fail> {
-    let findings = Findings::new();
-    let illegal: &[&[Step]] = &[
-        &[store(2, 5)],
-        &[store(2, 5), load(2, 5)],
-        &[load(1, 0), load(2, 0)],
-        &[store(usize::MAX, 5)],
-        &[load(usize::MAX, 0)],
-    ];
-    check_plain(&findings, &[0, 0], &[&[store(1, 5), load(1, 5)]], true);
-    check_plain(&findings, &[0, 0], illegal, false);
-    check_plain(&findings, &[], &[&[]], true);
-    check_plain(&findings, &[], &[&[store(0, 0)], &[load(0, 0)]], false);
-    findings.verdict()
-}
-
-#[test]
-fn plain_bytes() -> Result<(), Fail> {
-    let findings = Findings::new();
-    let legal: &[&[Step]] = &[
-        &[load(0, 3), load(1, 4)],
-        &[load(0, 3), store(0, 5)],
-        &[store(0, 5), store(0, 7), load(0, 7)],
-        &[store(0, 5), load(0, 5), store(0, 7), load(0, 7)],
-        &[store(1, 5), load(0, 3), load(1, 5)],
-        &[store(0, 255), load(1, 4), store(1, 0), load(1, 0)],
-    ];
-    let illegal: &[&[Step]] = &[
-        &[load(0, 4)],
-        &[load(0, 3), load(1, 3)],
-        &[load(0, 5), store(0, 5)],
-        &[store(0, 5), store(0, 7), load(0, 5)],
-        &[store(0, 5), store(0, 7), load(0, 3)],
-        &[store(0, 5), load(0, 5), store(0, 7), load(0, 5)],
-        &[store(1, 5), load(0, 5)],
-        &[store(1, 0), load(0, 3), load(1, 4)],
-        &[load(0, 4), store(0, 3), load(0, 3)],
-    ];
-    check_plain(&findings, &[3, 4], legal, true);
-    check_plain(&findings, &[3, 4], illegal, false);
-    findings.verdict()
-}
-
-#[test]
-fn plain_operations() -> Result<(), Fail> {
-    let findings = Findings::new();
-    let legal: &[&[Step]] = &[
-        &[store(0, 5), by(3, store(0, 7)), load(0, 7)],
-        &[by(0, store(0, 5)), by(0, load(0, 5)), load(0, 5)],
-        &[by(u64::MAX, store(0, 5)), load(0, 5), load(0, 5)],
-        &[load(0, 0), store(0, 5), store(1, 6), load(1, 6)],
-    ];
-    let illegal: &[&[Step]] = &[
-        &[store(0, 5), by(3, store(0, 7)), load(0, 5)],
-        &[by(0, store(0, 5)), by(0, load(0, 0))],
-        &[by(u64::MAX, store(0, 5)), load(0, 0)],
-    ];
-    check_plain(&findings, &[0, 0], legal, true);
-    check_plain(&findings, &[0, 0], illegal, false);
-    findings.verdict()
-}
-
-#[test]
 fn versioned_examples() -> Result<(), Fail> {
     let findings = Findings::new();
     let whole = [Begin, version(1), write(0, 7), read(0, 7), End, version(2)];
     check_versioned(&findings, &[0], &[&whole, &[Begin]], true);
     let illegal: &[&[VersionedStep]] = &[&[Begin, version(0)], &[Begin, End]];
     check_versioned(&findings, &[0], illegal, false);
-    findings.verdict()
-}
-
-#[test]
-fn loaded_versions() -> Result<(), Fail> {
-    let findings = Findings::new();
-    let legal: &[&[VersionedStep]] = &[
-        &[version(0), Begin, version(1), version(1)],
-        &[Begin, version(1), write(0, 7), version(1)],
-        &[Begin, write(0, 7), End, version(2), version(2)],
-        &[Begin, write(0, 7), End, Begin, version(3)],
-        &[
-            Begin,
-            write(0, 7),
-            End,
-            Begin,
-            write(0, 8),
-            version(3),
-            End,
-            version(4),
-        ],
-    ];
-    let illegal: &[&[VersionedStep]] = &[
-        &[version(1)],
-        &[version(2)],
-        &[version(u64::MAX)],
-        &[Begin, version(2)],
-        &[Begin, write(0, 7), version(0)],
-        &[Begin, write(0, 7), End, version(0)],
-        &[Begin, write(0, 7), End, version(1)],
-        &[Begin, write(0, 7), End, version(4)],
-        &[Begin, write(0, 7), End, Begin, version(2)],
-        &[Begin, write(0, 7), End, Begin, write(0, 8), End, version(2)],
-    ];
-    check_versioned(&findings, &[0], legal, true);
-    check_versioned(&findings, &[0], illegal, false);
-    findings.verdict()
-}
-
-#[test]
-fn loaded_bytes() -> Result<(), Fail> {
-    let findings = Findings::new();
-    let legal: &[&[VersionedStep]] = &[
-        &[read(0, 3), read(1, 4)],
-        &[Begin, read(0, 3), write(0, 7), read(0, 7), read(1, 4)],
-        &[read(0, 3), Begin, write(0, 7), write(1, 8), End, read(1, 8)],
-        &[
-            Begin,
-            write(0, 7),
-            write(1, 8),
-            End,
-            Begin,
-            write(0, 9),
-            read(0, 9),
-            read(1, 8),
-        ],
-    ];
-    let illegal: &[&[VersionedStep]] = &[
-        &[read(0, 4)],
-        &[read(2, 0)],
-        &[read(usize::MAX, 0)],
-        &[Begin, read(0, 7), write(0, 7)],
-        &[Begin, write(0, 7), read(0, 3)],
-        &[Begin, write(0, 7), read(1, 7)],
-        &[Begin, write(0, 7), write(1, 8), End, read(0, 3)],
-        &[
-            Begin,
-            write(0, 7),
-            write(1, 8),
-            End,
-            Begin,
-            write(0, 9),
-            read(0, 7),
-        ],
-    ];
-    check_versioned(&findings, &[3, 4], legal, true);
-    check_versioned(&findings, &[3, 4], illegal, false);
-    findings.verdict()
-}
-
-#[test]
-fn writes_in_turn() -> Result<(), Fail> {
-    let findings = Findings::new();
-    let two = [
-        Begin,
-        write(0, 7),
-        write(1, 8),
-        End,
-        Begin,
-        write(0, 9),
-        write(1, 6),
-        End,
-    ];
-    for count in 0..=8 {
-        check_versioned(&findings, &[0, 0], &[&two[..count]], true);
-    }
-    let read_meanwhile = [
-        Begin,
-        read(0, 0),
-        write(0, 7),
-        version(1),
-        write(1, 8),
-        read(1, 8),
-        End,
-    ];
-    check_versioned(&findings, &[0, 0], &[&read_meanwhile], true);
-    let illegal: &[&[VersionedStep]] = &[
-        &[write(0, 7)],
-        &[End],
-        &[Begin, Begin],
-        &[Begin, write(1, 8)],
-        &[Begin, write(0, 7), write(0, 7)],
-        &[Begin, write(0, 7), End],
-        &[Begin, write(0, 7), Begin],
-        &[Begin, write(0, 7), write(1, 8), Begin],
-        &[Begin, write(0, 7), write(1, 8), write(2, 9)],
-        &[Begin, write(0, 7), write(1, 8), write(0, 9)],
-        &[Begin, write(0, 7), write(1, 8), End, End],
-        &[Begin, write(0, 7), write(1, 8), End, write(0, 7)],
-        &[Begin, write(usize::MAX, 7)],
-    ];
-    check_versioned(&findings, &[0, 0], illegal, false);
-    findings.verdict()
-}
-
-#[test]
-fn writes_of_no_byte() -> Result<(), Fail> {
-    let findings = Findings::new();
-    let two = [Begin, End, version(2), Begin, version(3), End, version(4)];
-    check_versioned(&findings, &[], &[&two, &[Begin, End], &[Begin], &[]], true);
-    let illegal: &[&[VersionedStep]] = &[
-        &[Begin, write(0, 0)],
-        &[Begin, Begin],
-        &[End],
-        &[read(0, 0)],
-    ];
-    check_versioned(&findings, &[], illegal, false);
     findings.verdict()
 }
 

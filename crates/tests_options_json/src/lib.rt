@@ -1,11 +1,7 @@
 //! Tests of options and of conversions to and from JSON beside their contracts: worked examples, each fault and their
-//! order, every function once, the calls of closures, clones and drops, and the printed texts.
+//! order, every function once, and the printed texts. In unproved/, which no proof reads: the calls of closures, clones and drops.
 #![tactic(auto)]
 
-#[cfg(test)]
-mod closure_tests;
-#[cfg(test)]
-mod drop_tests;
 #[cfg(test)]
 mod forms;
 #[cfg(test)]

@@ -97,6 +97,8 @@ fn values() -> Result<(), Fail> {
     findings.expect_same(NOTHING.unwrap_or(5), 5, "unwrap_or of none");
     findings.expect_same(FOUR.unwrap_or_default(), 4, "unwrap_or_default");
     findings.expect_same(NOTHING.unwrap_or_default(), 0, "unwrap_or_default of none");
+    let copy: Result<RelocatableOption<u64>, AllocError> = FOUR.clone();
+    findings.expect_same(copy, Ok(FOUR), "clone");
     findings.verdict()
 }
 

@@ -139,3 +139,12 @@ fn two_steps(rt: HostRuntime) -> Result<(), Fail> {
     check_tables(&findings, uninit.init(rt.alloc()), &[six], "by the trait");
     findings.verdict()
 }
+
+#[test]
+fn the_greatest_capacity(rt: HostRuntime) -> Result<(), Fail> {
+    let findings = Findings::new();
+    let made = Queue::<u64>::new(rt.alloc(), usize::MAX);
+    let len = made.map(|queue| queue.len());
+    findings.expect_same(len, Err(AllocError), "no memory is enough");
+    findings.verdict()
+}

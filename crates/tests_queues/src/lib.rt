@@ -1,21 +1,10 @@
-//! Tests of queues beside their contracts: worked examples, each function once, too little memory, when items are
-//! dropped, the turns of the ring, and a queue over a user's own table.
+//! Tests of queues beside their contracts: worked examples, each function once, the turns of the ring, and a queue over a
+//! user's own table. In unproved/, which no proof reads: what each call answers, in which order iterators go, how often
+//! closures and `==` are called, copies, and too little memory.
 #![tactic(auto)]
 
 #[cfg(test)]
-mod call_tests;
-#[cfg(test)]
-mod closure_tests;
-#[cfg(test)]
-mod copy_tests;
-#[cfg(test)]
 mod function_tests;
-#[cfg(test)]
-mod iter_tests;
-#[cfg(test)]
-mod memory_tests;
-#[cfg(test)]
-mod order_tests;
 #[cfg(test)]
 mod own_table;
 #[cfg(test)]
@@ -24,7 +13,5 @@ mod replacing;
 mod ring_tests;
 #[cfg(test)]
 mod rows;
-#[cfg(test)]
-mod size_tests;
 #[cfg(test)]
 mod turning;

@@ -1,14 +1,9 @@
-//! Tests that cross crates: runs of commands, readers of lines, scripts of every container, devices that fail.
+//! Tests that cross crates: runs of commands, scripts of every container, and devices that fail. In unproved/, which no proof
+//! reads: lines that just are or are not a command, and long lists of commands.
 #![tactic(auto)]
 
 #[cfg(test)]
-mod command_tests;
-#[cfg(test)]
 mod container_script_tests;
-#[cfg(test)]
-mod drawn_run_tests;
-#[cfg(test)]
-mod reading_tests;
 #[cfg(test)]
 mod run_tests;
 #[cfg(test)]
