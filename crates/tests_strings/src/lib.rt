@@ -1,6 +1,6 @@
 //! Tests of strings beside their contracts: rows of commands at each kind and in each memory, every function once, the
-//! printed texts, how comparisons and hashes agree, and code over any string. In unproved/, which no proof reads: memory that
-//! is refused.
+//! printed texts, how comparisons and hashes agree, and code over any string. In unproved/, which no proof reads: formatted
+//! text that is written, and memory that is refused.
 #![tactic(auto)]
 
 #[cfg(test)]
@@ -15,5 +15,3 @@ mod row_tests;
 mod rows;
 #[cfg(test)]
 mod text_tests;
-#[cfg(test)]
-mod writing_tests;
