@@ -1,6 +1,6 @@
 //! Tests of options and of conversions to and from JSON beside their contracts: worked examples, each fault and their
-//! order, every function once, and the printed texts. In unproved/, which no proof reads: maps, the
-//! calls of closures, clones and drops.
+//! order, every function once, and the printed texts. In unproved/, which no proof reads: maps,
+//! the calls of closures, clones and drops.
 #![tactic(auto)]
 
 #[cfg(test)]
