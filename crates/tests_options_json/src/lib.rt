@@ -1,12 +1,10 @@
 //! Tests of options and of conversions to and from JSON beside their contracts: worked examples, each fault and their
-//! order, every function once, and the printed texts. In unproved/, which no proof reads: maps,
-//! the calls of closures, clones and drops.
+//! order, every function of options once, and the printed texts. In unproved/, which no proof reads: lists, queues and maps, long
+//! texts, numbers of further types, and the calls of closures, clones and drops.
 #![tactic(auto)]
 
 #[cfg(test)]
 mod forms;
-#[cfg(test)]
-mod list_tests;
 #[cfg(test)]
 mod object_tests;
 #[cfg(test)]

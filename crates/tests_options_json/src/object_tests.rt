@@ -1,5 +1,4 @@
 //! A struct of a program's own as an object: each field is a member, by the calls of the field's type.
-use crate::list_tests::check_text;
 use ix_json::JsonFault::{BadByte, OutOfMemory, TooLong, WrongKind};
 use ix_json::{JsonFault, JsonForm};
 use ix_relocatable_option::RelocatableOption;
@@ -9,6 +8,19 @@ use serde_json::{Map, Value};
 use std::alloc::Global;
 use std::test::Fail;
 use test_support::Findings;
+
+/// Checks the JSON text of a written value.
+pub(crate) fn check_text(
+    findings: &Findings,
+    alloc: Global,
+    written: Result<Value, JsonFault>,
+    text: &str,
+) {
+    match written.map(|value| value.to_string(alloc)) {
+        Ok(Ok(found)) => findings.expect_same(found.as_str(), text, "the text"),
+        _ => findings.miss("there is memory for a text"),
+    }
+}
 
 type Members = Map<std::string::String, Value>;
 

@@ -13,7 +13,7 @@ use std::test::Fail;
 use test_support::Findings;
 
 /// A text, and what is read.
-type Row<W> = (&'static str, Result<W, JsonFault>);
+pub type Row<W> = (&'static str, Result<W, JsonFault>);
 
 /// Returns what a text is read as. One that is no JSON is read as `OutOfMemory`, which no row has.
 fn read<T: JsonForm>(alloc: Global, text: &str) -> Result<T, JsonFault> {
@@ -24,7 +24,7 @@ fn read<T: JsonForm>(alloc: Global, text: &str) -> Result<T, JsonFault> {
 }
 
 /// Checks what each text is read as.
-fn check_rows<T: JsonForm + PartialEq + Debug + Copy>(
+pub fn check_rows<T: JsonForm + PartialEq + Debug + Copy>(
     findings: &Findings,
     alloc: Global,
     rows: &[Row<T>],
@@ -87,105 +87,6 @@ fn numbers(rt: HostRuntime) -> Result<(), Fail> {
     check_rows(&findings, rt.alloc(), U64);
     check_rows(&findings, rt.alloc(), I64);
     check_rows(&findings, rt.alloc(), BOOL);
-    findings.verdict()
-}
-
-const U8: &[Row<u8>] = &[
-    ("0", Ok(0)),
-    ("255", Ok(u8::MAX)),
-    ("256", Err(WrongKind)),
-    ("18446744073709551615", Err(WrongKind)),
-    ("18446744073709551616", Err(WrongKind)),
-    ("-1", Err(WrongKind)),
-    ("1.0", Err(WrongKind)),
-    ("null", Err(WrongKind)),
-];
-
-const I8: &[Row<i8>] = &[
-    ("0", Ok(0)),
-    ("-1", Ok(-1)),
-    ("127", Ok(i8::MAX)),
-    ("-128", Ok(i8::MIN)),
-    ("128", Err(WrongKind)),
-    ("-129", Err(WrongKind)),
-    ("-9223372036854775809", Err(WrongKind)),
-    ("-1.0", Err(WrongKind)),
-    ("\"5\"", Err(WrongKind)),
-];
-
-const U16: &[Row<u16>] = &[
-    ("0", Ok(0)),
-    ("65535", Ok(u16::MAX)),
-    ("65536", Err(WrongKind)),
-    ("18446744073709551615", Err(WrongKind)),
-    ("18446744073709551616", Err(WrongKind)),
-    ("-1", Err(WrongKind)),
-    ("1.0", Err(WrongKind)),
-    ("null", Err(WrongKind)),
-];
-
-const I16: &[Row<i16>] = &[
-    ("0", Ok(0)),
-    ("-1", Ok(-1)),
-    ("32767", Ok(i16::MAX)),
-    ("-32768", Ok(i16::MIN)),
-    ("32768", Err(WrongKind)),
-    ("-32769", Err(WrongKind)),
-    ("-9223372036854775809", Err(WrongKind)),
-    ("-1.0", Err(WrongKind)),
-    ("\"5\"", Err(WrongKind)),
-];
-
-const U32: &[Row<u32>] = &[
-    ("0", Ok(0)),
-    ("4294967295", Ok(u32::MAX)),
-    ("4294967296", Err(WrongKind)),
-    ("18446744073709551615", Err(WrongKind)),
-    ("18446744073709551616", Err(WrongKind)),
-    ("-1", Err(WrongKind)),
-    ("1.0", Err(WrongKind)),
-    ("null", Err(WrongKind)),
-];
-
-const I32: &[Row<i32>] = &[
-    ("0", Ok(0)),
-    ("-1", Ok(-1)),
-    ("2147483647", Ok(i32::MAX)),
-    ("-2147483648", Ok(i32::MIN)),
-    ("2147483648", Err(WrongKind)),
-    ("-2147483649", Err(WrongKind)),
-    ("-9223372036854775809", Err(WrongKind)),
-    ("-1.0", Err(WrongKind)),
-    ("\"5\"", Err(WrongKind)),
-];
-
-const USIZE: &[Row<usize>] = &[
-    ("0", Ok(0)),
-    ("18446744073709551615", Ok(usize::MAX)),
-    ("18446744073709551616", Err(WrongKind)),
-    ("-1", Err(WrongKind)),
-    ("[]", Err(WrongKind)),
-];
-
-const ISIZE: &[Row<isize>] = &[
-    ("-5", Ok(-5)),
-    ("9223372036854775807", Ok(isize::MAX)),
-    ("-9223372036854775808", Ok(isize::MIN)),
-    ("9223372036854775808", Err(WrongKind)),
-    ("{}", Err(WrongKind)),
-];
-
-#[test]
-fn other_numbers(rt: HostRuntime) -> Result<(), Fail> {
-    let findings = Findings::new();
-    check_rows(&findings, rt.alloc(), U8);
-    check_rows(&findings, rt.alloc(), U16);
-    check_rows(&findings, rt.alloc(), U32);
-    check_rows(&findings, rt.alloc(), USIZE);
-    check_rows(&findings, rt.alloc(), I8);
-    check_rows(&findings, rt.alloc(), I16);
-    check_rows(&findings, rt.alloc(), I32);
-    check_rows(&findings, rt.alloc(), ISIZE);
     findings.verdict()
 }
 
