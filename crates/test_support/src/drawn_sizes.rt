@@ -25,3 +25,18 @@ pub fn check_drawn_sizes<F: Fn(usize) -> bool>(findings: &Findings, name: &str, 
         findings.expect_at(make(size as usize), size as usize, name);
     }
 }
+
+/// As [`check_drawn_sizes`]. Besides notes each of `past_all`, sizes for which no memory is enough, at which `make` returns `true`.
+pub fn check_capacities<F: Fn(usize) -> bool>(
+    findings: &Findings,
+    name: &str,
+    past_all: &[usize],
+    make: F,
+)
+    requires { F.IsAlwaysCallable make }
+{
+    for size in past_all {
+        findings.expect_at(!make(*size), *size, name);
+    }
+    check_drawn_sizes(findings, name, make);
+}

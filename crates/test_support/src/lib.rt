@@ -1,8 +1,8 @@
 //! What the crates of tests share: [`Findings`], which note what a test did not expect, [`check_rows`], which runs a table
 //! of commands and the replies to them, [`reply_of_option`] and [`reply_of_key`], which make such replies, items that note their
 //! drops, [`hash_of`], [`order_of`] and [`check_text`], which know a value by a trait alone, [`fed_by`], which tells what a value
-//! feeds to a hasher, [`check_makings`], which has heaps of a few blocks, [`read_with`], which reads how many bytes are in use
-//! with a container, [`check_memory_sizes`], which knows how many it takes, [`check_drawn_sizes`], which has ample memory,
+//! feeds to a hasher, [`check_memory_sizes`], which knows how many bytes a container takes, [`check_drawn_sizes`], which has ample
+//! memory, [`check_capacities`], which knows besides where none is enough,
 //! [`check_equality`] of maps of any kind, and [`devices`] that fail.
 //!
 //! ```text
@@ -18,18 +18,16 @@ mod by_traits;
 pub mod devices;
 mod drawn_sizes;
 mod findings;
-mod makings;
 mod maps;
 mod noted;
 mod recorder;
 mod replies;
 mod rows;
 
-pub use blocks::{check_makings, check_memory_sizes, check_room, check_sizes};
+pub use blocks::check_memory_sizes;
 pub use by_traits::{check_display, check_printed, check_text, hash_of, order_of};
-pub use drawn_sizes::check_drawn_sizes;
+pub use drawn_sizes::{check_capacities, check_drawn_sizes};
 pub use findings::Findings;
-pub use makings::{MAKINGS, Making, read_again, read_with};
 pub use maps::check_equality;
 pub use noted::{Noted, Notes};
 pub use recorder::fed_by;

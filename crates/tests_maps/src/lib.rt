@@ -1,7 +1,7 @@
 //! Tests of maps beside their contracts, for flat maps and hash maps: worked examples on each kind of map, in each memory and by
 //! several hashers, each function once, and clones that are refused. In unproved/, which no proof reads: keys of several types,
 //! how often keys are compared and values are cloned, how long a call takes, when keys and values are dropped, drains and
-//! clones, and too little memory.
+//! clones, and how much memory is taken.
 #![tactic(auto)]
 
 #[cfg(test)]

@@ -1,6 +1,6 @@
 //! Tests of tables and vectors beside their contracts: rows of commands, every function, what is refused, and two
 //! functions over any vector, as a user of the trait would write them. In unproved/, which no proof reads: what each call
-//! answers, iterators, drains, slices, order, and memory that is refused.
+//! answers, iterators, drains, slices, order, and how much memory is taken.
 #![tactic(auto)]
 
 #[cfg(test)]
