@@ -35,7 +35,7 @@ KIT = (
     ("decimal codes", "decimal n, codes \"v\"", "the bytes of a number in decimal, and of a text"),
     ("string_bytes", "string_bytes s", "the bytes of a std `String`"),
     # Lists.
-    ("slice_get", "slice_get list i", "the item at index `i`, or `None`"),
+    ("slice_get slice_index_or", "slice_get list i, slice_index_or list i v", "the item at index `i`, or `None`, or `v`"),
     ("slice_set", "slice_set list i x", "the list with `x` at index `i`"),
     ("remove swap_remove insert_slice", "remove list i, swap_remove list i x, insert_slice list i more",
      "the list after `remove(i)`; after `swap_remove(i)`; with the items of `more` before index `i`"),

@@ -1,4 +1,5 @@
-//! Tables, tables that count the calls on them, and containers that are made in two steps, as [`ix_tables::cells`] has them.
+//! Tables and arrays, what counts the calls on them, and containers that are made in two steps, as [`ix_tables::cells`] has
+//! them.
 
 #[doc(hidden)]
 pub mod counted {
@@ -54,8 +55,9 @@ pub mod uninit {
 }
 
 pub use ix_tables::cells::{
-    ContainerFamily, Counted, FilledHeapTable, FilledInlineTable, HeapTable, InitError,
-    InlineTable, MaybeMoved, MemorySize, RawSlots, RelocatableContainer, Table, Touches, Uninit,
+    Array, ContainerFamily, Counted, FilledHeapTable, FilledInlineTable, HeapArray, HeapTable,
+    InitError, InlineArray, InlineTable, MaybeMoved, MemorySize, RawSlots, RelocatableContainer,
+    Table, Touches, Uninit,
 };
 #[doc(hidden)]
 pub use ix_tables::cells::{RowGrant, RowOwner, RowPtr};

@@ -8,8 +8,9 @@ pub mod vector;
 
 pub use cells::MAX_FIXED_CAPACITY;
 pub use ix_tables::{
-    ContainerFamily, Counted, FilledHeapTable, FilledInlineTable, HeapTable, InitError,
-    InlineTable, MaybeMoved, MemorySize, RawSlots, RelocatableContainer, Table, Touches, Uninit,
+    Array, ContainerFamily, Counted, FilledHeapTable, FilledInlineTable, HeapArray, HeapTable,
+    InitError, InlineArray, InlineTable, MaybeMoved, MemorySize, RawSlots, RelocatableContainer,
+    Table, Touches, Uninit,
 };
 pub use ix_vector::{
     PolymorphicVec, RelocatableVec, StaticVec, StaticVecIntoIter, UninitVec, VecFamily, Vector,

@@ -1,16 +1,20 @@
 //! Tables: fixed rows of places, each empty or holding one item.
 //!
 //! A [`Table`] is stored inline ([`InlineTable`], [`FilledInlineTable`]) or allocates only when it is made ([`HeapTable`],
-//! [`FilledHeapTable`]). [`Counted`] counts the calls on one. Here are also the parts of containers that are made in two steps.
+//! [`FilledHeapTable`]). An [`Array`] has an item in each place ([`InlineArray`], [`HeapArray`]). [`Counted`] counts the calls
+//! on one. Here are also the parts of containers that are made in two steps.
 
+mod array;
 mod counted;
 mod filled;
 mod filled_heap_table;
 mod filled_inline_table;
 #[doc(hidden)]
 pub mod full_array;
+mod heap_array;
 mod heap_table;
 mod held_item;
+mod inline_array;
 mod inline_table;
 mod maybe_moved;
 mod memory_size;
@@ -20,10 +24,13 @@ mod relocatable_container;
 mod table;
 mod uninit;
 
+pub use array::Array;
 pub use counted::{Counted, Touches};
 pub use filled_heap_table::FilledHeapTable;
 pub use filled_inline_table::FilledInlineTable;
+pub use heap_array::HeapArray;
 pub use heap_table::HeapTable;
+pub use inline_array::InlineArray;
 pub use inline_table::InlineTable;
 pub use maybe_moved::MaybeMoved;
 pub use memory_size::MemorySize;

@@ -7,7 +7,7 @@
 pub mod cells;
 
 pub use cells::{
-    ContainerFamily, Counted, FilledHeapTable, FilledInlineTable, HeapTable, InitError,
-    InlineTable, MAX_FIXED_CAPACITY, MaybeMoved, MemorySize, RawSlots, RelocatableContainer, Table,
-    Touches, Uninit,
+    Array, ContainerFamily, Counted, FilledHeapTable, FilledInlineTable, HeapArray, HeapTable,
+    InitError, InlineArray, InlineTable, MAX_FIXED_CAPACITY, MaybeMoved, MemorySize, RawSlots,
+    RelocatableContainer, Table, Touches, Uninit,
 };

@@ -1,9 +1,9 @@
 //! A table that counts the calls on it.
-ghost use Rattle.std.specs.Prelude.{◌≡◌, ℕ, ◌+◌, length, Some, None, codes, slice_set};
+ghost use Rattle.std.specs.Prelude.{◌≡◌, ℕ, ◌+◌, ◌<◌, length, Some, None, codes, slice_index_or, slice_set};
 ghost use Rattle.std.specs.Borrow.{ftrue, sem};
 ghost use Rattle.ix_tables.specs.Places.{place_at, IsEmptyAt, IsHeldAt, IsVacant};
 
-use crate::cells::Table;
+use crate::cells::{Array, Table};
 use std::fmt;
 use std::marker::Model;
 
@@ -82,8 +82,8 @@ impl fmt::Debug for Touches {
     }
 }
 
-/// A table whose calls raise a [`Touches`]: each by one, and [`Counted::get_mut`] by two, since its caller may read and
-/// write the item. Contracts see the table itself.
+/// A table or an array whose calls raise a [`Touches`]: each by one, and [`Counted::get_mut`] and [`Counted::item_mut`] by two,
+/// since their caller may read and write the item. Contracts see the table or array itself.
 ///
 /// No call allocates. Each is O(1), but for [`Table::end`], which may look at each place.
 #[derive(Drop)]
@@ -178,6 +178,34 @@ impl<S> Counted<S> {
         requires { IsHeldAt (S.places self.old) i }
         ensures* writes_back { sem 𝓛 (counted_lends S.row T.row S.with_item self.entry i result) }
         ensures value { place_at (S.places self.old) i ≡ Some result.now }
+        ensures touches { touches.new ≡ touches.old + 2 }
+    {
+        touches.touch();
+        touches.touch();
+        self.table.get_mut(i)
+    }
+
+    /// Returns a reference to the item in place `i` of an array, counted as one touch.
+    #[inline]
+    pub fn item<T>(&self, i: usize, touches: &mut Touches) -> &T
+    where
+        S: Array<T>,
+        requires { i < length (S.items self.now) }
+        ensures value { result.now ≡ slice_index_or (S.items self.now) i result.now }
+        ensures touches { touches.new ≡ touches.old + 1 }
+    {
+        touches.touch();
+        self.table.get(i)
+    }
+
+    /// Returns a mutable reference to the item in place `i` of an array, counted as two touches.
+    #[inline]
+    pub fn item_mut<T>(&mut self, i: usize, touches: &mut Touches) -> &mut T
+    where
+        S: Array<T>,
+        requires { i < length (S.items self.old) }
+        ensures* writes_back { sem 𝓛 (counted_lends S.row T.row S.with_item self.entry i result) }
+        ensures value { result.now ≡ slice_index_or (S.items self.old) i result.now }
         ensures touches { touches.new ≡ touches.old + 2 }
     {
         touches.touch();
