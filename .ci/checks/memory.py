@@ -26,7 +26,6 @@ TRIED_AS = {
     "SlotTable::try_clone_in": ("MetaSlotTable::try_clone_in",),
     "SlotMap::try_clone_in": ("MetaSlotMap::try_clone_in",),
     "MetaMap::get": ("MetaFlatMap::get",),
-    "BoundedMap::get": ("MetaFlatMap::get",),
     "Uninit::init": ("UninitVec::init", "UninitString::init", "UninitQueue::init", "UninitSlotTable::init", "UninitFlatMap::init", "UninitHashMap::init"),
     "Vector::extend_from_slice_unchecked": ("extend_from_slice_unchecked of a",),
     "Vector::extend_from_slice": ("extend_from_slice",),
@@ -38,7 +37,7 @@ REASONS = {
     "takes no memory, by its contract": r"\w+::(from_value|fill_from_value)|SequencedByteAtomic::(reader|writer)|StringCreationError::from",
     "copies numbers and references": r"(Iter|Keys|Values|Parts|RowPtr|Reply|\w+Command|Ruled|Semantic)::clone|(bool|[iu](8|16|32|64|size))::to_value",
     "makes no item, so it lacks room alone": r"Vector::(push|insert|try_insert|append|extend_from_iter|resize_with)|StaticVec::(try_from_iter|split_off)",
-    "is part of a call that is made there": r"put_clones|(HeapTable|RawSlots)::new|FilledHeapTable::(new|full)|\w+Family::with_capacity|\w+::(new_in|copy_in)|Pair::clone|run_all|StaticVec::extend_from_slice_unchecked|\w+::show",
+    "is part of a call that is made there": r"put_clones|(HeapTable|FilledHeapTable|HeapArray|RawSlots)::new|\w+Family::with_capacity|\w+::(new_in|copy_in)|Pair::clone|run_all|StaticVec::extend_from_slice_unchecked|\w+::show",
     "is a trait's, whose impls are made there": r"ContainerFamily::with_capacity|RelocatableContainer::init|Json(Form|Fill)::to_value|Served::show",
 }
 

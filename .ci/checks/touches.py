@@ -10,7 +10,7 @@ import re
 from checks.items import extent, paths, text_of
 
 # The files, by crate and pattern; each pattern has some. Kinds only make containers.
-ROOMS = (("ix_slottable", "src/slottable/*.rt"), ("ix_slottable", "src/full_table.rt"), ("ix_slotmap", "src/slotmap/*.rt"))
+ROOMS = (("ix_slottable", "src/slottable/*.rt"), ("ix_slotmap", "src/slotmap/*.rt"))
 FILES = {room: [path for path in paths(*room) if not path.endswith("/kinds.rt")] for room in ROOMS}
 # By file, the functions that go through places, as their documentation says: those that make, end, walk or print a container.
 WALKS = {
@@ -22,17 +22,16 @@ WALKS = {
     "into_iter": ("next", "next_back"),
     "iter": ("next", "next_back", "fmt"),
     "keys": ("next", "next_back", "fmt"),
-    "meta_slot_table": ("from_tables", "drop_all", "drop", "fmt"),
+    "meta_slot_table": ("from_tables", "over", "drop_all", "drop", "fmt"),
     "steps": ("held_from", "held_before"),
     "values": ("next", "next_back", "fmt"),
     "retain": ("clear", "for_each_mut", "retain"),
     "meta_slot_map": ("held_from", "held_before", "drop"),
     "teardown": ("drop_values",),
     "word_table": ("copy_of",),
-    "full_table": ("copy_items",),
 }
-# Calls of a single step: those of counted tables, of new values, of what a place holds, of a value's part, and of std.
-CALLS = {".put", ".take", ".get", ".get_mut", ".len", ".as_ref", ".is_some", ".ok", "Counted::new", "MaybeMoved::new", ".into_item", ".copy_moved", "Touches::new", "SlotTableKey::new", "SlotMapKey::new",
+# Calls of a single step: those of counted tables and arrays, of new values, of what a place holds, of a value's part, and of std.
+CALLS = {".put", ".take", ".get", ".get_mut", ".item", ".item_mut", ".len", ".as_ref", ".is_some", ".ok", "Counted::new", "MaybeMoved::new", ".into_item", ".copy_moved", "Touches::new", "SlotTableKey::new", "SlotMapKey::new",
          "Link::held", "Iter::new", "Keys::new", "Values::new", "P::of", "mem::replace", "write!", "Some", "Ok", "Err"}
 COUNTER = "touches: &mut Touches"
 FUNCTION = re.compile(r"( *)(?:pub(?:\(crate\))? )?fn (\w+)")

@@ -8,11 +8,11 @@ ghost use Rattle.ix_slottable.specs.SlotTableCalls.{option_filter};
 ghost use Rattle.ix_slotmap.specs.Generations.{SlotKey, slot_map_value};
 ghost use Rattle.ix_flatmap.specs.MapState.{map_value, map_items};
 
-use ix_flatmap::{BoundedMap, FixedSizeFlatMap};
+use ix_flatmap::{FixedSizeFlatMap, KeyIndex, MetaMap, Pair};
 use ix_hashmap::FixedSizeHashMap;
 use ix_queue::FixedSizeQueue;
 use ix_slotmap::FixedSizeSlotMap;
-use ix_slottable::FixedSizeSlotTable;
+use ix_slottable::{FixedSizeSlotTable, Storage};
 use ix_string::String;
 use ix_vector::{PolymorphicVec, StaticVec, Vector, VectorModificationError};
 use std::alloc::{AllocError, Allocator};
@@ -120,9 +120,11 @@ pub fn flat_drop_below(map: &mut FixedSizeFlatMap<u64, u64, 8>, least: u64)
 }
 
 /// Removes a key of a map of any kind.
-pub fn flat_without<M: BoundedMap<u64, u64>>(map: &mut M, unwanted: u64)
-    ensures { map_items (M.state map.new)
-        ≡ filter (λ item. not (item.0 == unwanted)) (map_items (M.state map.old)) }
+pub fn flat_without<M: Storage<Pair<u64, u64>>, I: KeyIndex<u64, u64>>(
+    map: &mut MetaMap<Pair<u64, u64>, M, I>,
+    unwanted: u64,
+)
+    ensures { map_items map.new ≡ filter (λ item. not (item.0 == unwanted)) (map_items map.old) }
 {
     map.retain(|key, _| *key != unwanted);
 }

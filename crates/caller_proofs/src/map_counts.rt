@@ -3,8 +3,9 @@ ghost use Rattle.std.specs.Prelude.{◌≡◌, ◌+◌, ◌≤◌, nat_eq, lengt
 ghost use Rattle.ix_slottable.specs.SlotTableState.{held_count};
 ghost use Rattle.ix_flatmap.specs.MapState.{map_value};
 
-use ix_flatmap::{BoundedMap, FixedSizeFlatMap, FlatMap, MapError};
+use ix_flatmap::{FixedSizeFlatMap, FlatMap, KeyIndex, MapError, MetaMap, Pair};
 use ix_hashmap::{FixedSizeHashMap, HashMap};
+use ix_slottable::Storage;
 
 type Flat = FixedSizeFlatMap<u64, u64, 8>;
 
@@ -142,53 +143,67 @@ pub fn hash_drain(map: &mut Hash)
 
 // A map of any kind.
 
-pub fn any_insert<M: BoundedMap<u64, u64>>(map: &mut M) -> Result<(), MapError>
-    ensures count { IsOk result → held_count (M.state map.new) ≡ held_count (M.state map.old) + 1 }
-    ensures room { IsOk result → length (M.state map.new).free + 1 ≡ length (M.state map.old).free }
+pub fn any_insert<M: Storage<Pair<u64, u64>>, I: KeyIndex<u64, u64>>(
+    map: &mut MetaMap<Pair<u64, u64>, M, I>,
+) -> Result<(), MapError>
+    ensures count { IsOk result → held_count map.new ≡ held_count map.old + 1 }
+    ensures room { IsOk result → length map.new.free + 1 ≡ length map.old.free }
 {
     map.insert(1, 1)
 }
 
-pub fn any_try_insert<M: BoundedMap<u64, u64>>(map: &mut M) -> bool
-    ensures count { IsTrue result → held_count (M.state map.new) ≡ held_count (M.state map.old) + 1 }
-    ensures room { IsTrue result → length (M.state map.new).free + 1 ≡ length (M.state map.old).free }
+pub fn any_try_insert<M: Storage<Pair<u64, u64>>, I: KeyIndex<u64, u64>>(
+    map: &mut MetaMap<Pair<u64, u64>, M, I>,
+) -> bool
+    ensures count { IsTrue result → held_count map.new ≡ held_count map.old + 1 }
+    ensures room { IsTrue result → length map.new.free + 1 ≡ length map.old.free }
 {
     map.try_insert(1, 1).is_ok()
 }
 
-pub fn any_replace<M: BoundedMap<u64, u64>>(map: &mut M) -> bool
-    ensures count { IsSome (map_value nat_eq (M.state map.old) 1)
-        → held_count (M.state map.new) ≡ held_count (M.state map.old) }
-    ensures room { IsTrue result → map_value nat_eq (M.state map.old) 1 ≡ None
-        → length (M.state map.new).free + 1 ≡ length (M.state map.old).free }
+pub fn any_replace<M: Storage<Pair<u64, u64>>, I: KeyIndex<u64, u64>>(
+    map: &mut MetaMap<Pair<u64, u64>, M, I>,
+) -> bool
+    ensures count { IsSome (map_value nat_eq map.old 1)
+        → held_count map.new ≡ held_count map.old }
+    ensures room { IsTrue result → map_value nat_eq map.old 1 ≡ None
+        → length map.new.free + 1 ≡ length map.old.free }
 {
     map.replace(1, 1).is_ok()
 }
 
-pub fn any_remove<M: BoundedMap<u64, u64>>(map: &mut M) -> Option<u64>
-    ensures count { IsSome result → held_count (M.state map.new) + 1 ≡ held_count (M.state map.old) }
-    ensures room { IsSome result → length (M.state map.new).free ≡ length (M.state map.old).free + 1 }
+pub fn any_remove<M: Storage<Pair<u64, u64>>, I: KeyIndex<u64, u64>>(
+    map: &mut MetaMap<Pair<u64, u64>, M, I>,
+) -> Option<u64>
+    ensures count { IsSome result → held_count map.new + 1 ≡ held_count map.old }
+    ensures room { IsSome result → length map.new.free ≡ length map.old.free + 1 }
 {
     map.remove(&1)
 }
 
-pub fn any_remove_entry<M: BoundedMap<u64, u64>>(map: &mut M) -> Option<(u64, u64)>
-    ensures count { IsSome result → held_count (M.state map.new) + 1 ≡ held_count (M.state map.old) }
-    ensures room { IsSome result → length (M.state map.new).free ≡ length (M.state map.old).free + 1 }
+pub fn any_remove_entry<M: Storage<Pair<u64, u64>>, I: KeyIndex<u64, u64>>(
+    map: &mut MetaMap<Pair<u64, u64>, M, I>,
+) -> Option<(u64, u64)>
+    ensures count { IsSome result → held_count map.new + 1 ≡ held_count map.old }
+    ensures room { IsSome result → length map.new.free ≡ length map.old.free + 1 }
 {
     map.remove_entry(&1)
 }
 
-pub fn any_retain<M: BoundedMap<u64, u64>>(map: &mut M)
-    ensures count { held_count (M.state map.new) ≤ held_count (M.state map.old) }
-    ensures room { length (M.state map.old).free ≤ length (M.state map.new).free }
+pub fn any_retain<M: Storage<Pair<u64, u64>>, I: KeyIndex<u64, u64>>(
+    map: &mut MetaMap<Pair<u64, u64>, M, I>,
+)
+    ensures count { held_count map.new ≤ held_count map.old }
+    ensures room { length map.old.free ≤ length map.new.free }
 {
     map.retain(|_, value| *value != 3);
 }
 
-pub fn any_clear<M: BoundedMap<u64, u64>>(map: &mut M)
-    ensures count { held_count (M.state map.new) ≡ 0 }
-    ensures room { length (M.state map.new).free ≡ length (M.state map.old).values }
+pub fn any_clear<M: Storage<Pair<u64, u64>>, I: KeyIndex<u64, u64>>(
+    map: &mut MetaMap<Pair<u64, u64>, M, I>,
+)
+    ensures count { held_count map.new ≡ 0 }
+    ensures room { length map.new.free ≡ length map.old.values }
 {
     map.clear();
 }

@@ -1,8 +1,8 @@
 //! Examples of hash maps: how they are made. Their calls are those of flat maps.
-use ix_cells::{ContainerFamily, FilledInlineTable, RelocatableContainer};
+use ix_cells::{ContainerFamily, RelocatableContainer};
 use ix_maps::MapError::{IsFull, KeyAlreadyExists};
 use ix_maps::{
-    ChainLink, DefaultHashBuilder, FixedSizeHashMap, HashMap, HashMapFamily, LinkTable,
+    DefaultHashBuilder, FixedSizeHashMap, HashMap, HashMapFamily, HashMapStorage, Inline,
     RelocatableHashMap, UninitHashMap, WithHasher,
 };
 use std::alloc::Global;
@@ -82,10 +82,9 @@ fn a_map_made_in_two_steps_has_a_seed_that_is_drawn(rt: HostRuntime) -> Result<(
     Ok(())
 }
 
-// Shows: LinkTable, LinkTable::has_chains
-// Shows: LinkTable for FilledInlineTable
+// Shows: HashMapStorage::has_chains, HashMapStorage for Inline
 #[test]
 fn a_map_has_chains_up_to_the_greatest_capacity(rt: HostRuntime) {
-    assert!(rt; FilledInlineTable::<ChainLink, 4_294_967_295>::has_chains());
-    assert!(rt; !FilledInlineTable::<ChainLink, 4_294_967_296>::has_chains());
+    assert!(rt; Inline::<4_294_967_295>::has_chains());
+    assert!(rt; !Inline::<4_294_967_296>::has_chains());
 }

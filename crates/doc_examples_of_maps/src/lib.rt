@@ -1,10 +1,7 @@
-//! An example of each call and type of slot tables, slot maps, flat maps, hash maps and the trait that both of these have, as a
-//! user writes it, and how many bytes a place of any container takes. A line `Shows` above an example names what it shows as the
-//! reference does.
+//! An example of each call and type of slot tables, slot maps, flat maps, hash maps and their storages, as a user writes it, and
+//! how many bytes a place of any container takes. A line `Shows` above an example names what it shows as the reference does.
 #![tactic(auto)]
 
-#[cfg(test)]
-mod bounded_maps;
 #[cfg(test)]
 mod flat_map_iterators;
 #[cfg(test)]
@@ -21,3 +18,5 @@ mod slot_maps;
 mod slot_table_iterators;
 #[cfg(test)]
 mod slot_tables;
+#[cfg(test)]
+mod storages;

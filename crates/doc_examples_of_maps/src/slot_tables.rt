@@ -1,5 +1,5 @@
 //! Examples of slot tables.
-use ix_cells::{ContainerFamily, InlineTable, RelocatableContainer, Touches};
+use ix_cells::{ContainerFamily, HeapTable, InlineTable, RelocatableContainer, Touches};
 use ix_maps::slottable::default_key_law;
 use ix_maps::{
     FixedSizeSlotTable, Link, MetaSlotTable, RelocatableSlotTable, SlotTable, SlotTableFamily,
@@ -257,12 +257,14 @@ fn a_family_makes_tables_for_any_allocator(rt: HostRuntime) -> Result<(), Fail> 
 
 // Shows: MetaSlotTable::from_tables
 #[test]
-fn a_table_stands_over_tables_of_any_kind(rt: HostRuntime) {
+fn a_table_stands_over_tables_of_any_kind(rt: HostRuntime) -> Result<(), Fail> {
+    let links = HeapTable::<Link>::new(rt.alloc(), 2)?;
     let values = InlineTable::<char, 2>::new();
-    let links = InlineTable::<Link, 2>::new();
-    let mut table = MetaSlotTable::from_tables(values, links);
+    let mut table: MetaSlotTable<char, (InlineTable<char, 2>, HeapTable<Link>)> =
+        MetaSlotTable::from_tables(values, links);
     assert!(rt; table.capacity() == 2);
     assert!(rt; table.insert('a') == Some(SlotTableKey::new(0)));
+    Ok(())
 }
 
 // Shows: Debug for MetaSlotTable

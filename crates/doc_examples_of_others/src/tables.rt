@@ -1,8 +1,8 @@
-//! An example of each call of a table, a counted table, a row of places, and of what is made in two steps.
+//! An example of each call of a table, an array, a counted table or array, a row of places, and of what is made in two steps.
 use ix_cells::{
-    ContainerFamily, Counted, FilledHeapTable, FilledInlineTable, HeapTable, InitError,
-    InlineTable, MaybeMoved, MemorySize, PolymorphicVec, RawSlots, RelocatableContainer, Table,
-    Touches, Uninit, UninitVec, VecFamily, Vector,
+    Array, ContainerFamily, Counted, FilledHeapTable, FilledInlineTable, HeapArray, HeapTable,
+    InitError, InlineArray, InlineTable, MaybeMoved, MemorySize, PolymorphicVec, RawSlots,
+    RelocatableContainer, Table, Touches, Uninit, UninitVec, VecFamily, Vector,
 };
 use ix_maps::{QueueFamily, UninitQueue};
 use ix_string::{String, StringFamily};
@@ -45,27 +45,22 @@ fn an_item_that_is_moved_out_leaves_its_bytes(rt: HostRuntime) {
     assert!(rt; MaybeMoved::new(9u64).into_item() == 9);
 }
 
-// Shows: FilledInlineTable, FilledInlineTable::len
-// Shows: FilledInlineTable::new, FilledInlineTable::full
+// Shows: FilledInlineTable, FilledInlineTable::new, FilledInlineTable::len
 #[test]
 fn an_inline_table_of_copy_items(rt: HostRuntime) {
     let mut ages = FilledInlineTable::<u16, 3>::new(0);
+    assert!(rt; ages.len() == 3);
     ages.put(2, 40);
+    assert!(rt; *ages.get(2) == 40);
     assert!(rt; ages.take(2) == 40);
-    let mut ones = FilledInlineTable::<u16, 3>::full(1);
-    assert!(rt; ones.len() == 3);
-    *ones.get_mut(0) = 7;
-    assert!(rt; (*ones.get(0), *ones.get(2)) == (7, 1));
 }
 
-// Shows: FilledHeapTable, FilledHeapTable::new, FilledHeapTable::full, FilledHeapTable::memory_size
+// Shows: FilledHeapTable, FilledHeapTable::new, FilledHeapTable::memory_size
 #[test]
 fn a_table_of_copy_items_in_one_block(rt: HostRuntime) -> Result<(), Fail> {
     let mut ages = FilledHeapTable::<u16>::new(rt.alloc(), 3, 0)?;
     ages.put(2, 40);
     assert!(rt; ages.take(2) == 40);
-    let ones = FilledHeapTable::<u16>::full(rt.alloc(), 3, 1)?;
-    assert!(rt; *ones.get(2) == 1);
     let size = FilledHeapTable::<u16>::memory_size(3);
     assert!(rt;
         size == MemorySize {
@@ -73,6 +68,43 @@ fn a_table_of_copy_items_in_one_block(rt: HostRuntime) -> Result<(), Fail> {
             blocks: 1
         }
     );
+    Ok(())
+}
+
+// Shows: Array, InlineArray
+// Shows: InlineArray::new, InlineArray::len, Array::get, Array::get_mut
+#[test]
+fn an_array_has_an_item_in_each_place(rt: HostRuntime) {
+    let mut ages = InlineArray::<u16, 3>::new(1);
+    assert!(rt; ages.len() == 3);
+    *ages.get_mut(0) = 7;
+    assert!(rt; (*ages.get(0), *ages.get(2)) == (7, 1));
+}
+
+// Shows: HeapArray, HeapArray::new, HeapArray::memory_size, Array::len
+#[test]
+fn an_array_in_memory_of_an_allocator(rt: HostRuntime) -> Result<(), Fail> {
+    let mut ages = HeapArray::<u16>::new(rt.alloc(), 3, 1)?;
+    assert!(rt; ages.len() == 3);
+    *ages.get_mut(0) = 7;
+    assert!(rt; (*ages.get(0), *ages.get(2)) == (7, 1));
+    let size = HeapArray::<u16>::memory_size(3);
+    assert!(rt;
+        size == MemorySize {
+            bytes: 6,
+            blocks: 1
+        }
+    );
+    Ok(())
+}
+
+// Shows: fmt::Debug for InlineArray, fmt::Debug for HeapArray
+#[test]
+fn an_array_prints_its_items(rt: HostRuntime) -> Result<(), Fail> {
+    let inline = InlineArray::<u16, 2>::new(1);
+    let allocated = HeapArray::<char>::new(rt.alloc(), 3, 'a')?;
+    let text = format!(in rt.alloc(); "{inline:?} {allocated:?}")?;
+    assert!(rt; text.as_str() == "[1, 1] ['a', 'a', 'a']");
     Ok(())
 }
 
@@ -146,6 +178,16 @@ fn a_table_whose_calls_are_counted(rt: HostRuntime) {
     assert!(rt; *table.get(1, &mut touches) == 8);
     assert!(rt; table.take(1, &mut touches) == 8);
     table.end();
+}
+
+// Shows: Counted::item, Counted::item_mut
+#[test]
+fn an_array_whose_calls_are_counted(rt: HostRuntime) {
+    let mut touches = Touches::new();
+    let mut array = Counted::new(InlineArray::<u64, 2>::new(7));
+    *array.item_mut(1, &mut touches) = 8;
+    assert!(rt; *array.item(0, &mut touches) == 7);
+    assert!(rt; *array.item(1, &mut touches) == 8);
 }
 
 // Shows: RelocatableContainer, RelocatableContainer::new_uninit, RelocatableContainer::init

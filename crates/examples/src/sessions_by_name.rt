@@ -5,7 +5,7 @@ ghost use Rattle.examples.specs.declared.sessions_by_name.Seen.{Seen};
 ghost use Rattle.ix_maps.specs.MapState.{map_value};
 ghost use Rattle.ix_maps.specs.declared.flatmap.MapError.TheVariants.{KeyAlreadyExists, IsFull};
 
-use ix_maps::{BoundedMap, FixedSizeFlatMap, FixedSizeHashMap, MapError};
+use ix_maps::{FixedSizeFlatMap, FixedSizeHashMap, KeyIndex, MapError, MetaMap, Pair, Storage};
 use std::hash::RandomState;
 
 /// What is known of a session.
@@ -14,6 +14,9 @@ pub struct Seen {
     pub opened: u64,
     pub last_heard: u64,
 }
+
+/// Sessions by the name of their peer, in a map of any kind.
+pub type Sessions<N, M, I> = MetaMap<Pair<N, Seen>, M, I>;
 
 /// At most 16 sessions. A look-up may compare the name with each of them.
 pub type FewSessions<N> = FixedSizeFlatMap<N, Seen, 16>;
@@ -26,20 +29,20 @@ pub type FewSessions<N> = FixedSizeFlatMap<N, Seen, 16>;
 pub type ManySessions<N> = FixedSizeHashMap<N, Seen, 1024, RandomState>;
 
 /// Opens the session of a peer at `time`. Returns an error if the peer has one, or if there is no room.
-pub fn open<N: Eq, M: BoundedMap<N, Seen>>(
-    sessions: &mut M,
+pub fn open<N: Eq + Drop, M: Storage<Pair<N, Seen>>, I: KeyIndex<N, Seen>>(
+    sessions: &mut Sessions<N, M, I>,
     peer: N,
     time: u64,
 ) -> Result<(), MapError>
-    ensures opened { IsOk result → map_value N.eq (M.state sessions.new) peer
+    ensures opened { IsOk result → map_value N.eq sessions.new peer
         ≡ Some (record { opened = time; last_heard = time }) }
     ensures taken { result ≡ Err KeyAlreadyExists
-        ↔ IsSome (map_value N.eq (M.state sessions.old) peer) }
-    ensures full { result ≡ Err IsFull → (M.state sessions.old).free ≡ [] }
-    ensures refused { OnErr result (M.state sessions.new ≡ M.state sessions.old) }
+        ↔ IsSome (map_value N.eq sessions.old peer) }
+    ensures full { result ≡ Err IsFull → sessions.old.free ≡ [] }
+    ensures refused { OnErr result (sessions.new ≡ sessions.old) }
     ensures kept { (other : N) → N.eq other peer ≡ false
-        → map_value N.eq (M.state sessions.new) other
-        ≡ map_value N.eq (M.state sessions.old) other }
+        → map_value N.eq sessions.new other
+        ≡ map_value N.eq sessions.old other }
 {
     sessions.insert(
         peer,
@@ -52,10 +55,14 @@ pub fn open<N: Eq, M: BoundedMap<N, Seen>>(
 
 /// Opens the session of a peer at `time` if it has none and there is room: a map that is not full takes a new key. Returns
 /// `false` otherwise.
-pub fn open_new<N: Eq + Drop, M: BoundedMap<N, Seen>>(sessions: &mut M, peer: N, time: u64) -> bool
-    ensures opened { IsTrue result → map_value N.eq (M.state sessions.new) peer
+pub fn open_new<N: Eq + Drop, M: Storage<Pair<N, Seen>>, I: KeyIndex<N, Seen>>(
+    sessions: &mut Sessions<N, M, I>,
+    peer: N,
+    time: u64,
+) -> bool
+    ensures opened { IsTrue result → map_value N.eq sessions.new peer
         ≡ Some (record { opened = time; last_heard = time }) }
-    ensures refused { OnFalse result (M.state sessions.new ≡ M.state sessions.old) }
+    ensures refused { OnFalse result (sessions.new ≡ sessions.old) }
 {
     if sessions.is_full() || sessions.contains(&peer) {
         return false;
@@ -66,17 +73,21 @@ pub fn open_new<N: Eq + Drop, M: BoundedMap<N, Seen>>(sessions: &mut M, peer: N,
 }
 
 /// Notes that a peer was heard at `time`. Returns `false` if it has no session.
-pub fn note_heard<N: Eq, M: BoundedMap<N, Seen>>(sessions: &mut M, peer: &N, time: u64) -> bool
-    ensures value { IsTrue result ↔ IsSome (map_value N.eq (M.state sessions.old) peer.now) }
-    ensures heard { IfSome (map_value N.eq (M.state sessions.new) peer.now)
+pub fn note_heard<N: Eq + Drop, M: Storage<Pair<N, Seen>>, I: KeyIndex<N, Seen>>(
+    sessions: &mut Sessions<N, M, I>,
+    peer: &N,
+    time: u64,
+) -> bool
+    ensures value { IsTrue result ↔ IsSome (map_value N.eq sessions.old peer.now) }
+    ensures heard { IfSome (map_value N.eq sessions.new peer.now)
         (λ seen. seen.last_heard ≡ time) }
     ensures opened { option_map (λ (seen : Seen). seen.opened)
-        (map_value N.eq (M.state sessions.new) peer.now)
+        (map_value N.eq sessions.new peer.now)
         ≡ option_map (λ (seen : Seen). seen.opened)
-        (map_value N.eq (M.state sessions.old) peer.now) }
+        (map_value N.eq sessions.old peer.now) }
     ensures kept { (other : N) → N.eq other peer.now ≡ false
-        → map_value N.eq (M.state sessions.new) other
-        ≡ map_value N.eq (M.state sessions.old) other }
+        → map_value N.eq sessions.new other
+        ≡ map_value N.eq sessions.old other }
 {
     match sessions.get_mut_ref(peer) {
         Some(seen) => {
@@ -88,12 +99,15 @@ pub fn note_heard<N: Eq, M: BoundedMap<N, Seen>>(sessions: &mut M, peer: &N, tim
 }
 
 /// Closes the session of a peer and returns what was known of it, or `None` if it has none.
-pub fn close<N: Eq, M: BoundedMap<N, Seen>>(sessions: &mut M, peer: &N) -> Option<Seen>
-    ensures value { result ≡ map_value N.eq (M.state sessions.old) peer.now }
-    ensures closed { map_value N.eq (M.state sessions.new) peer.now ≡ None }
+pub fn close<N: Eq + Drop, M: Storage<Pair<N, Seen>>, I: KeyIndex<N, Seen>>(
+    sessions: &mut Sessions<N, M, I>,
+    peer: &N,
+) -> Option<Seen>
+    ensures value { result ≡ map_value N.eq sessions.old peer.now }
+    ensures closed { map_value N.eq sessions.new peer.now ≡ None }
     ensures kept { (other : N) → N.eq other peer.now ≡ false
-        → map_value N.eq (M.state sessions.new) other
-        ≡ map_value N.eq (M.state sessions.old) other }
+        → map_value N.eq sessions.new other
+        ≡ map_value N.eq sessions.old other }
 {
     sessions.remove(peer)
 }

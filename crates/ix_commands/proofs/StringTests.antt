@@ -1,6 +1,6 @@
 -- Lemmas on changes of a text, each made exactly if a test passes.
-use Rattle.std.proofs.Common.{ℕ, ◌≡◌, ◌+◌, ◌-◌, ◌≤◌, Bool, List, length}
-use Rattle.std.specs.Prelude.{◌↔◌, ◌==◌, nat_le, if◌then◌else◌}
+use Rattle.std.proofs.Common.{ℕ, ◌≡◌, ◌-◌, Bool, List, length}
+use Rattle.std.specs.Prelude.{◌↔◌, ◌==◌}
 use Rattle.std.specs.Bool.{IsTrue, OnTrue, OnFalse}
 use Rattle.std.specs.List.{starts_with, ends_with}
 use Rattle.ix_tables.specs.Bounded.{Bounded}

@@ -9,14 +9,12 @@ ghost use Rattle.ix_commands.specs.Run.{run_replies, run_state};
 use crate::reply::{reply_of_key, reply_of_option};
 use crate::{MapCommand, Reply, ReplyError, Runs, run_all};
 use ix_flatmap::{KeyIndex, MapError, MetaMap, Pair};
-use ix_slottable::Link;
-use ix_tables::Table;
+use ix_slottable::Storage;
 use std::alloc::{AllocError, Global};
 
 /// The commands of a map, of any kind.
-impl<K: Eq + Copy, V: Copy, S: Table<Pair<K, V>>, L: Table<Link>, I: KeyIndex<K, V>> Runs<
-    MapCommand<K, V>,
-> for MetaMap<Pair<K, V>, S, L, I> {
+impl<K: Eq + Copy, V: Copy, M: Storage<Pair<K, V>>, I: KeyIndex<K, V>> Runs<MapCommand<K, V>>
+    for MetaMap<Pair<K, V>, M, I> {
     ghost use Rattle.ix_slottable.specs.SlotTableState.{SlotTableState};
     ghost use Rattle.ix_flatmap.specs.declared.flatmap.Pair.{Pair};
     ghost use Rattle.ix_commands.specs.MapRun.{map_reply, map_after};
@@ -50,9 +48,9 @@ impl<K: Eq + Copy, V: Copy, S: Table<Pair<K, V>>, L: Table<Link>, I: KeyIndex<K,
 /// replies from `alloc` before the first command. O(`commands.len()`) beside the calls of the map.
 ///
 /// Returns `AllocError` if there is no memory for the list. Then no command was run.
-pub fn run_map<K: Eq + Copy, V: Copy, S: Table<Pair<K, V>>, L: Table<Link>, I: KeyIndex<K, V>>(
+pub fn run_map<K: Eq + Copy, V: Copy, M: Storage<Pair<K, V>>, I: KeyIndex<K, V>>(
     alloc: Global,
-    map: &mut MetaMap<Pair<K, V>, S, L, I>,
+    map: &mut MetaMap<Pair<K, V>, M, I>,
     commands: &[MapCommand<K, V>],
 ) -> Result<Vec<Reply<K, V>>, AllocError>
     ensures value { IfOk result (λ replies.
@@ -77,8 +75,8 @@ fn reply_of_map_result<K: Copy, V: Copy>(outcome: Result<(), MapError>) -> Reply
 }
 
 /// Overwrites the value of `key` and returns `true`, or returns `false` if the map has no equal key.
-fn overwrite<K: Eq + Copy, V: Copy, S: Table<Pair<K, V>>, L: Table<Link>, I: KeyIndex<K, V>>(
-    map: &mut MetaMap<Pair<K, V>, S, L, I>,
+fn overwrite<K: Eq + Copy, V: Copy, M: Storage<Pair<K, V>>, I: KeyIndex<K, V>>(
+    map: &mut MetaMap<Pair<K, V>, M, I>,
     key: K,
     value: V,
 ) -> bool

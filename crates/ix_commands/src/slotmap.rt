@@ -8,14 +8,13 @@ ghost use Rattle.ix_commands.specs.declared.command.SlotMapCommand.{SlotMapComma
 
 use crate::reply::{reply_of_entry, reply_of_key, reply_of_option};
 use crate::{Reply, Runs, SlotMapCommand, run_all};
-use ix_slotmap::{MetaSlotMap, SlotMapKey};
-use ix_slottable::Link;
-use ix_tables::{MaybeMoved, Table};
+use ix_slotmap::{MetaSlotMap, SlotMapKey, SlotMapStorage};
+use ix_tables::MaybeMoved;
 use std::alloc::{AllocError, Global};
 
 /// The commands of a slot map, of any kind.
-impl<T: Copy, S: Table<MaybeMoved<T>>, L: Table<Link>, G: Table<u64>> Runs<SlotMapCommand<T>>
-    for MetaSlotMap<T, MaybeMoved<T>, S, L, G> {
+impl<T: Copy, M: SlotMapStorage<MaybeMoved<T>>> Runs<SlotMapCommand<T>>
+    for MetaSlotMap<T, MaybeMoved<T>, M> {
     ghost use Rattle.ix_slotmap.specs.Generations.{SlotMapState};
     ghost use Rattle.ix_commands.specs.SlotMapRun.{slot_map_reply, slot_map_after};
 
@@ -55,9 +54,9 @@ impl<T: Copy, S: Table<MaybeMoved<T>>, L: Table<Link>, G: Table<u64>> Runs<SlotM
 /// A key that is dead before is dead after any commands.
 ///
 /// Returns `AllocError` if there is no memory for the list. Then no command was run.
-pub fn run_slot_map<T: Copy, S: Table<MaybeMoved<T>>, L: Table<Link>, G: Table<u64>>(
+pub fn run_slot_map<T: Copy, M: SlotMapStorage<MaybeMoved<T>>>(
     alloc: Global,
-    map: &mut MetaSlotMap<T, MaybeMoved<T>, S, L, G>,
+    map: &mut MetaSlotMap<T, MaybeMoved<T>, M>,
     commands: &[SlotMapCommand<T>],
 ) -> Result<Vec<Reply<SlotMapKey, T>>, AllocError>
     ensures value { IfOk result
@@ -80,8 +79,8 @@ pub fn dead_law<T>()
 {}
 
 /// Overwrites the value of `key` and returns `true`, or returns `false` if `key` is not held.
-fn overwrite<T: Copy, S: Table<MaybeMoved<T>>, L: Table<Link>, G: Table<u64>>(
-    map: &mut MetaSlotMap<T, MaybeMoved<T>, S, L, G>,
+fn overwrite<T: Copy, M: SlotMapStorage<MaybeMoved<T>>>(
+    map: &mut MetaSlotMap<T, MaybeMoved<T>, M>,
     key: SlotMapKey,
     value: T,
 ) -> bool
@@ -99,8 +98,8 @@ fn overwrite<T: Copy, S: Table<MaybeMoved<T>>, L: Table<Link>, G: Table<u64>>(
 }
 
 /// Returns the first held key whose index is not below `start`, with its value.
-fn first_entry_from<T: Copy, S: Table<MaybeMoved<T>>, L: Table<Link>, G: Table<u64>>(
-    map: &MetaSlotMap<T, MaybeMoved<T>, S, L, G>,
+fn first_entry_from<T: Copy, M: SlotMapStorage<MaybeMoved<T>>>(
+    map: &MetaSlotMap<T, MaybeMoved<T>, M>,
     start: usize,
 ) -> Option<(SlotMapKey, T)>
     ensures { result ≡ slot_map_from map.now start }

@@ -8,12 +8,11 @@ ghost use Rattle.ix_commands.specs.SlotTableRun.{slot_table_reply, slot_table_af
 
 use crate::reply::{reply_of_entry, reply_of_option};
 use crate::{Reply, Runs, SlotTableCommand, run_all};
-use ix_slottable::{Link, MetaSlotTable, SlotTableKey};
-use ix_tables::Table;
+use ix_slottable::{MetaSlotTable, SlotTableKey, Storage};
 use std::alloc::{AllocError, Global};
 
 /// The commands of a slot table, of any kind.
-impl<T: Copy, S: Table<T>, L: Table<Link>> Runs<SlotTableCommand<T>> for MetaSlotTable<T, S, L> {
+impl<T: Copy, M: Storage<T>> Runs<SlotTableCommand<T>> for MetaSlotTable<T, M> {
     ghost use Rattle.ix_slottable.specs.SlotTableState.{SlotTableState};
     ghost use Rattle.ix_commands.specs.SlotTableRun.{slot_table_reply, slot_table_after};
 
@@ -54,9 +53,9 @@ impl<T: Copy, S: Table<T>, L: Table<Link>> Runs<SlotTableCommand<T>> for MetaSlo
 /// `SlotTableCommand::From` takes O(capacity).
 ///
 /// Returns `AllocError` if there is no memory for the list. Then no command was run.
-pub fn run_slot_table<T: Copy, S: Table<T>, L: Table<Link>>(
+pub fn run_slot_table<T: Copy, M: Storage<T>>(
     alloc: Global,
-    map: &mut MetaSlotTable<T, S, L>,
+    map: &mut MetaSlotTable<T, M>,
     commands: &[SlotTableCommand<T>],
 ) -> Result<Vec<Reply<usize, T>>, AllocError>
     ensures value { IfOk result
@@ -80,11 +79,7 @@ fn reply_of_table_key<T: Copy>(key: Option<SlotTableKey>) -> Reply<usize, T>
 }
 
 /// Overwrites the value at `key` and returns `true`, or returns `false` if there is none.
-fn overwrite<T: Copy, S: Table<T>, L: Table<Link>>(
-    map: &mut MetaSlotTable<T, S, L>,
-    key: usize,
-    value: T,
-) -> bool
+fn overwrite<T: Copy, M: Storage<T>>(map: &mut MetaSlotTable<T, M>, key: usize, value: T) -> bool
     ensures value { result ≡ is_some (value_at map.old key) }
     ensures map { map.new
         ≡ if is_some (value_at map.old key) then slot_table_set map.old key value else map.old }
@@ -99,8 +94,8 @@ fn overwrite<T: Copy, S: Table<T>, L: Table<Link>>(
 }
 
 /// Returns the least held key that is not below `start`, with its value.
-fn first_entry_from<T: Copy, S: Table<T>, L: Table<Link>>(
-    map: &MetaSlotTable<T, S, L>,
+fn first_entry_from<T: Copy, M: Storage<T>>(
+    map: &MetaSlotTable<T, M>,
     start: usize,
 ) -> Option<(usize, T)>
     ensures { result ≡ slot_table_from map.now start }

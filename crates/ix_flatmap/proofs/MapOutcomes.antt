@@ -6,7 +6,7 @@ use Rattle.std.specs.Borrow.{Bor, MutBor}
 use Rattle.std.specs.List.{FoldsTo}
 use Rattle.std.proofs.lemmas.Bool.{cases_eq}
 use Rattle.ix_tables.specs.Places.{place_at}
-use Rattle.ix_slottable.specs.SlotTableState.{SlotTableState, value_at, entries, entries_from}
+use Rattle.ix_slottable.specs.SlotTableState.{SlotTableState, value_at, entries_from}
 use Rattle.ix_slottable.specs.SlotTableSteps.{slot_table_set, slot_table_remove}
 use Rattle.ix_slottable.specs.SlotTableCalls.{CalledOn, ComputesTest, ComputesValue, ChangesItem, RetainsItem, option_filter}
 use Rattle.ix_slottable.proofs.SlotTableCalls.{Settles-slot_table_set, Settles-retained}

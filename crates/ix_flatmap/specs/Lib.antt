@@ -5,7 +5,6 @@ pub use Rattle.ix_slottable.specs.SlotTableCopies
 pub use Rattle.ix_slottable.specs.SlotTableState
 pub use Rattle.ix_slottable.specs.SlotTableSteps
 pub use Rattle.ix_tables.specs.Cloning
-pub mod BoundedMap
 pub mod MapCalls
 pub mod MapCompared
 pub mod MapCopies

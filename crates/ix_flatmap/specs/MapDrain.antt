@@ -7,15 +7,15 @@ use Rattle.ix_flatmap.specs.declared.map.pair.Pair.{Pair}
 use Rattle.std.specs.Borrow.{GName}
 use Rattle.ix_flatmap.specs.declared.map.drain.Drain.{Drain}
 
-module _ {K V S L I : Type 0} where
+module _ {K V M X I L : Type 0} where
   -- the items that are still to come
-  abbrev pub drain_items : {e s l t k p : _} → Drain K V S L I e s l t k p → List (K × V)
+  abbrev pub drain_items : {s e i l t k p : _} → Drain K V M X I L s e i l t k p → List (K × V)
   drain_items drain = map map_item (entries_from drain.place (drop drain.place drain.map.now.values))
 
   -- the map once the iterator is dropped: each key that is left is removed
-  abbrev pub drain_left : {e s l t k p : _} → Drain K V S L I e s l t k p → SlotTableState (Pair K V)
+  abbrev pub drain_left : {s e i l t k p : _} → Drain K V M X I L s e i l t k p → SlotTableState (Pair K V)
   drain_left drain = slot_table_clear drain.map.now
 
   -- the reference to the map
-  abbrev pub drain_lender : {e s l t k p : _} → Drain K V S L I e s l t k p → GName
+  abbrev pub drain_lender : {s e i l t k p : _} → Drain K V M X I L s e i l t k p → GName
   drain_lender drain = drain.map.ghost_name

@@ -4,16 +4,14 @@
 //! maps, whose keys need only be compared for equality. Those of hash maps are in `ix_hashmap`.
 #![tactic(auto)]
 
-pub mod bounded_map;
 pub mod flatmap;
 pub mod map;
 
-pub use bounded_map::BoundedMap;
 pub use flatmap::{
     Bound, FixedSizeFlatMap, FlatMap, FlatMapError, FlatMapFamily, MetaFlatMap, RelocatableFlatMap,
     UninitFlatMap,
 };
 pub use map::{
-    CallbackProgression, CopyIn, CopyInline, HeapIndex, HeapMap, InlineIndex, InlineMap, KeyIndex,
-    Keyed, Keys, MapError, MetaMap, Pair, PairIndex,
+    CallbackProgression, HeapIndex, HeapMap, InlineIndex, InlineMap, KeyIndex, Keyed, Keys,
+    MapError, MetaMap, Pair, PairIndex,
 };

@@ -23,7 +23,7 @@ pub use callback_progression::CallbackProgression;
 pub use drain::Drain;
 pub use into_iter::IntoIter;
 pub use iter::Iter;
-pub use key_index::{CopyIn, CopyInline, HeapIndex, InlineIndex, KeyIndex, PairIndex};
+pub use key_index::{HeapIndex, InlineIndex, KeyIndex, PairIndex};
 pub use keys::{Keys, PairKey};
 pub use kinds::{HeapMap, InlineMap};
 pub use map_error::MapError;

@@ -4,7 +4,6 @@ pub use Rattle.ix_flatmap.specs.MapCopies
 pub use Rattle.ix_flatmap.specs.MapState
 pub use Rattle.ix_flatmap.specs.MapSteps
 pub use Rattle.ix_slottable.specs.Draining
-pub use Rattle.ix_slottable.specs.FullTables
 pub use Rattle.ix_slottable.specs.Memory
 pub use Rattle.ix_slottable.specs.SlotTableCalls
 pub use Rattle.ix_slottable.specs.SlotTableCopies

@@ -10,12 +10,14 @@ mod chain_table;
 mod hashed;
 mod kinds;
 mod search;
+mod storage;
 
 pub use buckets::Buckets;
-pub use chain_link::{ChainLink, LinkTable};
+pub use chain_link::ChainLink;
 pub use hashed::Hashed;
 pub use ix_flatmap::map::{Drain, IntoIter};
 pub use kinds::{
     DefaultHashBuilder, FixedSizeHashMap, HashMap, HashMapFamily, MetaHashMap, RelocatableHashMap,
     UninitHashMap, WithHasher, hash_map_memory_law,
 };
+pub use storage::HashMapStorage;

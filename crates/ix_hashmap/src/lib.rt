@@ -5,6 +5,6 @@
 pub mod hashmap;
 
 pub use hashmap::{
-    Buckets, ChainLink, DefaultHashBuilder, FixedSizeHashMap, HashMap, HashMapFamily, Hashed,
-    LinkTable, MetaHashMap, RelocatableHashMap, UninitHashMap, WithHasher,
+    Buckets, ChainLink, DefaultHashBuilder, FixedSizeHashMap, HashMap, HashMapFamily,
+    HashMapStorage, Hashed, MetaHashMap, RelocatableHashMap, UninitHashMap, WithHasher,
 };

@@ -24,7 +24,6 @@ pub use Rattle.ix_flatmap.proofs.MapSteps
 pub use Rattle.ix_flatmap.proofs.MapCalls
 pub use Rattle.ix_flatmap.proofs.MapCopies
 pub use Rattle.ix_flatmap.proofs.MapEqual
-pub use Rattle.ix_slotmap.proofs.WordTables
 pub use Rattle.ix_hashmap.proofs.HashChains
 pub use Rattle.ix_hashmap.proofs.HashSteps
 pub use Rattle.ix_slotmap.proofs.Generations

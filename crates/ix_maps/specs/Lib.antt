@@ -24,7 +24,6 @@ pub use Rattle.ix_slottable.specs.SlotTableCalls
 pub use Rattle.ix_slottable.specs.SlotTableCopies
 pub use Rattle.ix_flatmap.specs.MapState
 pub use Rattle.ix_flatmap.specs.MapSteps
-pub use Rattle.ix_flatmap.specs.BoundedMap
 pub use Rattle.ix_flatmap.specs.MapCalls
 pub use Rattle.ix_flatmap.specs.MapCopies
 pub use Rattle.ix_flatmap.specs.MapCompared

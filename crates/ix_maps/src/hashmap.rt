@@ -30,6 +30,6 @@ pub mod meta_hash_map {
 
 pub use ix_hashmap::hashmap::{
     Buckets, ChainLink, DefaultHashBuilder, Drain, FixedSizeHashMap, HashMap, HashMapFamily,
-    Hashed, IntoIter, LinkTable, MetaHashMap, RelocatableHashMap, UninitHashMap, WithHasher,
+    HashMapStorage, Hashed, IntoIter, MetaHashMap, RelocatableHashMap, UninitHashMap, WithHasher,
     hash_map_memory_law,
 };

@@ -11,20 +11,20 @@ pub mod slotmap;
 pub mod slottable;
 
 pub use ix_flatmap::{
-    Bound, BoundedMap, CallbackProgression, CopyIn, CopyInline, FixedSizeFlatMap, FlatMap,
-    FlatMapError, FlatMapFamily, HeapIndex, HeapMap, InlineIndex, InlineMap, KeyIndex, Keyed, Keys,
-    MapError, MetaFlatMap, MetaMap, Pair, PairIndex, RelocatableFlatMap, UninitFlatMap,
-    bounded_map, map,
+    Bound, CallbackProgression, FixedSizeFlatMap, FlatMap, FlatMapError, FlatMapFamily, HeapIndex,
+    HeapMap, InlineIndex, InlineMap, KeyIndex, Keyed, Keys, MapError, MetaFlatMap, MetaMap, Pair,
+    PairIndex, RelocatableFlatMap, UninitFlatMap, map,
 };
 pub use ix_hashmap::{
-    Buckets, ChainLink, DefaultHashBuilder, FixedSizeHashMap, HashMap, HashMapFamily, Hashed,
-    LinkTable, MetaHashMap, RelocatableHashMap, UninitHashMap, WithHasher,
+    Buckets, ChainLink, DefaultHashBuilder, FixedSizeHashMap, HashMap, HashMapFamily,
+    HashMapStorage, Hashed, MetaHashMap, RelocatableHashMap, UninitHashMap, WithHasher,
 };
 pub use ix_queue::{FixedSizeQueue, MetaQueue, Queue, QueueFamily, RelocatableQueue, UninitQueue};
 pub use ix_slotmap::{
-    Content, FixedSizeSlotMap, MetaSlotMap, RelocatableSlotMap, SlotMap, SlotMapKey, UninitSlotMap,
+    Content, FixedSizeSlotMap, MetaSlotMap, RelocatableSlotMap, SlotMap, SlotMapKey,
+    SlotMapStorage, UninitSlotMap,
 };
 pub use ix_slottable::{
-    FixedSizeSlotTable, Link, MetaSlotTable, RelocatableSlotTable, SlotTable, SlotTableFamily,
-    SlotTableKey, UninitSlotTable,
+    FixedSizeSlotTable, Heap, Inline, Link, MetaSlotTable, RelocatableSlotTable, SlotTable,
+    SlotTableFamily, SlotTableKey, Storage, UninitSlotTable,
 };

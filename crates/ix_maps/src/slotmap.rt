@@ -42,6 +42,6 @@ pub mod values {
 
 pub use ix_slotmap::slotmap::{
     Content, Drain, FixedSizeSlotMap, Iter, Keys, MetaSlotMap, RelocatableSlotMap, SlotMap,
-    SlotMapKey, UninitSlotMap, Values, cleared_keys_law, dead_keys_law, default_key_law,
-    key_order_law,
+    SlotMapKey, SlotMapStorage, UninitSlotMap, Values, cleared_keys_law, dead_keys_law,
+    default_key_law, key_order_law,
 };

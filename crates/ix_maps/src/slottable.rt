@@ -48,7 +48,7 @@ pub mod values {
 }
 
 pub use ix_slottable::slottable::{
-    Drain, FixedSizeSlotTable, IntoIter, Iter, Keys, Link, MetaSlotTable, Part, Parts,
-    RelocatableSlotTable, SlotTable, SlotTableFamily, SlotTableKey, UninitSlotTable, Values, Whole,
-    default_key_law,
+    Drain, FixedSizeSlotTable, Heap, Inline, IntoIter, Iter, Keys, Link, MetaSlotTable, Part,
+    Parts, RelocatableSlotTable, SlotTable, SlotTableFamily, SlotTableKey, Storage,
+    UninitSlotTable, Values, Whole, default_key_law,
 };

@@ -7,7 +7,6 @@ pub mod SlotMapOutcomes
 pub mod SlotMapCalls
 pub mod SlotMapCopies
 pub mod PlaceSizes
-pub mod WordTables
 pub mod WordedValues
 pub mod Words
 mod WorkedSlotMaps

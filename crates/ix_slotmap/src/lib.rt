@@ -5,5 +5,6 @@
 pub mod slotmap;
 
 pub use slotmap::{
-    Content, FixedSizeSlotMap, MetaSlotMap, RelocatableSlotMap, SlotMap, SlotMapKey, UninitSlotMap,
+    Content, FixedSizeSlotMap, MetaSlotMap, RelocatableSlotMap, SlotMap, SlotMapKey,
+    SlotMapStorage, UninitSlotMap,
 };

@@ -3,7 +3,6 @@ pub mod Counts
 pub mod Draining
 pub mod Entries
 pub mod FreeKeys
-pub mod FullTables
 pub mod KeyRanges
 pub mod Memory
 pub mod Outcomes

@@ -1,7 +1,6 @@
 pub use Rattle.ix_tables.specs.Cloning
 pub use Rattle.ix_tables.specs.Places
 pub mod Draining
-pub mod FullTables
 pub mod Memory
 pub mod SlotTableCalls
 pub mod SlotTableCopies

@@ -1,4 +1,3 @@
 -- What no public contract cites: what the code behind it means.
 pub mod FreeList
-pub mod FullTables
 pub mod KeyRange

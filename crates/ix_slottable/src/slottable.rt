@@ -17,6 +17,7 @@ mod part;
 mod retain;
 mod slot_table_key;
 mod steps;
+mod storage;
 mod try_insert;
 mod values;
 
@@ -31,4 +32,5 @@ pub use link::Link;
 pub use meta_slot_table::MetaSlotTable;
 pub use part::{Part, Whole};
 pub use slot_table_key::{SlotTableKey, default_key_law};
+pub use storage::{Heap, Inline, Storage};
 pub use values::{Parts, Values};

@@ -1,12 +1,13 @@
-//! Checks of flat maps and hash maps, by the trait that they share: equality.
+//! Checks of flat maps and hash maps, by the type that they share: equality.
 use crate::Findings;
-use ix_flatmap::BoundedMap;
+use ix_flatmap::{KeyIndex, MetaMap, Pair};
+use ix_slottable::Storage;
 
 /// Checks which of two maps are equal, of which the first is empty and of capacity 2, and the second empty and of a greater one.
-pub fn check_equality<M: BoundedMap<u64, u64> + PartialEq>(
+pub fn check_equality<M: Storage<Pair<u64, u64>>, I: KeyIndex<u64, u64>>(
     findings: &Findings,
-    small: &mut M,
-    large: &mut M,
+    small: &mut MetaMap<Pair<u64, u64>, M, I>,
+    large: &mut MetaMap<Pair<u64, u64>, M, I>,
 ) {
     findings.expect(*small == *large, "empty maps");
     let _ = small.insert(1, 10);

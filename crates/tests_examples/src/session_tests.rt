@@ -1,14 +1,16 @@
 //! Sessions by name, in a map of either kind.
-use examples::sessions_by_name::{FewSessions, ManySessions, Seen, close, note_heard, open};
-use ix_maps::{BoundedMap, MapError};
+use examples::sessions_by_name::{
+    FewSessions, ManySessions, Seen, Sessions, close, note_heard, open,
+};
+use ix_maps::{KeyIndex, MapError, Pair, Storage};
 use ix_string::StaticString;
 use std::hash::RandomState;
 
 type Name = StaticString<16>;
 
 /// Opens the session of `peer` at 1, hears of it at 5, and returns what its closing returns; `None` if a step goes wrong.
-fn closed_after_a_visit<M: BoundedMap<Name, Seen>>(
-    sessions: &mut M,
+fn closed_after_a_visit<M: Storage<Pair<Name, Seen>>, I: KeyIndex<Name, Seen>>(
+    sessions: &mut Sessions<Name, M, I>,
     peer: Name,
     stranger: Name,
 ) -> Option<Seen> {

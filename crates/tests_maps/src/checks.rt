@@ -4,20 +4,17 @@ ghost use Rattle.ix_tables.specs.Cloning.{AreEqualClones};
 use crate::rows::Row;
 use ix_commands::{MapCommand, Reply, Runs};
 use ix_flatmap::{CallbackProgression, KeyIndex, MetaMap, Pair};
-use ix_slottable::Link;
-use ix_tables::Table;
+use ix_slottable::Storage;
 use std::alloc::AllocError;
 use std::fmt::{Debug, InlineText};
 use test_support::{Findings, check_text, reply_of_option};
 
 /// Lists the keys up to the one after `before` others, for which the callback returns `Stop`.
-pub fn check_listing<
-    K: Eq + Drop,
-    V: Drop,
-    S: Table<Pair<K, V>>,
-    L: Table<Link>,
-    I: KeyIndex<K, V>,
->(findings: &Findings, map: &MetaMap<Pair<K, V>, S, L, I>, before: usize) {
+pub fn check_listing<K: Eq + Drop, V: Drop, M: Storage<Pair<K, V>>, I: KeyIndex<K, V>>(
+    findings: &Findings,
+    map: &MetaMap<Pair<K, V>, M, I>,
+    before: usize,
+) {
     let mut calls = 0usize;
     map.list_keys(|key| {
         let call = calls;
@@ -34,8 +31,8 @@ pub fn check_listing<
 }
 
 /// Returns what `get` returns.
-fn clone_of<K: Eq + Copy, V: Copy, S: Table<Pair<K, V>>, L: Table<Link>, I: KeyIndex<K, V>>(
-    map: &MetaMap<Pair<K, V>, S, L, I>,
+fn clone_of<K: Eq + Copy, V: Copy, M: Storage<Pair<K, V>>, I: KeyIndex<K, V>>(
+    map: &MetaMap<Pair<K, V>, M, I>,
     key: &K,
 ) -> Result<Reply<K, V>, AllocError>
     requires { AreEqualClones V.is_clone }
@@ -48,10 +45,9 @@ fn clone_of<K: Eq + Copy, V: Copy, S: Table<Pair<K, V>>, L: Table<Link>, I: KeyI
 pub fn check_example<
     K: Eq + Copy + Debug,
     V: Copy + PartialEq + Debug,
-    S: Table<Pair<K, V>>,
-    L: Table<Link>,
+    M: Storage<Pair<K, V>>,
     I: KeyIndex<K, V>,
->(findings: &Findings, map: &mut MetaMap<Pair<K, V>, S, L, I>, rows: &[Row<K, V>], place: &str)
+>(findings: &Findings, map: &mut MetaMap<Pair<K, V>, M, I>, rows: &[Row<K, V>], place: &str)
     requires { AreEqualClones V.is_clone }
 {
     for (number, (command, reply)) in rows.iter().enumerate() {

@@ -5,14 +5,14 @@ use crate::checks::check_example;
 use crate::rows::EVERY_CALL;
 use ix_flatmap::MapError::{IsFull, KeyAlreadyExists};
 use ix_flatmap::{
-    BoundedMap, CallbackProgression, FixedSizeFlatMap, FlatMap, KeyIndex, MapError, MetaMap, Pair,
+    CallbackProgression, FixedSizeFlatMap, FlatMap, KeyIndex, MapError, MetaMap, Pair,
     RelocatableFlatMap, UninitFlatMap,
 };
 use ix_hashmap::{
     DefaultHashBuilder, FixedSizeHashMap, HashMap, RelocatableHashMap, UninitHashMap, WithHasher,
 };
-use ix_slottable::Link;
-use ix_tables::{InitError, RelocatableContainer, Table};
+use ix_slottable::Storage;
+use ix_tables::{InitError, RelocatableContainer};
 use std::alloc::{AllocError, Global};
 use std::fmt::Debug;
 use std::hash::RandomState;
@@ -22,7 +22,9 @@ use std::test::Fail;
 use test_support::{Findings, check_display, check_text, hash_of};
 
 /// Changes an empty map of 3, so that slot order is not the order of the insertions.
-fn insert_two<M: BoundedMap<u64, u64>>(map: &mut M) {
+fn insert_two<M: Storage<Pair<u64, u64>>, I: KeyIndex<u64, u64>>(
+    map: &mut MetaMap<Pair<u64, u64>, M, I>,
+) {
     let _ = map.insert(80, 1);
     let _ = map.insert(443, 2);
     let _ = map.remove(&80);
@@ -30,8 +32,8 @@ fn insert_two<M: BoundedMap<u64, u64>>(map: &mut M) {
 }
 
 /// Returns the values in slot order, up to the first that is `last`, as digits.
-fn values_up_to<S: Table<Pair<u64, u64>>, L: Table<Link>, I: KeyIndex<u64, u64>>(
-    map: &MetaMap<Pair<u64, u64>, S, L, I>,
+fn values_up_to<M: Storage<Pair<u64, u64>>, I: KeyIndex<u64, u64>>(
+    map: &MetaMap<Pair<u64, u64>, M, I>,
     last: u64,
 ) -> u64 {
     let mut digits = 0u64;
@@ -45,9 +47,9 @@ fn values_up_to<S: Table<Pair<u64, u64>>, L: Table<Link>, I: KeyIndex<u64, u64>>
 }
 
 /// Checks the calls of an empty map of 3, and its texts and those of its iterators.
-fn check_calls<S: Table<Pair<u64, u64>>, L: Table<Link>, I: KeyIndex<u64, u64>>(
+fn check_calls<M: Storage<Pair<u64, u64>>, I: KeyIndex<u64, u64>>(
     findings: &Findings,
-    map: &mut MetaMap<Pair<u64, u64>, S, L, I>,
+    map: &mut MetaMap<Pair<u64, u64>, M, I>,
 ) {
     check_text(findings, map, "{}");
     insert_two(map);
@@ -159,8 +161,11 @@ fn hashers_of_choice(rt: HostRuntime) -> Result<(), Fail> {
     findings.verdict()
 }
 
-/// Counts a word in a map of any kind, as the example of [`BoundedMap`] does.
-fn count_word<M: BoundedMap<char, u64>>(counts: &mut M, word: char) -> bool {
+/// Counts a word in a map of any kind.
+fn count_word<M: Storage<Pair<char, u64>>, I: KeyIndex<char, u64>>(
+    counts: &mut MetaMap<Pair<char, u64>, M, I>,
+    word: char,
+) -> bool {
     match counts.get_mut_ref(&word) {
         Some(count) => {
             *count = count.wrapping_add(1);
@@ -171,7 +176,10 @@ fn count_word<M: BoundedMap<char, u64>>(counts: &mut M, word: char) -> bool {
 }
 
 /// Counts the letters of a text.
-fn check_counts<M: BoundedMap<char, u64>>(findings: &Findings, counts: &mut M) {
+fn check_counts<M: Storage<Pair<char, u64>>, I: KeyIndex<char, u64>>(
+    findings: &Findings,
+    counts: &mut MetaMap<Pair<char, u64>, M, I>,
+) {
     for letter in ['a', 'b', 'a', 'c', 'a'] {
         let is_counted = count_word(counts, letter);
         findings.expect_same(is_counted, letter != 'c', "there is room for two");

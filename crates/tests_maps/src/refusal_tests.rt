@@ -3,8 +3,8 @@ use crate::refusal_tests::Call::{Clone as Cloned, Keep, Release};
 use ix_flatmap::{
     CallbackProgression, FixedSizeFlatMap, FlatMap, MetaFlatMap, Pair, UninitFlatMap,
 };
-use ix_slottable::Link;
-use ix_tables::{RelocatableContainer, Table};
+use ix_slottable::Storage;
+use ix_tables::RelocatableContainer;
 use linked_list_allocator::LocalHeap;
 use std::alloc::{AllocError, Global};
 use std::marker::Model;
@@ -80,8 +80,8 @@ fn number_of(value: &Option<Boxed>) -> Option<u64> {
 }
 
 /// Makes the call, and returns the number of what `get` returned.
-fn make<'a, S: Table<Pair<u64, Boxed<'a>>>, L: Table<Link>>(
-    map: &MetaFlatMap<Pair<u64, Boxed<'a>>, S, L>,
+fn make<'a, M: Storage<Pair<u64, Boxed<'a>>>>(
+    map: &MetaFlatMap<Pair<u64, Boxed<'a>>, M>,
     call: &Call,
     kept: &mut Option<Boxed<'a>>,
 ) -> Result<Option<u64>, AllocError> {
@@ -99,9 +99,9 @@ fn make<'a, S: Table<Pair<u64, Boxed<'a>>>, L: Table<Link>>(
 }
 
 /// Checks that the map has the keys 2, 1 and 3 in this order, each with its value.
-fn check_content<'a, S: Table<Pair<u64, Boxed<'a>>>, L: Table<Link>>(
+fn check_content<'a, M: Storage<Pair<u64, Boxed<'a>>>>(
     findings: &Findings,
-    map: &MetaFlatMap<Pair<u64, Boxed<'a>>, S, L>,
+    map: &MetaFlatMap<Pair<u64, Boxed<'a>>, M>,
 ) {
     let mut keys = 0u64;
     map.list_keys(|key| {
@@ -118,8 +118,8 @@ fn check_content<'a, S: Table<Pair<u64, Boxed<'a>>>, L: Table<Link>>(
 }
 
 /// Inserts the key 2, 1 and 3, each with its tenfold. Returns `None` if that fails.
-fn insert_three<'a, S: Table<Pair<u64, Boxed<'a>>>, L: Table<Link>>(
-    map: &mut MetaFlatMap<Pair<u64, Boxed<'a>>, S, L>,
+fn insert_three<'a, M: Storage<Pair<u64, Boxed<'a>>>>(
+    map: &mut MetaFlatMap<Pair<u64, Boxed<'a>>, M>,
     heap: &'a LocalHeap,
 ) -> Option<()> {
     for key in [2u64, 1, 3] {
@@ -130,9 +130,9 @@ fn insert_three<'a, S: Table<Pair<u64, Boxed<'a>>>, L: Table<Link>>(
 }
 
 /// Makes the calls in turn on an empty map, whose making did not fail, with values in a heap of four blocks.
-fn check_made<'a, S: Table<Pair<u64, Boxed<'a>>>, L: Table<Link>, E: Drop>(
+fn check_made<'a, M: Storage<Pair<u64, Boxed<'a>>>, E: Drop>(
     findings: &Findings,
-    made: Result<MetaFlatMap<Pair<u64, Boxed<'a>>, S, L>, E>,
+    made: Result<MetaFlatMap<Pair<u64, Boxed<'a>>, M>, E>,
     heap: &'a LocalHeap,
 ) {
     let Ok(mut map) = made else {

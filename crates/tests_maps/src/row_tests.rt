@@ -12,9 +12,9 @@ use crate::rows::{
 use bumpalo::Bump;
 use ix_flatmap::{FixedSizeFlatMap, FlatMap, KeyIndex, MetaFlatMap, MetaMap, Pair, UninitFlatMap};
 use ix_hashmap::{FixedSizeHashMap, HashMap, UninitHashMap};
-use ix_slottable::Link;
+use ix_slottable::Storage;
 use ix_string::StaticString;
-use ix_tables::{RelocatableContainer, Table};
+use ix_tables::RelocatableContainer;
 use linked_list_allocator::LocalHeap;
 use std::alloc::{AllocError, Allocator};
 use std::fmt::Debug;
@@ -26,13 +26,12 @@ use test_support::Findings;
 fn check_map<
     K: Eq + Copy + Debug,
     V: Copy + PartialEq + Debug,
-    S: Table<Pair<K, V>>,
-    L: Table<Link>,
+    M: Storage<Pair<K, V>>,
     A: Allocator + Copy,
 >(
     findings: &Findings,
     alloc: A,
-    fixed: &mut MetaFlatMap<Pair<K, V>, S, L>,
+    fixed: &mut MetaFlatMap<Pair<K, V>, M>,
     capacity: usize,
     rows: &[Row<K, V>],
     memory: &str,
@@ -54,14 +53,13 @@ fn check_map<
 fn check_hash<
     K: Eq + Hash + Copy + Debug,
     V: Copy + PartialEq + Debug,
-    S: Table<Pair<K, V>>,
-    L: Table<Link>,
+    M: Storage<Pair<K, V>>,
     I: KeyIndex<K, V>,
     A: Allocator + Copy,
 >(
     findings: &Findings,
     alloc: A,
-    fixed: &mut MetaMap<Pair<K, V>, S, L, I>,
+    fixed: &mut MetaMap<Pair<K, V>, M, I>,
     capacity: usize,
     rows: &[Row<K, V>],
     memory: &str,
@@ -89,15 +87,14 @@ fn check_hash<
 fn check_kinds<
     K: Eq + Hash + Copy + Debug,
     V: Copy + PartialEq + Debug,
-    S: Table<Pair<K, V>>,
-    L: Table<Link>,
+    M: Storage<Pair<K, V>>,
     I: KeyIndex<K, V>,
     A: Allocator + Copy,
 >(
     findings: &Findings,
     alloc: A,
-    flat: &mut MetaFlatMap<Pair<K, V>, S, L>,
-    hashed: &mut MetaMap<Pair<K, V>, S, L, I>,
+    flat: &mut MetaFlatMap<Pair<K, V>, M>,
+    hashed: &mut MetaMap<Pair<K, V>, M, I>,
     capacity: usize,
     rows: &[Row<K, V>],
     memory: &str,

@@ -71,7 +71,7 @@ impl<T, S: Table<T>, C: Tally + Drop> Table<T> for Counting<S, C> {
 type CountingTable<'a, T> = Counting<HeapTable<T, Global>, &'a Cell<u64>>;
 
 /// A map over tables that add their calls to a tally.
-type CountingMap<'a> = MetaSlotTable<u64, CountingTable<'a, u64>, CountingTable<'a, Link>>;
+type CountingMap<'a> = MetaSlotTable<u64, (CountingTable<'a, u64>, CountingTable<'a, Link>)>;
 
 /// Returns an empty map with `capacity` keys, whose tables add their calls to `calls`.
 fn counting_map(

@@ -6,15 +6,15 @@ ghost use Rattle.std.specs.Bool.{OnFalse};
 use crate::table_rows::EVERY_CALL;
 use ix_slottable::{
     FixedSizeSlotTable, Link, MetaSlotTable, RelocatableSlotTable, SlotTable, SlotTableKey,
-    UninitSlotTable,
+    Storage, UninitSlotTable,
 };
-use ix_tables::{HeapTable, InitError, InlineTable, RelocatableContainer, Table, Touches};
+use ix_tables::{HeapTable, InitError, InlineTable, RelocatableContainer, Touches};
 use std::alloc::{AllocError, Global};
 use std::test::Fail;
 use test_support::{Findings, check_rows, check_tables, check_text};
 
 /// Inserts values at the keys 0 and 2 of an empty map with three keys.
-pub fn insert_two<S: Table<u64>, L: Table<Link>>(map: &mut MetaSlotTable<u64, S, L>) {
+pub fn insert_two<M: Storage<u64>>(map: &mut MetaSlotTable<u64, M>) {
     let _ = map.insert_at(SlotTableKey::new(2), 7);
     let _ = map.insert(5);
 }
@@ -76,10 +76,7 @@ fn counted_calls() -> Result<(), Fail> {
 }
 
 /// Makes each call that has a condition, at the first free key.
-fn make_unchecked_calls<S: Table<u64>, L: Table<Link>>(
-    findings: &Findings,
-    map: &mut MetaSlotTable<u64, S, L>,
-) {
+fn make_unchecked_calls<M: Storage<u64>>(findings: &Findings, map: &mut MetaSlotTable<u64, M>) {
     let Some(key) = map.next_free_key() else {
         return findings.miss("a free key");
     };
@@ -113,10 +110,7 @@ fn unchecked_calls(rt: HostRuntime) -> Result<(), Fail> {
 }
 
 /// Inserts `value` and returns what the map then has at its key, or `None` if the map is full.
-fn insert_and_get<T: Copy, S: Table<T>, L: Table<Link>>(
-    map: &mut MetaSlotTable<T, S, L>,
-    value: T,
-) -> Option<T>
+fn insert_and_get<T: Copy, M: Storage<T>>(map: &mut MetaSlotTable<T, M>, value: T) -> Option<T>
     ensures value { IfSome result (λ found. found ≡ value) }
     ensures full { IsNone result ↔ (map.old.free ≡ []) }
 {
@@ -127,10 +121,7 @@ fn insert_and_get<T: Copy, S: Table<T>, L: Table<Link>>(
 }
 
 /// Inserts `value` at the key that the map names as the next free one. Returns false if the map is full.
-fn insert_at_next<T: Drop, S: Table<T>, L: Table<Link>>(
-    map: &mut MetaSlotTable<T, S, L>,
-    value: T,
-) -> bool
+fn insert_at_next<T: Drop, M: Storage<T>>(map: &mut MetaSlotTable<T, M>, value: T) -> bool
     ensures { OnFalse result (map.old.free ≡ []) }
 {
     match map.next_free_key() {

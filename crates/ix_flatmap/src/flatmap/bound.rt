@@ -9,9 +9,9 @@ ghost use Rattle.ix_flatmap.specs.laws.Bounds.{IsBound-clone};
 
 use crate::flatmap::FlatMapFamily;
 use crate::flatmap::search::{find_bytes, find_from, find_in_front};
-use crate::map::{CopyIn, CopyInline, HeapIndex, InlineIndex, KeyIndex, Pair, PairIndex};
-use ix_slottable::slottable::{Link, MetaSlotTable, SlotTableKey};
-use ix_tables::{MemorySize, Table};
+use crate::map::{HeapIndex, InlineIndex, KeyIndex, Pair, PairIndex};
+use ix_slottable::slottable::{MetaSlotTable, SlotTableKey, Storage};
+use ix_tables::MemorySize;
 use std::alloc::{AllocError, Allocator};
 use std::convert::AsSlice;
 use std::mem::size_of_val;
@@ -39,19 +39,24 @@ impl<P> PairIndex<P> for Bound {
 impl<K: Eq + Drop, V: Drop> KeyIndex<K, V> for Bound {
     type Seat = ();
 
+    type Setup = ();
+
     ghost IsSeat = { λ index pairs key seat. ⊤ };
 
+    ghost setup_of = { λ index. tt };
+
     #[inline]
-    fn seat<S: Table<Pair<K, V>>, L: Table<Link>>(
-        &self,
-        _pairs: &MetaSlotTable<Pair<K, V>, S, L>,
-        _key: &K,
-    ) {}
+    fn setup(&self) -> &() {
+        &()
+    }
+
+    #[inline]
+    fn seat<M: Storage<Pair<K, V>>>(&self, _pairs: &MetaSlotTable<Pair<K, V>, M>, _key: &K) {}
 
     #[inline(always)]
-    fn find<'a, S: Table<Pair<K, V>>, L: Table<Link>>(
+    fn find<'a, M: Storage<Pair<K, V>>>(
         &self,
-        pairs: &'a MetaSlotTable<Pair<K, V>, S, L>,
+        pairs: &'a MetaSlotTable<Pair<K, V>, M>,
         _seat: (),
         key: &K,
     ) -> Option<(SlotTableKey, &'a Pair<K, V>)> {
@@ -66,9 +71,9 @@ impl<K: Eq + Drop, V: Drop> KeyIndex<K, V> for Bound {
     ghost AreFoundBy = { λ bytes. ⊤ };
 
     #[inline]
-    fn find_bytes<'a, S: Table<Pair<K, V>>, L: Table<Link>>(
+    fn find_bytes<'a, M: Storage<Pair<K, V>>>(
         &self,
-        pairs: &'a MetaSlotTable<Pair<K, V>, S, L>,
+        pairs: &'a MetaSlotTable<Pair<K, V>, M>,
         bytes: &[u8],
     ) -> Option<(SlotTableKey, &'a Pair<K, V>)>
     where
@@ -78,9 +83,9 @@ impl<K: Eq + Drop, V: Drop> KeyIndex<K, V> for Bound {
     }
 
     #[inline]
-    fn insert<S: Table<Pair<K, V>>, L: Table<Link>>(
+    fn insert<M: Storage<Pair<K, V>>>(
         &mut self,
-        pairs: &mut MetaSlotTable<Pair<K, V>, S, L>,
+        pairs: &mut MetaSlotTable<Pair<K, V>, M>,
         _seat: (),
         pair: Pair<K, V>,
     ) -> Result<SlotTableKey, Pair<K, V>>
@@ -101,9 +106,9 @@ impl<K: Eq + Drop, V: Drop> KeyIndex<K, V> for Bound {
     }
 
     #[inline]
-    fn remove<S: Table<Pair<K, V>>, L: Table<Link>>(
+    fn remove<M: Storage<Pair<K, V>>>(
         &mut self,
-        pairs: &mut MetaSlotTable<Pair<K, V>, S, L>,
+        pairs: &mut MetaSlotTable<Pair<K, V>, M>,
         _seat: (),
         place: SlotTableKey,
     ) -> Pair<K, V> {
@@ -113,10 +118,7 @@ impl<K: Eq + Drop, V: Drop> KeyIndex<K, V> for Bound {
     }
 
     #[inline]
-    fn clear<S: Table<Pair<K, V>>, L: Table<Link>>(
-        &mut self,
-        pairs: &mut MetaSlotTable<Pair<K, V>, S, L>,
-    )
+    fn clear<M: Storage<Pair<K, V>>>(&mut self, pairs: &mut MetaSlotTable<Pair<K, V>, M>)
         requires { IsBound pairs.old self.old.place }
         ensures pairs { pairs.new ≡ slot_table_clear pairs.old }
         ensures values { pairs.new.values ≡ replicate (length pairs.old.values) None }
@@ -131,34 +133,27 @@ impl<K: Eq + Drop, V: Drop> KeyIndex<K, V> for Bound {
     }
 
     #[inline]
-    fn bound<S: Table<Pair<K, V>>, L: Table<Link>>(
-        &self,
-        _pairs: &MetaSlotTable<Pair<K, V>, S, L>,
-    ) -> usize {
+    fn bound<M: Storage<Pair<K, V>>>(&self, _pairs: &MetaSlotTable<Pair<K, V>, M>) -> usize {
         self.place
     }
 
     ghost Fits_equal_keys = { λ index pairs others same fits. IsBound-clone _ pairs others index.place same fits };
 }
 
-impl<P, const CAPACITY: usize> InlineIndex<P, CAPACITY> for Bound {
-    type Setup = ();
-
+impl<K: Eq + Drop, V: Drop, const CAPACITY: usize> InlineIndex<K, V, CAPACITY> for Bound {
     #[inline]
     fn new_inline(_setup: ()) -> Self {
         Bound { place: 0 }
     }
-}
 
-impl<P, const CAPACITY: usize> CopyInline<P, CAPACITY> for Bound {
     #[inline]
-    fn copy_inline(&self) -> Self {
+    fn copy_inline(&self, _setup: ()) -> Self {
         Bound { place: self.place }
     }
 }
 
-impl<K: Eq + Drop, V: Drop, A: Allocator + Copy> HeapIndex<Pair<K, V>, A> for Bound {
-    type Setup = ();
+impl<K: Eq + Drop, V: Drop, A: Allocator + Copy> HeapIndex<K, V, A> for Bound {
+    type In = Bound;
 
     type Family = FlatMapFamily<K, V>;
 
@@ -170,16 +165,12 @@ impl<K: Eq + Drop, V: Drop, A: Allocator + Copy> HeapIndex<Pair<K, V>, A> for Bo
     }
 
     #[inline]
-    fn new_in(_alloc: A, _capacity: usize, _setup: ()) -> Result<Self, AllocError> {
+    fn new_in(_alloc: A, _capacity: usize, _setup: ()) -> Result<Bound, AllocError> {
         Ok(Bound { place: 0 })
     }
-}
-
-impl<P, D: Allocator + Copy> CopyIn<P, D> for Bound {
-    type Made = Bound;
 
     #[inline]
-    fn copy_in(&self, _alloc: D) -> Result<Bound, AllocError> {
+    fn copy_in(&self, _alloc: A, _setup: ()) -> Result<Bound, AllocError> {
         Ok(Bound { place: self.place })
     }
 }

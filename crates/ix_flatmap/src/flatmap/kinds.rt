@@ -3,28 +3,29 @@ ghost use Rattle.std.specs.Prelude.{◌≡◌};
 ghost use Rattle.ix_slottable.specs.SlotTableState.{slot_table_new};
 
 use crate::flatmap::Bound;
-use crate::map::{HeapMap, InlineMap, MetaMap};
+use crate::map::{MetaMap, Pair};
+use ix_slottable::{Heap, Inline};
 use ix_tables::{ContainerFamily, Uninit};
 use std::alloc::{AllocError, Allocator, Global};
 use std::marker::PhantomData;
 
-/// A flat map over a table of pairs `S` and a table of links `L`.
+/// A flat map with its memory in a storage `M`.
 ///
 /// Each call that looks for a key takes O(capacity) time; [`Bound`] says how many keys it compares. The other calls are as
 /// [`MetaMap`] says.
 ///
 /// This is `MetaFlatMap` of iceoryx2-bb-container.
-pub type MetaFlatMap<P, S, L> = MetaMap<P, S, L, Bound>;
+pub type MetaFlatMap<P, M> = MetaMap<P, M, Bound>;
 
 /// A flat map with room for `CAPACITY` keys that is stored inline and does not allocate.
 ///
 /// This is `FixedSizeFlatMap` of iceoryx2-bb-container.
-pub type FixedSizeFlatMap<K, V, const CAPACITY: usize> = InlineMap<K, V, CAPACITY, Bound>;
+pub type FixedSizeFlatMap<K, V, const CAPACITY: usize> = MetaFlatMap<Pair<K, V>, Inline<CAPACITY>>;
 
 /// A flat map whose memory is allocated from `A` when it is made, and deallocated when it is dropped.
 ///
 /// This is `FlatMap` of iceoryx2-bb-container.
-pub type FlatMap<K, V, A = Global> = HeapMap<K, V, A, Bound>;
+pub type FlatMap<K, V, A = Global> = MetaFlatMap<Pair<K, V>, Heap<A>>;
 
 /// A flat map that is made in two steps: first its capacity, as an [`UninitFlatMap`], and later its memory, allocated
 /// from `A`.

@@ -6,8 +6,7 @@ ghost use Rattle.ix_flatmap.specs.inner.FlatSearch.{is_key_at, HasNoKeyIn, IsFou
 ghost use Rattle.ix_flatmap.specs.declared.flatmap.search.TheConstants.{BLOCK_LEN, ROW_LEN};
 
 use crate::map::Pair;
-use ix_slottable::slottable::{Link, MetaSlotTable, SlotTableKey};
-use ix_tables::Table;
+use ix_slottable::slottable::{MetaSlotTable, SlotTableKey, Storage};
 use std::convert::AsSlice;
 
 /// A map without a free place before its last key compares so many keys at a time, with no branch between them.
@@ -22,8 +21,8 @@ const MANY: usize = 128;
 /// Returns the place of the key that equals `key`, and the pair there. Each place before `end` has a pair, and
 /// no other does.
 #[inline(always)]
-pub(crate) fn find_in_front<'a, K: Eq, V, S: Table<Pair<K, V>>, L: Table<Link>>(
-    pairs: &'a MetaSlotTable<Pair<K, V>, S, L>,
+pub(crate) fn find_in_front<'a, K: Eq, V, M: Storage<Pair<K, V>>>(
+    pairs: &'a MetaSlotTable<Pair<K, V>, M>,
     end: usize,
     key: &K,
 ) -> Option<(SlotTableKey, &'a Pair<K, V>)>
@@ -43,8 +42,8 @@ pub(crate) fn find_in_front<'a, K: Eq, V, S: Table<Pair<K, V>>, L: Table<Link>>(
 /// Does what [`find_in_front`] does, a row at a time.
 // Not inlined, since a small map does not need it.
 #[inline(never)]
-fn find_by_rows<'a, K: Eq, V, S: Table<Pair<K, V>>, L: Table<Link>>(
-    pairs: &'a MetaSlotTable<Pair<K, V>, S, L>,
+fn find_by_rows<'a, K: Eq, V, M: Storage<Pair<K, V>>>(
+    pairs: &'a MetaSlotTable<Pair<K, V>, M>,
     end: usize,
     key: &K,
 ) -> Option<(SlotTableKey, &'a Pair<K, V>)>
@@ -67,8 +66,8 @@ fn find_by_rows<'a, K: Eq, V, S: Table<Pair<K, V>>, L: Table<Link>>(
 
 /// Does what [`find_in_front`] does, a block at a time. No place before `start` has the key.
 #[inline(always)]
-fn find_by_blocks<'a, K: Eq, V, S: Table<Pair<K, V>>, L: Table<Link>>(
-    pairs: &'a MetaSlotTable<Pair<K, V>, S, L>,
+fn find_by_blocks<'a, K: Eq, V, M: Storage<Pair<K, V>>>(
+    pairs: &'a MetaSlotTable<Pair<K, V>, M>,
     start: usize,
     end: usize,
     key: &K,
@@ -95,8 +94,8 @@ fn find_by_blocks<'a, K: Eq, V, S: Table<Pair<K, V>>, L: Table<Link>>(
 
 /// Returns which of the [`ROW_LEN`] places from `start` on has a key that equals `key`. Each of these places has a pair.
 #[inline]
-fn index_in_row<K: Eq, V, S: Table<Pair<K, V>>, L: Table<Link>>(
-    pairs: &MetaSlotTable<Pair<K, V>, S, L>,
+fn index_in_row<K: Eq, V, M: Storage<Pair<K, V>>>(
+    pairs: &MetaSlotTable<Pair<K, V>, M>,
     start: usize,
     key: &K,
 ) -> Option<usize>
@@ -122,8 +121,8 @@ fn index_in_row<K: Eq, V, S: Table<Pair<K, V>>, L: Table<Link>>(
 /// Returns what [`index_in_block`] returns for the block at `start`, and for the one after it. Side by side
 /// they take less time, since a number that is moved to a register serves both.
 #[inline]
-fn indexes_in_blocks<K: Eq, V, S: Table<Pair<K, V>>, L: Table<Link>>(
-    pairs: &MetaSlotTable<Pair<K, V>, S, L>,
+fn indexes_in_blocks<K: Eq, V, M: Storage<Pair<K, V>>>(
+    pairs: &MetaSlotTable<Pair<K, V>, M>,
     start: usize,
     key: &K,
 ) -> (usize, usize)
@@ -153,8 +152,8 @@ fn indexes_in_blocks<K: Eq, V, S: Table<Pair<K, V>>, L: Table<Link>>(
 /// places has a pair.
 // Compares all of these keys, with no branch: which of them is equal can't be predicted.
 #[inline]
-fn index_in_block<K: Eq, V, S: Table<Pair<K, V>>, L: Table<Link>>(
-    pairs: &MetaSlotTable<Pair<K, V>, S, L>,
+fn index_in_block<K: Eq, V, M: Storage<Pair<K, V>>>(
+    pairs: &MetaSlotTable<Pair<K, V>, M>,
     start: usize,
     key: &K,
 ) -> usize
@@ -175,8 +174,8 @@ fn index_in_block<K: Eq, V, S: Table<Pair<K, V>>, L: Table<Link>>(
 
 /// Returns `true` if the key of a place that has a pair equals `key`.
 #[inline]
-fn has_key_at<K: Eq, V, S: Table<Pair<K, V>>, L: Table<Link>>(
-    pairs: &MetaSlotTable<Pair<K, V>, S, L>,
+fn has_key_at<K: Eq, V, M: Storage<Pair<K, V>>>(
+    pairs: &MetaSlotTable<Pair<K, V>, M>,
     place: usize,
     key: &K,
 ) -> bool
@@ -189,8 +188,8 @@ fn has_key_at<K: Eq, V, S: Table<Pair<K, V>>, L: Table<Link>>(
 /// Returns the place of the key that equals `key`, which no place before `start` has, and the pair there. No place from `end` on
 /// has a pair.
 #[inline]
-pub(crate) fn find_from<'a, K: Eq, V, S: Table<Pair<K, V>>, L: Table<Link>>(
-    pairs: &'a MetaSlotTable<Pair<K, V>, S, L>,
+pub(crate) fn find_from<'a, K: Eq, V, M: Storage<Pair<K, V>>>(
+    pairs: &'a MetaSlotTable<Pair<K, V>, M>,
     start: usize,
     end: usize,
     key: &K,
@@ -215,8 +214,8 @@ pub(crate) fn find_from<'a, K: Eq, V, S: Table<Pair<K, V>>, L: Table<Link>>(
 /// Returns the place of the key that equals `key`, and the pair there. No place from `end` on has a pair.
 #[doc(hidden)]
 #[inline]
-pub fn find_in_order<'a, K: Eq, V, S: Table<Pair<K, V>>, L: Table<Link>>(
-    pairs: &'a MetaSlotTable<Pair<K, V>, S, L>,
+pub fn find_in_order<'a, K: Eq, V, M: Storage<Pair<K, V>>>(
+    pairs: &'a MetaSlotTable<Pair<K, V>, M>,
     end: usize,
     key: &K,
 ) -> Option<(SlotTableKey, &'a Pair<K, V>)>
@@ -231,8 +230,8 @@ pub fn find_in_order<'a, K: Eq, V, S: Table<Pair<K, V>>, L: Table<Link>>(
 /// Returns the place of the key with these bytes, and the pair there. No place from `end` on has a pair.
 #[doc(hidden)]
 #[inline]
-pub fn find_bytes<'a, K: AsSlice<u8>, V, S: Table<Pair<K, V>>, L: Table<Link>>(
-    pairs: &'a MetaSlotTable<Pair<K, V>, S, L>,
+pub fn find_bytes<'a, K: AsSlice<u8>, V, M: Storage<Pair<K, V>>>(
+    pairs: &'a MetaSlotTable<Pair<K, V>, M>,
     end: usize,
     bytes: &[u8],
 ) -> Option<(SlotTableKey, &'a Pair<K, V>)>

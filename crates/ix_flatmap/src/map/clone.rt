@@ -4,7 +4,7 @@ ghost use Rattle.ix_tables.specs.Cloning.{AreEqualClones};
 ghost use Rattle.ix_slottable.specs.SlotTableCopies.{SlotTableIsClone, SlotTableIsInfallible};
 ghost use Rattle.ix_flatmap.specs.MapCopies.{PairIsClone, PairIsInfallible};
 
-use crate::map::{CopyIn, CopyInline, HeapMap, InlineMap, KeyIndex, MetaMap, Pair, PairIndex};
+use crate::map::{HeapIndex, HeapMap, InlineIndex, InlineMap, MetaMap, Pair, PairIndex};
 use std::alloc::{AllocError, Allocator};
 
 impl<K: Eq + Clone, V: Clone> Clone for Pair<K, V> {
@@ -25,12 +25,11 @@ impl<K: Eq + Clone, V: Clone> Clone for Pair<K, V> {
     }
 }
 
-impl<
-    K: Eq + Clone,
-    V: Clone,
-    const CAPACITY: usize,
-    I: KeyIndex<K, V> + CopyInline<Pair<K, V>, CAPACITY> + Drop,
-> Clone for InlineMap<K, V, CAPACITY, I> {
+impl<K: Eq + Clone, V: Clone, const CAPACITY: usize, I: InlineIndex<K, V, CAPACITY> + Drop> Clone
+    for InlineMap<K, V, CAPACITY, I>
+where
+    I::Setup: Copy,
+{
     ghost is_clone = { SlotTableIsClone (PairIsClone K.eq K.is_clone V.is_clone) };
 
     ghost is_infallible = { SlotTableIsInfallible
@@ -45,7 +44,7 @@ impl<
         match self.pairs.clone() {
             Ok(pairs) => Ok(MetaMap {
                 pairs,
-                index: self.index.copy_inline(),
+                index: self.index.copy_inline(*self.index.setup()),
             }),
             Err(error) => Err(error),
         }
@@ -59,20 +58,21 @@ impl<K: Eq + Clone, V: Clone, A: Allocator + Copy, I: PairIndex<Pair<K, V>>> Hea
     /// O(`capacity`), with as many allocations at most as it took to make the map, and `len` clones of keys and of values. Returns
     /// `AllocError` if an allocation or a clone fails; nothing stays allocated then.
     ///
-    /// The index of a flat map is [`CopyIn`] for each `D`, and that of a hash map if its hasher is `Copy`.
+    /// What makes the hashers of a hash map has to be `Copy`.
     pub fn try_clone_in<D: Allocator + Copy>(
         &self,
         alloc: D,
-    ) -> Result<HeapMap<K, V, D, <I as CopyIn<Pair<K, V>, D>>::Made>, AllocError>
+    ) -> Result<HeapMap<K, V, D, <I as HeapIndex<K, V, D>>::In>, AllocError>
     where
-        I: CopyIn<Pair<K, V>, D>,
+        I: HeapIndex<K, V, D>,
+        I::Setup: Copy,
         requires keys { AreEqualClones K.is_clone }
         requires values { AreEqualClones V.is_clone }
         ensures value { IfOk result (λ map. map ≡ self.now) }
         ensures memory { length self.now.values ≡ 0 → IsOk result }
     {
         let pairs = self.pairs.try_clone_in(alloc)?;
-        let index = self.index.copy_in(alloc)?;
+        let index = self.index.copy_in(alloc, *self.index.setup())?;
         Ok(MetaMap { pairs, index })
     }
 }

@@ -7,8 +7,7 @@ ghost use Rattle.ix_slottable.specs.SlotTableSteps.{slot_table_clear};
 ghost use Rattle.ix_flatmap.specs.MapState.{map_items};
 
 use crate::map::{KeyIndex, MetaMap, Pair};
-use ix_slottable::slottable::{Link, SlotTableKey};
-use ix_tables::Table;
+use ix_slottable::slottable::{SlotTableKey, Storage};
 use std::fmt::{self, Debug, Formatter, Write};
 use std::iter::FusedIterator;
 
@@ -16,26 +15,14 @@ use std::iter::FusedIterator;
 ///
 /// The keys and values that are still to come when it is dropped are dropped with it, the next ones first, and the map is empty
 /// then.
-pub struct Drain<
-    'a,
-    K: Eq + Drop,
-    V: Drop,
-    S: Table<Pair<K, V>>,
-    L: Table<Link>,
-    I: KeyIndex<K, V>,
-> {
-    map: &'a mut MetaMap<Pair<K, V>, S, L, I>,
+pub struct Drain<'a, K: Eq + Drop, V: Drop, M: Storage<Pair<K, V>>, I: KeyIndex<K, V>> {
+    map: &'a mut MetaMap<Pair<K, V>, M, I>,
     /// No place before this one has a pair.
     place: usize,
     ghost counted: { held_count map.now ≡ length (entries_from place (drop place map.now.values)) },
 }
 
-impl<K: Eq + Drop, V: Drop, S: Table<Pair<K, V>>, L: Table<Link>, I: KeyIndex<K, V>> MetaMap<
-    Pair<K, V>,
-    S,
-    L,
-    I,
-> {
+impl<K: Eq + Drop, V: Drop, M: Storage<Pair<K, V>>, I: KeyIndex<K, V>> MetaMap<Pair<K, V>, M, I> {
     ghost use Rattle.ix_slottable.specs.Draining.{DrainingKeepsAlong};
     ghost use Rattle.ix_flatmap.specs.MapDrain.{drain_items, drain_left, drain_lender};
 
@@ -43,7 +30,7 @@ impl<K: Eq + Drop, V: Drop, S: Table<Pair<K, V>>, L: Table<Link>, I: KeyIndex<K,
     /// and the map is as [`MetaMap::clear`] leaves it then. O(1), and O(capacity) for all of its items together, on average in a
     /// hash map.
     #[inline]
-    pub fn drain(&mut self) -> Drain<'_, K, V, S, L, I>
+    pub fn drain(&mut self) -> Drain<'_, K, V, M, I>
         ensures items { drain_items result ≡ map_items self.old }
         ensures left { drain_left result ≡ slot_table_clear self.old }
         // What is left has no key, and every place is free.
@@ -63,8 +50,8 @@ impl<K: Eq + Drop, V: Drop, S: Table<Pair<K, V>>, L: Table<Link>, I: KeyIndex<K,
 }
 
 /// Drops the keys and values that are still to come, the next ones first. The map is empty then. O(capacity).
-impl<K: Eq + Drop, V: Drop, S: Table<Pair<K, V>>, L: Table<Link>, I: KeyIndex<K, V>> Drop
-    for Drain<'_, K, V, S, L, I> {
+impl<K: Eq + Drop, V: Drop, M: Storage<Pair<K, V>>, I: KeyIndex<K, V>> Drop
+    for Drain<'_, K, V, M, I> {
     ghost use Rattle.ix_flatmap.specs.MapDrain.{drain_left};
 
     fn drop(self)
@@ -75,8 +62,8 @@ impl<K: Eq + Drop, V: Drop, S: Table<Pair<K, V>>, L: Table<Link>, I: KeyIndex<K,
     }
 }
 
-impl<K: Eq + Drop, V: Drop, S: Table<Pair<K, V>>, L: Table<Link>, I: KeyIndex<K, V>> Iterator
-    for Drain<'_, K, V, S, L, I> {
+impl<K: Eq + Drop, V: Drop, M: Storage<Pair<K, V>>, I: KeyIndex<K, V>> Iterator
+    for Drain<'_, K, V, M, I> {
     type Item = (K, V);
 
     ghost use Rattle.ix_slottable.specs.Draining.{DrainingSteps};
@@ -111,13 +98,8 @@ impl<K: Eq + Drop, V: Drop, S: Table<Pair<K, V>>, L: Table<Link>, I: KeyIndex<K,
     }
 }
 
-impl<
-    K: Eq + Drop,
-    V: Drop,
-    S: Table<Pair<K, V>>,
-    L: Table<Link>,
-    I: KeyIndex<K, V>,
-> ExactSizeIterator for Drain<'_, K, V, S, L, I> {
+impl<K: Eq + Drop, V: Drop, M: Storage<Pair<K, V>>, I: KeyIndex<K, V>> ExactSizeIterator
+    for Drain<'_, K, V, M, I> {
     /// Returns the number of items that are still to come. O(1).
     #[inline]
     fn len(&self) -> usize {
@@ -125,17 +107,12 @@ impl<
     }
 }
 
-impl<K: Eq + Drop, V: Drop, S: Table<Pair<K, V>>, L: Table<Link>, I: KeyIndex<K, V>> FusedIterator
-    for Drain<'_, K, V, S, L, I> {}
+impl<K: Eq + Drop, V: Drop, M: Storage<Pair<K, V>>, I: KeyIndex<K, V>> FusedIterator
+    for Drain<'_, K, V, M, I> {}
 
 /// Prints a list of the items that are still to come, each a key and its value. O(capacity).
-impl<
-    K: Eq + Debug + Drop,
-    V: Debug + Drop,
-    S: Table<Pair<K, V>>,
-    L: Table<Link>,
-    I: KeyIndex<K, V>,
-> Debug for Drain<'_, K, V, S, L, I> {
+impl<K: Eq + Debug + Drop, V: Debug + Drop, M: Storage<Pair<K, V>>, I: KeyIndex<K, V>> Debug
+    for Drain<'_, K, V, M, I> {
     fn fmt<W: Write>(&self, f: &mut Formatter<W>) -> fmt::Result {
         self.map.iter().fmt(f)
     }

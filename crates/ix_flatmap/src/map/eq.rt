@@ -5,19 +5,12 @@ ghost use Rattle.ix_flatmap.specs.MapState.{map_items};
 ghost use Rattle.ix_flatmap.specs.MapCompared.{is_same_item, has_each, has_same};
 ghost use Rattle.ix_flatmap.specs.laws.MapCompared.{same_items_per, same_items_equiv};
 
-use crate::bounded_map::BoundedMap;
 use crate::map::{Iter, KeyIndex, MetaMap, Pair};
-use ix_slottable::slottable::Link;
-use ix_tables::Table;
+use ix_slottable::slottable::Storage;
 
 /// Maps are equal if each has the keys of the other, with equal values. Places, capacities and indexes do not matter.
-impl<
-    K: Eq + Drop,
-    V: PartialEq + Drop,
-    S: Table<Pair<K, V>>,
-    L: Table<Link>,
-    I: KeyIndex<K, V>,
-> PartialEq for MetaMap<Pair<K, V>, S, L, I> {
+impl<K: Eq + Drop, V: PartialEq + Drop, M: Storage<Pair<K, V>>, I: KeyIndex<K, V>> PartialEq
+    for MetaMap<Pair<K, V>, M, I> {
     ghost eq = { λ map other. has_same (is_same_item K.eq V.eq) (map_items map) (map_items other) };
 
     ghost laws = { same_items_per K.eq V.eq K.Eq.laws V.laws };
@@ -28,17 +21,17 @@ impl<
     }
 }
 
-impl<K: Eq + Drop, V: Eq + Drop, S: Table<Pair<K, V>>, L: Table<Link>, I: KeyIndex<K, V>> Eq
-    for MetaMap<Pair<K, V>, S, L, I> {
+impl<K: Eq + Drop, V: Eq + Drop, M: Storage<Pair<K, V>>, I: KeyIndex<K, V>> Eq
+    for MetaMap<Pair<K, V>, M, I> {
     ghost laws = { same_items_equiv K.eq V.eq K.Eq.laws V.Eq.laws };
 }
 
 /// Returns `true` if `map` has each of these keys, with an equal value.
-fn has_each_of<K: Eq, V: PartialEq, M: BoundedMap<K, V>, S: Table<Pair<K, V>>, L: Table<Link>>(
-    map: &M,
-    items: Iter<'_, K, V, S, L>,
+fn has_each_of<K: Eq + Drop, V: PartialEq + Drop, M: Storage<Pair<K, V>>, I: KeyIndex<K, V>>(
+    map: &MetaMap<Pair<K, V>, M, I>,
+    items: Iter<'_, K, V, M>,
 ) -> bool
-    ensures { result ≡ has_each (is_same_item K.eq V.eq) (map_items (M.state map.now)) items.entry }
+    ensures { result ≡ has_each (is_same_item K.eq V.eq) (map_items map.now) items.entry }
 {
     for (key, value) in items {
         if !has_equal(map, key, value) {
@@ -50,9 +43,13 @@ fn has_each_of<K: Eq, V: PartialEq, M: BoundedMap<K, V>, S: Table<Pair<K, V>>, L
 
 /// Returns `true` if `map` has an equal key, with an equal value.
 #[inline]
-fn has_equal<K: Eq, V: PartialEq, M: BoundedMap<K, V>>(map: &M, key: &K, value: &V) -> bool
+fn has_equal<K: Eq + Drop, V: PartialEq + Drop, M: Storage<Pair<K, V>>, I: KeyIndex<K, V>>(
+    map: &MetaMap<Pair<K, V>, M, I>,
+    key: &K,
+    value: &V,
+) -> bool
     ensures { result ≡ list_any (λ item. is_same_item K.eq V.eq item (key.now, value.now))
-        (map_items (M.state map.now)) }
+        (map_items map.now) }
 {
     // Names the number of keys, by which the check knows that no two keys are equal.
     let _len = map.len();

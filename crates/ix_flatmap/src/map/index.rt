@@ -3,14 +3,12 @@ ghost use Rattle.std.specs.Prelude.{◌≡◌, IsSome, Some};
 ghost use Rattle.ix_flatmap.specs.MapState.{map_value};
 
 use crate::map::{KeyIndex, MetaMap, Pair};
-use ix_slottable::slottable::Link;
-use ix_tables::Table;
+use ix_slottable::slottable::Storage;
 use std::ops::Index;
 
 /// `map[&key]` is the value of `key`, which the map has to have; [`MetaMap::get_ref`] takes any key.
-impl<'q, K: Eq + Drop, V: Drop, S: Table<Pair<K, V>>, L: Table<Link>, I: KeyIndex<K, V>> Index<
-    &'q K,
-> for MetaMap<Pair<K, V>, S, L, I> {
+impl<'q, K: Eq + Drop, V: Drop, M: Storage<Pair<K, V>>, I: KeyIndex<K, V>> Index<&'q K>
+    for MetaMap<Pair<K, V>, M, I> {
     type Output = V;
 
     ghost can_index = { λ map key. IsSome (map_value K.eq map key.now) };

@@ -5,8 +5,7 @@ ghost use Rattle.std.specs.Iterator.SizeHint.{IsWithinCount};
 ghost use Rattle.ix_slottable.specs.SlotTableState.{entries};
 
 use crate::map::{IntoItem, MetaMap, PairIndex};
-use ix_slottable::slottable::{self, Link};
-use ix_tables::Table;
+use ix_slottable::slottable::{self, Storage};
 use std::fmt::{self, Debug, Formatter, Write};
 use std::iter::FusedIterator;
 use std::marker::Model;
@@ -17,11 +16,11 @@ use std::marker::Model;
 /// It has the map's memory, but for that of the index. The keys and values that are still to come when it is dropped are dropped
 /// with it, the next ones first, in O(capacity) time.
 #[derive(Drop)]
-pub struct IntoIter<P: IntoItem, S: Table<P>, L: Table<Link>> {
-    pairs: slottable::IntoIter<P, S, L>,
+pub struct IntoIter<P: IntoItem, M: Storage<P>> {
+    pairs: slottable::IntoIter<P, M>,
 }
 
-impl<P: IntoItem, S: Table<P>, L: Table<Link>> Model for IntoIter<P, S, L> {
+impl<P: IntoItem, M: Storage<P>> Model for IntoIter<P, M> {
     ghost use Rattle.std.specs.Prelude.{List, map};
 
     ghost Value = { List (P.Key × P.Value) };
@@ -29,7 +28,7 @@ impl<P: IntoItem, S: Table<P>, L: Table<Link>> Model for IntoIter<P, S, L> {
     ghost view = { λ iter. map (λ entry. P.item entry.1) iter.pairs };
 }
 
-impl<P: IntoItem + Drop, S: Table<P>, L: Table<Link>> Iterator for IntoIter<P, S, L> {
+impl<P: IntoItem + Drop, M: Storage<P>> Iterator for IntoIter<P, M> {
     type Item = (P::Key, P::Value);
 
     ghost next_gives = { YieldsFirst (λ rest. rest) };
@@ -57,7 +56,7 @@ impl<P: IntoItem + Drop, S: Table<P>, L: Table<Link>> Iterator for IntoIter<P, S
     }
 }
 
-impl<P: IntoItem + Drop, S: Table<P>, L: Table<Link>> DoubleEndedIterator for IntoIter<P, S, L> {
+impl<P: IntoItem + Drop, M: Storage<P>> DoubleEndedIterator for IntoIter<P, M> {
     ghost next_back_gives = { YieldsLast (λ rest. rest) };
 
     /// Removes the last key that is still to come and returns it with its value, or `None` if there is none. O(the number of
@@ -71,7 +70,7 @@ impl<P: IntoItem + Drop, S: Table<P>, L: Table<Link>> DoubleEndedIterator for In
     }
 }
 
-impl<P: IntoItem + Drop, S: Table<P>, L: Table<Link>> ExactSizeIterator for IntoIter<P, S, L> {
+impl<P: IntoItem + Drop, M: Storage<P>> ExactSizeIterator for IntoIter<P, M> {
     /// Returns the number of items that are still to come. O(1).
     #[inline]
     fn len(&self) -> usize {
@@ -79,27 +78,26 @@ impl<P: IntoItem + Drop, S: Table<P>, L: Table<Link>> ExactSizeIterator for Into
     }
 }
 
-impl<P: IntoItem + Drop, S: Table<P>, L: Table<Link>> FusedIterator for IntoIter<P, S, L> {}
+impl<P: IntoItem + Drop, M: Storage<P>> FusedIterator for IntoIter<P, M> {}
 
 /// Prints a list of the places that are still to come, each its number and its pair. O(capacity).
-impl<P: IntoItem + Debug, S: Table<P>, L: Table<Link>> Debug for IntoIter<P, S, L> {
+impl<P: IntoItem + Debug, M: Storage<P>> Debug for IntoIter<P, M> {
     fn fmt<W: Write>(&self, f: &mut Formatter<W>) -> fmt::Result {
         self.pairs.fmt(f)
     }
 }
 
 // Over any `P`: the checker covers no caller of a function that takes by value what needs `Pair<K, V>: Keyed`.
-impl<P: IntoItem + Drop, S: Table<P>, L: Table<Link>, I: PairIndex<P> + Drop> IntoIterator
-    for MetaMap<P, S, L, I> {
+impl<P: IntoItem + Drop, M: Storage<P>, I: PairIndex<P> + Drop> IntoIterator for MetaMap<P, M, I> {
     type Item = (P::Key, P::Value);
 
-    type IntoIter = IntoIter<P, S, L>;
+    type IntoIter = IntoIter<P, M>;
 
     ghost into_iter_gives = { λ own iter. iter ≡ map (λ entry. P.item entry.1) (entries own) };
 
     /// Returns an iterator that removes the keys, each with its value, in slot order. O(1).
     #[inline]
-    fn into_iter(self) -> IntoIter<P, S, L> {
+    fn into_iter(self) -> IntoIter<P, M> {
         let MetaMap { pairs, index: _ } = self;
         IntoIter {
             pairs: pairs.into_iter(),

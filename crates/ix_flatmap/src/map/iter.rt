@@ -5,8 +5,7 @@ ghost use Rattle.std.specs.Iterator.SizeHint.{IsWithinCount};
 ghost use Rattle.ix_flatmap.specs.MapState.{map_item};
 
 use crate::map::{MetaMap, Pair, PairIndex};
-use ix_slottable::slottable::{self, Link};
-use ix_tables::Table;
+use ix_slottable::slottable::{self, Storage};
 use std::alloc::AllocError;
 use std::fmt::{self, Debug, Formatter, Write};
 use std::iter::FusedIterator;
@@ -15,11 +14,11 @@ use std::marker::Model;
 /// An iterator over the keys of a map in slot order, each with its value, as
 /// [`MetaMap::iter`](crate::map::MetaMap::iter) returns it. Contracts see the items that are still to come.
 #[derive(Drop)]
-pub struct Iter<'a, K, V, S: Table<Pair<K, V>>, L: Table<Link>> {
-    pairs: slottable::Iter<'a, Pair<K, V>, S, L>,
+pub struct Iter<'a, K, V, M: Storage<Pair<K, V>>> {
+    pairs: slottable::Iter<'a, Pair<K, V>, M>,
 }
 
-impl<'a, K, V, S: Table<Pair<K, V>>, L: Table<Link>> Model for Iter<'a, K, V, S, L> {
+impl<'a, K, V, M: Storage<Pair<K, V>>> Model for Iter<'a, K, V, M> {
     ghost use Rattle.std.specs.Prelude.{List, map};
     ghost use Rattle.ix_flatmap.specs.MapState.{map_item};
 
@@ -28,18 +27,18 @@ impl<'a, K, V, S: Table<Pair<K, V>>, L: Table<Link>> Model for Iter<'a, K, V, S,
     ghost view = { λ iter. map map_item iter.pairs };
 }
 
-impl<'a, K, V, S: Table<Pair<K, V>>, L: Table<Link>> Iter<'a, K, V, S, L> {
+impl<'a, K, V, M: Storage<Pair<K, V>>> Iter<'a, K, V, M> {
     /// Returns an iterator over the keys of pairs, each with its value. O(1).
     #[doc(hidden)]
     #[inline]
-    pub fn new(pairs: slottable::Iter<'a, Pair<K, V>, S, L>) -> Self
+    pub fn new(pairs: slottable::Iter<'a, Pair<K, V>, M>) -> Self
         ensures { result ≡ map map_item pairs.entry }
     {
         Iter { pairs }
     }
 }
 
-impl<'a, K, V, S: Table<Pair<K, V>>, L: Table<Link>> Iterator for Iter<'a, K, V, S, L> {
+impl<'a, K, V, M: Storage<Pair<K, V>>> Iterator for Iter<'a, K, V, M> {
     type Item = (&'a K, &'a V);
 
     ghost next_gives = { YieldsFirstBy (λ item. (item.0.now, item.1.now)) (λ rest. rest) };
@@ -66,7 +65,7 @@ impl<'a, K, V, S: Table<Pair<K, V>>, L: Table<Link>> Iterator for Iter<'a, K, V,
     }
 }
 
-impl<'a, K, V, S: Table<Pair<K, V>>, L: Table<Link>> DoubleEndedIterator for Iter<'a, K, V, S, L> {
+impl<'a, K, V, M: Storage<Pair<K, V>>> DoubleEndedIterator for Iter<'a, K, V, M> {
     ghost next_back_gives = { YieldsLastBy (λ item. (item.0.now, item.1.now)) (λ rest. rest) };
 
     /// Returns the last key that is still to come with its value, or `None` if there is none. O(the number of free places after
@@ -80,7 +79,7 @@ impl<'a, K, V, S: Table<Pair<K, V>>, L: Table<Link>> DoubleEndedIterator for Ite
     }
 }
 
-impl<'a, K, V, S: Table<Pair<K, V>>, L: Table<Link>> ExactSizeIterator for Iter<'a, K, V, S, L> {
+impl<'a, K, V, M: Storage<Pair<K, V>>> ExactSizeIterator for Iter<'a, K, V, M> {
     /// Returns the number of items that are still to come. O(1).
     #[inline]
     fn len(&self) -> usize {
@@ -88,9 +87,9 @@ impl<'a, K, V, S: Table<Pair<K, V>>, L: Table<Link>> ExactSizeIterator for Iter<
     }
 }
 
-impl<'a, K, V, S: Table<Pair<K, V>>, L: Table<Link>> FusedIterator for Iter<'a, K, V, S, L> {}
+impl<'a, K, V, M: Storage<Pair<K, V>>> FusedIterator for Iter<'a, K, V, M> {}
 
-impl<'a, K, V, S: Table<Pair<K, V>>, L: Table<Link>> Clone for Iter<'a, K, V, S, L> {
+impl<'a, K, V, M: Storage<Pair<K, V>>> Clone for Iter<'a, K, V, M> {
     ghost is_clone = { λ iter clone. clone ≡ iter };
 
     ghost is_infallible = { λ _. ⊤ };
@@ -105,7 +104,7 @@ impl<'a, K, V, S: Table<Pair<K, V>>, L: Table<Link>> Clone for Iter<'a, K, V, S,
 }
 
 /// Prints a list of the items that are still to come, each a key and its value. O(capacity).
-impl<'a, K: Debug, V: Debug, S: Table<Pair<K, V>>, L: Table<Link>> Debug for Iter<'a, K, V, S, L> {
+impl<'a, K: Debug, V: Debug, M: Storage<Pair<K, V>>> Debug for Iter<'a, K, V, M> {
     fn fmt<W: Write>(&self, f: &mut Formatter<W>) -> fmt::Result {
         let Ok(pairs) = self.pairs.clone() else {
             return Err(fmt::Error);
@@ -118,19 +117,19 @@ impl<'a, K: Debug, V: Debug, S: Table<Pair<K, V>>, L: Table<Link>> Debug for Ite
     }
 }
 
-impl<'a, K: Eq, V, S: Table<Pair<K, V>>, L: Table<Link>, I: PairIndex<Pair<K, V>>> IntoIterator
-    for &'a MetaMap<Pair<K, V>, S, L, I> {
+impl<'a, K: Eq, V, M: Storage<Pair<K, V>>, I: PairIndex<Pair<K, V>>> IntoIterator
+    for &'a MetaMap<Pair<K, V>, M, I> {
     ghost use Rattle.ix_flatmap.specs.MapState.{map_items};
 
     type Item = (&'a K, &'a V);
 
-    type IntoIter = Iter<'a, K, V, S, L>;
+    type IntoIter = Iter<'a, K, V, M>;
 
     ghost into_iter_gives = { λ map iter. iter ≡ map_items map.now };
 
     /// Returns an iterator over the keys in slot order, each with its value. O(1).
     #[inline]
-    fn into_iter(self) -> Iter<'a, K, V, S, L> {
+    fn into_iter(self) -> Iter<'a, K, V, M> {
         Iter::new(self.pairs.iter())
     }
 }

@@ -10,8 +10,8 @@ ghost use Rattle.ix_flatmap.specs.MapState.{AreEqualByBytes, HasDistinctKeys, ha
 ghost use Rattle.ix_flatmap.specs.declared.map.pair.Pair.{Pair};
 
 use crate::map::Pair;
-use ix_slottable::slottable::{Link, MetaSlotTable, SlotTableKey};
-use ix_tables::{MemorySize, Table};
+use ix_slottable::slottable::{MetaSlotTable, SlotTableKey, Storage};
+use ix_tables::MemorySize;
 use std::alloc::{AllocError, Allocator};
 use std::convert::AsSlice;
 
@@ -28,13 +28,23 @@ pub trait KeyIndex<K: Eq + Drop, V: Drop>: PairIndex<Pair<K, V>> {
     /// Where a key belongs.
     type Seat: Copy;
 
+    /// What an index is made of, beside memory: of a hash map what makes its hashers, of a flat map nothing.
+    type Setup;
+
     /// A key belongs there.
     ghost IsSeat: { Self → SlotTableState (Pair K V) → K → Self.Seat → Type 0 };
 
+    /// What the index was made of.
+    ghost setup_of: { Self → Self.Setup };
+
+    /// Returns what the index was made of.
+    fn setup(&self) -> &Self::Setup
+        ensures { result.now ≡ setup_of self.now };
+
     /// Returns where `key` belongs.
-    fn seat<S: Table<Pair<K, V>>, L: Table<Link>>(
+    fn seat<M: Storage<Pair<K, V>>>(
         &self,
-        pairs: &MetaSlotTable<Pair<K, V>, S, L>,
+        pairs: &MetaSlotTable<Pair<K, V>, M>,
         key: &K,
     ) -> Self::Seat
         requires { Self.PairIndex.Fits self.now pairs.now }
@@ -44,9 +54,9 @@ pub trait KeyIndex<K: Eq + Drop, V: Drop>: PairIndex<Pair<K, V>> {
             IsSeat self.now pairs.now entry.1.key result) };
 
     /// Returns the place of the key that equals `key`, which belongs at `seat`, and the pair there, or `None` if there is none.
-    fn find<'a, S: Table<Pair<K, V>>, L: Table<Link>>(
+    fn find<'a, M: Storage<Pair<K, V>>>(
         &self,
-        pairs: &'a MetaSlotTable<Pair<K, V>, S, L>,
+        pairs: &'a MetaSlotTable<Pair<K, V>, M>,
         seat: Self::Seat,
         key: &K,
     ) -> Option<(SlotTableKey, &'a Pair<K, V>)>
@@ -60,9 +70,9 @@ pub trait KeyIndex<K: Eq + Drop, V: Drop>: PairIndex<Pair<K, V>> {
     ghost AreFoundBy: { (K → List ℕ) → Type 0 };
 
     /// Returns the place of the key with these bytes, and the pair there, or `None` if there is none.
-    fn find_bytes<'a, S: Table<Pair<K, V>>, L: Table<Link>>(
+    fn find_bytes<'a, M: Storage<Pair<K, V>>>(
         &self,
-        pairs: &'a MetaSlotTable<Pair<K, V>, S, L>,
+        pairs: &'a MetaSlotTable<Pair<K, V>, M>,
         bytes: &[u8],
     ) -> Option<(SlotTableKey, &'a Pair<K, V>)>
     where
@@ -76,9 +86,9 @@ pub trait KeyIndex<K: Eq + Drop, V: Drop>: PairIndex<Pair<K, V>> {
 
     /// Inserts `pair`, whose key belongs at `seat` and none of the pairs has, at the first free place. Returns `pair` as the error
     /// if no place is free.
-    fn insert<S: Table<Pair<K, V>>, L: Table<Link>>(
+    fn insert<M: Storage<Pair<K, V>>>(
         &mut self,
-        pairs: &mut MetaSlotTable<Pair<K, V>, S, L>,
+        pairs: &mut MetaSlotTable<Pair<K, V>, M>,
         seat: Self::Seat,
         pair: Pair<K, V>,
     ) -> Result<SlotTableKey, Pair<K, V>>
@@ -90,9 +100,9 @@ pub trait KeyIndex<K: Eq + Drop, V: Drop>: PairIndex<Pair<K, V>> {
         ensures fits { Self.PairIndex.Fits self.new pairs.new };
 
     /// Removes the pair at a place that has one, whose key belongs at `seat`, and returns it.
-    fn remove<S: Table<Pair<K, V>>, L: Table<Link>>(
+    fn remove<M: Storage<Pair<K, V>>>(
         &mut self,
-        pairs: &mut MetaSlotTable<Pair<K, V>, S, L>,
+        pairs: &mut MetaSlotTable<Pair<K, V>, M>,
         seat: Self::Seat,
         place: SlotTableKey,
     ) -> Pair<K, V>
@@ -104,10 +114,7 @@ pub trait KeyIndex<K: Eq + Drop, V: Drop>: PairIndex<Pair<K, V>> {
         ensures fits { Self.PairIndex.Fits self.new pairs.new };
 
     /// Removes all pairs and drops them, in slot order.
-    fn clear<S: Table<Pair<K, V>>, L: Table<Link>>(
-        &mut self,
-        pairs: &mut MetaSlotTable<Pair<K, V>, S, L>,
-    )
+    fn clear<M: Storage<Pair<K, V>>>(&mut self, pairs: &mut MetaSlotTable<Pair<K, V>, M>)
         requires { Self.PairIndex.Fits self.old pairs.old }
         ensures pairs { pairs.new ≡ slot_table_clear pairs.old }
         ensures values { pairs.new.values ≡ replicate (length pairs.old.values) None }
@@ -116,18 +123,15 @@ pub trait KeyIndex<K: Eq + Drop, V: Drop>: PairIndex<Pair<K, V>> {
         ensures fits { Self.PairIndex.Fits self.new pairs.new };
 
     /// Returns the place from which on none has a pair.
-    fn bound<S: Table<Pair<K, V>>, L: Table<Link>>(
-        &self,
-        pairs: &MetaSlotTable<Pair<K, V>, S, L>,
-    ) -> usize
+    fn bound<M: Storage<Pair<K, V>>>(&self, pairs: &MetaSlotTable<Pair<K, V>, M>) -> usize
         requires { Self.PairIndex.Fits self.now pairs.now }
         ensures { IsBound pairs.now result };
 
     /// Returns the place of the key that equals `key`, which belongs at `seat`, or `None` if there is none.
     #[inline]
-    final fn place<S: Table<Pair<K, V>>, L: Table<Link>>(
+    final fn place<M: Storage<Pair<K, V>>>(
         &self,
-        pairs: &MetaSlotTable<Pair<K, V>, S, L>,
+        pairs: &MetaSlotTable<Pair<K, V>, M>,
         seat: Self::Seat,
         key: &K,
     ) -> Option<SlotTableKey>
@@ -148,27 +152,23 @@ pub trait KeyIndex<K: Eq + Drop, V: Drop>: PairIndex<Pair<K, V>> {
         → Self.PairIndex.Fits index pairs → Self.PairIndex.Fits index others };
 }
 
-/// An index that is stored inline, of the pairs at `CAPACITY` places.
-pub trait InlineIndex<P, const CAPACITY: usize>: PairIndex<P> {
-    /// What an index is made of.
-    type Setup;
-
+/// An index of a map that is stored inline, with room for `CAPACITY` keys.
+pub trait InlineIndex<K: Eq + Drop, V: Drop, const CAPACITY: usize>: KeyIndex<K, V> {
     /// Creates an index of no pairs. O(`CAPACITY`).
     fn new_inline(setup: Self::Setup) -> Self
         ensures { Self.PairIndex.Fits result (slot_table_new CAPACITY) };
+
+    /// Creates an index of the same pairs, from a copy of what this one was made of. O(`CAPACITY`).
+    fn copy_inline(&self, setup: Self::Setup) -> Self
+        requires { setup ≡ Self.KeyIndex.setup_of self.now }
+        ensures { (pairs : SlotTableState (Pair K V))
+            → Self.PairIndex.Fits self.now pairs → Self.PairIndex.Fits result pairs };
 }
 
-/// An index that is stored inline and can be copied.
-pub trait CopyInline<P, const CAPACITY: usize>: PairIndex<P> {
-    /// Creates an index of the same pairs. O(`CAPACITY`).
-    fn copy_inline(&self) -> Self
-        ensures { (pairs : SlotTableState P) → Self.PairIndex.Fits self.now pairs → Self.PairIndex.Fits result pairs };
-}
-
-/// An index whose memory is allocated from `A` when it is made.
-pub trait HeapIndex<P, A: Allocator + Copy>: PairIndex<P> {
-    /// What an index is made of, beside memory.
-    type Setup;
+/// An index of a map whose memory is allocated, of which there is one in memory of each `A`.
+pub trait HeapIndex<K: Eq + Drop, V: Drop, A: Allocator + Copy>: KeyIndex<K, V> {
+    /// The index in memory of `A`.
+    type In: PairIndex<Pair<K, V>>;
 
     /// The maps that are made in two steps, one type for each allocator.
     type Family;
@@ -186,22 +186,17 @@ pub trait HeapIndex<P, A: Allocator + Copy>: PairIndex<P> {
     /// Creates an index of no pairs, for this capacity. O(`capacity`).
     ///
     /// Returns `AllocError` if an allocation fails; nothing stays allocated then, and `setup` is dropped.
-    fn new_in(alloc: A, capacity: usize, setup: Self::Setup) -> Result<Self, AllocError>
-        ensures value { IfOk result (λ index. Self.PairIndex.Fits index (slot_table_new capacity)) }
+    fn new_in(alloc: A, capacity: usize, setup: Self::Setup) -> Result<Self::In, AllocError>
+        ensures value { IfOk result (λ index. Self.In.PairIndex.Fits index (slot_table_new capacity)) }
         ensures memory { capacity ≡ 0 → IsOk result };
-}
 
-/// An index that can be copied to memory of `D`.
-pub trait CopyIn<P, D: Allocator + Copy>: PairIndex<P> {
-    /// The index in memory of `D`.
-    type Made: PairIndex<P>;
-
-    /// Creates an index of the same pairs in memory of `alloc`. O(its capacity).
+    /// Creates an index of the same pairs in memory of `alloc`, from a copy of what this one was made of. O(its capacity).
     ///
     /// Returns `AllocError` if an allocation fails; nothing stays allocated then.
-    fn copy_in(&self, alloc: D) -> Result<Self::Made, AllocError>
-        ensures value { IfOk result (λ made. (pairs : SlotTableState P)
-            → Self.PairIndex.Fits self.now pairs → Self.Made.PairIndex.Fits made pairs) }
-        ensures memory { (pairs : SlotTableState P) → Self.PairIndex.Fits self.now pairs
+    fn copy_in(&self, alloc: A, setup: Self::Setup) -> Result<Self::In, AllocError>
+        requires { setup ≡ Self.KeyIndex.setup_of self.now }
+        ensures value { IfOk result (λ made. (pairs : SlotTableState (Pair K V))
+            → Self.PairIndex.Fits self.now pairs → Self.In.PairIndex.Fits made pairs) }
+        ensures memory { (pairs : SlotTableState (Pair K V)) → Self.PairIndex.Fits self.now pairs
             → length pairs.values ≡ 0 → IsOk result };
 }

@@ -7,7 +7,7 @@ use ix_slottable::slottable::{Part, Parts};
 /// returns it. Contracts see the keys that are still to come.
 ///
 /// Its items are `&'a K`.
-pub type Keys<'a, K, V, S, L> = Parts<'a, Pair<K, V>, S, L, PairKey>;
+pub type Keys<'a, K, V, M> = Parts<'a, Pair<K, V>, M, PairKey>;
 
 /// The key of a pair.
 pub struct PairKey;

@@ -6,31 +6,18 @@ ghost use Rattle.ix_slottable.specs.Memory.{slot_table_memory};
 ghost use Rattle.ix_slottable.specs.SlotTableState.{slot_table_new};
 
 use crate::map::{HeapIndex, InlineIndex, MetaMap, Pair};
-use ix_slottable::slottable::{FixedSizeSlotTable, Link, SlotTable};
-use ix_tables::{
-    FilledHeapTable, FilledInlineTable, HeapTable, InlineTable, MAX_FIXED_CAPACITY, MemorySize,
-    Uninit,
-};
+use ix_slottable::{FixedSizeSlotTable, Heap, Inline, SlotTable};
+use ix_tables::{MAX_FIXED_CAPACITY, MemorySize, Uninit};
 use std::alloc::{AllocError, Allocator};
 use std::hash::BuildHasher;
 
-/// A map with room for `CAPACITY` keys that is stored inline and does not allocate.
-pub type InlineMap<K, V, const CAPACITY: usize, I> = MetaMap<
-    Pair<K, V>,
-    InlineTable<Pair<K, V>, CAPACITY>,
-    FilledInlineTable<Link, CAPACITY>,
-    I,
->;
+/// A map with room for `CAPACITY` keys that is stored inline and does not allocate, with any index.
+pub type InlineMap<K, V, const CAPACITY: usize, I> = MetaMap<Pair<K, V>, Inline<CAPACITY>, I>;
 
-/// A map whose memory is allocated from `A` when it is made, and deallocated when it is dropped.
-pub type HeapMap<K, V, A, I> = MetaMap<
-    Pair<K, V>,
-    HeapTable<Pair<K, V>, A>,
-    FilledHeapTable<Link, A>,
-    I,
->;
+/// A map whose memory is allocated from `A` when it is made, and deallocated when it is dropped, with any index.
+pub type HeapMap<K, V, A, I> = MetaMap<Pair<K, V>, Heap<A>, I>;
 
-impl<K: Eq + Drop, V: Drop, const CAPACITY: usize, I: InlineIndex<Pair<K, V>, CAPACITY>> InlineMap<
+impl<K: Eq + Drop, V: Drop, const CAPACITY: usize, I: InlineIndex<K, V, CAPACITY>> InlineMap<
     K,
     V,
     CAPACITY,
@@ -60,7 +47,7 @@ impl<K: Eq + Drop, V: Drop, const CAPACITY: usize, I: InlineIndex<Pair<K, V>, CA
     }
 }
 
-impl<K: Eq + Drop, V: Drop, const CAPACITY: usize, I: InlineIndex<Pair<K, V>, CAPACITY>> InlineMap<
+impl<K: Eq + Drop, V: Drop, const CAPACITY: usize, I: InlineIndex<K, V, CAPACITY>> InlineMap<
     K,
     V,
     CAPACITY,
@@ -81,7 +68,7 @@ where
 }
 
 /// Creates an empty map. The keys of a hash map are hashed by hashers that `B::default()` makes. O(`CAPACITY`).
-impl<K: Eq + Drop, V: Drop, const CAPACITY: usize, I: InlineIndex<Pair<K, V>, CAPACITY>> Default
+impl<K: Eq + Drop, V: Drop, const CAPACITY: usize, I: InlineIndex<K, V, CAPACITY>> Default
     for InlineMap<K, V, CAPACITY, I>
 where
     I::Setup: Default,
@@ -93,7 +80,12 @@ where
     }
 }
 
-impl<K: Eq + Drop, V: Drop, A: Allocator + Copy, I: HeapIndex<Pair<K, V>, A>> HeapMap<K, V, A, I> {
+impl<K: Eq + Drop, V: Drop, A: Allocator + Copy, I: HeapIndex<K, V, A, In = I>> HeapMap<
+    K,
+    V,
+    A,
+    I,
+> {
     ghost use Rattle.ix_flatmap.specs.contracts.map.pair.Pair as pair;
     ghost use Rattle.ix_slottable.specs.contracts.slottable.link.Link as link;
 
@@ -148,7 +140,7 @@ impl<K: Eq + Drop, V: Drop, A: Allocator + Copy, I: HeapIndex<Pair<K, V>, A>> He
     }
 }
 
-impl<K: Eq + Drop, V: Drop, A: Allocator + Copy, I: HeapIndex<Pair<K, V>, A>> HeapMap<K, V, A, I>
+impl<K: Eq + Drop, V: Drop, A: Allocator + Copy, I: HeapIndex<K, V, A, In = I>> HeapMap<K, V, A, I>
 where
     I::Setup: BuildHasher + Drop,
 {

@@ -12,14 +12,14 @@ ghost use Rattle.ix_flatmap.specs.MapSteps.{map_insert_result, map_insert, pair_
 use crate::map::{
     CallbackProgression, Iter, KeyIndex, Keyed, Keys, MapError, Pair, PairIndex, Values,
 };
-use ix_slottable::slottable::{Link, MetaSlotTable, SlotTableKey};
+use ix_slottable::slottable::{MetaSlotTable, SlotTableKey, Storage};
 use ix_tables::Table;
 use std::alloc::AllocError;
 use std::convert::AsSlice;
 use std::fmt::{self, Debug, Formatter, Write};
 use std::marker::Model;
 
-/// A map from keys to values, over a table of pairs `S`, a table of links `L` and an index `I`, by which it finds keys. Keys are
+/// A map from keys to values, with its memory in a storage `M` and an index `I`, by which it finds keys. Keys are
 /// compared by their `Eq`. Contracts see a slot table of pairs, in which no two keys are equal.
 ///
 /// A pair stays at its place until it is removed, and a new one takes the first free place: the one vacated last, or else
@@ -32,12 +32,12 @@ use std::marker::Model;
 /// A user makes a map by the names of its kinds: `FlatMap` and its like, whose index is [`Bound`](crate::flatmap::Bound), or
 /// `HashMap` and its like of `ix_hashmap`.
 #[derive(Drop)]
-pub struct MetaMap<P: Keyed, S: Table<P>, L: Table<Link>, I: PairIndex<P>> {
-    pub(crate) pairs: MetaSlotTable<P, S, L>,
+pub struct MetaMap<P: Keyed, M: Storage<P>, I: PairIndex<P>> {
+    pub(crate) pairs: MetaSlotTable<P, M>,
     pub(crate) index: I,
 }
 
-impl<P: Keyed, S: Table<P>, L: Table<Link>, I: PairIndex<P>> Model for MetaMap<P, S, L, I> {
+impl<P: Keyed, M: Storage<P>, I: PairIndex<P>> Model for MetaMap<P, M, I> {
     ghost use Rattle.ix_slottable.specs.SlotTableState.{SlotTableState, slot_table_state_code};
     ghost use Rattle.ix_flatmap.specs.MapState.{AreDistinctBy};
 
@@ -50,12 +50,7 @@ impl<P: Keyed, S: Table<P>, L: Table<Link>, I: PairIndex<P>> Model for MetaMap<P
     ghost invariant = { λ map. AreDistinctBy P.has_key_of map.pairs × I.Fits map.index map.pairs };
 }
 
-impl<K: Eq + Drop, V: Drop, S: Table<Pair<K, V>>, L: Table<Link>, I: KeyIndex<K, V>> MetaMap<
-    Pair<K, V>,
-    S,
-    L,
-    I,
-> {
+impl<K: Eq + Drop, V: Drop, M: Storage<Pair<K, V>>, I: KeyIndex<K, V>> MetaMap<Pair<K, V>, M, I> {
     ghost use Rattle.ix_flatmap.specs.contracts.map.meta_map.MetaMap.{the_row};
     ghost use Rattle.ix_flatmap.specs.contracts.map.pair.Pair as pair;
 
@@ -166,7 +161,7 @@ impl<K: Eq + Drop, V: Drop, S: Table<Pair<K, V>>, L: Table<Link>, I: KeyIndex<K,
     #[inline]
     pub fn get_mut_ref(&mut self, key: &K) -> Option<&mut V>
         ensures* writes_back { sem 𝓛
-            (LendsIf (the_row (pair.the_row K.row V.row) S.row L.row I.row ⟦<Pair<K, V> as Keyed>⟧ S.Table L.Table I.PairIndex)
+            (LendsIf (the_row (pair.the_row K.row V.row) M.row I.row M.Items.row M.Links.row ⟦<Pair<K, V> as Keyed>⟧ M.Items.Table M.Links.Table I.PairIndex)
             V.row self.entry result (map_set K.eq self.old key.now) self.old) }
         ensures value { option_copied_mut result ≡ map_value K.eq self.old key.now }
         // Whatever value is written, the key has it, and any other key keeps its own.
@@ -236,7 +231,7 @@ impl<K: Eq + Drop, V: Drop, S: Table<Pair<K, V>>, L: Table<Link>, I: KeyIndex<K,
     pub fn capacity(&self) -> usize
         ensures value { result ≡ length self.now.values }
         // Of an inline map: the capacity is that of its type.
-        ensures known { S.IsLen (length self.now.values) }
+        ensures known { M.Items.Table.IsLen (length self.now.values) }
     {
         self.pairs.capacity()
     }
@@ -283,7 +278,7 @@ impl<K: Eq + Drop, V: Drop, S: Table<Pair<K, V>>, L: Table<Link>, I: KeyIndex<K,
         // These hold of every map, whatever calls were made.
         ensures formed { IsWellFormed self.now }
         ensures distinct { HasDistinctKeys K.eq self.now }
-        ensures known { S.IsLen (length self.now.values) }
+        ensures known { M.Items.Table.IsLen (length self.now.values) }
     {
         self.pairs.len()
     }
@@ -298,7 +293,7 @@ impl<K: Eq + Drop, V: Drop, S: Table<Pair<K, V>>, L: Table<Link>, I: KeyIndex<K,
 
     /// Returns an iterator over the keys in slot order. O(1), and O(capacity) for all of its items together.
     #[inline]
-    pub fn keys(&self) -> Keys<'_, K, V, S, L>
+    pub fn keys(&self) -> Keys<'_, K, V, M>
         ensures { result ≡ map_keys self.now }
     {
         Keys::new(self.pairs.iter())
@@ -306,7 +301,7 @@ impl<K: Eq + Drop, V: Drop, S: Table<Pair<K, V>>, L: Table<Link>, I: KeyIndex<K,
 
     /// Returns an iterator over the values in slot order of their keys. O(1), and O(capacity) for all of its items together.
     #[inline]
-    pub fn values(&self) -> Values<'_, K, V, S, L>
+    pub fn values(&self) -> Values<'_, K, V, M>
         ensures { result ≡ map_values self.now }
     {
         Values::new(self.pairs.iter())
@@ -315,7 +310,7 @@ impl<K: Eq + Drop, V: Drop, S: Table<Pair<K, V>>, L: Table<Link>, I: KeyIndex<K,
     /// Returns an iterator over the keys in slot order, each with its value. O(1), and O(capacity) for all of its items
     /// together.
     #[inline]
-    pub fn iter(&self) -> Iter<'_, K, V, S, L>
+    pub fn iter(&self) -> Iter<'_, K, V, M>
         ensures items { result ≡ map_items self.now }
         ensures keys { keys_of result ≡ map_keys self.now }
         // A key comes with its value exactly if the map has an equal one.
@@ -362,7 +357,7 @@ impl<K: Eq + Drop, V: Drop, S: Table<Pair<K, V>>, L: Table<Link>, I: KeyIndex<K,
     pub(crate) fn value_mut(&mut self, place: SlotTableKey) -> &mut V
         requires { IsHeld self.old place }
         ensures* writes_back { sem 𝓛
-            (Lends (the_row (pair.the_row K.row V.row) S.row L.row I.row ⟦<Pair<K, V> as Keyed>⟧ S.Table L.Table I.PairIndex)
+            (Lends (the_row (pair.the_row K.row V.row) M.row I.row M.Items.row M.Links.row ⟦<Pair<K, V> as Keyed>⟧ M.Items.Table M.Links.Table I.PairIndex)
             V.row self.entry result (pair_set self.old place)) }
         ensures value { option_map (λ pair. pair.value) (value_at self.old place)
             ≡ Some result.now }
@@ -372,8 +367,8 @@ impl<K: Eq + Drop, V: Drop, S: Table<Pair<K, V>>, L: Table<Link>, I: KeyIndex<K,
 }
 
 /// Prints a map from the keys to their values, in slot order. O(capacity).
-impl<K: Eq + Debug, V: Debug, S: Table<Pair<K, V>>, L: Table<Link>, I: PairIndex<Pair<K, V>>> Debug
-    for MetaMap<Pair<K, V>, S, L, I> {
+impl<K: Eq + Debug, V: Debug, M: Storage<Pair<K, V>>, I: PairIndex<Pair<K, V>>> Debug
+    for MetaMap<Pair<K, V>, M, I> {
     fn fmt<W: Write>(&self, f: &mut Formatter<W>) -> fmt::Result {
         f.debug_map().entries(Iter::new(self.pairs.iter())).finish()
     }

@@ -11,15 +11,9 @@ ghost use Rattle.ix_flatmap.specs.MapCalls.{CallAtKey, TakesKey};
 ghost use Rattle.ix_flatmap.specs.declared.map.pair.Pair.{Pair};
 
 use crate::map::{KeyIndex, MetaMap, Pair};
-use ix_slottable::slottable::{Link, SlotTableKey};
-use ix_tables::Table;
+use ix_slottable::slottable::{SlotTableKey, Storage};
 
-impl<K: Eq + Drop, V: Drop, S: Table<Pair<K, V>>, L: Table<Link>, I: KeyIndex<K, V>> MetaMap<
-    Pair<K, V>,
-    S,
-    L,
-    I,
-> {
+impl<K: Eq + Drop, V: Drop, M: Storage<Pair<K, V>>, I: KeyIndex<K, V>> MetaMap<Pair<K, V>, M, I> {
     /// Calls `f` with each key in slot order and a mutable reference to its value. O(capacity), with one call for each key.
     pub fn for_each_mut<F: FnMut(&K, &mut V)>(&mut self, mut f: F)
         requires { IsCallableOnEach (CallAtKey F.step) (TakesKey F.pre) f (map_items self.old) }

@@ -8,16 +8,11 @@ ghost use Rattle.ix_flatmap.specs.MapState.{HasDistinctKeys, map_value};
 ghost use Rattle.ix_flatmap.specs.MapSteps.{map_insert_result, map_insert, map_replace};
 
 use crate::map::{KeyIndex, Keyed, MapError, MetaMap, Pair};
-use ix_slottable::slottable::Link;
+use ix_slottable::slottable::Storage;
 use ix_tables::Table;
 use std::mem;
 
-impl<K: Eq + Drop, V: Drop, S: Table<Pair<K, V>>, L: Table<Link>, I: KeyIndex<K, V>> MetaMap<
-    Pair<K, V>,
-    S,
-    L,
-    I,
-> {
+impl<K: Eq + Drop, V: Drop, M: Storage<Pair<K, V>>, I: KeyIndex<K, V>> MetaMap<Pair<K, V>, M, I> {
     ghost use Rattle.ix_flatmap.specs.contracts.map.meta_map.MetaMap.{the_row};
     ghost use Rattle.ix_flatmap.specs.contracts.map.pair.Pair as pair;
 
@@ -94,7 +89,7 @@ impl<K: Eq + Drop, V: Drop, S: Table<Pair<K, V>>, L: Table<Link>, I: KeyIndex<K,
     pub fn get_or_insert_with<F: FnOnce() -> V>(&mut self, key: K, f: F) -> Result<&mut V, K>
         requires { map_value K.eq self.old key ≡ None → self.old.free ≢ [] → F.pre f }
         ensures* writes_back { sem 𝓛
-            (LendsIfOk (the_row (pair.the_row K.row V.row) S.row L.row I.row ⟦<Pair<K, V> as Keyed>⟧ S.Table L.Table I.PairIndex)
+            (LendsIfOk (the_row (pair.the_row K.row V.row) M.row I.row M.Items.row M.Links.row ⟦<Pair<K, V> as Keyed>⟧ M.Items.Table M.Links.Table I.PairIndex)
             V.row self.entry result (map_replace K.eq self.old key) self.old) }
         ensures value { IfOk result (λ value. UnwrapsOrElse (map_value K.eq self.old key) (F.post f) value.now) }
         // A closure that computes a value gives that one.

@@ -7,7 +7,7 @@ use ix_slottable::slottable::{Part, Parts};
 /// [`MetaMap::values`](crate::map::MetaMap::values) returns it. Contracts see the values that are still to come.
 ///
 /// Its items are `&'a V`.
-pub type Values<'a, K, V, S, L> = Parts<'a, Pair<K, V>, S, L, PairValue>;
+pub type Values<'a, K, V, M> = Parts<'a, Pair<K, V>, M, PairValue>;
 
 /// The value of a pair.
 pub struct PairValue;

@@ -1,10 +1,9 @@
 -- How a hash map finds a pair: the places whose keys have one bucket are a chain of links. No clause of a public call cites
 -- this.
-use Rattle.std.specs.Prelude.{◌≡◌, ◌≢◌, ◌↔◌, ℕ, zero, suc, ◌*◌, ◌/◌, ◌%◌, ◌^◌, ◌<◌, ◌≤◌, List, [], ◌∷◌, ◌++◌, length, nat_eq, count_by, if◌then◌else◌, Option, Some, option_map, slice_index_or, slice_set, replicate, Bool, true}
+use Rattle.std.specs.Prelude.{◌≡◌, ◌≢◌, ◌↔◌, ℕ, zero, suc, ◌*◌, ◌/◌, ◌%◌, ◌^◌, ◌<◌, ◌≤◌, List, [], ◌∷◌, ◌++◌, length, nat_eq, count_by, if◌then◌else◌, Some, option_map, slice_index_or, slice_set, replicate, Bool, true}
 use Rattle.std.specs.List.{fold}
 use Rattle.ix_slottable.specs.SlotTableState.{SlotTableState, value_at, IsHeld}
 use Rattle.ix_flatmap.specs.inner.FlatSearch.{is_key_at}
-use Rattle.ix_slottable.specs.inner.FullTables.{items_in}
 use Rattle.ix_hashmap.specs.declared.hashmap.chain_link.ChainLink.{ChainLink}
 use Rattle.ix_hashmap.specs.declared.hashmap.hashed.TheConstants.{FACTOR}
 use Rattle.ix_flatmap.specs.declared.map.Pair.{Pair}
@@ -24,10 +23,6 @@ link_head link bucket = slice_index_or link.heads (bucket % 4) no_place
 -- the first place of this bucket is another
 abbrev pub link_set_head : ChainLink → ℕ → ℕ → ChainLink
 link_set_head link bucket place = record link { heads = slice_set link.heads (bucket % 4) place }
-
--- the links in the places of a table
-abbrev pub links_in : List (Option ChainLink) → List ChainLink
-links_in places = items_in no_link places
 
 -- the upper bits of this number depend on most bits of the hash
 abbrev pub scrambled : ℕ → ℕ

@@ -12,24 +12,24 @@ use crate::hashmap::chain_link::{NO_LINK, NO_PLACE};
 use crate::hashmap::chain_table::ChainTable;
 use crate::hashmap::hashed::{bucket_of, bucket_of_bytes};
 use crate::hashmap::search::{find_bytes, find_from};
-use crate::hashmap::{ChainLink, HashMapFamily, Hashed, LinkTable};
+use crate::hashmap::{ChainLink, HashMapFamily, HashMapStorage, Hashed};
 use ix_flatmap::flatmap::{self, find_in_order};
-use ix_flatmap::map::{CopyIn, CopyInline, HeapIndex, InlineIndex, KeyIndex, Pair, PairIndex};
-use ix_slottable::slottable::{Link, MetaSlotTable, SlotTableKey};
-use ix_tables::{FilledHeapTable, FilledInlineTable, MAX_FIXED_CAPACITY, MemorySize, Table};
+use ix_flatmap::map::{HeapIndex, InlineIndex, KeyIndex, Pair, PairIndex};
+use ix_slottable::{Heap, Inline, MetaSlotTable, SlotTableKey, Storage};
+use ix_tables::{HeapArray, InlineArray, MAX_FIXED_CAPACITY, MemorySize};
 use std::alloc::{AllocError, Allocator};
 use std::convert::AsSlice;
 use std::hash::{BuildHasher, Hash};
 
-/// The index of a hash map: for each of its buckets a chain of the places whose keys have it, in a table `C`. Keys are found by
+/// The index of a hash map: for each of its buckets a chain of the places whose keys have it, in a storage `S`. Keys are found by
 /// their `Hash`, which `B` makes hashers for.
 ///
 /// A call that looks for a key compares it with the keys of its bucket, up to the equal one. A map has four buckets for each place,
 /// and where hashes are spread evenly over the numbers below 2<sup>64</sup>, a bucket of a full map has a quarter of a key on
 /// average.
 #[derive(Drop)]
-pub struct Buckets<C: Table<ChainLink>, B: BuildHasher> {
-    links: ChainTable<C>,
+pub struct Buckets<S: HashMapStorage, B: BuildHasher> {
+    links: ChainTable<S::Chains>,
     hasher: B,
 }
 
@@ -40,21 +40,31 @@ pub struct Bucket {
     first: u32,
 }
 
-impl<P: Hashed, C: LinkTable, B: BuildHasher> PairIndex<P> for Buckets<C, B> {
+impl<P: Hashed, S: HashMapStorage, B: BuildHasher> PairIndex<P> for Buckets<S, B> {
     ghost Fits = { λ index pairs.
-        IsIndexed C.has_chains (λ pair. hash_of B.Hasher.finish B.Hasher.write (B.build_hasher index.hasher) (P.key_input pair)) pairs index.links };
+        IsIndexed S.has_chains (λ pair. hash_of B.Hasher.finish B.Hasher.write (B.build_hasher index.hasher) (P.key_input pair)) pairs index.links };
 }
 
-impl<K: Eq + Hash + Drop, V: Drop, C: LinkTable, B: BuildHasher> KeyIndex<K, V> for Buckets<C, B> {
+impl<K: Eq + Hash + Drop, V: Drop, S: HashMapStorage, B: BuildHasher> KeyIndex<K, V>
+    for Buckets<S, B> {
     type Seat = Bucket;
+
+    type Setup = B;
 
     ghost IsSeat = { λ index pairs key seat.
         IsBucket (hash_of B.Hasher.finish B.Hasher.write (B.build_hasher index.hasher) (K.hash_input key)) index.links seat.number seat.first };
 
+    ghost setup_of = { λ index. index.hasher };
+
     #[inline]
-    fn seat<S: Table<Pair<K, V>>, L: Table<Link>>(
+    fn setup(&self) -> &B {
+        &self.hasher
+    }
+
+    #[inline]
+    fn seat<M: Storage<Pair<K, V>>>(
         &self,
-        _pairs: &MetaSlotTable<Pair<K, V>, S, L>,
+        _pairs: &MetaSlotTable<Pair<K, V>, M>,
         key: &K,
     ) -> Bucket {
         let places = self.links.len();
@@ -73,13 +83,13 @@ impl<K: Eq + Hash + Drop, V: Drop, C: LinkTable, B: BuildHasher> KeyIndex<K, V> 
     }
 
     #[inline]
-    fn find<'a, S: Table<Pair<K, V>>, L: Table<Link>>(
+    fn find<'a, M: Storage<Pair<K, V>>>(
         &self,
-        pairs: &'a MetaSlotTable<Pair<K, V>, S, L>,
+        pairs: &'a MetaSlotTable<Pair<K, V>, M>,
         seat: Bucket,
         key: &K,
     ) -> Option<(SlotTableKey, &'a Pair<K, V>)> {
-        if !C::has_chains() {
+        if !S::has_chains() {
             return find_in_order(pairs, pairs.capacity(), key);
         }
         find_from(pairs, &self.links, seat.first, key)
@@ -89,15 +99,15 @@ impl<K: Eq + Hash + Drop, V: Drop, C: LinkTable, B: BuildHasher> KeyIndex<K, V> 
     ghost AreFoundBy = { λ bytes. (key : K) → K.hash_input key ≡ bytes key ∷ [] };
 
     #[inline]
-    fn find_bytes<'a, S: Table<Pair<K, V>>, L: Table<Link>>(
+    fn find_bytes<'a, M: Storage<Pair<K, V>>>(
         &self,
-        pairs: &'a MetaSlotTable<Pair<K, V>, S, L>,
+        pairs: &'a MetaSlotTable<Pair<K, V>, M>,
         bytes: &[u8],
     ) -> Option<(SlotTableKey, &'a Pair<K, V>)>
     where
         K: AsSlice<u8>,
     {
-        if !C::has_chains() {
+        if !S::has_chains() {
             return flatmap::find_bytes(pairs, pairs.capacity(), bytes);
         }
         let places = self.links.len();
@@ -109,19 +119,19 @@ impl<K: Eq + Hash + Drop, V: Drop, C: LinkTable, B: BuildHasher> KeyIndex<K, V> 
     }
 
     #[inline]
-    fn insert<S: Table<Pair<K, V>>, L: Table<Link>>(
+    fn insert<M: Storage<Pair<K, V>>>(
         &mut self,
-        pairs: &mut MetaSlotTable<Pair<K, V>, S, L>,
+        pairs: &mut MetaSlotTable<Pair<K, V>, M>,
         seat: Bucket,
         pair: Pair<K, V>,
     ) -> Result<SlotTableKey, Pair<K, V>>
-        requires fits { ⟦<Buckets<C, B> as PairIndex<Pair<K, V>>>⟧.Fits self.old pairs.old }
-        requires seat { ⟦<Buckets<C, B> as KeyIndex<K, V>>⟧.IsSeat self.old pairs.old pair.key seat }
+        requires fits { ⟦<Buckets<S, B> as PairIndex<Pair<K, V>>>⟧.Fits self.old pairs.old }
+        requires seat { ⟦<Buckets<S, B> as KeyIndex<K, V>>⟧.IsSeat self.old pairs.old pair.key seat }
         ensures step { SlotTableInsert pairs.old pair pairs.new (result_ok result) }
         ensures returned { IfErr result (λ refused. refused ≡ pair) }
-        ensures fits { ⟦<Buckets<C, B> as PairIndex<Pair<K, V>>>⟧.Fits self.new pairs.new }
+        ensures fits { ⟦<Buckets<S, B> as PairIndex<Pair<K, V>>>⟧.Fits self.new pairs.new }
     {
-        if !C::has_chains() {
+        if !S::has_chains() {
             return pairs.try_insert(pair);
         }
         match pairs.try_insert(pair) {
@@ -135,13 +145,13 @@ impl<K: Eq + Hash + Drop, V: Drop, C: LinkTable, B: BuildHasher> KeyIndex<K, V> 
     }
 
     #[inline]
-    fn remove<S: Table<Pair<K, V>>, L: Table<Link>>(
+    fn remove<M: Storage<Pair<K, V>>>(
         &mut self,
-        pairs: &mut MetaSlotTable<Pair<K, V>, S, L>,
+        pairs: &mut MetaSlotTable<Pair<K, V>, M>,
         seat: Bucket,
         place: SlotTableKey,
     ) -> Pair<K, V> {
-        if !C::has_chains() {
+        if !S::has_chains() {
             return pairs.remove_unchecked(place);
         }
         self.links.remove(seat.number, seat.first, place.value());
@@ -149,61 +159,56 @@ impl<K: Eq + Hash + Drop, V: Drop, C: LinkTable, B: BuildHasher> KeyIndex<K, V> 
     }
 
     #[inline]
-    fn clear<S: Table<Pair<K, V>>, L: Table<Link>>(
-        &mut self,
-        pairs: &mut MetaSlotTable<Pair<K, V>, S, L>,
-    ) {
+    fn clear<M: Storage<Pair<K, V>>>(&mut self, pairs: &mut MetaSlotTable<Pair<K, V>, M>) {
         pairs.clear();
         self.links.clear();
     }
 
     #[inline]
-    fn bound<S: Table<Pair<K, V>>, L: Table<Link>>(
-        &self,
-        pairs: &MetaSlotTable<Pair<K, V>, S, L>,
-    ) -> usize {
+    fn bound<M: Storage<Pair<K, V>>>(&self, pairs: &MetaSlotTable<Pair<K, V>, M>) -> usize {
         pairs.capacity()
     }
 
     ghost Fits_equal_keys = { λ index pairs others same fits.
-        IsIndexed-clone (λ pair. hash_of B.Hasher.finish B.Hasher.write (B.build_hasher index.hasher) (K.hash_input pair.key)) C.has_chains
+        IsIndexed-clone (λ pair. hash_of B.Hasher.finish B.Hasher.write (B.build_hasher index.hasher) (K.hash_input pair.key)) S.has_chains
         (λ pair other. K.eq other.key pair.key ≡ true) pairs others index.links
         (λ pair other equal. ap (hash_of B.Hasher.finish B.Hasher.write (B.build_hasher index.hasher)) (K.respects_eq other.key pair.key equal))
         same fits };
 }
 
-impl<P: Hashed, const CAPACITY: usize, B: BuildHasher> InlineIndex<P, CAPACITY>
-    for Buckets<FilledInlineTable<ChainLink, CAPACITY>, B> {
-    type Setup = B;
-
+impl<K: Eq + Hash + Drop, V: Drop, const CAPACITY: usize, B: BuildHasher> InlineIndex<
+    K,
+    V,
+    CAPACITY,
+> for Buckets<Inline<CAPACITY>, B> {
     fn new_inline(setup: B) -> Self {
-        let links = ChainTable::new(FilledInlineTable::full(NO_LINK));
+        let links = InlineArray::new(NO_LINK);
         Buckets {
-            links,
+            links: ChainTable::new(links),
+            hasher: setup,
+        }
+    }
+
+    fn copy_inline(&self, setup: B) -> Self {
+        // Names the number of places, by which the check knows that the arrays have as many.
+        let _places = self.links.len();
+        Buckets {
+            links: ChainTable::copy_of(InlineArray::new(NO_LINK), &self.links),
             hasher: setup,
         }
     }
 }
 
-impl<P: Hashed, const CAPACITY: usize, B: BuildHasher + Copy> CopyInline<P, CAPACITY>
-    for Buckets<FilledInlineTable<ChainLink, CAPACITY>, B> {
-    fn copy_inline(&self) -> Self {
-        // Names the number of places, by which the check knows that the tables have as many.
-        let _places = self.links.len();
-        Buckets {
-            links: ChainTable::copy_of(FilledInlineTable::new(NO_LINK), &self.links),
-            hasher: self.hasher,
-        }
-    }
-}
-
-impl<K: Eq + Hash + Drop, V: Drop, A: Allocator + Copy, B: BuildHasher + Drop> HeapIndex<
-    Pair<K, V>,
-    A,
-> for Buckets<FilledHeapTable<ChainLink, A>, B> {
+impl<
+    K: Eq + Hash + Drop,
+    V: Drop,
+    A: Allocator + Copy,
+    D: Allocator + Copy,
+    B: BuildHasher + Drop,
+> HeapIndex<K, V, D> for Buckets<Heap<A>, B> {
     ghost use Rattle.ix_hashmap.specs.contracts.hashmap.chain_link.ChainLink as chain_link;
 
-    type Setup = B;
+    type In = Buckets<Heap<D>, B>;
 
     type Family = HashMapFamily<K, V, B>;
 
@@ -211,31 +216,26 @@ impl<K: Eq + Hash + Drop, V: Drop, A: Allocator + Copy, B: BuildHasher + Drop> H
 
     #[inline]
     fn memory_size(pairs: MemorySize, capacity: usize) -> MemorySize {
-        pairs.saturating_add(FilledHeapTable::<ChainLink, A>::memory_size(capacity))
+        pairs.saturating_add(HeapArray::<ChainLink, D>::memory_size(capacity))
     }
 
-    fn new_in(alloc: A, capacity: usize, setup: B) -> Result<Self, AllocError> {
+    fn new_in(alloc: D, capacity: usize, setup: B) -> Result<Buckets<Heap<D>, B>, AllocError> {
         // Links number no more places.
         if capacity > MAX_FIXED_CAPACITY {
             return Err(AllocError);
         }
-        let links = ChainTable::new(FilledHeapTable::full(alloc, capacity, NO_LINK)?);
+        let links = HeapArray::new(alloc, capacity, NO_LINK)?;
         Ok(Buckets {
-            links,
+            links: ChainTable::new(links),
             hasher: setup,
         })
     }
-}
 
-impl<P: Hashed, A: Allocator + Copy, D: Allocator + Copy, B: BuildHasher + Copy> CopyIn<P, D>
-    for Buckets<FilledHeapTable<ChainLink, A>, B> {
-    type Made = Buckets<FilledHeapTable<ChainLink, D>, B>;
-
-    fn copy_in(&self, alloc: D) -> Result<Buckets<FilledHeapTable<ChainLink, D>, B>, AllocError> {
-        let table = FilledHeapTable::new(alloc, self.links.len(), NO_LINK)?;
+    fn copy_in(&self, alloc: D, setup: B) -> Result<Buckets<Heap<D>, B>, AllocError> {
+        let links = HeapArray::new(alloc, self.links.len(), NO_LINK)?;
         Ok(Buckets {
-            links: ChainTable::copy_of(table, &self.links),
-            hasher: self.hasher,
+            links: ChainTable::copy_of(links, &self.links),
+            hasher: setup,
         })
     }
 }

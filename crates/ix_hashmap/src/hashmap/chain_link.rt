@@ -1,9 +1,5 @@
-//! Links of the chains of a hash map, and tables of them.
-ghost use Rattle.std.specs.Prelude.{◌≡◌, Bool, true, nat_le};
-ghost use Rattle.ix_tables.specs.declared.cells.table.TheConstants.{MAX_FIXED_CAPACITY};
-
-use ix_tables::{FilledHeapTable, FilledInlineTable, MAX_FIXED_CAPACITY, Table};
-use std::alloc::Allocator;
+//! Links of the chains of a hash map.
+ghost use Rattle.std.specs.Prelude.{◌≡◌};
 
 /// What a hash map keeps for each of its places: the first places of four buckets, those with four times the number of the place
 /// and up to three more, and the place after that place in its chain.
@@ -46,34 +42,5 @@ impl ChainLink {
     {
         let index = (bucket % 4) as usize;
         self.heads[index] = place;
-    }
-}
-
-/// A table of the links of a hash map. Links number places by 32 bits. A map whose type gives it more places than
-/// [`MAX_FIXED_CAPACITY`] has no chains, and compares its keys one by one.
-pub trait LinkTable: Table<ChainLink> {
-    /// Whether a map with such a table has chains.
-    ghost has_chains: { Bool };
-
-    /// Returns `true` if a map with such a table has chains. O(1).
-    fn has_chains() -> bool
-        ensures { result ≡ has_chains };
-}
-
-impl<const CAPACITY: usize> LinkTable for FilledInlineTable<ChainLink, CAPACITY> {
-    ghost has_chains = { nat_le CAPACITY MAX_FIXED_CAPACITY };
-
-    #[inline]
-    fn has_chains() -> bool {
-        CAPACITY <= MAX_FIXED_CAPACITY
-    }
-}
-
-impl<A: Allocator + Copy> LinkTable for FilledHeapTable<ChainLink, A> {
-    ghost has_chains = { true };
-
-    #[inline]
-    fn has_chains() -> bool {
-        true
     }
 }

@@ -1,54 +1,45 @@
-//! A table of links, which are chains of places.
-ghost use Rattle.std.specs.Prelude.{◌≡◌, ◌≢◌, ◌*◌, ◌<◌, ◌≤◌, length, replicate, Some};
-ghost use Rattle.ix_tables.specs.Places.{IsVacant};
+//! An array of links, which are chains of places.
+ghost use Rattle.std.specs.Prelude.{◌≡◌, ◌≢◌, ◌*◌, ◌<◌, ◌≤◌, length, replicate};
 ghost use Rattle.ix_hashmap.specs.inner.HashChains.{no_place, no_link, head_at, next_at, links_set_head, links_set_next, links_insert_first, IsChainFrom, IsOnChain, IsBefore, IsUnlinked};
 
 use crate::hashmap::ChainLink;
 use crate::hashmap::chain_link::NO_LINK;
-use ix_slottable::full_table::copy_items;
-use ix_tables::{Counted, Table, Touches};
+use ix_tables::Array;
 use std::marker::Model;
 
-/// A link in each place of a table. Contracts see the list of them.
+/// A link for each place of a map. Contracts see the list of them.
 #[derive(Drop)]
-pub(crate) struct ChainTable<C: Table<ChainLink>> {
-    links: Counted<C>,
+pub(crate) struct ChainTable<C: Array<ChainLink>> {
+    links: C,
 }
 
-impl<C: Table<ChainLink>> Model for ChainTable<C> {
+impl<C: Array<ChainLink>> Model for ChainTable<C> {
     ghost use Rattle.std.specs.Prelude.{List};
-    ghost use Rattle.ix_slottable.specs.FullTables.{HasEachPlace};
-    ghost use Rattle.ix_hashmap.specs.inner.HashChains.{links_in};
     ghost use Rattle.ix_hashmap.specs.declared.hashmap.chain_link.ChainLink.{ChainLink};
 
     ghost Value = { List ChainLink };
 
-    ghost view = { λ table. links_in (C.places table.links) };
-
-    ghost invariant = { λ table. HasEachPlace (C.places table.links) };
+    ghost view = { λ table. C.items table.links };
 }
 
-impl<C: Table<ChainLink>> ChainTable<C> {
-    /// Makes chains of a table with a link in each place, none of which has a place. O(1).
+impl<C: Array<ChainLink>> ChainTable<C> {
+    /// Wraps an array. O(1).
     #[inline]
     pub(crate) fn new(links: C) -> Self
-        requires { C.places links ≡ replicate (length (C.places links)) (Some no_link) }
-        ensures { result ≡ replicate (length (C.places links)) no_link }
+        ensures { result ≡ C.items links }
     {
-        ChainTable {
-            links: Counted::new(links),
-        }
+        ChainTable { links }
     }
 
-    /// Makes the chains of `other` in an empty table of as many places. O(the number of places).
-    pub(crate) fn copy_of<D: Table<ChainLink>>(table: C, other: &ChainTable<D>) -> Self
-        requires vacant { IsVacant (C.places table) }
-        requires len { length (C.places table) ≡ length other.now }
+    /// Overwrites an array of as many places with the links of `other`, and wraps it. O(the number of places).
+    pub(crate) fn copy_of<D: Array<ChainLink>>(mut array: C, other: &ChainTable<D>) -> Self
+        requires { length (C.items array) ≡ length other.now }
         ensures { result ≡ other.now }
     {
-        let mut links = Counted::new(table);
-        copy_items(&mut links, &other.links);
-        ChainTable { links }
+        for place in 0..array.len() {
+            *array.get_mut(place) = *other.links.get(place);
+        }
+        ChainTable::new(array)
     }
 
     /// Returns the number of places, which is a quarter of that of buckets.
@@ -63,14 +54,11 @@ impl<C: Table<ChainLink>> ChainTable<C> {
     /// Returns the first place in the chain of a bucket, or the number for no place.
     #[inline]
     pub(crate) fn head(&self, bucket: u128) -> u32
-        requires { bucket < 4 * length self.now }
+        requires bucket { bucket < 4 * length self.now }
+        requires fits { length self.now ≤ 18446744073709551615 }
         ensures { result ≡ head_at self.now bucket }
     {
-        // Names the number of places, by which the check knows that a quarter of a bucket's fits.
-        let _places = self.len();
-        self.links
-            .get((bucket / 4) as usize, &mut Touches::new())
-            .head(bucket)
+        self.links.get((bucket / 4) as usize).head(bucket)
     }
 
     /// Returns the next place of a place in its chain, or the number for no place.
@@ -79,7 +67,7 @@ impl<C: Table<ChainLink>> ChainTable<C> {
         requires { place < length self.now }
         ensures { result ≡ next_at self.now place }
     {
-        self.links.get(place, &mut Touches::new()).next
+        self.links.get(place).next
     }
 
     /// Makes `place` the first in the chain of a bucket, before those that are in it, the first of which is `first`.
@@ -119,7 +107,7 @@ impl<C: Table<ChainLink>> ChainTable<C> {
         ensures { self.new ≡ replicate (length self.old) no_link }
     {
         for number in 0..self.links.len() {
-            *self.links.get_mut(number, &mut Touches::new()) = NO_LINK;
+            *self.links.get_mut(number) = NO_LINK;
         }
     }
 
@@ -142,14 +130,13 @@ impl<C: Table<ChainLink>> ChainTable<C> {
 
     #[inline]
     fn set_head(&mut self, bucket: u128, place: u32)
-        requires { bucket < 4 * length self.old }
+        requires bucket { bucket < 4 * length self.old }
+        requires fits { length self.old ≤ no_place }
         ensures links { self.new ≡ links_set_head self.old bucket place }
         ensures head { head_at self.new bucket ≡ place }
     {
-        // Names the number of places, by which the check knows that a quarter of a bucket's fits.
-        let _places = self.len();
         self.links
-            .get_mut((bucket / 4) as usize, &mut Touches::new())
+            .get_mut((bucket / 4) as usize)
             .set_head(bucket, place);
     }
 
@@ -158,6 +145,6 @@ impl<C: Table<ChainLink>> ChainTable<C> {
         requires { place < length self.old }
         ensures { self.new ≡ links_set_next self.old place next }
     {
-        self.links.get_mut(place, &mut Touches::new()).next = next;
+        self.links.get_mut(place).next = next;
     }
 }

@@ -7,9 +7,10 @@ ghost use Rattle.ix_flatmap.specs.contracts.map.pair.Pair as pair;
 ghost use Rattle.ix_slottable.specs.contracts.slottable.link.Link as link;
 ghost use Rattle.ix_hashmap.specs.contracts.hashmap.chain_link.ChainLink as chain_link;
 
-use crate::hashmap::{Buckets, ChainLink};
-use ix_flatmap::map::{HeapMap, InlineMap, MetaMap};
-use ix_tables::{ContainerFamily, FilledHeapTable, FilledInlineTable, MemorySize, Uninit};
+use crate::hashmap::Buckets;
+use ix_flatmap::map::{MetaMap, Pair};
+use ix_slottable::{Heap, Inline};
+use ix_tables::{ContainerFamily, MemorySize, Uninit};
 use std::alloc::{AllocError, Allocator, Global};
 use std::hash::{BuildHasher, BuildHasherDefault, FoldHasher, Hash};
 use std::marker::PhantomData;
@@ -18,35 +19,28 @@ use std::marker::PhantomData;
 /// can give many of them one bucket.
 pub type DefaultHashBuilder = BuildHasherDefault<FoldHasher>;
 
-/// A hash map over a table of pairs `S`, a table of links `L` and a table of chain links `C`, whose keys are hashed by the hashers
-/// that `B` makes.
+/// A hash map with its memory in a storage `M`, whose keys are hashed by the hashers that `B` makes.
 ///
 /// Each call that looks for a key takes O(1) time on average, and O(capacity) if all keys have one bucket; [`Buckets`] says
 /// how many keys it compares. The other calls are as [`MetaMap`] says.
-pub type MetaHashMap<P, S, L, C, B> = MetaMap<P, S, L, Buckets<C, B>>;
+pub type MetaHashMap<P, M, B> = MetaMap<P, M, Buckets<M, B>>;
 
 /// A hash map with room for `CAPACITY` keys that is stored inline and does not allocate.
 ///
 /// One of more than [`MAX_FIXED_CAPACITY`](ix_tables::MAX_FIXED_CAPACITY) keys, which `default` alone makes, has no chains: a call
 /// compares a key with all others.
-pub type FixedSizeHashMap<K, V, const CAPACITY: usize, B = DefaultHashBuilder> = InlineMap<
-    K,
-    V,
-    CAPACITY,
-    Buckets<FilledInlineTable<ChainLink, CAPACITY>, B>,
+pub type FixedSizeHashMap<K, V, const CAPACITY: usize, B = DefaultHashBuilder> = MetaHashMap<
+    Pair<K, V>,
+    Inline<CAPACITY>,
+    B,
 >;
 
 /// A hash map whose memory is allocated from `A` when it is made, and deallocated when it is dropped. Its capacity is at most
 /// [`MAX_FIXED_CAPACITY`](ix_tables::MAX_FIXED_CAPACITY), since links number places by 32 bits.
-pub type HashMap<K, V, A = Global, B = DefaultHashBuilder> = HeapMap<
-    K,
-    V,
-    A,
-    Buckets<FilledHeapTable<ChainLink, A>, B>,
->;
+pub type HashMap<K, V, A = Global, B = DefaultHashBuilder> = MetaHashMap<Pair<K, V>, Heap<A>, B>;
 
-/// Returns what [`HeapMap::memory_size`](ix_flatmap::map::HeapMap::memory_size) of a hash map returns: what a table of pairs, one
-/// of links and one of links of chains take.
+/// Returns what [`HeapMap::memory_size`](ix_flatmap::map::HeapMap::memory_size) of a hash map returns: what a table of pairs, one of links and an array of links of chains
+/// take.
 ///
 /// Does not allocate. O(1).
 pub fn hash_map_memory_law<

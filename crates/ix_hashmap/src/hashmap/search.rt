@@ -6,15 +6,15 @@ ghost use Rattle.ix_hashmap.specs.inner.HashChains.{LeadsToKey};
 use crate::hashmap::ChainLink;
 use crate::hashmap::chain_table::ChainTable;
 use ix_flatmap::map::Pair;
-use ix_slottable::slottable::{Link, MetaSlotTable, SlotTableKey};
-use ix_tables::Table;
+use ix_slottable::slottable::{MetaSlotTable, SlotTableKey, Storage};
+use ix_tables::Array;
 use std::convert::AsSlice;
 
 /// Returns the place of the key that equals `key`, and the pair there. If the map has one, it is in the chain that begins at
 /// `first`.
 #[inline]
-pub(crate) fn find_from<'a, K: Eq, V, S: Table<Pair<K, V>>, L: Table<Link>, C: Table<ChainLink>>(
-    pairs: &'a MetaSlotTable<Pair<K, V>, S, L>,
+pub(crate) fn find_from<'a, K: Eq, V, M: Storage<Pair<K, V>>, C: Array<ChainLink>>(
+    pairs: &'a MetaSlotTable<Pair<K, V>, M>,
     chains: &ChainTable<C>,
     first: u32,
     key: &K,
@@ -39,8 +39,8 @@ pub(crate) fn find_from<'a, K: Eq, V, S: Table<Pair<K, V>>, L: Table<Link>, C: T
 
 /// Returns what [`find_from`] returns, for a chain whose first place was looked at.
 #[inline]
-fn find_later<'a, K: Eq, V, S: Table<Pair<K, V>>, L: Table<Link>, C: Table<ChainLink>>(
-    pairs: &'a MetaSlotTable<Pair<K, V>, S, L>,
+fn find_later<'a, K: Eq, V, M: Storage<Pair<K, V>>, C: Array<ChainLink>>(
+    pairs: &'a MetaSlotTable<Pair<K, V>, M>,
     chains: &ChainTable<C>,
     first: u32,
     key: &K,
@@ -66,15 +66,8 @@ fn find_later<'a, K: Eq, V, S: Table<Pair<K, V>>, L: Table<Link>, C: Table<Chain
 /// Returns the place of the key with these bytes, and the pair there. If the map has one, it is in the chain that begins at
 /// `first`.
 #[inline]
-pub(crate) fn find_bytes<
-    'a,
-    K: Eq + AsSlice<u8>,
-    V,
-    S: Table<Pair<K, V>>,
-    L: Table<Link>,
-    C: Table<ChainLink>,
->(
-    pairs: &'a MetaSlotTable<Pair<K, V>, S, L>,
+pub(crate) fn find_bytes<'a, K: Eq + AsSlice<u8>, V, M: Storage<Pair<K, V>>, C: Array<ChainLink>>(
+    pairs: &'a MetaSlotTable<Pair<K, V>, M>,
     chains: &ChainTable<C>,
     first: u32,
     bytes: &[u8],

@@ -12,20 +12,18 @@ ghost use Rattle.ix_json.specs.declared.json.json_fault.JsonFault.TheVariants.{O
 use crate::json::texts::{string_from_text, text_from_string};
 use crate::json::{JsonFault, JsonFill, JsonForm, JsonItem};
 use ix_flatmap::{HeapMap, InlineIndex, InlineMap, KeyIndex, MetaMap, Pair};
-use ix_slottable::Link;
+use ix_slottable::Storage;
 use ix_string::StaticString;
-use ix_tables::Table;
 use serde_json::{Map, Value};
 use std::alloc::{Allocator, Global};
 
 /// Returns the object of the forms of the values, each at its key.
 fn map_to_value<
     V: JsonItem + Drop,
-    S: Table<Pair<StaticString<N>, V>>,
-    L: Table<Link>,
+    M: Storage<Pair<StaticString<N>, V>>,
     I: KeyIndex<StaticString<N>, V>,
     const N: usize,
->(map: &MetaMap<Pair<StaticString<N>, V>, S, L, I>, alloc: Global) -> Result<Value, JsonFault>
+>(map: &MetaMap<Pair<StaticString<N>, V>, M, I>, alloc: Global) -> Result<Value, JsonFault>
     ensures value { IfOk result (λ value. view value ≡ object_tree V.tree (map_items map.now)) }
     ensures read_back { IsOk result
         → AllByRecursion (IsItemReadBack N V.tree V.read) (map_items map.now) }
@@ -50,12 +48,11 @@ fn map_to_value<
 /// Returns the fault of the first member that has one. A key that the map has is a fault too.
 fn check_members<
     V: JsonForm + Drop,
-    S: Table<Pair<StaticString<N>, V>>,
-    L: Table<Link>,
+    M: Storage<Pair<StaticString<N>, V>>,
     I: KeyIndex<StaticString<N>, V>,
     const N: usize,
 >(
-    map: &MetaMap<Pair<StaticString<N>, V>, S, L, I>,
+    map: &MetaMap<Pair<StaticString<N>, V>, M, I>,
     members: &Map<std::string::String, Value>,
 ) -> Result<(), JsonFault>
     ensures value { result ≡ result_map_both (λ _. tt) (λ fault. fault)
@@ -76,12 +73,11 @@ fn check_members<
 /// Inserts the items that the members are read as, up to the first member that has a fault.
 fn insert_members<
     V: JsonForm + Drop,
-    S: Table<Pair<StaticString<N>, V>>,
-    L: Table<Link>,
+    M: Storage<Pair<StaticString<N>, V>>,
     I: KeyIndex<StaticString<N>, V>,
     const N: usize,
 >(
-    map: &mut MetaMap<Pair<StaticString<N>, V>, S, L, I>,
+    map: &mut MetaMap<Pair<StaticString<N>, V>, M, I>,
     members: &Map<std::string::String, Value>,
 ) -> Result<(), JsonFault>
     ensures map { OnOk result (result_map_both (map_with map.old) (λ fault. fault)
@@ -111,7 +107,7 @@ fn insert_members<
 /// O(`CAPACITY`), and as much again for each member, with as many calls of the values' conversion as there are keys.
 impl<
     V: JsonItem + Drop,
-    I: KeyIndex<StaticString<N>, V> + InlineIndex<Pair<StaticString<N>, V>, CAPACITY> + Drop,
+    I: InlineIndex<StaticString<N>, V, CAPACITY> + Drop,
     const N: usize,
     const CAPACITY: usize,
 > JsonForm for InlineMap<StaticString<N>, V, CAPACITY, I>

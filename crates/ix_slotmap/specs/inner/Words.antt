@@ -3,11 +3,6 @@
 use Rattle.std.specs.Prelude.{◌≡◌, ℕ, ◌+◌, ◌*◌, ◌/◌, ◌%◌, ◌<◌, ◌≤◌, List, length, map, nat_eq, if◌then◌else◌, Option, Bool, true, false, IsSome, is_some, count_by, slice_index_or}
 use Rattle.ix_slottable.specs.SlotTableState.{SlotTableState, value_at}
 use Rattle.ix_slotmap.specs.Generations.{greatest_generation}
-use Rattle.ix_slottable.specs.inner.FullTables.{items_in}
-
--- the numbers in the places of a table
-abbrev pub words_in : List (Option ℕ) → List ℕ
-words_in places = items_in 0 places
 
 abbrev pub word_at : List ℕ → ℕ → ℕ
 word_at words place = slice_index_or words place 0

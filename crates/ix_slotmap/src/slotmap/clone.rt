@@ -5,24 +5,22 @@ ghost use Rattle.ix_slottable.specs.SlotTableState.{value_at};
 ghost use Rattle.ix_slottable.specs.SlotTableCopies.{IsCloneAt, SlotTableIsClone};
 ghost use Rattle.ix_slotmap.specs.SlotMapCopies.{SlotMapIsClone, SlotMapIsInfallible};
 
-use crate::slotmap::{FixedSizeSlotMap, MetaSlotMap, SlotMap, WordTable, drop_values};
-use ix_slottable::slottable::{FixedSizeSlotTable, Link, MetaSlotTable, SlotTable, SlotTableKey};
-use ix_tables::{FilledHeapTable, FilledInlineTable, MaybeMoved, Table, Touches};
+use crate::slotmap::{
+    FixedSizeSlotMap, MetaSlotMap, SlotMap, SlotMapStorage, WordTable, drop_values,
+};
+use ix_slottable::slottable::{
+    FixedSizeSlotTable, MetaSlotTable, SlotTable, SlotTableKey, Storage,
+};
+use ix_tables::{HeapArray, InlineArray, MaybeMoved, Touches};
 use std::alloc::{AllocError, Allocator};
 use std::marker::PhantomData;
 
-impl<T: Clone, S: Table<MaybeMoved<T>>, L: Table<Link>, G: Table<u64>> MetaSlotMap<
-    T,
-    MaybeMoved<T>,
-    S,
-    L,
-    G,
-> {
+impl<T: Clone, M: SlotMapStorage<MaybeMoved<T>>> MetaSlotMap<T, MaybeMoved<T>, M> {
     /// Puts clones of the values in the same places of an empty table of the same capacity. A retired place is held there too,
     /// and the free places are in the same order. Returns the error of the first clone that fails, and drops those already made.
-    fn clone_contents<R: Table<MaybeMoved<T>>, M: Table<Link>>(
+    fn clone_contents<N: Storage<MaybeMoved<T>>>(
         &self,
-        slots: &mut MetaSlotTable<MaybeMoved<T>, R, M>,
+        slots: &mut MetaSlotTable<MaybeMoved<T>, N>,
     ) -> Result<(), AllocError>
         requires { slots.old.values ≡ replicate (length self.now.slots.values) None }
         ensures clones { OnOk result (SlotTableIsClone (IsCloneAt T.is_clone) self.now.slots slots.new) }
@@ -34,9 +32,9 @@ impl<T: Clone, S: Table<MaybeMoved<T>>, L: Table<Link>, G: Table<u64>> MetaSlotM
     }
 
     /// Does what [`MetaSlotMap::clone_contents`] does, but for the order of the free places.
-    fn put_contents<R: Table<MaybeMoved<T>>, M: Table<Link>>(
+    fn put_contents<N: Storage<MaybeMoved<T>>>(
         &self,
-        slots: &mut MetaSlotTable<MaybeMoved<T>, R, M>,
+        slots: &mut MetaSlotTable<MaybeMoved<T>, N>,
     ) -> Result<(), AllocError>
         requires { slots.old.values ≡ replicate (length self.now.slots.values) None }
         ensures capacity { OnOk result (length slots.new.values ≡ length self.now.slots.values) }
@@ -89,7 +87,7 @@ impl<T: Clone, const CAPACITY: usize> Clone for FixedSizeSlotMap<T, CAPACITY> {
     fn clone(&self) -> Result<Self, AllocError> {
         // Names the capacity, by which the check knows that the tables have as many places.
         let _capacity = self.slots.capacity();
-        let words = WordTable::copy_of(FilledInlineTable::new(0), &self.words);
+        let words = WordTable::copy_of(InlineArray::new(0), &self.words);
         let mut slots = FixedSizeSlotTable::<MaybeMoved<T>, CAPACITY>::default();
         self.clone_contents(&mut slots)?;
         Ok(MetaSlotMap {
@@ -113,7 +111,7 @@ impl<T: Clone, A: Allocator + Copy> SlotMap<T, A> {
         ensures memory { length self.now.slots.values ≡ 0 → IsOk result }
     {
         let mut slots = SlotTable::new(alloc, self.capacity())?;
-        let words = FilledHeapTable::new(alloc, self.capacity(), 0)?;
+        let words = HeapArray::new(alloc, self.capacity(), 0)?;
         let words = WordTable::copy_of(words, &self.words);
         self.clone_contents(&mut slots)?;
         Ok(MetaSlotMap {

@@ -6,9 +6,8 @@ ghost use Rattle.ix_slottable.specs.SlotTableState.{entries_from};
 ghost use Rattle.ix_slotmap.specs.Generations.{SlotKey, slot_map_value, slot_map_len, IsDead, held_entries, slot_map_entries};
 ghost use Rattle.ix_slotmap.specs.SlotMapSteps.{slot_map_clear};
 
-use crate::slotmap::{MetaSlotMap, SlotMapKey};
-use ix_slottable::slottable::Link;
-use ix_tables::{MaybeMoved, Table, Touches};
+use crate::slotmap::{MetaSlotMap, SlotMapKey, SlotMapStorage};
+use ix_tables::{MaybeMoved, Touches};
 use std::fmt::{self, Debug, Formatter, Write};
 use std::iter::FusedIterator;
 
@@ -17,20 +16,14 @@ use std::iter::FusedIterator;
 ///
 /// The values that are still to come when it is dropped are dropped with it, that of the least index first, and no key is held
 /// then.
-pub struct Drain<'a, T, S: Table<MaybeMoved<T>>, L: Table<Link>, G: Table<u64>> {
-    map: &'a mut MetaSlotMap<T, MaybeMoved<T>, S, L, G>,
+pub struct Drain<'a, T, M: SlotMapStorage<MaybeMoved<T>>> {
+    map: &'a mut MetaSlotMap<T, MaybeMoved<T>, M>,
     /// No place before this one has a value.
     index: usize,
     ghost counted: { slot_map_len map.now ≡ length (held_entries map.now (entries_from index (drop index map.now.slots.values))) },
 }
 
-impl<T, S: Table<MaybeMoved<T>>, L: Table<Link>, G: Table<u64>> MetaSlotMap<
-    T,
-    MaybeMoved<T>,
-    S,
-    L,
-    G,
-> {
+impl<T, M: SlotMapStorage<MaybeMoved<T>>> MetaSlotMap<T, MaybeMoved<T>, M> {
     ghost use Rattle.ix_slottable.specs.Draining.{DrainingKeepsAlong};
     ghost use Rattle.ix_slotmap.specs.SlotMapDrain.{drain_items, drain_left, drain_lender};
 
@@ -38,7 +31,7 @@ impl<T, S: Table<MaybeMoved<T>>, L: Table<Link>, G: Table<u64>> MetaSlotMap<
     /// not taken are dropped with it, and the map is as [`MetaSlotMap::clear`] leaves it then. O(1), and O(capacity) for all of
     /// its items together.
     #[inline]
-    pub fn drain(&mut self) -> Drain<'_, T, S, L, G>
+    pub fn drain(&mut self) -> Drain<'_, T, M>
     where
         T: Drop,
         ensures items { drain_items result ≡ slot_map_entries self.old }
@@ -63,8 +56,7 @@ impl<T, S: Table<MaybeMoved<T>>, L: Table<Link>, G: Table<u64>> MetaSlotMap<
 }
 
 /// Drops the values that are still to come, that of the least index first. No key is held then. O(capacity).
-impl<T: Drop, S: Table<MaybeMoved<T>>, L: Table<Link>, G: Table<u64>> Drop
-    for Drain<'_, T, S, L, G> {
+impl<T: Drop, M: SlotMapStorage<MaybeMoved<T>>> Drop for Drain<'_, T, M> {
     ghost use Rattle.ix_slotmap.specs.SlotMapDrain.{drain_left};
 
     fn drop(self)
@@ -75,8 +67,7 @@ impl<T: Drop, S: Table<MaybeMoved<T>>, L: Table<Link>, G: Table<u64>> Drop
     }
 }
 
-impl<T: Drop, S: Table<MaybeMoved<T>>, L: Table<Link>, G: Table<u64>> Iterator
-    for Drain<'_, T, S, L, G> {
+impl<T: Drop, M: SlotMapStorage<MaybeMoved<T>>> Iterator for Drain<'_, T, M> {
     type Item = (SlotMapKey, T);
 
     ghost use Rattle.ix_slottable.specs.Draining.{DrainingSteps};
@@ -95,9 +86,7 @@ impl<T: Drop, S: Table<MaybeMoved<T>>, L: Table<Link>, G: Table<u64>> Iterator
         }
         let index = self.map.held_from(self.index);
         let key = self.map.key_of(index, &mut Touches::new());
-        let Some(value) = self.map.remove_at(index) else {
-            unreachable!()
-        };
+        let value = self.map.remove_held(index, &mut Touches::new());
         self.index = index + 1;
         Some((key, value))
     }
@@ -114,8 +103,7 @@ impl<T: Drop, S: Table<MaybeMoved<T>>, L: Table<Link>, G: Table<u64>> Iterator
     }
 }
 
-impl<T: Drop, S: Table<MaybeMoved<T>>, L: Table<Link>, G: Table<u64>> ExactSizeIterator
-    for Drain<'_, T, S, L, G> {
+impl<T: Drop, M: SlotMapStorage<MaybeMoved<T>>> ExactSizeIterator for Drain<'_, T, M> {
     /// Returns the number of items that are still to come. O(1).
     #[inline]
     fn len(&self) -> usize {
@@ -123,13 +111,11 @@ impl<T: Drop, S: Table<MaybeMoved<T>>, L: Table<Link>, G: Table<u64>> ExactSizeI
     }
 }
 
-impl<T: Drop, S: Table<MaybeMoved<T>>, L: Table<Link>, G: Table<u64>> FusedIterator
-    for Drain<'_, T, S, L, G> {}
+impl<T: Drop, M: SlotMapStorage<MaybeMoved<T>>> FusedIterator for Drain<'_, T, M> {}
 
 /// Prints a list of the items that are still to come, each the index and the generation of its key, and its value.
 /// O(capacity).
-impl<T: Debug, S: Table<MaybeMoved<T>>, L: Table<Link>, G: Table<u64>> Debug
-    for Drain<'_, T, S, L, G> {
+impl<T: Debug, M: SlotMapStorage<MaybeMoved<T>>> Debug for Drain<'_, T, M> {
     fn fmt<W: Write>(&self, f: &mut Formatter<W>) -> fmt::Result {
         self.map.iter().fmt(f)
     }

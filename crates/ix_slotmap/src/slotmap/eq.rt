@@ -5,14 +5,13 @@ ghost use Rattle.std.proofs.lemmas.Cmp.{and_equiv, nat_eq_equiv};
 ghost use Rattle.std.specs.Cmp.Lexicographic.{pointwise, lists_per, lists_equiv};
 ghost use Rattle.ix_slotmap.specs.Generations.{slot_map_entries};
 
-use crate::slotmap::MetaSlotMap;
-use ix_slottable::slottable::Link;
-use ix_tables::{MaybeMoved, Table};
+use crate::slotmap::{MetaSlotMap, SlotMapStorage};
+use ix_tables::MaybeMoved;
 
 /// Maps are equal if they have the same held keys, with their generations, with equal values. Their capacities, and the
 /// generations and the order of their free places do not matter.
-impl<T: PartialEq, S: Table<MaybeMoved<T>>, L: Table<Link>, G: Table<u64>> PartialEq
-    for MetaSlotMap<T, MaybeMoved<T>, S, L, G> {
+impl<T: PartialEq, M: SlotMapStorage<MaybeMoved<T>>> PartialEq
+    for MetaSlotMap<T, MaybeMoved<T>, M> {
     ghost eq = { λ map other. pointwise
         (λ p q. (nat_eq p.0.index q.0.index && nat_eq p.0.generation q.0.generation) && T.eq p.1 q.1)
         (slot_map_entries map) (slot_map_entries other) };
@@ -42,8 +41,7 @@ impl<T: PartialEq, S: Table<MaybeMoved<T>>, L: Table<Link>, G: Table<u64>> Parti
     }
 }
 
-impl<T: Eq, S: Table<MaybeMoved<T>>, L: Table<Link>, G: Table<u64>> Eq
-    for MetaSlotMap<T, MaybeMoved<T>, S, L, G> {
+impl<T: Eq, M: SlotMapStorage<MaybeMoved<T>>> Eq for MetaSlotMap<T, MaybeMoved<T>, M> {
     ghost laws = { on_equiv slot_map_entries (lists_equiv (and_equiv
         (and_equiv (on_equiv (λ p. p.0.index) nat_eq_equiv)
         (on_equiv (λ p. p.0.generation) nat_eq_equiv))

@@ -2,14 +2,12 @@
 ghost use Rattle.std.specs.Prelude.{◌≡◌, IsSome, Some};
 ghost use Rattle.ix_slotmap.specs.Generations.{slot_map_value};
 
-use crate::slotmap::{MetaSlotMap, SlotMapKey};
-use ix_slottable::slottable::Link;
-use ix_tables::{MaybeMoved, Table};
+use crate::slotmap::{MetaSlotMap, SlotMapKey, SlotMapStorage};
+use ix_tables::MaybeMoved;
 use std::ops::Index;
 
 /// `map[key]` is the value of `key`, which has to be held; [`MetaSlotMap::get`] takes any key. O(1).
-impl<T, S: Table<MaybeMoved<T>>, L: Table<Link>, G: Table<u64>> Index<SlotMapKey>
-    for MetaSlotMap<T, MaybeMoved<T>, S, L, G> {
+impl<T, M: SlotMapStorage<MaybeMoved<T>>> Index<SlotMapKey> for MetaSlotMap<T, MaybeMoved<T>, M> {
     type Output = T;
 
     ghost can_index = { λ map key. IsSome (slot_map_value map key) };

@@ -4,9 +4,8 @@ ghost use Rattle.std.specs.Iterator.{YieldsFirstBy, YieldsLastBy, UpTo, at_most,
 ghost use Rattle.std.specs.Iterator.SizeHint.{IsWithinCount};
 ghost use Rattle.ix_slotmap.specs.Generations.{slot_map_entries};
 
-use crate::slotmap::{MetaSlotMap, SlotMapKey};
-use ix_slottable::slottable::Link;
-use ix_tables::{MaybeMoved, Table, Touches};
+use crate::slotmap::{MetaSlotMap, SlotMapKey, SlotMapStorage};
+use ix_tables::{MaybeMoved, Touches};
 use std::alloc::AllocError;
 use std::fmt::{self, Debug, Formatter, Write};
 use std::iter::FusedIterator;
@@ -17,8 +16,8 @@ use std::marker::Model;
 ///
 /// This is `Iter` of iceoryx2-bb-container.
 #[derive(Drop)]
-pub struct Iter<'a, T, S: Table<MaybeMoved<T>>, L: Table<Link>, G: Table<u64>> {
-    map: &'a MetaSlotMap<T, MaybeMoved<T>, S, L, G>,
+pub struct Iter<'a, T, M: SlotMapStorage<MaybeMoved<T>>> {
+    map: &'a MetaSlotMap<T, MaybeMoved<T>, M>,
     /// The least index that is still to be visited.
     index: usize,
     /// The index after the greatest one that is still to be visited.
@@ -27,7 +26,7 @@ pub struct Iter<'a, T, S: Table<MaybeMoved<T>>, L: Table<Link>, G: Table<u64>> {
     left: usize,
 }
 
-impl<'a, T, S: Table<MaybeMoved<T>>, L: Table<Link>, G: Table<u64>> Model for Iter<'a, T, S, L, G> {
+impl<'a, T, M: SlotMapStorage<MaybeMoved<T>>> Model for Iter<'a, T, M> {
     ghost use Rattle.std.specs.Prelude.{List, length, slice_range};
     ghost use Rattle.ix_slottable.specs.SlotTableState.{entries_from};
     ghost use Rattle.ix_slottable.specs.inner.KeyRange.{IsKeyRange};
@@ -43,10 +42,10 @@ impl<'a, T, S: Table<MaybeMoved<T>>, L: Table<Link>, G: Table<u64>> Model for It
         (entries_from iter.index (slice_range iter.map.now.slots.values iter.index iter.end))) };
 }
 
-impl<'a, T, S: Table<MaybeMoved<T>>, L: Table<Link>, G: Table<u64>> Iter<'a, T, S, L, G> {
+impl<'a, T, M: SlotMapStorage<MaybeMoved<T>>> Iter<'a, T, M> {
     /// Returns an iterator over all held keys. O(1).
     #[inline]
-    pub(crate) fn new(map: &'a MetaSlotMap<T, MaybeMoved<T>, S, L, G>) -> Self
+    pub(crate) fn new(map: &'a MetaSlotMap<T, MaybeMoved<T>, M>) -> Self
         ensures { result ≡ slot_map_entries map.now }
     {
         Iter {
@@ -59,7 +58,7 @@ impl<'a, T, S: Table<MaybeMoved<T>>, L: Table<Link>, G: Table<u64>> Iter<'a, T, 
 
     /// Returns an iterator over the items that are still to come. O(1).
     #[inline]
-    pub(crate) fn rest(&self) -> Iter<'a, T, S, L, G>
+    pub(crate) fn rest(&self) -> Iter<'a, T, M>
         ensures { result ≡ self.now }
     {
         Iter {
@@ -71,8 +70,7 @@ impl<'a, T, S: Table<MaybeMoved<T>>, L: Table<Link>, G: Table<u64>> Iter<'a, T, 
     }
 }
 
-impl<'a, T, S: Table<MaybeMoved<T>>, L: Table<Link>, G: Table<u64>> Iterator
-    for Iter<'a, T, S, L, G> {
+impl<'a, T, M: SlotMapStorage<MaybeMoved<T>>> Iterator for Iter<'a, T, M> {
     type Item = (SlotMapKey, &'a T);
 
     ghost next_gives = { YieldsFirstBy (λ item. (item.0, item.1.now)) (λ rest. rest) };
@@ -104,8 +102,7 @@ impl<'a, T, S: Table<MaybeMoved<T>>, L: Table<Link>, G: Table<u64>> Iterator
     }
 }
 
-impl<'a, T, S: Table<MaybeMoved<T>>, L: Table<Link>, G: Table<u64>> DoubleEndedIterator
-    for Iter<'a, T, S, L, G> {
+impl<'a, T, M: SlotMapStorage<MaybeMoved<T>>> DoubleEndedIterator for Iter<'a, T, M> {
     ghost next_back_gives = { YieldsLastBy (λ item. (item.0, item.1.now)) (λ rest. rest) };
 
     /// Returns the last held key that is still to come with its value, or `None` if there is none. O(the number of places after
@@ -123,8 +120,7 @@ impl<'a, T, S: Table<MaybeMoved<T>>, L: Table<Link>, G: Table<u64>> DoubleEndedI
     }
 }
 
-impl<'a, T, S: Table<MaybeMoved<T>>, L: Table<Link>, G: Table<u64>> ExactSizeIterator
-    for Iter<'a, T, S, L, G> {
+impl<'a, T, M: SlotMapStorage<MaybeMoved<T>>> ExactSizeIterator for Iter<'a, T, M> {
     /// Returns the number of items that are still to come. O(1).
     #[inline]
     fn len(&self) -> usize {
@@ -132,10 +128,9 @@ impl<'a, T, S: Table<MaybeMoved<T>>, L: Table<Link>, G: Table<u64>> ExactSizeIte
     }
 }
 
-impl<'a, T, S: Table<MaybeMoved<T>>, L: Table<Link>, G: Table<u64>> FusedIterator
-    for Iter<'a, T, S, L, G> {}
+impl<'a, T, M: SlotMapStorage<MaybeMoved<T>>> FusedIterator for Iter<'a, T, M> {}
 
-impl<'a, T, S: Table<MaybeMoved<T>>, L: Table<Link>, G: Table<u64>> Clone for Iter<'a, T, S, L, G> {
+impl<'a, T, M: SlotMapStorage<MaybeMoved<T>>> Clone for Iter<'a, T, M> {
     ghost is_clone = { λ iter clone. clone ≡ iter };
 
     ghost is_infallible = { λ _. ⊤ };
@@ -149,8 +144,7 @@ impl<'a, T, S: Table<MaybeMoved<T>>, L: Table<Link>, G: Table<u64>> Clone for It
 
 /// Prints a list of the items that are still to come, each the index and the generation of its key, and its value.
 /// O(capacity).
-impl<'a, T: Debug, S: Table<MaybeMoved<T>>, L: Table<Link>, G: Table<u64>> Debug
-    for Iter<'a, T, S, L, G> {
+impl<'a, T: Debug, M: SlotMapStorage<MaybeMoved<T>>> Debug for Iter<'a, T, M> {
     fn fmt<W: Write>(&self, f: &mut Formatter<W>) -> fmt::Result {
         let mut list = f.debug_list();
         for (key, value) in self.rest() {
@@ -160,17 +154,17 @@ impl<'a, T: Debug, S: Table<MaybeMoved<T>>, L: Table<Link>, G: Table<u64>> Debug
     }
 }
 
-impl<'a, T, S: Table<MaybeMoved<T>>, L: Table<Link>, G: Table<u64>> IntoIterator
-    for &'a MetaSlotMap<T, MaybeMoved<T>, S, L, G> {
+impl<'a, T, M: SlotMapStorage<MaybeMoved<T>>> IntoIterator
+    for &'a MetaSlotMap<T, MaybeMoved<T>, M> {
     type Item = (SlotMapKey, &'a T);
 
-    type IntoIter = Iter<'a, T, S, L, G>;
+    type IntoIter = Iter<'a, T, M>;
 
     ghost into_iter_gives = { λ map iter. iter ≡ slot_map_entries map.now };
 
     /// Returns an iterator over the held keys in rising order of their indexes, each with its value. O(1).
     #[inline]
-    fn into_iter(self) -> Iter<'a, T, S, L, G> {
+    fn into_iter(self) -> Iter<'a, T, M> {
         self.iter()
     }
 }

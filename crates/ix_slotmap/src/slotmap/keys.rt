@@ -4,9 +4,8 @@ ghost use Rattle.std.specs.Iterator.{YieldsFirstBy, YieldsLastBy, UpTo, at_most,
 ghost use Rattle.std.specs.Iterator.SizeHint.{IsWithinCount};
 ghost use Rattle.std.specs.Map.{keys_of};
 
-use crate::slotmap::{Iter, SlotMapKey};
-use ix_slottable::slottable::Link;
-use ix_tables::{MaybeMoved, Table};
+use crate::slotmap::{Iter, SlotMapKey, SlotMapStorage};
+use ix_tables::MaybeMoved;
 use std::alloc::AllocError;
 use std::fmt::{self, Debug, Formatter, Write};
 use std::iter::FusedIterator;
@@ -15,11 +14,11 @@ use std::marker::Model;
 /// An iterator over the held keys of a slot map in rising order of their indexes, as
 /// [`MetaSlotMap::keys`](crate::MetaSlotMap::keys) returns it. Contracts see the keys that are still to come.
 #[derive(Drop)]
-pub struct Keys<'a, T, S: Table<MaybeMoved<T>>, L: Table<Link>, G: Table<u64>> {
-    items: Iter<'a, T, S, L, G>,
+pub struct Keys<'a, T, M: SlotMapStorage<MaybeMoved<T>>> {
+    items: Iter<'a, T, M>,
 }
 
-impl<'a, T, S: Table<MaybeMoved<T>>, L: Table<Link>, G: Table<u64>> Model for Keys<'a, T, S, L, G> {
+impl<'a, T, M: SlotMapStorage<MaybeMoved<T>>> Model for Keys<'a, T, M> {
     ghost use Rattle.std.specs.Prelude.{List};
     ghost use Rattle.std.specs.Map.{keys_of};
     ghost use Rattle.ix_slotmap.specs.Generations.{SlotKey};
@@ -29,18 +28,17 @@ impl<'a, T, S: Table<MaybeMoved<T>>, L: Table<Link>, G: Table<u64>> Model for Ke
     ghost view = { λ keys. keys_of keys.items };
 }
 
-impl<'a, T, S: Table<MaybeMoved<T>>, L: Table<Link>, G: Table<u64>> Keys<'a, T, S, L, G> {
+impl<'a, T, M: SlotMapStorage<MaybeMoved<T>>> Keys<'a, T, M> {
     /// Returns an iterator over the keys of entries. O(1).
     #[inline]
-    pub(crate) fn new(items: Iter<'a, T, S, L, G>) -> Self
+    pub(crate) fn new(items: Iter<'a, T, M>) -> Self
         ensures { result ≡ keys_of items.entry }
     {
         Keys { items }
     }
 }
 
-impl<'a, T, S: Table<MaybeMoved<T>>, L: Table<Link>, G: Table<u64>> Iterator
-    for Keys<'a, T, S, L, G> {
+impl<'a, T, M: SlotMapStorage<MaybeMoved<T>>> Iterator for Keys<'a, T, M> {
     type Item = SlotMapKey;
 
     ghost next_gives = { YieldsFirstBy (λ key. key) (λ rest. rest) };
@@ -67,8 +65,7 @@ impl<'a, T, S: Table<MaybeMoved<T>>, L: Table<Link>, G: Table<u64>> Iterator
     }
 }
 
-impl<'a, T, S: Table<MaybeMoved<T>>, L: Table<Link>, G: Table<u64>> DoubleEndedIterator
-    for Keys<'a, T, S, L, G> {
+impl<'a, T, M: SlotMapStorage<MaybeMoved<T>>> DoubleEndedIterator for Keys<'a, T, M> {
     ghost next_back_gives = { YieldsLastBy (λ key. key) (λ rest. rest) };
 
     /// Returns the last held key that is still to come, or `None` if there is none. O(the number of places without a value after
@@ -82,8 +79,7 @@ impl<'a, T, S: Table<MaybeMoved<T>>, L: Table<Link>, G: Table<u64>> DoubleEndedI
     }
 }
 
-impl<'a, T, S: Table<MaybeMoved<T>>, L: Table<Link>, G: Table<u64>> ExactSizeIterator
-    for Keys<'a, T, S, L, G> {
+impl<'a, T, M: SlotMapStorage<MaybeMoved<T>>> ExactSizeIterator for Keys<'a, T, M> {
     /// Returns the number of keys that are still to come. O(1).
     #[inline]
     fn len(&self) -> usize {
@@ -91,10 +87,9 @@ impl<'a, T, S: Table<MaybeMoved<T>>, L: Table<Link>, G: Table<u64>> ExactSizeIte
     }
 }
 
-impl<'a, T, S: Table<MaybeMoved<T>>, L: Table<Link>, G: Table<u64>> FusedIterator
-    for Keys<'a, T, S, L, G> {}
+impl<'a, T, M: SlotMapStorage<MaybeMoved<T>>> FusedIterator for Keys<'a, T, M> {}
 
-impl<'a, T, S: Table<MaybeMoved<T>>, L: Table<Link>, G: Table<u64>> Clone for Keys<'a, T, S, L, G> {
+impl<'a, T, M: SlotMapStorage<MaybeMoved<T>>> Clone for Keys<'a, T, M> {
     ghost is_clone = { λ iter clone. clone ≡ iter };
 
     ghost is_infallible = { λ _. ⊤ };
@@ -109,7 +104,7 @@ impl<'a, T, S: Table<MaybeMoved<T>>, L: Table<Link>, G: Table<u64>> Clone for Ke
 }
 
 /// Prints a list of the indexes and generations of the keys that are still to come. O(capacity).
-impl<'a, T, S: Table<MaybeMoved<T>>, L: Table<Link>, G: Table<u64>> Debug for Keys<'a, T, S, L, G> {
+impl<'a, T, M: SlotMapStorage<MaybeMoved<T>>> Debug for Keys<'a, T, M> {
     fn fmt<W: Write>(&self, f: &mut Formatter<W>) -> fmt::Result {
         let mut list = f.debug_list();
         for (key, _) in self.items.rest() {

@@ -8,10 +8,10 @@ ghost use Rattle.ix_slotmap.specs.Generations.{slot_map_new};
 ghost use Rattle.ix_slottable.specs.SlotTableState.{slot_table_new};
 
 use crate::slotmap::{MetaSlotMap, WordTable};
-use ix_slottable::slottable::{FixedSizeSlotTable, Link, SlotTable};
+use ix_slottable::slottable::{FixedSizeSlotTable, Heap, Inline, Link, SlotTable};
 use ix_tables::{
-    FilledHeapTable, FilledInlineTable, HeapTable, InitError, InlineTable, MAX_FIXED_CAPACITY,
-    MaybeMoved, MemorySize, RelocatableContainer,
+    HeapArray, InitError, InlineArray, MAX_FIXED_CAPACITY, MaybeMoved, MemorySize,
+    RelocatableContainer,
 };
 use std::alloc::{AllocError, Allocator, Global};
 use std::fmt;
@@ -23,9 +23,7 @@ use std::marker::{Model, PhantomData};
 pub type FixedSizeSlotMap<T, const CAPACITY: usize> = MetaSlotMap<
     T,
     MaybeMoved<T>,
-    InlineTable<MaybeMoved<T>, CAPACITY>,
-    FilledInlineTable<Link, CAPACITY>,
-    FilledInlineTable<u64, CAPACITY>,
+    Inline<CAPACITY>,
 >;
 
 impl<T: Drop, const CAPACITY: usize> FixedSizeSlotMap<T, CAPACITY> {
@@ -48,7 +46,7 @@ impl<T: Drop, const CAPACITY: usize> FixedSizeSlotMap<T, CAPACITY> {
     {
         MetaSlotMap {
             slots: FixedSizeSlotTable::new(),
-            words: WordTable::new(FilledInlineTable::full(2 * generation as u64)),
+            words: WordTable::new(InlineArray::new(2 * generation as u64)),
             retired: 0,
             of: PhantomData,
         }
@@ -62,7 +60,7 @@ impl<T: Drop, const CAPACITY: usize> Default for FixedSizeSlotMap<T, CAPACITY> {
     fn default() -> Self {
         MetaSlotMap {
             slots: FixedSizeSlotTable::default(),
-            words: WordTable::new(FilledInlineTable::full(0)),
+            words: WordTable::new(InlineArray::new(0)),
             retired: 0,
             of: PhantomData,
         }
@@ -72,20 +70,14 @@ impl<T: Drop, const CAPACITY: usize> Default for FixedSizeSlotMap<T, CAPACITY> {
 /// A slot map whose memory is allocated from `A` when it is made, and deallocated when it is dropped.
 ///
 /// This is `SlotMap` of iceoryx2-bb-container.
-pub type SlotMap<T, A = Global> = MetaSlotMap<
-    T,
-    MaybeMoved<T>,
-    HeapTable<MaybeMoved<T>, A>,
-    FilledHeapTable<Link, A>,
-    FilledHeapTable<u64, A>,
->;
+pub type SlotMap<T, A = Global> = MetaSlotMap<T, MaybeMoved<T>, Heap<A>>;
 
 impl<T: Drop, A: Allocator + Copy> SlotMap<T, A> {
     ghost use Rattle.ix_slottable.specs.contracts.slottable.link.Link as link;
 
     /// Returns how much memory a map of this capacity takes from its allocator when it is made.
     ///
-    /// This is the memory of a table of what the places hold, each the bytes of a `T`, of a table of links and of a table of
+    /// This is the memory of a table of what the places hold, each the bytes of a `T`, of a table of links and of an array of
     /// words. A map of capacity 0 takes no block. Does not allocate. O(1).
     #[inline]
     pub fn memory_size(capacity: usize) -> MemorySize
@@ -95,7 +87,7 @@ impl<T: Drop, A: Allocator + Copy> SlotMap<T, A> {
         ensures none { capacity ≡ 0 → result ≡ no_memory }
     {
         let slots = SlotTable::<MaybeMoved<T>, A>::memory_size(capacity);
-        let words = FilledHeapTable::<u64, A>::memory_size(capacity);
+        let words = HeapArray::<u64, A>::memory_size(capacity);
         slots.saturating_add(words)
     }
 
@@ -119,7 +111,7 @@ impl<T: Drop, A: Allocator + Copy> SlotMap<T, A> {
         ensures memory { capacity ≡ 0 → IsOk result }
     {
         let slots = SlotTable::new(alloc, capacity)?;
-        let words = FilledHeapTable::full(alloc, capacity, 2 * generation as u64)?;
+        let words = HeapArray::new(alloc, capacity, 2 * generation as u64)?;
         Ok(MetaSlotMap {
             slots,
             words: WordTable::new(words),

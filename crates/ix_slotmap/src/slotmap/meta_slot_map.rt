@@ -1,21 +1,22 @@
-//! The slot map over any three tables.
-ghost use Rattle.std.specs.Prelude.{◌≡◌, ◌≢◌, false, ◌+◌, ◌<◌, ◌≤◌, ◌↔◌, [], length, take, drop, Some, None, IsTrue, IsSome, IsNone, IfSome, option_copied, option_map, slice_get};
+//! The slot map in any storage.
+ghost use Rattle.std.specs.Prelude.{◌≡◌, ◌≢◌, false, ◌+◌, ◌<◌, ◌≤◌, ◌↔◌, [], length, take, drop, Some, None, IsTrue, IsSome, IsNone, IfSome, IfOk, option_copied, option_map, slice_get};
 ghost use Rattle.std.specs.Borrow.{sem, Lends, LendsIf};
 ghost use Rattle.std.specs.Map.{lookup};
 ghost use Rattle.std.specs.Option.{option_copied_mut};
+ghost use Rattle.std.specs.Result.{IfErr, result_ok};
 ghost use Rattle.ix_tables.specs.contracts.cells.maybe_moved.MaybeMoved as moved;
 ghost use Rattle.ix_slottable.specs.SlotTableState.{IsFree, entries_from};
 ghost use Rattle.ix_slottable.specs.SlotTableSteps.{SlotTableInsert};
 ghost use Rattle.ix_slotmap.specs.Generations.{SlotKey, SlotMapState, greatest_generation, generation_at, key_at, slot_key_eq, place_value, slot_map_value, IsRetired, IsDead, retired_count, slot_map_len, held_entries, slot_map_entries, IsSlotMapFormed, DeadAreNotHeld, KeysRise, ListsExactly};
 ghost use Rattle.ix_slotmap.specs.SlotMapSteps.{slot_map_set, slot_map_set_at, slot_map_fill, slot_map_clear, SlotMapInsert, SlotMapInsertAt, SlotMapRemove};
 
-use crate::slotmap::{Content, Iter, RETIRED, SlotMapKey, WordTable, drop_values};
-use ix_slottable::slottable::{Link, MetaSlotTable, SlotTableKey};
+use crate::slotmap::{Content, Iter, RETIRED, SlotMapKey, SlotMapStorage, WordTable, drop_values};
+use ix_slottable::slottable::{MetaSlotTable, SlotTableKey};
 use ix_tables::{MaybeMoved, Table, Touches};
 use std::marker::{Model, PhantomData};
 
-/// A map from keys that it chooses itself to values `T`, over a table of places `S`, a table of links `L` and a table of
-/// numbers `G` for the generations. Contracts see what each place holds, the free places in their order, and the generations.
+/// A map from keys that it chooses itself to values `T`, with its memory in a storage `M`. Contracts see what each place holds,
+/// the free places in their order, and the generations.
 ///
 /// A map has as many places as its capacity, with indexes from 0. A place is free, holds a value, or is retired, and it has
 /// a generation. A key is the index of a place and a generation; it is held while a value is in its place and the place has
@@ -34,15 +35,14 @@ use std::marker::{Model, PhantomData};
 /// that make one.
 ///
 /// This is `MetaSlotMap` of iceoryx2-bb-container, whose keys have no generation: that map is [`MetaSlotTable`] here.
-pub struct MetaSlotMap<T, C: Content<T>, S: Table<C>, L: Table<Link>, G: Table<u64>> {
-    pub(crate) slots: MetaSlotTable<C, S, L>,
-    pub(crate) words: WordTable<G>,
+pub struct MetaSlotMap<T, C: Content<T>, M: SlotMapStorage<C>> {
+    pub(crate) slots: MetaSlotTable<C, M::Slots>,
+    pub(crate) words: WordTable<M::Words>,
     pub(crate) retired: usize,
     pub(crate) of: PhantomData<T>,
 }
 
-impl<T, C: Content<T>, S: Table<C>, L: Table<Link>, G: Table<u64>> Model
-    for MetaSlotMap<T, C, S, L, G> {
+impl<T, C: Content<T>, M: SlotMapStorage<C>> Model for MetaSlotMap<T, C, M> {
     ghost use Rattle.ix_slotmap.specs.Generations.{GenerationState, generation_state_code};
     ghost use Rattle.ix_slotmap.specs.inner.Words.{word_generations, HasWords};
 
@@ -55,13 +55,7 @@ impl<T, C: Content<T>, S: Table<C>, L: Table<Link>, G: Table<u64>> Model
     ghost invariant = { λ map. HasWords C.is_retired map.slots map.words map.retired };
 }
 
-impl<T, S: Table<MaybeMoved<T>>, L: Table<Link>, G: Table<u64>> MetaSlotMap<
-    T,
-    MaybeMoved<T>,
-    S,
-    L,
-    G,
-> {
+impl<T, M: SlotMapStorage<MaybeMoved<T>>> MetaSlotMap<T, MaybeMoved<T>, M> {
     ghost use Rattle.ix_slotmap.specs.contracts.slotmap.meta_slot_map.MetaSlotMap.{the_row};
 
     /// Returns the number of places, free, held and retired.
@@ -69,7 +63,7 @@ impl<T, S: Table<MaybeMoved<T>>, L: Table<Link>, G: Table<u64>> MetaSlotMap<
     pub fn capacity(&self) -> usize
         ensures value { result ≡ length self.now.slots.values }
         // Of an inline map: the capacity is that of its type.
-        ensures known { S.IsLen (length self.now.slots.values) }
+        ensures known { M.Slots.Items.Table.IsLen (length self.now.slots.values) }
     {
         self.slots.capacity()
     }
@@ -90,7 +84,7 @@ impl<T, S: Table<MaybeMoved<T>>, L: Table<Link>, G: Table<u64>> MetaSlotMap<
             ≡ length self.now.slots.values }
         // These hold of every map, whatever calls were made.
         ensures formed { IsSlotMapFormed self.now }
-        ensures known { S.IsLen (length self.now.slots.values) }
+        ensures known { M.Slots.Items.Table.IsLen (length self.now.slots.values) }
     {
         self.slots.len() - self.retired
     }
@@ -157,7 +151,7 @@ impl<T, S: Table<MaybeMoved<T>>, L: Table<Link>, G: Table<u64>> MetaSlotMap<
     #[inline]
     pub fn get_mut(&mut self, key: SlotMapKey) -> Option<&mut T>
         ensures* writes_back { sem 𝓛
-            (LendsIf (the_row T.row (moved.the_row T.row) S.row L.row G.row ⟦<MaybeMoved<T> as Content<T>>⟧ S.Table L.Table G.Table)
+            (LendsIf (the_row T.row (moved.the_row T.row) M.row M.Slots.row M.Words.row M.Slots.Items.row M.Slots.Links.row ⟦<MaybeMoved<T> as Content<T>>⟧ M.Slots.Items.Table M.Slots.Links.Table M.Words.Array)
             T.row self.entry result (slot_map_set self.old key) self.old) }
         ensures value { option_copied_mut result ≡ slot_map_value self.old key }
         // Whatever value is written, the key has it, any other key keeps its own, and a dead key stays dead.
@@ -179,7 +173,7 @@ impl<T, S: Table<MaybeMoved<T>>, L: Table<Link>, G: Table<u64>> MetaSlotMap<
     /// Returns an iterator over the held keys in rising order of their indexes, each with its value. O(1), and O(capacity)
     /// for all of its items together.
     #[inline]
-    pub fn iter(&self) -> Iter<'_, T, S, L, G>
+    pub fn iter(&self) -> Iter<'_, T, M>
         ensures entries { result ≡ slot_map_entries self.now }
         ensures rising { KeysRise result }
         ensures exactly { ListsExactly result self.now }
@@ -234,7 +228,7 @@ impl<T, S: Table<MaybeMoved<T>>, L: Table<Link>, G: Table<u64>> MetaSlotMap<
         ensures touches { touches.new ≤ touches.old + 20 }
         ensures rises { touches.old ≤ touches.new }
     {
-        let (place, generation) = self.fill_first(value, touches)?;
+        let (place, generation) = self.fill_first(value, touches).ok()?;
         Some(SlotMapKey::new(place.value(), generation))
     }
 
@@ -266,7 +260,7 @@ impl<T, S: Table<MaybeMoved<T>>, L: Table<Link>, G: Table<u64>> MetaSlotMap<
         if !self.is_held(key, touches) {
             return None;
         }
-        self.remove_held(key.index(), touches)
+        Some(self.remove_held(key.index(), touches))
     }
 
     /// Returns the key of a place that is not retired.
@@ -295,6 +289,7 @@ impl<T, S: Table<MaybeMoved<T>>, L: Table<Link>, G: Table<u64>> MetaSlotMap<
     #[inline]
     fn is_held(&self, key: SlotMapKey, touches: &mut Touches) -> bool
         ensures value { IsTrue result ↔ IsSome (slot_map_value self.now key) }
+        ensures most { length self.now.slots.values ≤ 18446744073709551615 }
         ensures touches { touches.new ≤ touches.old + 1 }
         ensures rises { touches.old ≤ touches.new }
     {
@@ -339,6 +334,7 @@ impl<T, S: Table<MaybeMoved<T>>, L: Table<Link>, G: Table<u64>> MetaSlotMap<
         requires { 0 < length (held_entries self.now (entries_from start (drop start self.now.slots.values))) }
         ensures held { IsSome (place_value self.now result) }
         ensures fits { result + 1 ≤ 18446744073709551615 }
+        ensures most { length self.now.slots.values ≤ 18446744073709551615 }
         ensures entries { held_entries self.now (entries_from result (drop result self.now.slots.values))
             ≡ held_entries self.now (entries_from start (drop start self.now.slots.values)) }
     {
@@ -388,24 +384,32 @@ impl<T, S: Table<MaybeMoved<T>>, L: Table<Link>, G: Table<u64>> MetaSlotMap<
         self.slots.get_unchecked(SlotTableKey::new(index)).get()
     }
 
-    /// Inserts a value in the first free place and returns that place with its generation, or returns `None` if no place is
-    /// free.
+    /// Inserts a value in the first free place and returns that place with its generation. Returns `value` as the error if no
+    /// place is free.
     #[inline]
-    fn fill_first(&mut self, value: T, touches: &mut Touches) -> Option<(SlotTableKey, u32)>
-    where
-        T: Drop,
+    pub(crate) fn fill_first(
+        &mut self,
+        value: T,
+        touches: &mut Touches,
+    ) -> Result<(SlotTableKey, u32), T>
         ensures slots { SlotTableInsert self.old.slots (Some value) self.new.slots
-            (option_map (λ both. both.0) result) }
-        ensures generation { IfSome result (λ both. both.1 ≡ generation_at self.old both.0) }
+            (option_map (λ both. both.0) (result_ok result)) }
+        ensures returned { IfErr result (λ refused. refused ≡ value) }
+        ensures generation { IfOk result (λ both. both.1 ≡ generation_at self.old both.0) }
         ensures generations { self.new.generations ≡ self.old.generations }
         ensures touches { touches.new ≤ touches.old + 18 }
         ensures rises { touches.old ≤ touches.new }
     {
-        // The value is dropped here if there is no room. A `MaybeMoved` does not drop it.
-        let _first = self.slots.next_free_key()?;
-        let place = self.slots.insert_counted(MaybeMoved::new(value), touches)?;
-        let word = self.words.raise(place.value(), 1, touches);
-        Some((place, (word / 2) as u32))
+        match self
+            .slots
+            .try_insert_counted(MaybeMoved::new(value), touches)
+        {
+            Ok(place) => {
+                let word = self.words.raise(place.value(), 1, touches);
+                Ok((place, (word / 2) as u32))
+            }
+            Err(content) => Err(content.into_item()),
+        }
     }
 
     /// Inserts a value in a free place, and returns the generation of that place.
@@ -427,22 +431,25 @@ impl<T, S: Table<MaybeMoved<T>>, L: Table<Link>, G: Table<u64>> MetaSlotMap<
 
     /// Removes the key of a place that holds a value, and returns the value.
     #[inline]
-    pub(crate) fn remove_held(&mut self, index: usize, touches: &mut Touches) -> Option<T>
-        requires { IsSome (place_value self.old index) }
-        ensures step { SlotMapRemove self.old (key_at self.old index) self.new result }
+    pub(crate) fn remove_held(&mut self, index: usize, touches: &mut Touches) -> T
+        requires held { IsSome (place_value self.old index) }
+        // Each place is retired once, so that their number fits.
+        requires fits { length self.old.slots.values ≤ 18446744073709551615 }
+        ensures step { SlotMapRemove self.old (key_at self.old index) self.new (Some result) }
+        ensures value { place_value self.old index ≡ Some result }
+        ensures gone { place_value self.new index ≡ None }
         ensures touches { touches.new ≤ touches.old + 7 }
         ensures rises { touches.old ≤ touches.new }
     {
-        // Each place is retired once, so that their number fits.
-        let _capacity = self.capacity();
         let place = SlotTableKey::new(index);
         // Raised first, so that the generation is compared once: after the greatest one comes the word of a retired place.
         if self.words.raise(index, 1, touches) == RETIRED {
             self.retired += 1;
-            return Some(self.slots.get_unchecked_mut_counted(place, touches).take());
+            return self.slots.get_unchecked_mut_counted(place, touches).take();
         }
-        let content = self.slots.remove_unchecked_counted(place, touches);
-        Some(content.into_item())
+        self.slots
+            .remove_unchecked_counted(place, touches)
+            .into_item()
     }
 
     /// Returns a mutable reference to the value in a place.
@@ -450,7 +457,7 @@ impl<T, S: Table<MaybeMoved<T>>, L: Table<Link>, G: Table<u64>> MetaSlotMap<
     pub(crate) fn value_mut(&mut self, index: usize) -> &mut T
         requires { IsSome (place_value self.old index) }
         ensures* writes_back { sem 𝓛
-            (Lends (the_row T.row (moved.the_row T.row) S.row L.row G.row ⟦<MaybeMoved<T> as Content<T>>⟧ S.Table L.Table G.Table)
+            (Lends (the_row T.row (moved.the_row T.row) M.row M.Slots.row M.Words.row M.Slots.Items.row M.Slots.Links.row ⟦<MaybeMoved<T> as Content<T>>⟧ M.Slots.Items.Table M.Slots.Links.Table M.Words.Array)
             T.row self.entry result (slot_map_set_at self.old index)) }
         ensures value { place_value self.old index ≡ Some result.now }
     {
@@ -460,8 +467,7 @@ impl<T, S: Table<MaybeMoved<T>>, L: Table<Link>, G: Table<u64>> MetaSlotMap<
 }
 
 /// Drops the values, that of the least index first. O(capacity).
-impl<T: Drop, C: Content<T> + Drop, S: Table<C>, L: Table<Link>, G: Table<u64> + Drop> Drop
-    for MetaSlotMap<T, C, S, L, G> {
+impl<T: Drop, C: Content<T> + Drop, M: SlotMapStorage<C>> Drop for MetaSlotMap<T, C, M> {
     fn drop(self) {
         let MetaSlotMap {
             mut slots,

@@ -7,17 +7,10 @@ ghost use Rattle.ix_slotmap.specs.Generations.{SlotKey, generation_at, key_at, p
 ghost use Rattle.ix_slotmap.specs.SlotMapSteps.{slot_map_set, slot_map_remove, slot_map_clear, SlotMapRemove};
 ghost use Rattle.ix_slottable.specs.SlotTableCalls.{IsCallableOnEach, ComputesTest, ComputesValue, ChangesItem, RetainsItem, option_filter};
 
-use crate::slotmap::{Keys, MetaSlotMap, SlotMapKey, Values};
-use ix_slottable::slottable::Link;
-use ix_tables::{MaybeMoved, Table, Touches};
+use crate::slotmap::{Keys, MetaSlotMap, SlotMapKey, SlotMapStorage, Values};
+use ix_tables::{MaybeMoved, Touches};
 
-impl<T, S: Table<MaybeMoved<T>>, L: Table<Link>, G: Table<u64>> MetaSlotMap<
-    T,
-    MaybeMoved<T>,
-    S,
-    L,
-    G,
-> {
+impl<T, M: SlotMapStorage<MaybeMoved<T>>> MetaSlotMap<T, MaybeMoved<T>, M> {
     /// Removes all values and drops them, that of the least index first. O(capacity).
     ///
     /// The map is as [`MetaSlotMap::remove`] of each held key in turn leaves it: each of these keys is dead, and the place
@@ -46,7 +39,7 @@ impl<T, S: Table<MaybeMoved<T>>, L: Table<Link>, G: Table<u64>> MetaSlotMap<
     /// Returns an iterator over the held keys in rising order of their indexes. O(1), and O(capacity) for all of its items
     /// together.
     #[inline]
-    pub fn keys(&self) -> Keys<'_, T, S, L, G>
+    pub fn keys(&self) -> Keys<'_, T, M>
         ensures { result ≡ keys_of (slot_map_entries self.now) }
     {
         Keys::new(self.iter())
@@ -55,7 +48,7 @@ impl<T, S: Table<MaybeMoved<T>>, L: Table<Link>, G: Table<u64>> MetaSlotMap<
     /// Returns an iterator over the values in rising order of the indexes of their keys. O(1), and O(capacity) for all of its
     /// items together.
     #[inline]
-    pub fn values(&self) -> Values<'_, T, S, L, G>
+    pub fn values(&self) -> Values<'_, T, M>
         ensures { result ≡ map (λ item. item.1) (slot_map_entries self.now) }
     {
         Values::new(self.iter())
@@ -114,23 +107,22 @@ impl<T, S: Table<MaybeMoved<T>>, L: Table<Link>, G: Table<u64>> MetaSlotMap<
             }
             let key = self.key_of(index, &mut Touches::new());
             if !f(key, self.value_mut(index)) {
-                drop(self.remove_at(index));
+                drop(self.remove_held(index, &mut Touches::new()));
             }
         }
     }
 
     /// Removes the key of a place and returns its value, or `None` if no value is there.
     #[inline]
-    pub(crate) fn remove_at(&mut self, index: usize) -> Option<T>
-        requires { index < length self.old.slots.values }
-        ensures step { SlotMapRemove self.old (key_at self.old index) self.new result }
-        ensures value { result ≡ place_value self.old index }
-        ensures gone { place_value self.new index ≡ None }
+    fn remove_at(&mut self, index: usize) -> Option<T>
+        requires within { index < length self.old.slots.values }
+        requires fits { length self.old.slots.values ≤ 18446744073709551615 }
+        ensures { SlotMapRemove self.old (key_at self.old index) self.new result }
     {
         let mut touches = Touches::new();
         if !self.has_value(index, &mut touches) {
             return None;
         }
-        self.remove_held(index, &mut touches)
+        Some(self.remove_held(index, &mut touches))
     }
 }

@@ -3,9 +3,8 @@ ghost use Rattle.std.specs.Prelude.{◌≡◌, ◌<◌, ◌⊎◌, ◌↔◌, �
 ghost use Rattle.std.specs.Fmt.{decimal};
 ghost use Rattle.ix_slotmap.specs.Generations.{IsDead, null_key};
 
-use crate::slotmap::MetaSlotMap;
-use ix_slottable::slottable::Link;
-use ix_tables::{MaybeMoved, Table};
+use crate::slotmap::{MetaSlotMap, SlotMapStorage};
+use ix_tables::MaybeMoved;
 use std::fmt;
 use std::marker::Model;
 
@@ -88,9 +87,7 @@ impl fmt::Display for SlotMapKey {
 }
 
 /// The default key is dead, whatever the map. This function does nothing: its contract is the law. O(1).
-pub fn default_key_law<T, S: Table<MaybeMoved<T>>, L: Table<Link>, G: Table<u64>>(
-    map: &MetaSlotMap<T, MaybeMoved<T>, S, L, G>,
-)
+pub fn default_key_law<T, M: SlotMapStorage<MaybeMoved<T>>>(map: &MetaSlotMap<T, MaybeMoved<T>, M>)
     ensures { IsDead map.now null_key }
 {
     let _capacity = map.capacity();

@@ -2,12 +2,12 @@
 ghost use Rattle.ix_slotmap.specs.inner.Words.{MatchesWords, HasNoValues};
 
 use crate::slotmap::{Content, WordTable};
-use ix_slottable::slottable::{Link, MetaSlotTable, SlotTableKey};
-use ix_tables::{Table, Touches};
+use ix_slottable::slottable::{MetaSlotTable, SlotTableKey, Storage};
+use ix_tables::{Array, Touches};
 
 /// Drops the values in the places before `end`, that of the least index first. O(`end`).
-pub(crate) fn drop_values<T: Drop, C: Content<T>, S: Table<C>, L: Table<Link>, G: Table<u64>>(
-    slots: &mut MetaSlotTable<C, S, L>,
+pub(crate) fn drop_values<T: Drop, C: Content<T>, M: Storage<C>, G: Array<u64>>(
+    slots: &mut MetaSlotTable<C, M>,
     words: &WordTable<G>,
     end: usize,
 )

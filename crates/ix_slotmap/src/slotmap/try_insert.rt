@@ -4,18 +4,12 @@ ghost use Rattle.std.specs.Result.{IfErr, result_ok};
 ghost use Rattle.ix_slotmap.specs.Generations.{greatest_generation, generation_at, place_value, slot_map_len};
 ghost use Rattle.ix_slotmap.specs.SlotMapSteps.{slot_map_replace, SlotMapInsert, SlotMapInsertAt};
 
-use crate::slotmap::{MetaSlotMap, SlotMapKey};
-use ix_slottable::slottable::{Link, SlotTableKey};
-use ix_tables::{MaybeMoved, Table, Touches};
+use crate::slotmap::{MetaSlotMap, SlotMapKey, SlotMapStorage};
+use ix_slottable::slottable::SlotTableKey;
+use ix_tables::{MaybeMoved, Touches};
 use std::mem;
 
-impl<T, S: Table<MaybeMoved<T>>, L: Table<Link>, G: Table<u64>> MetaSlotMap<
-    T,
-    MaybeMoved<T>,
-    S,
-    L,
-    G,
-> {
+impl<T, M: SlotMapStorage<MaybeMoved<T>>> MetaSlotMap<T, MaybeMoved<T>, M> {
     /// Inserts `value` in the first free place and returns the key of that place, or hands `value` back. Drops nothing.
     ///
     /// Returns `value` as the error if no place is free.
@@ -24,10 +18,7 @@ impl<T, S: Table<MaybeMoved<T>>, L: Table<Link>, G: Table<u64>> MetaSlotMap<
         ensures step { SlotMapInsert self.old value self.new (result_ok result) }
         ensures returned { IfErr result (λ refused. refused ≡ value) }
     {
-        let Some(place) = self.slots.next_free_key() else {
-            return Err(value);
-        };
-        let generation = self.fill(place.value(), value, &mut Touches::new());
+        let (place, generation) = self.fill_first(value, &mut Touches::new())?;
         Ok(SlotMapKey::new(place.value(), generation))
     }
 
@@ -73,17 +64,17 @@ impl<T, S: Table<MaybeMoved<T>>, L: Table<Link>, G: Table<u64>> MetaSlotMap<
             return Err(value);
         }
         let (generation, replaced) = self.replace(index, value, touches);
-        Ok((SlotMapKey::new(index, generation), replaced))
+        Ok((SlotMapKey::new(index, generation), Some(replaced)))
     }
 
     /// Replaces the value in a place, whose generation is less than the greatest. Returns the next generation, which the place
     /// has then, and the old value.
     #[inline]
-    fn replace(&mut self, index: usize, value: T, touches: &mut Touches) -> (u32, Option<T>)
+    fn replace(&mut self, index: usize, value: T, touches: &mut Touches) -> (u32, T)
         requires held { IsSome (place_value self.old index) }
         requires generation { generation_at self.old index < greatest_generation }
         ensures generation { result.0 ≡ generation_at self.old index + 1 }
-        ensures value { result.1 ≡ place_value self.old index }
+        ensures value { place_value self.old index ≡ Some result.1 }
         ensures map { self.new ≡ slot_map_replace self.old index value }
         ensures count { slot_map_len self.new ≡ slot_map_len self.old }
         ensures raised { generation_at self.new index ≡ generation_at self.old index + 1 }
@@ -95,6 +86,6 @@ impl<T, S: Table<MaybeMoved<T>>, L: Table<Link>, G: Table<u64>> MetaSlotMap<
             MaybeMoved::new(value),
         );
         let word = self.words.raise(index, 2, touches);
-        ((word / 2) as u32, Some(replaced.into_item()))
+        ((word / 2) as u32, replaced.into_item())
     }
 }

@@ -3,9 +3,8 @@ ghost use Rattle.std.specs.Prelude.{◌≡◌, length, map, Some, IfSome, ⊤};
 ghost use Rattle.std.specs.Iterator.{YieldsFirstBy, YieldsLastBy, UpTo, at_most, item_count};
 ghost use Rattle.std.specs.Iterator.SizeHint.{IsWithinCount};
 
-use crate::slotmap::Iter;
-use ix_slottable::slottable::Link;
-use ix_tables::{MaybeMoved, Table};
+use crate::slotmap::{Iter, SlotMapStorage};
+use ix_tables::MaybeMoved;
 use std::alloc::AllocError;
 use std::fmt::{self, Debug, Formatter, Write};
 use std::iter::FusedIterator;
@@ -14,12 +13,11 @@ use std::marker::Model;
 /// An iterator over the values of a slot map in rising order of the indexes of their keys, as
 /// [`MetaSlotMap::values`](crate::MetaSlotMap::values) returns it. Contracts see the values that are still to come.
 #[derive(Drop)]
-pub struct Values<'a, T, S: Table<MaybeMoved<T>>, L: Table<Link>, G: Table<u64>> {
-    items: Iter<'a, T, S, L, G>,
+pub struct Values<'a, T, M: SlotMapStorage<MaybeMoved<T>>> {
+    items: Iter<'a, T, M>,
 }
 
-impl<'a, T, S: Table<MaybeMoved<T>>, L: Table<Link>, G: Table<u64>> Model
-    for Values<'a, T, S, L, G> {
+impl<'a, T, M: SlotMapStorage<MaybeMoved<T>>> Model for Values<'a, T, M> {
     ghost use Rattle.std.specs.Prelude.{List, map};
 
     ghost Value = { List T };
@@ -27,18 +25,17 @@ impl<'a, T, S: Table<MaybeMoved<T>>, L: Table<Link>, G: Table<u64>> Model
     ghost view = { λ values. map (λ item. item.1) values.items };
 }
 
-impl<'a, T, S: Table<MaybeMoved<T>>, L: Table<Link>, G: Table<u64>> Values<'a, T, S, L, G> {
+impl<'a, T, M: SlotMapStorage<MaybeMoved<T>>> Values<'a, T, M> {
     /// Returns an iterator over the values of entries. O(1).
     #[inline]
-    pub(crate) fn new(items: Iter<'a, T, S, L, G>) -> Self
+    pub(crate) fn new(items: Iter<'a, T, M>) -> Self
         ensures { result ≡ map (λ item. item.1) items.entry }
     {
         Values { items }
     }
 }
 
-impl<'a, T, S: Table<MaybeMoved<T>>, L: Table<Link>, G: Table<u64>> Iterator
-    for Values<'a, T, S, L, G> {
+impl<'a, T, M: SlotMapStorage<MaybeMoved<T>>> Iterator for Values<'a, T, M> {
     type Item = &'a T;
 
     ghost next_gives = { YieldsFirstBy (λ value. value.now) (λ rest. rest) };
@@ -65,8 +62,7 @@ impl<'a, T, S: Table<MaybeMoved<T>>, L: Table<Link>, G: Table<u64>> Iterator
     }
 }
 
-impl<'a, T, S: Table<MaybeMoved<T>>, L: Table<Link>, G: Table<u64>> DoubleEndedIterator
-    for Values<'a, T, S, L, G> {
+impl<'a, T, M: SlotMapStorage<MaybeMoved<T>>> DoubleEndedIterator for Values<'a, T, M> {
     ghost next_back_gives = { YieldsLastBy (λ value. value.now) (λ rest. rest) };
 
     /// Returns the last value that is still to come, or `None` if there is none. O(the number of places without a value after
@@ -80,8 +76,7 @@ impl<'a, T, S: Table<MaybeMoved<T>>, L: Table<Link>, G: Table<u64>> DoubleEndedI
     }
 }
 
-impl<'a, T, S: Table<MaybeMoved<T>>, L: Table<Link>, G: Table<u64>> ExactSizeIterator
-    for Values<'a, T, S, L, G> {
+impl<'a, T, M: SlotMapStorage<MaybeMoved<T>>> ExactSizeIterator for Values<'a, T, M> {
     /// Returns the number of values that are still to come. O(1).
     #[inline]
     fn len(&self) -> usize {
@@ -89,11 +84,9 @@ impl<'a, T, S: Table<MaybeMoved<T>>, L: Table<Link>, G: Table<u64>> ExactSizeIte
     }
 }
 
-impl<'a, T, S: Table<MaybeMoved<T>>, L: Table<Link>, G: Table<u64>> FusedIterator
-    for Values<'a, T, S, L, G> {}
+impl<'a, T, M: SlotMapStorage<MaybeMoved<T>>> FusedIterator for Values<'a, T, M> {}
 
-impl<'a, T, S: Table<MaybeMoved<T>>, L: Table<Link>, G: Table<u64>> Clone
-    for Values<'a, T, S, L, G> {
+impl<'a, T, M: SlotMapStorage<MaybeMoved<T>>> Clone for Values<'a, T, M> {
     ghost is_clone = { λ iter clone. clone ≡ iter };
 
     ghost is_infallible = { λ _. ⊤ };
@@ -108,8 +101,7 @@ impl<'a, T, S: Table<MaybeMoved<T>>, L: Table<Link>, G: Table<u64>> Clone
 }
 
 /// Prints a list of the values that are still to come. O(capacity).
-impl<'a, T: Debug, S: Table<MaybeMoved<T>>, L: Table<Link>, G: Table<u64>> Debug
-    for Values<'a, T, S, L, G> {
+impl<'a, T: Debug, M: SlotMapStorage<MaybeMoved<T>>> Debug for Values<'a, T, M> {
     fn fmt<W: Write>(&self, f: &mut Formatter<W>) -> fmt::Result {
         let mut list = f.debug_list();
         for (_, value) in self.items.rest() {

@@ -5,16 +5,15 @@ ghost use Rattle.ix_slottable.specs.SlotTableState.{value_at, IsHeld};
 ghost use Rattle.ix_slottable.specs.SlotTableCopies.{IsCloneAt, SlotTableIsClone, SlotTableIsInfallible};
 
 use crate::slottable::free_list::copy_links;
-use crate::slottable::{FixedSizeSlotTable, Link, MetaSlotTable, SlotTable, SlotTableKey};
-use ix_tables::Table;
+use crate::slottable::{FixedSizeSlotTable, MetaSlotTable, SlotTable, SlotTableKey, Storage};
 use std::alloc::{AllocError, Allocator};
 
-impl<T, S: Table<T>, L: Table<Link>> MetaSlotTable<T, S, L> {
+impl<T, M: Storage<T>> MetaSlotTable<T, M> {
     /// Puts clones of the values of `other` at their keys in an empty table of the same capacity, whose free keys are then those
     /// of `other`, in the same order. Returns the error of the first clone that fails, and keeps those already made.
-    fn fill_with_clones<R: Table<T>, M: Table<Link>>(
+    fn fill_with_clones<N: Storage<T>>(
         &mut self,
-        other: &MetaSlotTable<T, R, M>,
+        other: &MetaSlotTable<T, N>,
     ) -> Result<(), AllocError>
     where
         T: Clone,
@@ -28,10 +27,7 @@ impl<T, S: Table<T>, L: Table<Link>> MetaSlotTable<T, S, L> {
     }
 
     /// Does what [`MetaSlotTable::fill_with_clones`] does, but for the order of the free keys.
-    fn put_clones<R: Table<T>, M: Table<Link>>(
-        &mut self,
-        other: &MetaSlotTable<T, R, M>,
-    ) -> Result<(), AllocError>
+    fn put_clones<N: Storage<T>>(&mut self, other: &MetaSlotTable<T, N>) -> Result<(), AllocError>
     where
         T: Clone,
         requires { self.old.values ≡ replicate (length other.now.values) None }
@@ -53,7 +49,7 @@ impl<T, S: Table<T>, L: Table<Link>> MetaSlotTable<T, S, L> {
 
     /// Takes over the order of the free keys of `other`, which are the same. O(capacity).
     #[doc(hidden)]
-    pub fn copy_free_keys<R: Table<T>, M: Table<Link>>(&mut self, other: &MetaSlotTable<T, R, M>)
+    pub fn copy_free_keys<N: Storage<T>>(&mut self, other: &MetaSlotTable<T, N>)
         requires capacity { length self.old.values ≡ length other.now.values }
         requires keys { (key : ℕ) → IsHeld self.old key ↔ IsHeld other.now key }
         ensures values { self.new.values ≡ self.old.values }

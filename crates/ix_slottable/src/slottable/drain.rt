@@ -5,8 +5,7 @@ ghost use Rattle.std.specs.Iterator.SizeHint.{IsWithinCount};
 ghost use Rattle.ix_slottable.specs.SlotTableState.{held_count, entries, entries_from};
 ghost use Rattle.ix_slottable.specs.SlotTableSteps.{slot_table_clear};
 
-use crate::slottable::{Link, MetaSlotTable, SlotTableKey};
-use ix_tables::Table;
+use crate::slottable::{MetaSlotTable, SlotTableKey, Storage};
 use std::fmt::{self, Debug, Formatter, Write};
 use std::iter::FusedIterator;
 
@@ -15,14 +14,14 @@ use std::iter::FusedIterator;
 ///
 /// The values that are still to come when it is dropped are dropped with it, that of the least key first, and the table is
 /// empty then.
-pub struct Drain<'a, T, S: Table<T>, L: Table<Link>> {
-    map: &'a mut MetaSlotTable<T, S, L>,
+pub struct Drain<'a, T, M: Storage<T>> {
+    map: &'a mut MetaSlotTable<T, M>,
     /// No key below this one has a value.
     key: usize,
     ghost counted: { held_count map.now ≡ length (entries_from key (drop key map.now.values)) },
 }
 
-impl<T, S: Table<T>, L: Table<Link>> MetaSlotTable<T, S, L> {
+impl<T, M: Storage<T>> MetaSlotTable<T, M> {
     ghost use Rattle.ix_slottable.specs.Draining.{DrainingKeepsAlong};
     ghost use Rattle.ix_slottable.specs.SlotTableDrain.{drain_items, drain_left, drain_lender};
 
@@ -30,7 +29,7 @@ impl<T, S: Table<T>, L: Table<Link>> MetaSlotTable<T, S, L> {
     /// taken are dropped with it, and the table is as [`MetaSlotTable::clear`] leaves it then. O(1), and O(capacity) for all of
     /// its items together.
     #[inline]
-    pub fn drain(&mut self) -> Drain<'_, T, S, L>
+    pub fn drain(&mut self) -> Drain<'_, T, M>
     where
         T: Drop,
         ensures items { drain_items result ≡ entries self.old }
@@ -49,7 +48,7 @@ impl<T, S: Table<T>, L: Table<Link>> MetaSlotTable<T, S, L> {
 }
 
 /// Drops the values that are still to come, that of the least key first. The table is empty then. O(capacity).
-impl<T: Drop, S: Table<T>, L: Table<Link>> Drop for Drain<'_, T, S, L> {
+impl<T: Drop, M: Storage<T>> Drop for Drain<'_, T, M> {
     ghost use Rattle.ix_slottable.specs.SlotTableDrain.{drain_left};
 
     fn drop(self)
@@ -60,7 +59,7 @@ impl<T: Drop, S: Table<T>, L: Table<Link>> Drop for Drain<'_, T, S, L> {
     }
 }
 
-impl<T: Drop, S: Table<T>, L: Table<Link>> Iterator for Drain<'_, T, S, L> {
+impl<T: Drop, M: Storage<T>> Iterator for Drain<'_, T, M> {
     type Item = (SlotTableKey, T);
 
     ghost use Rattle.ix_slottable.specs.Draining.{DrainingSteps};
@@ -95,7 +94,7 @@ impl<T: Drop, S: Table<T>, L: Table<Link>> Iterator for Drain<'_, T, S, L> {
     }
 }
 
-impl<T: Drop, S: Table<T>, L: Table<Link>> ExactSizeIterator for Drain<'_, T, S, L> {
+impl<T: Drop, M: Storage<T>> ExactSizeIterator for Drain<'_, T, M> {
     /// Returns the number of items that are still to come. O(1).
     #[inline]
     fn len(&self) -> usize {
@@ -103,10 +102,10 @@ impl<T: Drop, S: Table<T>, L: Table<Link>> ExactSizeIterator for Drain<'_, T, S,
     }
 }
 
-impl<T: Drop, S: Table<T>, L: Table<Link>> FusedIterator for Drain<'_, T, S, L> {}
+impl<T: Drop, M: Storage<T>> FusedIterator for Drain<'_, T, M> {}
 
 /// Prints a list of the items that are still to come, each the number of its key and its value. O(capacity).
-impl<T: Debug, S: Table<T>, L: Table<Link>> Debug for Drain<'_, T, S, L> {
+impl<T: Debug, M: Storage<T>> Debug for Drain<'_, T, M> {
     fn fmt<W: Write>(&self, f: &mut Formatter<W>) -> fmt::Result {
         self.map.iter().fmt(f)
     }

@@ -5,12 +5,11 @@ ghost use Rattle.std.proofs.lemmas.Cmp.{and_equiv, nat_eq_equiv};
 ghost use Rattle.std.specs.Cmp.Lexicographic.{pointwise, lists_per, lists_equiv};
 ghost use Rattle.ix_slottable.specs.SlotTableState.{entries};
 
-use crate::slottable::{Link, MetaSlotTable};
-use ix_tables::Table;
+use crate::slottable::{MetaSlotTable, Storage};
 
 /// Tables are equal if they have the same held keys with equal values. Their capacities and the order of their free keys do not
 /// matter.
-impl<T: PartialEq, S: Table<T>, L: Table<Link>> PartialEq for MetaSlotTable<T, S, L> {
+impl<T: PartialEq, M: Storage<T>> PartialEq for MetaSlotTable<T, M> {
     ghost eq = { λ map other.
         pointwise (λ p q. nat_eq p.0 q.0 && T.eq p.1 q.1) (entries map) (entries other) };
 
@@ -37,7 +36,7 @@ impl<T: PartialEq, S: Table<T>, L: Table<Link>> PartialEq for MetaSlotTable<T, S
     }
 }
 
-impl<T: Eq, S: Table<T>, L: Table<Link>> Eq for MetaSlotTable<T, S, L> {
+impl<T: Eq, M: Storage<T>> Eq for MetaSlotTable<T, M> {
     ghost laws = { on_equiv entries (lists_equiv (and_equiv
         (on_equiv (λ p. p.0) nat_eq_equiv) (on_equiv (λ p. p.1) T.Eq.laws))) };
 }

@@ -2,12 +2,11 @@
 ghost use Rattle.std.specs.Prelude.{◌≡◌, Some};
 ghost use Rattle.ix_slottable.specs.SlotTableState.{IsHeld, value_at};
 
-use crate::slottable::{Link, MetaSlotTable, SlotTableKey};
-use ix_tables::Table;
+use crate::slottable::{MetaSlotTable, SlotTableKey, Storage};
 use std::ops::Index;
 
 /// `table[key]` is the value at `key`, which has to have one; [`MetaSlotTable::get`] takes any key. O(1).
-impl<T, S: Table<T>, L: Table<Link>> Index<SlotTableKey> for MetaSlotTable<T, S, L> {
+impl<T, M: Storage<T>> Index<SlotTableKey> for MetaSlotTable<T, M> {
     type Output = T;
 
     ghost can_index = { λ table key. IsHeld table key };

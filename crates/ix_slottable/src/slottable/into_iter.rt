@@ -4,8 +4,7 @@ ghost use Rattle.std.specs.Iterator.{YieldsFirst, YieldsLast, UpTo, at_most, ite
 ghost use Rattle.std.specs.Iterator.SizeHint.{IsWithinCount};
 ghost use Rattle.ix_slottable.specs.SlotTableState.{entries};
 
-use crate::slottable::{Link, MetaSlotTable, SlotTableKey};
-use ix_tables::Table;
+use crate::slottable::{MetaSlotTable, SlotTableKey, Storage};
 use std::fmt::{self, Debug, Formatter, Write};
 use std::iter::FusedIterator;
 use std::marker::Model;
@@ -16,15 +15,15 @@ use std::marker::Model;
 /// It has the table's memory. The values that are still to come when it is dropped are dropped with it, that of the least key
 /// first, in O(capacity) time.
 #[derive(Drop)]
-pub struct IntoIter<T, S: Table<T>, L: Table<Link>> {
-    map: MetaSlotTable<T, S, L>,
+pub struct IntoIter<T, M: Storage<T>> {
+    map: MetaSlotTable<T, M>,
     /// The least key that is still to be visited.
     key: usize,
     /// The key after the greatest one that is still to be visited.
     end: usize,
 }
 
-impl<T, S: Table<T>, L: Table<Link>> Model for IntoIter<T, S, L> {
+impl<T, M: Storage<T>> Model for IntoIter<T, M> {
     ghost use Rattle.std.specs.Prelude.{ℕ, List, length, slice_range};
     ghost use Rattle.ix_slottable.specs.SlotTableState.{held_count, entries_from};
     ghost use Rattle.ix_slottable.specs.inner.KeyRange.{IsKeyRange};
@@ -37,7 +36,7 @@ impl<T, S: Table<T>, L: Table<Link>> Model for IntoIter<T, S, L> {
         (entries_from iter.key (slice_range iter.map.values iter.key iter.end)) };
 }
 
-impl<T: Drop, S: Table<T>, L: Table<Link>> Iterator for IntoIter<T, S, L> {
+impl<T: Drop, M: Storage<T>> Iterator for IntoIter<T, M> {
     type Item = (SlotTableKey, T);
 
     ghost next_gives = { YieldsFirst (λ rest. rest) };
@@ -69,7 +68,7 @@ impl<T: Drop, S: Table<T>, L: Table<Link>> Iterator for IntoIter<T, S, L> {
     }
 }
 
-impl<T: Drop, S: Table<T>, L: Table<Link>> DoubleEndedIterator for IntoIter<T, S, L> {
+impl<T: Drop, M: Storage<T>> DoubleEndedIterator for IntoIter<T, M> {
     ghost next_back_gives = { YieldsLast (λ rest. rest) };
 
     /// Removes the value of the last held key that is still to come and returns both, or `None` if there is none. O(the number
@@ -86,7 +85,7 @@ impl<T: Drop, S: Table<T>, L: Table<Link>> DoubleEndedIterator for IntoIter<T, S
     }
 }
 
-impl<T: Drop, S: Table<T>, L: Table<Link>> ExactSizeIterator for IntoIter<T, S, L> {
+impl<T: Drop, M: Storage<T>> ExactSizeIterator for IntoIter<T, M> {
     /// Returns the number of items that are still to come. O(1).
     #[inline]
     fn len(&self) -> usize {
@@ -94,25 +93,25 @@ impl<T: Drop, S: Table<T>, L: Table<Link>> ExactSizeIterator for IntoIter<T, S, 
     }
 }
 
-impl<T: Drop, S: Table<T>, L: Table<Link>> FusedIterator for IntoIter<T, S, L> {}
+impl<T: Drop, M: Storage<T>> FusedIterator for IntoIter<T, M> {}
 
 /// Prints a list of the items that are still to come, each the number of its key and its value. O(capacity).
-impl<T: Debug, S: Table<T>, L: Table<Link>> Debug for IntoIter<T, S, L> {
+impl<T: Debug, M: Storage<T>> Debug for IntoIter<T, M> {
     fn fmt<W: Write>(&self, f: &mut Formatter<W>) -> fmt::Result {
         self.map.iter().fmt(f)
     }
 }
 
-impl<T: Drop, S: Table<T>, L: Table<Link>> IntoIterator for MetaSlotTable<T, S, L> {
+impl<T: Drop, M: Storage<T>> IntoIterator for MetaSlotTable<T, M> {
     type Item = (SlotTableKey, T);
 
-    type IntoIter = IntoIter<T, S, L>;
+    type IntoIter = IntoIter<T, M>;
 
     ghost into_iter_gives = { λ map iter. iter ≡ entries map };
 
     /// Returns an iterator that removes the values, each with its key, in rising order of the keys. O(1).
     #[inline]
-    fn into_iter(self) -> IntoIter<T, S, L> {
+    fn into_iter(self) -> IntoIter<T, M> {
         let end = self.capacity();
         IntoIter {
             map: self,

@@ -4,8 +4,7 @@ ghost use Rattle.std.specs.Iterator.{YieldsFirstBy, YieldsLastBy, UpTo, at_most,
 ghost use Rattle.std.specs.Iterator.SizeHint.{IsWithinCount};
 ghost use Rattle.ix_slottable.specs.SlotTableState.{entries};
 
-use crate::slottable::{Link, MetaSlotTable, SlotTableKey};
-use ix_tables::Table;
+use crate::slottable::{MetaSlotTable, SlotTableKey, Storage};
 use std::alloc::AllocError;
 use std::fmt::{self, Debug, Formatter, Write};
 use std::iter::FusedIterator;
@@ -16,8 +15,8 @@ use std::marker::Model;
 ///
 /// This is `Iter` of iceoryx2-bb-container.
 #[derive(Drop)]
-pub struct Iter<'a, T, S: Table<T>, L: Table<Link>> {
-    map: &'a MetaSlotTable<T, S, L>,
+pub struct Iter<'a, T, M: Storage<T>> {
+    map: &'a MetaSlotTable<T, M>,
     /// The least key that is still to be visited.
     key: usize,
     /// The key after the greatest one that is still to be visited.
@@ -26,7 +25,7 @@ pub struct Iter<'a, T, S: Table<T>, L: Table<Link>> {
     left: usize,
 }
 
-impl<'a, T, S: Table<T>, L: Table<Link>> Model for Iter<'a, T, S, L> {
+impl<'a, T, M: Storage<T>> Model for Iter<'a, T, M> {
     ghost use Rattle.std.specs.Prelude.{ℕ, List, length, slice_range};
     ghost use Rattle.ix_slottable.specs.SlotTableState.{entries_from};
     ghost use Rattle.ix_slottable.specs.inner.KeyRange.{IsKeyRange};
@@ -39,10 +38,10 @@ impl<'a, T, S: Table<T>, L: Table<Link>> Model for Iter<'a, T, S, L> {
         (entries_from iter.key (slice_range iter.map.now.values iter.key iter.end)) };
 }
 
-impl<'a, T, S: Table<T>, L: Table<Link>> Iter<'a, T, S, L> {
+impl<'a, T, M: Storage<T>> Iter<'a, T, M> {
     /// Returns an iterator over all held keys. O(1).
     #[inline]
-    pub(crate) fn new(map: &'a MetaSlotTable<T, S, L>) -> Self
+    pub(crate) fn new(map: &'a MetaSlotTable<T, M>) -> Self
         ensures { result ≡ entries map.now }
     {
         Iter {
@@ -55,7 +54,7 @@ impl<'a, T, S: Table<T>, L: Table<Link>> Iter<'a, T, S, L> {
 
     /// Returns an iterator over the items that are still to come. O(1).
     #[inline]
-    pub(crate) fn rest(&self) -> Iter<'a, T, S, L>
+    pub(crate) fn rest(&self) -> Iter<'a, T, M>
         ensures { result ≡ self.now }
     {
         Iter {
@@ -67,7 +66,7 @@ impl<'a, T, S: Table<T>, L: Table<Link>> Iter<'a, T, S, L> {
     }
 }
 
-impl<'a, T, S: Table<T>, L: Table<Link>> Iterator for Iter<'a, T, S, L> {
+impl<'a, T, M: Storage<T>> Iterator for Iter<'a, T, M> {
     type Item = (SlotTableKey, &'a T);
 
     ghost next_gives = { YieldsFirstBy (λ item. (item.0, item.1.now)) (λ rest. rest) };
@@ -98,7 +97,7 @@ impl<'a, T, S: Table<T>, L: Table<Link>> Iterator for Iter<'a, T, S, L> {
     }
 }
 
-impl<'a, T, S: Table<T>, L: Table<Link>> DoubleEndedIterator for Iter<'a, T, S, L> {
+impl<'a, T, M: Storage<T>> DoubleEndedIterator for Iter<'a, T, M> {
     ghost next_back_gives = { YieldsLastBy (λ item. (item.0, item.1.now)) (λ rest. rest) };
 
     /// Returns the last held key that is still to come with its value, or `None` if there is none. O(the number of free keys
@@ -116,7 +115,7 @@ impl<'a, T, S: Table<T>, L: Table<Link>> DoubleEndedIterator for Iter<'a, T, S, 
     }
 }
 
-impl<'a, T, S: Table<T>, L: Table<Link>> ExactSizeIterator for Iter<'a, T, S, L> {
+impl<'a, T, M: Storage<T>> ExactSizeIterator for Iter<'a, T, M> {
     /// Returns the number of items that are still to come. O(1).
     #[inline]
     fn len(&self) -> usize {
@@ -124,9 +123,9 @@ impl<'a, T, S: Table<T>, L: Table<Link>> ExactSizeIterator for Iter<'a, T, S, L>
     }
 }
 
-impl<'a, T, S: Table<T>, L: Table<Link>> FusedIterator for Iter<'a, T, S, L> {}
+impl<'a, T, M: Storage<T>> FusedIterator for Iter<'a, T, M> {}
 
-impl<'a, T, S: Table<T>, L: Table<Link>> Clone for Iter<'a, T, S, L> {
+impl<'a, T, M: Storage<T>> Clone for Iter<'a, T, M> {
     ghost is_clone = { λ iter clone. clone ≡ iter };
 
     ghost is_infallible = { λ _. ⊤ };
@@ -139,7 +138,7 @@ impl<'a, T, S: Table<T>, L: Table<Link>> Clone for Iter<'a, T, S, L> {
 }
 
 /// Prints a list of the items that are still to come, each the number of its key and its value. O(capacity).
-impl<'a, T: Debug, S: Table<T>, L: Table<Link>> Debug for Iter<'a, T, S, L> {
+impl<'a, T: Debug, M: Storage<T>> Debug for Iter<'a, T, M> {
     fn fmt<W: Write>(&self, f: &mut Formatter<W>) -> fmt::Result {
         let mut list = f.debug_list();
         for (key, value) in self.rest() {
@@ -149,16 +148,16 @@ impl<'a, T: Debug, S: Table<T>, L: Table<Link>> Debug for Iter<'a, T, S, L> {
     }
 }
 
-impl<'a, T, S: Table<T>, L: Table<Link>> IntoIterator for &'a MetaSlotTable<T, S, L> {
+impl<'a, T, M: Storage<T>> IntoIterator for &'a MetaSlotTable<T, M> {
     type Item = (SlotTableKey, &'a T);
 
-    type IntoIter = Iter<'a, T, S, L>;
+    type IntoIter = Iter<'a, T, M>;
 
     ghost into_iter_gives = { λ map iter. iter ≡ entries map.now };
 
     /// Returns an iterator over the held keys in rising order, each with its value. O(1).
     #[inline]
-    fn into_iter(self) -> Iter<'a, T, S, L> {
+    fn into_iter(self) -> Iter<'a, T, M> {
         self.iter()
     }
 }

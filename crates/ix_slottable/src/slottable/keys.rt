@@ -4,8 +4,7 @@ ghost use Rattle.std.specs.Iterator.{YieldsFirstBy, YieldsLastBy, UpTo, at_most,
 ghost use Rattle.std.specs.Iterator.SizeHint.{IsWithinCount};
 ghost use Rattle.std.specs.Map.{keys_of};
 
-use crate::slottable::{Iter, Link, SlotTableKey};
-use ix_tables::Table;
+use crate::slottable::{Iter, SlotTableKey, Storage};
 use std::alloc::AllocError;
 use std::fmt::{self, Debug, Formatter, Write};
 use std::iter::FusedIterator;
@@ -14,11 +13,11 @@ use std::marker::Model;
 /// An iterator over the held keys of a slot table in rising order of their numbers, as
 /// [`MetaSlotTable::keys`](crate::MetaSlotTable::keys) returns it. Contracts see the keys that are still to come.
 #[derive(Drop)]
-pub struct Keys<'a, T, S: Table<T>, L: Table<Link>> {
-    items: Iter<'a, T, S, L>,
+pub struct Keys<'a, T, M: Storage<T>> {
+    items: Iter<'a, T, M>,
 }
 
-impl<'a, T, S: Table<T>, L: Table<Link>> Model for Keys<'a, T, S, L> {
+impl<'a, T, M: Storage<T>> Model for Keys<'a, T, M> {
     ghost use Rattle.std.specs.Prelude.{ℕ, List};
     ghost use Rattle.std.specs.Map.{keys_of};
 
@@ -27,17 +26,17 @@ impl<'a, T, S: Table<T>, L: Table<Link>> Model for Keys<'a, T, S, L> {
     ghost view = { λ keys. keys_of keys.items };
 }
 
-impl<'a, T, S: Table<T>, L: Table<Link>> Keys<'a, T, S, L> {
+impl<'a, T, M: Storage<T>> Keys<'a, T, M> {
     /// Returns an iterator over the keys of entries. O(1).
     #[inline]
-    pub(crate) fn new(items: Iter<'a, T, S, L>) -> Self
+    pub(crate) fn new(items: Iter<'a, T, M>) -> Self
         ensures { result ≡ keys_of items.entry }
     {
         Keys { items }
     }
 }
 
-impl<'a, T, S: Table<T>, L: Table<Link>> Iterator for Keys<'a, T, S, L> {
+impl<'a, T, M: Storage<T>> Iterator for Keys<'a, T, M> {
     type Item = SlotTableKey;
 
     ghost next_gives = { YieldsFirstBy (λ key. key) (λ rest. rest) };
@@ -64,7 +63,7 @@ impl<'a, T, S: Table<T>, L: Table<Link>> Iterator for Keys<'a, T, S, L> {
     }
 }
 
-impl<'a, T, S: Table<T>, L: Table<Link>> DoubleEndedIterator for Keys<'a, T, S, L> {
+impl<'a, T, M: Storage<T>> DoubleEndedIterator for Keys<'a, T, M> {
     ghost next_back_gives = { YieldsLastBy (λ key. key) (λ rest. rest) };
 
     /// Returns the last held key that is still to come, or `None` if there is none. O(the number of free keys after it).
@@ -77,7 +76,7 @@ impl<'a, T, S: Table<T>, L: Table<Link>> DoubleEndedIterator for Keys<'a, T, S, 
     }
 }
 
-impl<'a, T, S: Table<T>, L: Table<Link>> ExactSizeIterator for Keys<'a, T, S, L> {
+impl<'a, T, M: Storage<T>> ExactSizeIterator for Keys<'a, T, M> {
     /// Returns the number of keys that are still to come. O(1).
     #[inline]
     fn len(&self) -> usize {
@@ -85,9 +84,9 @@ impl<'a, T, S: Table<T>, L: Table<Link>> ExactSizeIterator for Keys<'a, T, S, L>
     }
 }
 
-impl<'a, T, S: Table<T>, L: Table<Link>> FusedIterator for Keys<'a, T, S, L> {}
+impl<'a, T, M: Storage<T>> FusedIterator for Keys<'a, T, M> {}
 
-impl<'a, T, S: Table<T>, L: Table<Link>> Clone for Keys<'a, T, S, L> {
+impl<'a, T, M: Storage<T>> Clone for Keys<'a, T, M> {
     ghost is_clone = { λ iter clone. clone ≡ iter };
 
     ghost is_infallible = { λ _. ⊤ };
@@ -102,7 +101,7 @@ impl<'a, T, S: Table<T>, L: Table<Link>> Clone for Keys<'a, T, S, L> {
 }
 
 /// Prints a list of the numbers of the keys that are still to come. O(capacity).
-impl<'a, T, S: Table<T>, L: Table<Link>> Debug for Keys<'a, T, S, L> {
+impl<'a, T, M: Storage<T>> Debug for Keys<'a, T, M> {
     fn fmt<W: Write>(&self, f: &mut Formatter<W>) -> fmt::Result {
         let mut list = f.debug_list();
         for (key, _) in self.items.rest() {

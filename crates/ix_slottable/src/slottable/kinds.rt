@@ -5,7 +5,7 @@ ghost use Rattle.ix_tables.specs.Memory.{no_memory};
 ghost use Rattle.ix_slottable.specs.Memory.{slot_table_memory};
 ghost use Rattle.ix_slottable.specs.SlotTableState.{slot_table_new};
 
-use crate::slottable::{Link, MetaSlotTable};
+use crate::slottable::{Heap, Inline, Link, MetaSlotTable};
 use ix_tables::{
     ContainerFamily, FilledHeapTable, FilledInlineTable, HeapTable, InlineTable,
     MAX_FIXED_CAPACITY, MemorySize, Uninit,
@@ -16,11 +16,7 @@ use std::marker::PhantomData;
 /// A slot table with `CAPACITY` keys that is stored inline and does not allocate.
 ///
 /// This is `FixedSizeSlotMap` of iceoryx2-bb-container, whose keys have no generation.
-pub type FixedSizeSlotTable<T, const CAPACITY: usize> = MetaSlotTable<
-    T,
-    InlineTable<T, CAPACITY>,
-    FilledInlineTable<Link, CAPACITY>,
->;
+pub type FixedSizeSlotTable<T, const CAPACITY: usize> = MetaSlotTable<T, Inline<CAPACITY>>;
 
 impl<T: Drop, const CAPACITY: usize> FixedSizeSlotTable<T, CAPACITY> {
     /// Creates an empty table.
@@ -30,7 +26,7 @@ impl<T: Drop, const CAPACITY: usize> FixedSizeSlotTable<T, CAPACITY> {
         requires { CAPACITY ≤ MAX_FIXED_CAPACITY }
         ensures { result ≡ slot_table_new CAPACITY }
     {
-        MetaSlotTable::from_tables(InlineTable::new(), FilledInlineTable::new(Link::default()))
+        MetaSlotTable::over(InlineTable::new(), FilledInlineTable::new(Link::default()))
     }
 }
 
@@ -39,7 +35,7 @@ impl<T: Drop, const CAPACITY: usize> Default for FixedSizeSlotTable<T, CAPACITY>
     ghost is_default = { λ map. map ≡ slot_table_new CAPACITY };
 
     fn default() -> Self {
-        MetaSlotTable::from_tables(
+        MetaSlotTable::over(
             InlineTable::default(),
             FilledInlineTable::new(Link::default()),
         )
@@ -49,7 +45,7 @@ impl<T: Drop, const CAPACITY: usize> Default for FixedSizeSlotTable<T, CAPACITY>
 /// A slot table whose memory is allocated from `A` when it is made, and deallocated when it is dropped.
 ///
 /// This is `SlotMap` of iceoryx2-bb-container, whose keys have no generation.
-pub type SlotTable<T, A = Global> = MetaSlotTable<T, HeapTable<T, A>, FilledHeapTable<Link, A>>;
+pub type SlotTable<T, A = Global> = MetaSlotTable<T, Heap<A>>;
 
 impl<T: Drop, A: Allocator + Copy> SlotTable<T, A> {
     ghost use Rattle.ix_slottable.specs.contracts.slottable.link.Link as link;
@@ -80,7 +76,7 @@ impl<T: Drop, A: Allocator + Copy> SlotTable<T, A> {
     {
         let links = FilledHeapTable::new(alloc, capacity, Link::default())?;
         let values = HeapTable::new(alloc, capacity)?;
-        Ok(MetaSlotTable::from_tables(values, links))
+        Ok(MetaSlotTable::over(values, links))
     }
 }
 

@@ -1,4 +1,4 @@
-//! The slot table over any two tables.
+//! The slot table in any storage.
 ghost use Rattle.std.specs.Prelude.{◌≡◌, ◌≢◌, ℕ, nat_eq, ◌+◌, ◌<◌, ◌≤◌, ◌↔◌, [], length, drop, replicate, slice_get, Some, None, IsTrue, IsNone, IfSome, option_copied, true, false};
 ghost use Rattle.std.specs.List.Sorted.{IsStrictlyIncreasing};
 ghost use Rattle.std.specs.Map.{keys_of, lookup};
@@ -13,13 +13,13 @@ use crate::slottable::free_list::{
     first_after_remove, insert_first, link_all, remove, remove_first,
 };
 use crate::slottable::link::NO_KEY;
-use crate::slottable::{Iter, Link, SlotTableKey};
+use crate::slottable::{Iter, Link, SlotTableKey, Storage};
 use ix_tables::{Counted, Table, Touches};
 use std::fmt::{self, Debug, Formatter, Write};
 use std::marker::{Model, PhantomData};
 
-/// A table from keys that it chooses itself to values, over a table of values `S` and a table of links `L`. Contracts see
-/// the value or nothing at each key, and the free keys in their order.
+/// A table from keys that it chooses itself to values, with its memory in a storage `M`. Contracts see the value or nothing at
+/// each key, and the free keys in their order.
 ///
 /// The keys are the numbers from 0 to one below the capacity. A key that has a value is held, any other is free. The
 /// free keys are a list, in rising order at first: [`MetaSlotTable::insert`] removes the first key of the list, and
@@ -30,15 +30,15 @@ use std::marker::{Model, PhantomData};
 /// dropped drops its values, that of the least key first, in O(capacity) time.
 ///
 /// This is `MetaSlotMap` of iceoryx2-bb-container, whose keys have no generation.
-pub struct MetaSlotTable<T, S: Table<T>, L: Table<Link>> {
-    pub(crate) values: Counted<S>,
-    pub(crate) links: Counted<L>,
+pub struct MetaSlotTable<T, M: Storage<T>> {
+    pub(crate) values: Counted<M::Items>,
+    pub(crate) links: Counted<M::Links>,
     pub(crate) first: usize,
     pub(crate) len: usize,
     pub(crate) of: PhantomData<T>,
 }
 
-impl<T, S: Table<T>, L: Table<Link>> Model for MetaSlotTable<T, S, L> {
+impl<T, M: Storage<T>> Model for MetaSlotTable<T, M> {
     ghost use Rattle.ix_slottable.specs.SlotTableState.{SlotTableState, slot_table_state_code};
     ghost use Rattle.ix_slottable.specs.inner.FreeList.{slots_of, Represents};
 
@@ -46,16 +46,14 @@ impl<T, S: Table<T>, L: Table<Link>> Model for MetaSlotTable<T, S, L> {
 
     ghost coded = { slot_table_state_code T.code };
 
-    ghost view = { λ map. slots_of (S.places map.values) (L.places map.links) map.first };
+    ghost view = { λ map. slots_of (M.Items.Table.places map.values) (M.Links.Table.places map.links) map.first };
 
     ghost invariant = { λ map.
-        Represents (slots_of (S.places map.values) (L.places map.links) map.first)
-        (L.places map.links) map.first map.len };
+        Represents (slots_of (M.Items.Table.places map.values) (M.Links.Table.places map.links) map.first)
+        (M.Links.Table.places map.links) map.first map.len };
 }
 
-impl<T, S: Table<T>, L: Table<Link>> MetaSlotTable<T, S, L> {
-    ghost use Rattle.ix_slottable.specs.contracts.slottable.meta_slot_table.MetaSlotTable.{the_row};
-
+impl<T, S: Table<T>, L: Table<Link>> MetaSlotTable<T, (S, L)> {
     /// Creates an empty table over two tables of the same length, which is the capacity. O(capacity).
     ///
     /// Every place of both tables is empty. A table of any kind will do, one of your own too.
@@ -63,6 +61,19 @@ impl<T, S: Table<T>, L: Table<Link>> MetaSlotTable<T, S, L> {
         requires values { IsVacant (S.places values) }
         requires links { L.places links ≡ replicate (length (S.places values)) None }
         ensures { result ≡ slot_table_new (length (S.places values)) }
+    {
+        MetaSlotTable::over(values, links)
+    }
+}
+
+impl<T, M: Storage<T>> MetaSlotTable<T, M> {
+    ghost use Rattle.ix_slottable.specs.contracts.slottable.meta_slot_table.MetaSlotTable.{the_row};
+
+    /// Creates an empty table over two empty tables of the same length.
+    pub(crate) fn over(values: M::Items, links: M::Links) -> Self
+        requires values { IsVacant (M.Items.Table.places values) }
+        requires links { M.Links.Table.places links ≡ replicate (length (M.Items.Table.places values)) None }
+        ensures { result ≡ slot_table_new (length (M.Items.Table.places values)) }
     {
         let values = Counted::new(values);
         let mut links = Counted::new(links);
@@ -81,7 +92,7 @@ impl<T, S: Table<T>, L: Table<Link>> MetaSlotTable<T, S, L> {
     pub fn capacity(&self) -> usize
         ensures value { result ≡ length self.now.values }
         // Of an inline table: the capacity is that of its type.
-        ensures known { S.IsLen (length self.now.values) }
+        ensures known { M.Items.Table.IsLen (length self.now.values) }
     {
         self.values.len()
     }
@@ -93,7 +104,7 @@ impl<T, S: Table<T>, L: Table<Link>> MetaSlotTable<T, S, L> {
         ensures rest { held_count self.now + length self.now.free ≡ length self.now.values }
         // This holds of every map, whatever calls were made.
         ensures formed { IsWellFormed self.now }
-        ensures known { S.IsLen (length self.now.values) }
+        ensures known { M.Items.Table.IsLen (length self.now.values) }
     {
         // Names the capacity, for what is known of it.
         let _capacity = self.values.len();
@@ -168,7 +179,7 @@ impl<T, S: Table<T>, L: Table<Link>> MetaSlotTable<T, S, L> {
     /// Returns a mutable reference to the value at `key`, or `None` if `key` is free or out of range.
     #[inline]
     pub fn get_mut(&mut self, key: SlotTableKey) -> Option<&mut T>
-        ensures* writes_back { sem 𝓛 (LendsIf (the_row T.row S.row L.row S.Table L.Table)
+        ensures* writes_back { sem 𝓛 (LendsIf (the_row T.row M.row M.Items.row M.Links.row M.Items.Table M.Links.Table)
             T.row self.entry result (slot_table_set self.old key) self.old) }
         ensures value { option_copied_mut result ≡ value_at self.old key }
         // Whatever value is written, the key has it, and any other key keeps its own.
@@ -184,7 +195,7 @@ impl<T, S: Table<T>, L: Table<Link>> MetaSlotTable<T, S, L> {
     #[inline]
     pub fn get_unchecked_mut(&mut self, key: SlotTableKey) -> &mut T
         requires { IsHeld self.old key }
-        ensures* writes_back { sem 𝓛 (Lends (the_row T.row S.row L.row S.Table L.Table)
+        ensures* writes_back { sem 𝓛 (Lends (the_row T.row M.row M.Items.row M.Links.row M.Items.Table M.Links.Table)
             T.row self.entry result (slot_table_set self.old key)) }
         ensures value { value_at self.old key ≡ Some result.now }
     {
@@ -194,7 +205,7 @@ impl<T, S: Table<T>, L: Table<Link>> MetaSlotTable<T, S, L> {
     /// Returns an iterator over the held keys in rising order, each with its value. O(1), and O(capacity) for all of
     /// its items together.
     #[inline]
-    pub fn iter(&self) -> Iter<'_, T, S, L>
+    pub fn iter(&self) -> Iter<'_, T, M>
         ensures entries { result ≡ entries self.now }
         ensures rising { IsStrictlyIncreasing (keys_of result) }
         ensures exactly { (key : ℕ) → lookup (nat_eq key) result ≡ value_at self.now key }
@@ -283,7 +294,7 @@ impl<T, S: Table<T>, L: Table<Link>> MetaSlotTable<T, S, L> {
     /// Does what [`MetaSlotTable::get_mut`] does, and raises `touches` by at most 4.
     #[inline]
     pub fn get_mut_counted(&mut self, key: SlotTableKey, touches: &mut Touches) -> Option<&mut T>
-        ensures* writes_back { sem 𝓛 (LendsIf (the_row T.row S.row L.row S.Table L.Table)
+        ensures* writes_back { sem 𝓛 (LendsIf (the_row T.row M.row M.Items.row M.Links.row M.Items.Table M.Links.Table)
             T.row self.entry result (slot_table_set self.old key) self.old) }
         ensures value { option_copied_mut result ≡ value_at self.old key }
         ensures holds { (written : T) → IsHeld self.old key
@@ -304,7 +315,7 @@ impl<T, S: Table<T>, L: Table<Link>> MetaSlotTable<T, S, L> {
     #[inline]
     pub fn get_unchecked_mut_counted(&mut self, key: SlotTableKey, touches: &mut Touches) -> &mut T
         requires { IsHeld self.old key }
-        ensures* writes_back { sem 𝓛 (Lends (the_row T.row S.row L.row S.Table L.Table)
+        ensures* writes_back { sem 𝓛 (Lends (the_row T.row M.row M.Items.row M.Links.row M.Items.Table M.Links.Table)
             T.row self.entry result (slot_table_set self.old key)) }
         ensures value { value_at self.old key ≡ Some result.now }
         ensures touches { touches.new ≡ touches.old + 2 }
@@ -321,12 +332,7 @@ impl<T, S: Table<T>, L: Table<Link>> MetaSlotTable<T, S, L> {
         ensures touches { touches.new ≤ touches.old + 16 }
         ensures rises { touches.old ≤ touches.new }
     {
-        if self.first == NO_KEY {
-            return None;
-        }
-        let key = self.first;
-        self.fill_first(value, touches);
-        Some(SlotTableKey::new(key))
+        self.try_insert_counted(value, touches).ok()
     }
 
     /// Does what [`MetaSlotTable::insert_at`] does, and raises `touches` by at most 16, whatever the capacity.
@@ -416,7 +422,7 @@ fn drop_all<T: Drop, S: Table<T>, L: Table<Link>>(values: &mut Counted<S>, links
 }
 
 /// Drops the values, that of the least key first.
-impl<T: Drop, S: Table<T>, L: Table<Link>> Drop for MetaSlotTable<T, S, L> {
+impl<T: Drop, M: Storage<T>> Drop for MetaSlotTable<T, M> {
     fn drop(self) {
         let MetaSlotTable {
             mut values,
@@ -432,7 +438,7 @@ impl<T: Drop, S: Table<T>, L: Table<Link>> Drop for MetaSlotTable<T, S, L> {
 }
 
 /// Prints a table from the numbers of the held keys to their values, in rising order. O(capacity).
-impl<T: Debug, S: Table<T>, L: Table<Link>> Debug for MetaSlotTable<T, S, L> {
+impl<T: Debug, M: Storage<T>> Debug for MetaSlotTable<T, M> {
     fn fmt<W: Write>(&self, f: &mut Formatter<W>) -> fmt::Result {
         let mut map = f.debug_map();
         for (key, value) in self.iter() {

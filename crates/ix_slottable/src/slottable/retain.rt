@@ -6,10 +6,9 @@ ghost use Rattle.ix_slottable.specs.SlotTableState.{IsHeld, held_count, entries,
 ghost use Rattle.ix_slottable.specs.SlotTableSteps.{slot_table_set, slot_table_remove, slot_table_clear};
 ghost use Rattle.ix_slottable.specs.SlotTableCalls.{IsCallableOnEach, ComputesTest, ComputesValue, ChangesItem, RetainsItem, option_filter};
 
-use crate::slottable::{Keys, Link, MetaSlotTable, SlotTableKey, Values};
-use ix_tables::Table;
+use crate::slottable::{Keys, MetaSlotTable, SlotTableKey, Storage, Values};
 
-impl<T, S: Table<T>, L: Table<Link>> MetaSlotTable<T, S, L> {
+impl<T, M: Storage<T>> MetaSlotTable<T, M> {
     /// Removes all values and drops them, that of the least key first. Every key is free then. O(capacity).
     ///
     /// The free keys are in the order that [`MetaSlotTable::remove`] of each key in turn leaves, so the key whose value was
@@ -31,7 +30,7 @@ impl<T, S: Table<T>, L: Table<Link>> MetaSlotTable<T, S, L> {
 
     /// Returns an iterator over the held keys in rising order. O(1), and O(capacity) for all of its items together.
     #[inline]
-    pub fn keys(&self) -> Keys<'_, T, S, L>
+    pub fn keys(&self) -> Keys<'_, T, M>
         ensures { result ≡ keys_of (entries self.now) }
     {
         Keys::new(self.iter())
@@ -39,7 +38,7 @@ impl<T, S: Table<T>, L: Table<Link>> MetaSlotTable<T, S, L> {
 
     /// Returns an iterator over the values in rising order of their keys. O(1), and O(capacity) for all of its items together.
     #[inline]
-    pub fn values(&self) -> Values<'_, T, S, L>
+    pub fn values(&self) -> Values<'_, T, M>
         ensures { result ≡ map (λ item. item.1) (entries self.now) }
     {
         Values::new(self.iter())

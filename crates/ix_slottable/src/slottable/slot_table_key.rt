@@ -3,8 +3,7 @@ ghost use Rattle.std.specs.Prelude.{◌≡◌, ◌≤◌, length, Some, None};
 ghost use Rattle.std.specs.Fmt.{decimal};
 ghost use Rattle.ix_slottable.specs.SlotTableState.{value_at};
 
-use crate::slottable::{Link, MetaSlotTable};
-use ix_tables::Table;
+use crate::slottable::{MetaSlotTable, Storage};
 use std::fmt;
 use std::marker::Model;
 
@@ -66,7 +65,7 @@ impl fmt::Display for SlotTableKey {
 }
 
 /// The default key is out of range, whatever the table. This function does nothing: its contract is the law. O(1).
-pub fn default_key_law<T, S: Table<T>, L: Table<Link>>(map: &MetaSlotTable<T, S, L>)
+pub fn default_key_law<T, M: Storage<T>>(map: &MetaSlotTable<T, M>)
     ensures past { length map.now.values ≤ 18446744073709551615 }
     ensures free { value_at map.now 18446744073709551615 ≡ None }
 {

@@ -5,10 +5,10 @@ ghost use Rattle.ix_slottable.specs.SlotTableSteps.{slot_table_fill, slot_table_
 ghost use Rattle.ix_slottable.specs.inner.FreeList.{IsLinkOf};
 
 use crate::slottable::free_list::{first_after_remove, remove, remove_first};
-use crate::slottable::{Link, MetaSlotTable};
-use ix_tables::{Table, Touches};
+use crate::slottable::{Link, MetaSlotTable, Storage};
+use ix_tables::Touches;
 
-impl<T, S: Table<T>, L: Table<Link>> MetaSlotTable<T, S, L> {
+impl<T, M: Storage<T>> MetaSlotTable<T, M> {
     /// Returns the link of a key in range.
     #[inline]
     pub(crate) fn link_of(&self, key: usize, touches: &mut Touches) -> Link

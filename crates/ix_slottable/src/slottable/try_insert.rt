@@ -1,15 +1,15 @@
 //! The calls of a slot table that insert a value and hand back what they don't keep.
-ghost use Rattle.std.specs.Prelude.{◌≡◌, ◌+◌, IfOk, Some};
+ghost use Rattle.std.specs.Prelude.{◌≡◌, ◌+◌, ◌≤◌, IfOk, Some};
 ghost use Rattle.std.specs.Result.{IfErr, is_ok, result_ok};
 ghost use Rattle.ix_slottable.specs.SlotTableState.{value_at, IsHeld, held_count};
 ghost use Rattle.ix_slottable.specs.SlotTableSteps.{slot_table_fill, SlotTableInsert, SlotTableInsertAt};
 
 use crate::slottable::link::NO_KEY;
-use crate::slottable::{Link, MetaSlotTable, SlotTableKey};
-use ix_tables::{Table, Touches};
+use crate::slottable::{MetaSlotTable, SlotTableKey, Storage};
+use ix_tables::Touches;
 use std::mem;
 
-impl<T, S: Table<T>, L: Table<Link>> MetaSlotTable<T, S, L> {
+impl<T, M: Storage<T>> MetaSlotTable<T, M> {
     /// Inserts `value` at the first free key and returns that key, or hands `value` back. Drops nothing.
     ///
     /// Returns `value` as the error if the table is full.
@@ -18,11 +18,23 @@ impl<T, S: Table<T>, L: Table<Link>> MetaSlotTable<T, S, L> {
         ensures step { SlotTableInsert self.old value self.new (result_ok result) }
         ensures returned { IfErr result (λ refused. refused ≡ value) }
     {
+        self.try_insert_counted(value, &mut Touches::new())
+    }
+
+    /// Does what [`MetaSlotTable::try_insert`] does, and raises `touches` by at most 16, whatever the capacity.
+    #[doc(hidden)]
+    #[inline]
+    pub fn try_insert_counted(&mut self, value: T, touches: &mut Touches) -> Result<SlotTableKey, T>
+        ensures step { SlotTableInsert self.old value self.new (result_ok result) }
+        ensures returned { IfErr result (λ refused. refused ≡ value) }
+        ensures touches { touches.new ≤ touches.old + 16 }
+        ensures rises { touches.old ≤ touches.new }
+    {
         if self.first == NO_KEY {
             return Err(value);
         }
         let key = self.first;
-        self.fill_first(value, &mut Touches::new());
+        self.fill_first(value, touches);
         Ok(SlotTableKey::new(key))
     }
 

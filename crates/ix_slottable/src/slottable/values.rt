@@ -3,8 +3,7 @@ ghost use Rattle.std.specs.Prelude.{◌≡◌, length, map, Some, IfSome, ⊤};
 ghost use Rattle.std.specs.Iterator.{YieldsFirstBy, YieldsLastBy, UpTo, at_most, item_count};
 ghost use Rattle.std.specs.Iterator.SizeHint.{IsWithinCount};
 
-use crate::slottable::{Iter, Link, Part, Whole};
-use ix_tables::Table;
+use crate::slottable::{Iter, Part, Storage, Whole};
 use std::alloc::AllocError;
 use std::fmt::{self, Debug, Formatter, Write};
 use std::iter::FusedIterator;
@@ -14,20 +13,20 @@ use std::marker::{Model, PhantomData};
 /// [`MetaSlotTable::values`](crate::MetaSlotTable::values) returns it. Contracts see the values that are still to come.
 ///
 /// Its items are `&'a T`.
-pub type Values<'a, T, S, L> = Parts<'a, T, S, L, Whole>;
+pub type Values<'a, T, M> = Parts<'a, T, M, Whole>;
 
 /// An iterator over the part `P` of each value of a slot table in rising order of their keys. Contracts see the parts that
 /// are still to come.
 #[derive(Drop)]
-pub struct Parts<'a, T, S: Table<T>, L: Table<Link>, P: Part<T>>
+pub struct Parts<'a, T, M: Storage<T>, P: Part<T>>
 where
     P::Of: 'a,
 {
-    items: Iter<'a, T, S, L>,
+    items: Iter<'a, T, M>,
     part: PhantomData<P>,
 }
 
-impl<'a, T, S: Table<T>, L: Table<Link>, P: Part<T>> Model for Parts<'a, T, S, L, P>
+impl<'a, T, M: Storage<T>, P: Part<T>> Model for Parts<'a, T, M, P>
 where
     P::Of: 'a,
 {
@@ -38,14 +37,14 @@ where
     ghost view = { λ parts. map (λ item. P.part item.1) parts.items };
 }
 
-impl<'a, T, S: Table<T>, L: Table<Link>, P: Part<T>> Parts<'a, T, S, L, P>
+impl<'a, T, M: Storage<T>, P: Part<T>> Parts<'a, T, M, P>
 where
     P::Of: 'a,
 {
     /// Returns an iterator over the part of each value of entries. O(1).
     #[doc(hidden)]
     #[inline]
-    pub fn new(items: Iter<'a, T, S, L>) -> Self
+    pub fn new(items: Iter<'a, T, M>) -> Self
         ensures { result ≡ map (λ item. P.part item.1) items.entry }
     {
         Parts {
@@ -55,7 +54,7 @@ where
     }
 }
 
-impl<'a, T, S: Table<T>, L: Table<Link>, P: Part<T>> Iterator for Parts<'a, T, S, L, P>
+impl<'a, T, M: Storage<T>, P: Part<T>> Iterator for Parts<'a, T, M, P>
 where
     P::Of: 'a,
 {
@@ -85,7 +84,7 @@ where
     }
 }
 
-impl<'a, T, S: Table<T>, L: Table<Link>, P: Part<T>> DoubleEndedIterator for Parts<'a, T, S, L, P>
+impl<'a, T, M: Storage<T>, P: Part<T>> DoubleEndedIterator for Parts<'a, T, M, P>
 where
     P::Of: 'a,
 {
@@ -102,7 +101,7 @@ where
     }
 }
 
-impl<'a, T, S: Table<T>, L: Table<Link>, P: Part<T>> ExactSizeIterator for Parts<'a, T, S, L, P>
+impl<'a, T, M: Storage<T>, P: Part<T>> ExactSizeIterator for Parts<'a, T, M, P>
 where
     P::Of: 'a,
 {
@@ -113,12 +112,12 @@ where
     }
 }
 
-impl<'a, T, S: Table<T>, L: Table<Link>, P: Part<T>> FusedIterator for Parts<'a, T, S, L, P>
+impl<'a, T, M: Storage<T>, P: Part<T>> FusedIterator for Parts<'a, T, M, P>
 where
     P::Of: 'a,
 {}
 
-impl<'a, T, S: Table<T>, L: Table<Link>, P: Part<T>> Clone for Parts<'a, T, S, L, P>
+impl<'a, T, M: Storage<T>, P: Part<T>> Clone for Parts<'a, T, M, P>
 where
     P::Of: 'a,
 {
@@ -137,7 +136,7 @@ where
 }
 
 /// Prints a list of the parts that are still to come. O(capacity).
-impl<'a, T, S: Table<T>, L: Table<Link>, P: Part<T>> Debug for Parts<'a, T, S, L, P>
+impl<'a, T, M: Storage<T>, P: Part<T>> Debug for Parts<'a, T, M, P>
 where
     P::Of: Debug + 'a,
 {

@@ -2,7 +2,6 @@
 ghost use Rattle.std.specs.Prelude.{◌≡◌, ℕ, ◌≤◌, Some, None, IsOk, IfOk, slice_set, replicate, refl};
 ghost use Rattle.std.specs.Mem.{type_size};
 ghost use Rattle.ix_tables.specs.Memory.{no_memory, items_memory};
-ghost use Rattle.ix_tables.specs.inner.Filled.{shown_item};
 
 use crate::cells::filled::Filled;
 use crate::cells::{MemorySize, Table};
@@ -52,27 +51,9 @@ impl<T: Copy, A: Allocator> FilledHeapTable<T, A> {
         ensures value { IfOk result (λ table. table ≡ replicate len None) }
         ensures memory { len ≡ 0 → IsOk result }
     {
-        Self::with_places(alloc, len, filler, false)
-    }
-
-    /// Creates a table of `len` places that each hold `item`.
-    ///
-    /// O(`len`), with at most one allocation. Returns `AllocError` if it fails, and if the places would take more than
-    /// `isize::MAX` bytes.
-    pub fn full(alloc: A, len: usize, item: T) -> Result<Self, AllocError>
-        ensures value { IfOk result (λ table. table ≡ replicate len (Some item)) }
-        ensures memory { len ≡ 0 → IsOk result }
-    {
-        Self::with_places(alloc, len, item, true)
-    }
-
-    fn with_places(alloc: A, len: usize, item: T, held: bool) -> Result<Self, AllocError>
-        ensures value { IfOk result (λ table. table ≡ replicate len (shown_item held item)) }
-        ensures memory { len ≡ 0 → IsOk result }
-    {
         let mut places = Vec::with_capacity(alloc, len)?;
         for _place in 0..len {
-            places.push_reserved(Filled::new(item, held));
+            places.push_reserved(Filled::new(filler, false));
         }
         Ok(FilledHeapTable { places })
     }

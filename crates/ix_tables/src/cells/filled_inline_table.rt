@@ -1,6 +1,5 @@
 //! A table of `Copy` items that is stored inline, and has no tags.
 ghost use Rattle.std.specs.Prelude.{◌≡◌, length, Some, None, slice_set, replicate, refl};
-ghost use Rattle.ix_tables.specs.inner.Filled.{shown_item};
 
 use crate::cells::Table;
 use crate::cells::filled::Filled;
@@ -35,16 +34,7 @@ impl<T: Copy, const CAP: usize> FilledInlineTable<T, CAP> {
         ensures { result ≡ replicate CAP None }
     {
         FilledInlineTable {
-            places: ArrayVec::from(places_of(filler, false)),
-        }
-    }
-
-    /// Creates a table of places that each hold `item`. O(`CAP`).
-    pub fn full(item: T) -> Self
-        ensures { result ≡ replicate CAP (Some item) }
-    {
-        FilledInlineTable {
-            places: ArrayVec::from(places_of(item, true)),
+            places: ArrayVec::from(empty_places(filler)),
         }
     }
 }
@@ -103,12 +93,13 @@ impl<T: Copy, const CAP: usize> Table<T> for FilledInlineTable<T, CAP> {
     }
 }
 
-fn places_of<T: Copy, const CAP: usize>(item: T, held: bool) -> [Filled<T>; CAP]
-    ensures { result ≡ replicate CAP (shown_item held item) }
+/// Returns places that hold nothing, with the bytes of `filler`.
+fn empty_places<T: Copy, const CAP: usize>(filler: T) -> [Filled<T>; CAP]
+    ensures { result ≡ replicate CAP None }
 {
     array::from_fn(
         |_| -> Filled<T>
-            ensures { result ≡ shown_item held item }
-        { Filled::new(item, held) },
+            ensures { result ≡ None }
+        { Filled::new(filler, false) },
     )
 }

@@ -4,14 +4,13 @@ use crate::run::containers::served::Served;
 use crate::run::devices::ReplyWriter;
 use crate::run::replies::append_items;
 use crate::run::{Reply, Runs, ScriptFault, read_map_command};
-use bumpalo::Bump;
-use ix_flatmap::{FixedSizeFlatMap, FlatMap, MetaFlatMap, Pair, RelocatableFlatMap, UninitFlatMap};
-use ix_slottable::Link;
-use ix_tables::{RelocatableContainer, Table};
-use std::alloc::Global;
+use ix_flatmap::{FixedSizeFlatMap, MetaFlatMap, Pair, RelocatableFlatMap, UninitFlatMap};
+use ix_slottable::Storage;
+use ix_tables::RelocatableContainer;
+use std::alloc::Allocator;
 use std::io::Write;
 
-impl<S: Table<Pair<u64, u64>>, L: Table<Link>> Served for MetaFlatMap<Pair<u64, u64>, S, L> {
+impl<M: Storage<Pair<u64, u64>>> Served for MetaFlatMap<Pair<u64, u64>, M> {
     ghost use Rattle.std.specs.Prelude.{ℕ, nat_eq};
     ghost use Rattle.ix_slottable.specs.SlotTableState.{SlotTableState};
     ghost use Rattle.ix_flatmap.specs.declared.flatmap.Pair.{Pair};
@@ -60,22 +59,10 @@ impl<const N: usize> MakesInline<N> for FlatMaps {
     }
 }
 
-impl MakesIn<Global> for FlatMaps {
-    type Made = FlatMap<u64, u64>;
+impl<A: Allocator + Copy> MakesIn<A> for FlatMaps {
+    type Made = RelocatableFlatMap<u64, u64, A>;
 
-    fn make(self, alloc: Global, capacity: usize) -> Option<FlatMap<u64, u64>> {
-        FlatMap::new(alloc, capacity).ok()
-    }
-}
-
-impl<'a> MakesIn<&'a Bump<Global>> for FlatMaps {
-    type Made = RelocatableFlatMap<u64, u64, &'a Bump<Global>>;
-
-    fn make(
-        self,
-        arena: &'a Bump<Global>,
-        capacity: usize,
-    ) -> Option<RelocatableFlatMap<u64, u64, &'a Bump<Global>>> {
-        UninitFlatMap::new_uninit(capacity).init(arena).ok()
+    fn make(self, alloc: A, capacity: usize) -> Option<RelocatableFlatMap<u64, u64, A>> {
+        UninitFlatMap::new_uninit(capacity).init(alloc).ok()
     }
 }

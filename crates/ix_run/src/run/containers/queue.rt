@@ -4,10 +4,9 @@ use crate::run::containers::served::Served;
 use crate::run::devices::ReplyWriter;
 use crate::run::replies::append_items;
 use crate::run::{Reply, Runs, ScriptFault, read_queue_command};
-use bumpalo::Bump;
-use ix_queue::{FixedSizeQueue, MetaQueue, Queue, RelocatableQueue, UninitQueue};
+use ix_queue::{FixedSizeQueue, MetaQueue, RelocatableQueue, UninitQueue};
 use ix_tables::{RelocatableContainer, Table};
-use std::alloc::Global;
+use std::alloc::Allocator;
 use std::io::Write;
 
 impl<S: Table<u64>> Served for MetaQueue<u64, S> {
@@ -58,22 +57,10 @@ impl<const N: usize> MakesInline<N> for Queues {
     }
 }
 
-impl MakesIn<Global> for Queues {
-    type Made = Queue<u64>;
+impl<A: Allocator> MakesIn<A> for Queues {
+    type Made = RelocatableQueue<u64, A>;
 
-    fn make(self, alloc: Global, capacity: usize) -> Option<Queue<u64>> {
-        Queue::new(alloc, capacity).ok()
-    }
-}
-
-impl<'a> MakesIn<&'a Bump<Global>> for Queues {
-    type Made = RelocatableQueue<u64, &'a Bump<Global>>;
-
-    fn make(
-        self,
-        arena: &'a Bump<Global>,
-        capacity: usize,
-    ) -> Option<RelocatableQueue<u64, &'a Bump<Global>>> {
-        UninitQueue::new_uninit(capacity).init(arena).ok()
+    fn make(self, alloc: A, capacity: usize) -> Option<RelocatableQueue<u64, A>> {
+        UninitQueue::new_uninit(capacity).init(alloc).ok()
     }
 }

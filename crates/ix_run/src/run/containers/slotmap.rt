@@ -8,13 +8,11 @@ use crate::run::containers::served::Served;
 use crate::run::devices::{ReplyBuffer, ReplyWriter};
 use crate::run::replies::{ListedItem, ReplyKey, append_items};
 use crate::run::{Reply, Runs, ScriptFault, read_slot_map_command};
-use bumpalo::Bump;
 use ix_slotmap::{
-    FixedSizeSlotMap, MetaSlotMap, RelocatableSlotMap, SlotMap, SlotMapKey, UninitSlotMap,
+    FixedSizeSlotMap, MetaSlotMap, RelocatableSlotMap, SlotMapKey, SlotMapStorage, UninitSlotMap,
 };
-use ix_slottable::Link;
-use ix_tables::{MaybeMoved, RelocatableContainer, Table};
-use std::alloc::Global;
+use ix_tables::{MaybeMoved, RelocatableContainer};
+use std::alloc::Allocator;
 use std::io::Write;
 
 /// A key with its value.
@@ -29,8 +27,7 @@ impl<'a> ListedItem for (SlotMapKey, &'a u64) {
     }
 }
 
-impl<S: Table<MaybeMoved<u64>>, L: Table<Link>, G: Table<u64>> Served
-    for MetaSlotMap<u64, MaybeMoved<u64>, S, L, G> {
+impl<M: SlotMapStorage<MaybeMoved<u64>>> Served for MetaSlotMap<u64, MaybeMoved<u64>, M> {
     ghost use Rattle.std.specs.Prelude.{ℕ};
     ghost use Rattle.ix_slotmap.specs.Generations.{SlotMapState};
     ghost use Rattle.ix_run.specs.Script.{slot_map_line_reply, slot_map_line_after, slot_map_shown};
@@ -87,24 +84,12 @@ impl<const N: usize> MakesInline<N> for SlotMaps {
     }
 }
 
-impl MakesIn<Global> for SlotMaps {
-    type Made = SlotMap<u64>;
+impl<A: Allocator + Copy> MakesIn<A> for SlotMaps {
+    type Made = RelocatableSlotMap<u64, A>;
 
-    fn make(self, alloc: Global, capacity: usize) -> Option<SlotMap<u64>> {
-        SlotMap::starting_at(alloc, capacity, self.generation()).ok()
-    }
-}
-
-impl<'a> MakesIn<&'a Bump<Global>> for SlotMaps {
-    type Made = RelocatableSlotMap<u64, &'a Bump<Global>>;
-
-    fn make(
-        self,
-        arena: &'a Bump<Global>,
-        capacity: usize,
-    ) -> Option<RelocatableSlotMap<u64, &'a Bump<Global>>> {
+    fn make(self, alloc: A, capacity: usize) -> Option<RelocatableSlotMap<u64, A>> {
         UninitSlotMap::starting_at(capacity, self.generation())
-            .init(arena)
+            .init(alloc)
             .ok()
     }
 }

@@ -6,13 +6,11 @@ use crate::run::containers::served::Served;
 use crate::run::devices::{ReplyBuffer, ReplyWriter};
 use crate::run::replies::{ListedItem, append_items};
 use crate::run::{Reply, Runs, ScriptFault, read_slot_table_command};
-use bumpalo::Bump;
 use ix_slottable::{
-    FixedSizeSlotTable, Link, MetaSlotTable, RelocatableSlotTable, SlotTable, SlotTableKey,
-    UninitSlotTable,
+    FixedSizeSlotTable, MetaSlotTable, RelocatableSlotTable, SlotTableKey, Storage, UninitSlotTable,
 };
-use ix_tables::{RelocatableContainer, Table};
-use std::alloc::Global;
+use ix_tables::RelocatableContainer;
+use std::alloc::Allocator;
 use std::io::Write;
 
 /// A key with its value.
@@ -27,7 +25,7 @@ impl<'a> ListedItem for (SlotTableKey, &'a u64) {
     }
 }
 
-impl<S: Table<u64>, L: Table<Link>> Served for MetaSlotTable<u64, S, L> {
+impl<M: Storage<u64>> Served for MetaSlotTable<u64, M> {
     ghost use Rattle.std.specs.Prelude.{ℕ};
     ghost use Rattle.ix_slottable.specs.SlotTableState.{SlotTableState};
     ghost use Rattle.ix_commands.specs.SlotTableRun.{slot_table_reply, slot_table_after};
@@ -75,22 +73,10 @@ impl<const N: usize> MakesInline<N> for SlotTables {
     }
 }
 
-impl MakesIn<Global> for SlotTables {
-    type Made = SlotTable<u64>;
+impl<A: Allocator + Copy> MakesIn<A> for SlotTables {
+    type Made = RelocatableSlotTable<u64, A>;
 
-    fn make(self, alloc: Global, capacity: usize) -> Option<SlotTable<u64>> {
-        SlotTable::new(alloc, capacity).ok()
-    }
-}
-
-impl<'a> MakesIn<&'a Bump<Global>> for SlotTables {
-    type Made = RelocatableSlotTable<u64, &'a Bump<Global>>;
-
-    fn make(
-        self,
-        arena: &'a Bump<Global>,
-        capacity: usize,
-    ) -> Option<RelocatableSlotTable<u64, &'a Bump<Global>>> {
-        UninitSlotTable::new_uninit(capacity).init(arena).ok()
+    fn make(self, alloc: A, capacity: usize) -> Option<RelocatableSlotTable<u64, A>> {
+        UninitSlotTable::new_uninit(capacity).init(alloc).ok()
     }
 }

@@ -6,10 +6,9 @@ use crate::run::containers::served::Served;
 use crate::run::devices::{MAX_NUMBERS, ReplyWriter};
 use crate::run::replies::append_items;
 use crate::run::{Reply, Runs, ScriptFault, read_vector_command};
-use bumpalo::Bump;
 use ix_tables::RelocatableContainer;
-use ix_vector::{PolymorphicVec, RelocatableVec, StaticVec, UninitVec, Vector};
-use std::alloc::Global;
+use ix_vector::{RelocatableVec, StaticVec, UninitVec, Vector};
+use std::alloc::Allocator;
 use std::io::Write;
 
 /// A vector, and room for the numbers of a line.
@@ -78,22 +77,10 @@ impl<const N: usize> MakesInline<N> for Vectors {
     }
 }
 
-impl MakesIn<Global> for Vectors {
-    type Made = VectorLines<PolymorphicVec<u64>>;
+impl<A: Allocator + Copy> MakesIn<A> for Vectors {
+    type Made = VectorLines<RelocatableVec<u64, A>>;
 
-    fn make(self, alloc: Global, capacity: usize) -> Option<VectorLines<PolymorphicVec<u64>>> {
-        Some(VectorLines::new(PolymorphicVec::new(alloc, capacity).ok()?))
-    }
-}
-
-impl<'a> MakesIn<&'a Bump<Global>> for Vectors {
-    type Made = VectorLines<RelocatableVec<u64, &'a Bump<Global>>>;
-
-    fn make(
-        self,
-        arena: &'a Bump<Global>,
-        capacity: usize,
-    ) -> Option<VectorLines<RelocatableVec<u64, &'a Bump<Global>>>> {
-        Some(VectorLines::new(UninitVec::new_uninit(capacity).init(arena).ok()?))
+    fn make(self, alloc: A, capacity: usize) -> Option<VectorLines<RelocatableVec<u64, A>>> {
+        Some(VectorLines::new(UninitVec::new_uninit(capacity).init(alloc).ok()?))
     }
 }

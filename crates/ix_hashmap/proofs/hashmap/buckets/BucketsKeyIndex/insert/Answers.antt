@@ -17,12 +17,12 @@ insert_first-requires-clause-place g c =
 
 pub returns-then-not-has_chains-clause-fits : goal.returns-then-not-has_chains-clause-fits
 returns-then-not-has_chains-clause-fits g c =
-    let none : g.C.LinkTable.has_chains ≡ false = search rules in
+    let none : g.S.HashMapStorage.has_chains ≡ false = search rules in
     IsIndexed-insert _ _ c.args.pairs.now c.try_insert.new.self c.args.pair c.args.self.now.links c.requires.fits none _ c.try_insert.ensures.step
 
 pub returns-in-Ok-clause-fits : goal.returns-in-Ok-clause-fits
 returns-in-Ok-clause-fits g c =
-    let has : g.C.LinkTable.has_chains ≡ true = search rules in
+    let has : g.S.HashMapStorage.has_chains ≡ true = search rules in
     let links = c.insert_first.ensures.links ∙ ap (λ (place : ℕ). links_insert_first c.args.self.now.links c.args.seat.number place) c.value.ensures in
     subst (IsIndexed _ _ c.try_insert-2.new.self) (sym links)
     (IsIndexed-inserted _ _ c.args.pairs.now c.try_insert-2.new.self c.args.pair c.args.self.now.links c.requires.fits has c.in-Ok.place c.args.seat.number c.in-Ok.ensures.step c.requires.seat.is

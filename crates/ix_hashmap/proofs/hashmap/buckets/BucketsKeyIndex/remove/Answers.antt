@@ -20,18 +20,18 @@ remove-requires-clause-first g c =
 pub remove-requires-clause-has : goal.remove-requires-clause-has
 remove-requires-clause-has g c =
     let held = held_item (value_at c.args.pairs.now c.args.place) c.requires.held in
-    let has : g.C.LinkTable.has_chains ≡ true = search rules in
+    let has : g.S.HashMapStorage.has_chains ≡ true = search rules in
     subst (IsOnChain c.args.self.now.links (head_at c.args.self.now.links c.args.seat.number)) (sym c.value.ensures)
     (on_chain-held _ c.args.pairs.now c.args.self.now.links c.args.place c.args.seat.number held.0 (c.requires.fits.chains has) held.1 (c.requires.seat held.0 held.1).is)
 
 pub returns-then-not-has_chains-clause-fits : goal.returns-then-not-has_chains-clause-fits
 returns-then-not-has_chains-clause-fits g c =
-    let none : g.C.LinkTable.has_chains ≡ false = search rules in
+    let none : g.S.HashMapStorage.has_chains ≡ false = search rules in
     IsIndexed-remove _ _ c.args.pairs.now _ c.remove_unchecked.result c.args.self.now.links c.requires.fits none c.args.place c.remove_unchecked.ensures
 
 pub returns-clause-fits : goal.returns-clause-fits
 returns-clause-fits g c =
-    let has : g.C.LinkTable.has_chains ≡ true = search rules in
+    let has : g.S.HashMapStorage.has_chains ≡ true = search rules in
     let step = c.remove_unchecked-2.ensures in
     IsIndexed-removed _ _ c.args.pairs.now _ c.remove_unchecked-2.result c.args.self.now.links c.requires.fits has c.args.place c.args.seat.number _ step
     (c.requires.seat c.remove_unchecked-2.result (sym step.value)).is

@@ -1,12 +1,14 @@
 use Rattle.std.proofs.Common.{length, sym, ap, ◌∙◌, arith}
-use Rattle.std.specs.Prelude.{replicate}
+use Rattle.std.proofs.lemmas.List.{ext_get_or, get_or-replicate, length-replicate}
 use Rattle.ix_hashmap.specs.inner.HashChains.{no_link}
-use Rattle.ix_slottable.proofs.FullTables.{items_in-filled, length-items_in}
 use Rattle.ix_hashmap.proofs.hashmap.chain_table.ChainTable.clear.Goals as goal
 
 pub returns : goal.returns
 returns g c =
-    let len = c.loop-number.invariant.len in
+    let at = c.loop-number.invariant in
     let ended = c.loop-number-test.false in
-    items_in-filled no_link _ no_link (λ bucket below. c.loop-number.invariant.emptied bucket (omega (arith, len, ended, below)))
-    ∙ ap (λ n. replicate n no_link) (len ∙ c.len-number-end.ensures.value ∙ sym (length-items_in no_link _) ∙ ap length c.self.view_is)
+    let len = at.len in
+    let all = c.len-number-end.ensures.value in
+    let same = ap length c.self.view_is in
+    ext_get_or no_link _ _ (at.len ∙ all ∙ same ∙ sym (length-replicate (length c.args.self.now) no_link)) (λ place below.
+    at.emptied place (omega (arith, ended, len, below)) ∙ sym (get_or-replicate (length c.args.self.now) place no_link no_link (omega (arith, below, len, all, same))))

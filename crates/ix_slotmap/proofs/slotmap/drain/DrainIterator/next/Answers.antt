@@ -9,20 +9,20 @@ pub invariant_of-self-2 : goal.invariant_of-self-2
 invariant_of-self-2 g c =
     let drain = c.args.self.now in
     let s = drain.map.now in
-    let new = c.remove_at.new.self in
-    let removed = c.in-Some.ensures in record {
-      counted = counted-next s new drain.index c.held_from-index.result c.in-Some.value c.held_from-index.ensures.entries removed.value removed.step drain.counted (count_by-held new 0 new.slots.values) removed.gone;
+    let new = c.remove_held-value.new.self in
+    let removed = c.remove_held-value.ensures in record {
+      counted = counted-next s new drain.index c.held_from-index.result c.remove_held-value.result c.held_from-index.ensures.entries (sym removed.value) removed.step drain.counted (count_by-held new 0 new.slots.values) removed.gone;
     }
 
 pub returns-clause-steps : goal.returns-clause-steps
 returns-clause-steps g c =
     let drain = c.args.self.now in
     let s = drain.map.now in
-    let new = c.remove_at.new.self in
+    let new = c.remove_held-value.new.self in
     let number = c.held_from-index.result in
-    let value = c.in-Some.value in
-    let removed = c.in-Some.ensures in
+    let value = c.remove_held-value.result in
+    let removed = c.remove_held-value.ensures in
     let rest = held_entries new (entries_from (number + 1) (drop (number + 1) new.slots.values)) in (
-      next_key s new drain.index number value c.held_from-index.ensures.entries removed.value removed.step ∙ ap (λ key. (key, value) ∷ rest) (sym c.key_of-key.ensures.value),
-      (refl, slot_map_clear-next s new drain.index number value c.held_from-index.ensures.entries removed.value removed.step drain.counted removed.gone),
+      next_key s new drain.index number value c.held_from-index.ensures.entries (sym removed.value) removed.step ∙ ap (λ key. (key, value) ∷ rest) (sym c.key_of-key.ensures.value),
+      (refl, slot_map_clear-next s new drain.index number value c.held_from-index.ensures.entries (sym removed.value) removed.step drain.counted removed.gone),
     )

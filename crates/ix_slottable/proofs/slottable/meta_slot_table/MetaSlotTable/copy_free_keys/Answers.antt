@@ -14,9 +14,9 @@ copy_links-requires-clause-others g c = IsLinkTable-shown _ _ _ _ _ (record { so
 
 pub invariant_of-self : goal.invariant_of-self
 invariant_of-self g c =
-    let values = g.S.Table.places c.self.inside.values in
-    let links = g.M.Table.places c.other.inside.links in
-    let other = slots_of (g.R.Table.places c.other.inside.values) links c.other.inside.first in
+    let values = g.M.Items.Table.places c.self.inside.values in
+    let links = g.N.Links.Table.places c.other.inside.links in
+    let other = slots_of (g.N.Items.Table.places c.other.inside.values) links c.other.inside.first in
     let long = ap (λ (s : SlotTableState g.row.T.Denot). length s.values) c.self.view_is ∙ c.requires.capacity ∙ sym (ap (λ (s : SlotTableState g.row.T.Denot). length s.values) c.other.view_is) in
     subst (λ (ls : List (Option Link)). Represents (slots_of values ls c.other.inside.first) ls c.other.inside.first c.other.inside.len) (sym c.copy_links.ensures)
     (Represents-same_keys other values links c.other.inside.first c.other.inside.len c.other.invariant long

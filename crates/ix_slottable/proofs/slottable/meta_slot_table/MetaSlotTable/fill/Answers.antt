@@ -15,7 +15,7 @@ remove-requires-clause-key g c = key_within _ _ _ _ _ c.args.key (record { sound
 pub remove-requires-clause-link : goal.remove-requires-clause-link
 remove-requires-clause-link g c =
     let at = place_at-free _ _ _ _ _ c.args.key (record { sound = c.self.invariant; is = c.self.view_is }) c.args.link c.requires.free c.requires.link in
-    subst (λ link. IsLinkWithin link (g.L.Table.places c.self.inside.links)) at (IsLinkWithin-shown _ _ _ _ _ c.args.key (record { sound = c.self.invariant; is = c.self.view_is }) c.requires.free)
+    subst (λ link. IsLinkWithin link (g.M.Links.Table.places c.self.inside.links)) at (IsLinkWithin-shown _ _ _ _ _ c.args.key (record { sound = c.self.invariant; is = c.self.view_is }) c.requires.free)
 
 pub put-requires : goal.put-requires
 put-requires g c = IsEmptyAt-free _ _ _ _ _ c.args.key (record { sound = c.self.invariant; is = c.self.view_is }) c.requires.free

@@ -6,4 +6,4 @@ use Rattle.ix_slottable.proofs.slottable.meta_slot_table.MetaSlotTable.get_unche
 pub invariant_of-self-lent : goal.invariant_of-self-lent
 invariant_of-self-lent g c value =
     let held = subst (IsHeld c.args.self.now) (sym c.value.ensures) c.requires in
-    (Shows-slot_table_set _ _ _ _ _ _ c.value.result value (record { sound = c.self.invariant; is = c.self.view_is }) held (g.met.S.Table.places_with_item c.self.inside.values c.value.result value)).sound
+    (Shows-slot_table_set _ _ _ _ _ _ c.value.result value (record { sound = c.self.invariant; is = c.self.view_is }) held (g.met.M.Items.Table.places_with_item c.self.inside.values c.value.result value)).sound

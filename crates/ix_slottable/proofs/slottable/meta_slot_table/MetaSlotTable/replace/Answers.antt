@@ -7,11 +7,11 @@ use Rattle.ix_slottable.proofs.slottable.meta_slot_table.MetaSlotTable.replace.G
 
 pub invariant_of-self : goal.invariant_of-self
 invariant_of-self g c =
-    (Shows-slot_table_set _ _ _ _ _ _ c.args.key c.args.value (record { sound = c.self.invariant; is = c.self.view_is }) c.requires (g.met.S.Table.places_with_item c.self.inside.values c.args.key c.args.value)).sound
+    (Shows-slot_table_set _ _ _ _ _ _ c.args.key c.args.value (record { sound = c.self.invariant; is = c.self.view_is }) c.requires (g.met.M.Items.Table.places_with_item c.self.inside.values c.args.key c.args.value)).sound
 
 pub returns-clause-map : goal.returns-clause-map
 returns-clause-map g c =
-    (Shows-slot_table_set _ _ _ _ _ _ c.args.key c.args.value (record { sound = c.self.invariant; is = c.self.view_is }) c.requires (g.met.S.Table.places_with_item c.self.inside.values c.args.key c.args.value)).is
+    (Shows-slot_table_set _ _ _ _ _ _ c.args.key c.args.value (record { sound = c.self.invariant; is = c.self.view_is }) c.requires (g.met.M.Items.Table.places_with_item c.self.inside.values c.args.key c.args.value)).is
 
 pub returns-clause-count : goal.returns-clause-count
 returns-clause-count g c = ap held_count (returns-clause-map g c) ∙ held_count-slot_table_fill_held c.args.self.now c.args.key c.args.value c.requires

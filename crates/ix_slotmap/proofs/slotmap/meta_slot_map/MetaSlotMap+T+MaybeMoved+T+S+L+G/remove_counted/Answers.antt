@@ -1,5 +1,0 @@
-use Rattle.ix_slotmap.proofs.SlotMapCounts.{SlotMapRemove-held_key}
-use Rattle.ix_slotmap.proofs.slotmap.meta_slot_map.MetaSlotMap+T+MaybeMoved+T+S+L+G.remove_counted.Goals as goal
-
-pub returns-clause-step : goal.returns-clause-step
-returns-clause-step g c = SlotMapRemove-held_key c.args.self.now c.args.key c.index.result c.remove_held.new.self c.remove_held.result (c.is_held.ensures.value.0 c.if-not-is_held.false) c.index.ensures c.remove_held.ensures.step
