@@ -10,42 +10,42 @@ use std::test::Fail;
 // Shows: Storage, Inline, Heap
 #[test]
 fn a_function_takes_a_slot_table_in_any_storage(rt: HostRuntime) -> Result<(), Fail> {
-    fn replace_first<M: Storage<char>>(table: &mut MetaSlotTable<char, M>, name: char) -> bool {
+    fn replace_first<M: Storage<u8>>(table: &mut MetaSlotTable<u8, M>, name: u8) -> bool {
         table.insert_at(SlotTableKey::new(0), name)
     }
-    let mut inline = MetaSlotTable::<char, Inline<2>>::new(); // a `FixedSizeSlotTable<char, 2>`
-    assert!(rt; replace_first(&mut inline, 'a'));
-    let mut allocated = MetaSlotTable::<char, Heap>::new(rt.alloc(), 0)?; // a `SlotTable<char>`
-    assert!(rt; !replace_first(&mut allocated, 'a')); // it has no place
+    let mut inline = MetaSlotTable::<u8, Inline<2>>::new(); // a `FixedSizeSlotTable<u8, 2>`
+    assert!(rt; replace_first(&mut inline, b'a'));
+    let mut allocated = MetaSlotTable::<u8, Heap>::new(rt.alloc(), 0)?; // a `SlotTable<u8>`
+    assert!(rt; !replace_first(&mut allocated, b'a')); // it has no place
     Ok(())
 }
 
 // Shows: SlotMapStorage
 #[test]
 fn a_function_takes_a_slot_map_in_any_storage(rt: HostRuntime) -> Result<(), Fail> {
-    fn exchange<M: SlotMapStorage<MaybeMoved<char>>>(
-        map: &mut MetaSlotMap<char, MaybeMoved<char>, M>,
+    fn exchange<M: SlotMapStorage<MaybeMoved<u8>>>(
+        map: &mut MetaSlotMap<u8, MaybeMoved<u8>, M>,
         key: SlotMapKey,
-        name: char,
+        name: u8,
     ) -> Option<SlotMapKey> {
         map.remove(key)?;
         map.insert(name)
     }
-    let mut inline = FixedSizeSlotMap::<char, 2>::new();
-    if let Some(key) = inline.insert('a') {
-        assert!(rt; exchange(&mut inline, key, 'b') == Some(SlotMapKey::new(0, 1)));
+    let mut inline = FixedSizeSlotMap::<u8, 2>::new();
+    if let Some(key) = inline.insert(b'a') {
+        assert!(rt; exchange(&mut inline, key, b'b') == Some(SlotMapKey::new(0, 1)));
     }
-    let mut allocated = SlotMap::<char>::new(rt.alloc(), 2)?;
-    assert!(rt; exchange(&mut allocated, SlotMapKey::new(0, 0), 'b') == None);
+    let mut allocated = SlotMap::<u8>::new(rt.alloc(), 2)?;
+    assert!(rt; exchange(&mut allocated, SlotMapKey::new(0, 0), b'b') == None);
     Ok(())
 }
 
 // Shows: KeyIndex
 #[test]
 fn a_function_takes_a_map_of_any_kind(rt: HostRuntime) {
-    fn count<M: Storage<Pair<char, u32>>, I: KeyIndex<char, u32>>(
-        counts: &mut MetaMap<Pair<char, u32>, M, I>,
-        letter: char,
+    fn count<M: Storage<Pair<u8, u32>>, I: KeyIndex<u8, u32>>(
+        counts: &mut MetaMap<Pair<u8, u32>, M, I>,
+        letter: u8,
     ) -> bool {
         match counts.get_mut_ref(&letter) {
             Some(count) => {
@@ -55,11 +55,11 @@ fn a_function_takes_a_map_of_any_kind(rt: HostRuntime) {
             None => counts.insert(letter, 1).is_ok(),
         }
     }
-    let mut flat = FixedSizeFlatMap::<char, u32, 1>::new();
-    assert!(rt; count(&mut flat, 'a') && count(&mut flat, 'a'));
-    assert!(rt; flat.get_ref(&'a') == Some(&2));
-    let mut hashed = FixedSizeHashMap::<char, u32, 1>::new();
-    assert!(rt; count(&mut hashed, 'a') && !count(&mut hashed, 'b'));
+    let mut flat = FixedSizeFlatMap::<u8, u32, 1>::new();
+    assert!(rt; count(&mut flat, b'a') && count(&mut flat, b'a'));
+    assert!(rt; flat.get_ref(&b'a') == Some(&2));
+    let mut hashed = FixedSizeHashMap::<u8, u32, 1>::new();
+    assert!(rt; count(&mut hashed, b'a') && !count(&mut hashed, b'b'));
 }
 
 // Shows: HashMapStorage

@@ -161,44 +161,44 @@ fn hashers_of_choice(rt: HostRuntime) -> Result<(), Fail> {
     findings.verdict()
 }
 
-/// Counts a word in a map of any kind.
-fn count_word<M: Storage<Pair<char, u64>>, I: KeyIndex<char, u64>>(
-    counts: &mut MetaMap<Pair<char, u64>, M, I>,
-    word: char,
+/// Counts a letter in a map of any kind.
+fn count_letter<M: Storage<Pair<u8, u64>>, I: KeyIndex<u8, u64>>(
+    counts: &mut MetaMap<Pair<u8, u64>, M, I>,
+    letter: u8,
 ) -> bool {
-    match counts.get_mut_ref(&word) {
+    match counts.get_mut_ref(&letter) {
         Some(count) => {
             *count = count.wrapping_add(1);
             true
         }
-        None => counts.insert(word, 1).is_ok(),
+        None => counts.insert(letter, 1).is_ok(),
     }
 }
 
 /// Counts the letters of a text.
-fn check_counts<M: Storage<Pair<char, u64>>, I: KeyIndex<char, u64>>(
+fn check_counts<M: Storage<Pair<u8, u64>>, I: KeyIndex<u8, u64>>(
     findings: &Findings,
-    counts: &mut MetaMap<Pair<char, u64>, M, I>,
+    counts: &mut MetaMap<Pair<u8, u64>, M, I>,
 ) {
-    for letter in ['a', 'b', 'a', 'c', 'a'] {
-        let is_counted = count_word(counts, letter);
-        findings.expect_same(is_counted, letter != 'c', "there is room for two");
+    for letter in [b'a', b'b', b'a', b'c', b'a'] {
+        let is_counted = count_letter(counts, letter);
+        findings.expect_same(is_counted, letter != b'c', "there is room for two");
     }
     findings.expect(
-        counts.get_key_value(&'a') == Some((&'a', &3)),
+        counts.get_key_value(&b'a') == Some((&b'a', &3)),
         "three times",
     );
-    findings.expect_same(counts.get_ref(&'b').copied(), Some(1), "once");
-    findings.expect_same(counts.get_ref(&'c').copied(), None, "never");
-    findings.expect_same(counts.insert('a', 0), Err(KeyAlreadyExists), "held");
-    findings.expect_same(counts.insert('c', 0), Err(IsFull), "full");
+    findings.expect_same(counts.get_ref(&b'b').copied(), Some(1), "once");
+    findings.expect_same(counts.get_ref(&b'c').copied(), None, "never");
+    findings.expect_same(counts.insert(b'a', 0), Err(KeyAlreadyExists), "held");
+    findings.expect_same(counts.insert(b'c', 0), Err(IsFull), "full");
 }
 
 #[test]
 fn maps_of_any_kind() -> Result<(), Fail> {
     let findings = Findings::new();
-    check_counts(&findings, &mut FixedSizeFlatMap::<char, u64, 2>::new());
-    check_counts(&findings, &mut FixedSizeHashMap::<char, u64, 2>::new());
+    check_counts(&findings, &mut FixedSizeFlatMap::<u8, u64, 2>::new());
+    check_counts(&findings, &mut FixedSizeHashMap::<u8, u64, 2>::new());
     findings.verdict()
 }
 
