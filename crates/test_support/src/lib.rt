@@ -3,7 +3,7 @@
 //! drops, [`hash_of`], [`order_of`] and [`check_text`], which know a value by a trait alone, [`fed_by`], which tells what a value
 //! feeds to a hasher, [`check_memory_sizes`], which knows how many bytes a container takes, [`check_drawn_sizes`], which has ample
 //! memory, [`check_capacities`], which knows besides where none is enough,
-//! [`check_equality`] of maps of any kind, and [`devices`] that fail.
+//! [`check_equality`] of maps of any kind, [`Counting`], a table that counts the calls of it, and [`devices`] that fail.
 //!
 //! ```text
 //! let notes = Notes::new(0);
@@ -15,6 +15,7 @@
 
 mod blocks;
 mod by_traits;
+mod counting;
 pub mod devices;
 mod drawn_sizes;
 mod findings;
@@ -26,6 +27,7 @@ mod rows;
 
 pub use blocks::check_memory_sizes;
 pub use by_traits::{check_display, check_printed, check_text, hash_of, order_of};
+pub use counting::{Counting, CountingTable, Tally};
 pub use drawn_sizes::{check_capacities, check_drawn_sizes};
 pub use findings::Findings;
 pub use maps::check_equality;
