@@ -15,10 +15,10 @@ TABLE = """
 byte_atomic/atomic_fields.rt encode: .encode(out)
 byte_atomic/fixed_size_byte_atomic.rt new: .encode(&mut bytes)
 byte_atomic/fixed_size_byte_atomic.rt new: array::from_fn(|i| AtomicU8::new(bytes[i]))
-byte_atomic/fixed_size_byte_atomic.rt read: array::from_fn(|i| self.bytes[i].load(Ordering::Relaxed))
+byte_atomic/fixed_size_byte_atomic.rt read: array::from_fn(|i| self.bytes[i].load(Ordering::SeqCst))
 byte_atomic/fixed_size_byte_atomic.rt write: .encode(&mut encoding)
 byte_atomic/fixed_size_byte_atomic.rt write: for (cell, byte) in self.bytes.iter().zip(&encoding)
-byte_atomic/fixed_size_byte_atomic.rt write: cell.store(*byte, Ordering::Relaxed)
+byte_atomic/fixed_size_byte_atomic.rt write: cell.store(*byte, Ordering::SeqCst)
 byte_atomic/maybe_torn.rt fmt: self.bytes
 byte_atomic/pairs.rt encode_pair: .encode(front)
 byte_atomic/pairs.rt encode_pair: .encode(back)

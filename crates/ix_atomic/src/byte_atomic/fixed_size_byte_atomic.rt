@@ -8,8 +8,8 @@ use std::{array, fmt};
 
 /// A cell that is stored inline and holds the encoding of a `T` in `SIZE` atomic bytes. `SIZE` is the size of `T`.
 ///
-/// Threads share it by reference. Each byte is read and written atomically, but not all of them at once: reads and writes
-/// may be torn if a thread writes while others read or write. Contracts say nothing of its bytes, since any thread
+/// Threads share it by reference. Each byte is read and written atomically, by `Ordering::SeqCst`, but not all of them at once:
+/// reads and writes may be torn if a thread writes while others read or write. Contracts say nothing of its bytes, since any thread
 /// may change them at any time.
 ///
 /// This is `FixedSizeByteAtomic` of iceoryx2-bb-container.
@@ -36,7 +36,7 @@ impl<T: AtomicCopy, const SIZE: usize> FixedSizeByteAtomic<T, SIZE> {
     pub fn read(&self) -> MaybeTorn<T, SIZE>
         ensures { length result ≡ SIZE }
     {
-        MaybeTorn::new(array::from_fn(|i| self.bytes[i].load(Ordering::Relaxed)))
+        MaybeTorn::new(array::from_fn(|i| self.bytes[i].load(Ordering::SeqCst)))
     }
 
     /// Writes the encoding of `value`, each byte atomically, from the first to the last. O(`SIZE`).
@@ -46,7 +46,7 @@ impl<T: AtomicCopy, const SIZE: usize> FixedSizeByteAtomic<T, SIZE> {
         let mut encoding = [0; SIZE];
         value.encode(&mut encoding);
         for (cell, byte) in self.bytes.iter().zip(&encoding) {
-            cell.store(*byte, Ordering::Relaxed);
+            cell.store(*byte, Ordering::SeqCst);
         }
     }
 }
