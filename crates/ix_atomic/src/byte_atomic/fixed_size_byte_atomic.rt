@@ -6,7 +6,7 @@ use std::marker::PhantomData;
 use std::sync::atomic::{AtomicU8, Ordering};
 use std::{array, fmt};
 
-/// A cell that is stored inline and holds the encoding of a `T` in `SIZE` atomic bytes. `SIZE` is the size of `T`.
+/// A cell that is stored inline and holds the encoding of a `T` in `SIZE` atomic bytes. `SIZE` is `T::SIZE`.
 ///
 /// Threads share it by reference. Each byte is read and written atomically, by `Ordering::SeqCst`, but not all of them at once:
 /// reads and writes may be torn if a thread writes while others read or write. Contracts say nothing of its bytes, since any thread
@@ -21,9 +21,12 @@ pub struct FixedSizeByteAtomic<T, const SIZE: usize> {
 
 impl<T: AtomicCopy, const SIZE: usize> FixedSizeByteAtomic<T, SIZE> {
     /// Creates a cell that holds `value`. Does not allocate. O(`SIZE`).
+    ///
+    /// An unproved run stops here if `SIZE` is not `T::SIZE`.
     pub fn new(value: T) -> Self
         requires { SIZE ≡ T.SIZE }
     {
+        prove!(SIZE == T::SIZE);
         let mut bytes = [0; SIZE];
         value.encode(&mut bytes);
         FixedSizeByteAtomic {

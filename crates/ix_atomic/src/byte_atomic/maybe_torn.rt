@@ -42,15 +42,16 @@ impl<T, const SIZE: usize> MaybeTorn<T, SIZE> {
 }
 
 impl<T: AtomicCopy, const SIZE: usize> MaybeTorn<T, SIZE> {
-    /// Returns the value with these bytes as its encoding, or `None` if no value has it. `SIZE` is the size of `T`.
-    /// O(`SIZE`).
+    /// Returns the value with these bytes as its encoding, or `None` if no value has it. O(`SIZE`).
     ///
-    /// The bytes of a torn read may be the encoding of a value that no thread wrote.
+    /// The bytes of a torn read may be the encoding of a value that no thread wrote. An unproved run stops here if `SIZE` is not
+    /// `T::SIZE`.
     #[inline]
     pub fn assume_consistent(self) -> Option<T>
         requires { SIZE ≡ T.SIZE }
         ensures { (v : T) → (result ≡ Some v) ↔ (T.is_value v × (self ≡ T.encoding v)) }
     {
+        prove!(SIZE == T::SIZE);
         let MaybeTorn { bytes, of: _ } = self;
         T::decode(&bytes)
     }

@@ -72,6 +72,8 @@ impl<T: AtomicCopy, const SIZE: usize> UninitByteAtomic<T, SIZE> {
     ///
     /// Returns `self` in an [`InitError`] if the allocation fails; nothing stays allocated then. No allocation has more than
     /// `isize::MAX` bytes.
+    ///
+    /// An unproved run stops here if `SIZE` is not `T::SIZE`.
     pub fn init<A: Allocator>(
         self,
         alloc: A,
@@ -80,6 +82,7 @@ impl<T: AtomicCopy, const SIZE: usize> UninitByteAtomic<T, SIZE> {
         requires { SIZE ≡ T.SIZE }
         ensures { IfErr result (λ error. error ≡ self) }
     {
+        prove!(SIZE == T::SIZE);
         if SIZE > MAX_SIZE {
             return Err(InitError::new(self));
         }

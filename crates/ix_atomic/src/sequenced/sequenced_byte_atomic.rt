@@ -24,7 +24,7 @@ use std::marker::Model;
 /// No allocation has more bytes than `isize::MAX`. One word is the version, each other one has eight bytes.
 const MAX_SIZE: usize = (isize::MAX as usize / size_of::<u64>() - 1) * 8;
 
-/// A cell that threads write and read without a lock. `SIZE` is the size of `T`.
+/// A cell that threads write and read without a lock. `SIZE` is `T::SIZE`.
 ///
 /// Threads share it by reference. The holders of [`WriterSeat`]s write, the holders of [`ReaderSeat`]s read. Each call loads or
 /// stores single words, and neither waits nor tries again. All finished writes are one history.
@@ -54,6 +54,8 @@ impl<T: AtomicCopy, const SIZE: usize> SequencedByteAtomic<T, SIZE> {
     ///
     /// O(`SIZE`). Allocates from `alloc`. Returns `AllocError` if there is not enough memory, and for any `SIZE` whose words,
     /// 8 bytes each, would fill more than `isize::MAX` bytes.
+    ///
+    /// An unproved run stops here if `SIZE` is not `T::SIZE`.
     pub fn new(alloc: Global, value: T) -> Result<(Self, WriterSeat<T>, ReaderSeat<T>), AllocError>
         requires { SIZE ≡ T.SIZE }
         ensures writer { IfOk result (λ made.
@@ -65,6 +67,7 @@ impl<T: AtomicCopy, const SIZE: usize> SequencedByteAtomic<T, SIZE> {
         ensures share { IfOk result (λ made. made.1.share ≡ 0 ∷ []) }
         ensures touches { IfOk result (λ made. (made.1.touched ≡ 0 ∷ []) × (made.2.touched ≡ [])) }
     {
+        prove!(SIZE == T::SIZE);
         if SIZE > MAX_SIZE {
             return Err(AllocError);
         }
