@@ -27,6 +27,7 @@ pub trait AtomicCopy: Copy {
         ensures in_range { is_value self.now };
 
     /// Returns the value with the encoding `bytes`, which has `SIZE` bytes, or `None` if no value has it. O(`SIZE`).
+    #[must_use]
     fn decode(bytes: &[u8]) -> Option<Self>
         requires { length bytes.now ≡ SIZE }
         ensures { (v : Self) → (result ≡ Some v) ↔ (is_value v × (bytes.now ≡ encoding v)) };

@@ -21,10 +21,12 @@ pub trait AtomicFields: Copy {
     ghost fields: { Self → Self.Fields };
 
     /// Returns the fields.
+    #[must_use]
     fn to_fields(&self) -> Self::Fields
         ensures { result ≡ fields self.now };
 
     /// Returns the value with these fields, or `None` if there is none.
+    #[must_use]
     fn from_fields(of: Self::Fields) -> Option<Self>
         ensures value { IfSome result (λ value. fields value ≡ of) }
         ensures none { result ≡ None → (value : Self) → ¬ (fields value ≡ of) };

@@ -36,6 +36,7 @@ impl<T: AtomicCopy, const SIZE: usize> FixedSizeByteAtomic<T, SIZE> {
     }
 
     /// Returns the bytes, each read atomically, from the first to the last. O(`SIZE`).
+    #[must_use]
     pub fn read(&self) -> MaybeTorn<T, SIZE>
         ensures { length result ≡ SIZE }
     {

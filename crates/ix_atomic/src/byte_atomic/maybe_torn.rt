@@ -46,6 +46,7 @@ impl<T: AtomicCopy, const SIZE: usize> MaybeTorn<T, SIZE> {
     ///
     /// The bytes of a torn read may be the encoding of a value that no thread wrote. An unproved run stops here if `SIZE` is not
     /// `T::SIZE`.
+    #[must_use]
     #[inline]
     pub fn assume_consistent(self) -> Option<T>
         requires { SIZE ≡ T.SIZE }

@@ -19,6 +19,7 @@ pub fn encode_pair<A: AtomicCopy, B: AtomicCopy>(first: &A, second: &B, out: &mu
 }
 
 /// Returns the two values with these encodings, one behind the other, or `None` if there are none. O(`bytes.len()`).
+#[must_use]
 #[inline]
 pub fn decode_pair<A: AtomicCopy, B: AtomicCopy>(bytes: &[u8]) -> Option<(A, B)>
     requires { length bytes.now ≡ A.SIZE + B.SIZE }
@@ -52,6 +53,7 @@ pub fn encode_triple<A: AtomicCopy, B: AtomicCopy, C: AtomicCopy>(
 }
 
 /// Returns the three values with these encodings, one behind the other, or `None` if there are none. O(`bytes.len()`).
+#[must_use]
 #[inline]
 pub fn decode_triple<A: AtomicCopy, B: AtomicCopy, C: AtomicCopy>(bytes: &[u8]) -> Option<(A, B, C)>
     requires { length bytes.now ≡ A.SIZE + (B.SIZE + C.SIZE) }

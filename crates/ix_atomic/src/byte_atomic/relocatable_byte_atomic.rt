@@ -31,6 +31,7 @@ impl<T, const SIZE: usize, A: Allocator> RelocatableByteAtomic<T, SIZE, A> {
 
 impl<T: AtomicCopy, const SIZE: usize, A: Allocator> RelocatableByteAtomic<T, SIZE, A> {
     /// Returns the bytes, as [`FixedSizeByteAtomic::read`] does. O(`SIZE`).
+    #[must_use]
     #[inline]
     pub fn read(&self) -> MaybeTorn<T, SIZE>
         ensures { length result ≡ SIZE }

@@ -12,6 +12,7 @@ pub trait ValueRule<T>: Copy {
     ghost holds: { T → Type 0 };
 
     /// Returns `true` if the value obeys the rule.
+    #[must_use]
     fn is_held(value: &T) -> bool
         ensures { IsTrue result ↔ holds value.now };
 }
@@ -41,6 +42,7 @@ impl<T: Copy, R: ValueRule<T>> Ruled<T, R> {
     }
 
     /// Returns the value with the rule, or `None` if it does not obey it. Tests it once.
+    #[must_use]
     #[inline]
     pub fn try_new(value: T) -> Option<Ruled<T, R>>
         ensures value { IfSome result (λ ruled. ruled.value ≡ value) }
@@ -54,6 +56,7 @@ impl<T: Copy, R: ValueRule<T>> Ruled<T, R> {
     }
 
     /// Returns the value. O(1).
+    #[must_use]
     #[inline]
     pub fn get(&self) -> T
         ensures value { result ≡ self.now.value }

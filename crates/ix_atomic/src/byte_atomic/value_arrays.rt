@@ -23,6 +23,7 @@ pub fn encode_array<T: AtomicCopy, const N: usize>(values: &[T; N], out: &mut [u
 
 /// Returns the `N` values with these encodings, one behind the other, or `None` if there are none. O(`N + bytes.len()`);
 /// the first one is decoded twice.
+#[must_use]
 #[inline]
 pub fn decode_array<T: AtomicCopy, const N: usize>(bytes: &[u8]) -> Option<[T; N]>
     requires { length bytes.now ≡ N * T.SIZE }

@@ -3,6 +3,7 @@ ghost use Rattle.std.specs.Prelude.{◌≡◌, ◌≤◌, length};
 ghost use Rattle.ix_atomic.specs.Words.{word_of, bytes_of_word};
 
 /// Returns the word of `bytes`, the least one first. There are at most eight of them; those that are missing count as 0. O(1).
+#[must_use]
 #[inline]
 pub fn pack_word(bytes: &[u8]) -> u64
     requires { length bytes.now ≤ 8 }

@@ -142,6 +142,7 @@ impl<T: AtomicCopy, const SIZE: usize> SequencedByteAtomic<T, SIZE> {
 
     /// Returns the number of the cell's words, of 8 bytes each: one for the version, and one for each eight bytes of a value
     /// or for what is left of them. O(1).
+    #[must_use]
     #[inline]
     pub fn words(&self) -> usize
         ensures value { result ≡ 1 + (SIZE + 7) / 8 }
@@ -151,6 +152,7 @@ impl<T: AtomicCopy, const SIZE: usize> SequencedByteAtomic<T, SIZE> {
     }
 
     /// Returns the version, which is not less than any that this seat has loaded. O(1).
+    #[must_use]
     #[inline]
     pub fn version(&self, seat: &mut ReaderSeat<T>) -> u64
         requires { seat.old.cell ≡ self.now }

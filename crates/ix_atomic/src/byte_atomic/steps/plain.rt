@@ -39,6 +39,7 @@ impl ByteStep for Step {
 ///
 /// They are if each place is less than the length of `first`, and each load has the byte that was stored at its place
 /// last, or the byte of `first` if none was. O(n * m) for n bytes and m steps.
+#[must_use]
 pub fn replay(first: &[u8], steps: &[Step]) -> bool
     ensures { IsTrue result ↔ IsLegal first.now steps.now }
 {

@@ -46,6 +46,7 @@ impl ByteStep for VersionedStep {
 /// - no write begins at a version that [`next_versions`](super::next_versions) refuses.
 ///
 /// O(n * m) for n bytes and m steps.
+#[must_use]
 pub fn replay_versioned(first: &[u8], steps: &[VersionedStep]) -> bool
     ensures { IsTrue result ↔ IsLegalVersioned first.now steps.now }
 {
