@@ -4,9 +4,10 @@ ghost use Rattle.ix_atomic.specs.Writers.{Writes};
 ghost use Rattle.ix_atomic.specs.laws.HistoryLaws.{Knows};
 
 use ix_atomic::{
-    AtomicCopy, AtomicFields, Fields, FixedSizeByteAtomic, ReaderSeat, Ruled, SequencedByteAtomic,
-    TryWriteError, ValueRule, WriterSeat,
+    AtomicCopy, AtomicFields, Fields, FixedSizeByteAtomic, ReaderSeat, RelocatableByteAtomic,
+    Ruled, SequencedByteAtomic, TryWriteError, UninitByteAtomic, ValueRule, WriterSeat,
 };
+use std::alloc::{AllocError, Global};
 
 /// A range of numbers, in order.
 #[derive(Clone, Copy, PartialEq, Eq, Debug)]
@@ -43,8 +44,11 @@ impl AtomicFields for Range {
     } };
 }
 
+/// How many bytes a range takes in a cell.
+pub const RANGE_SIZE: usize = u64::SIZE + u64::SIZE;
+
 /// A range that threads share.
-pub type RangeCell = SequencedByteAtomic<Fields<Range>, 16>;
+pub type RangeCell = SequencedByteAtomic<Fields<Range>, RANGE_SIZE>;
 
 /// Sets the range, unless another thread sets it right now.
 pub fn set_range(
@@ -84,7 +88,7 @@ pub fn read_width(cell: &RangeCell, reader: &mut ReaderSeat<Fields<Range>>) -> O
 }
 
 /// Returns the width of the range that is read byte by byte, if the bytes are those of a range: they may be of several writes.
-pub fn width_of_bytes(cell: &FixedSizeByteAtomic<Fields<Range>, 16>) -> Option<u64> {
+pub fn width_of_bytes(cell: &FixedSizeByteAtomic<Fields<Range>, RANGE_SIZE>) -> Option<u64> {
     match cell.read().assume_consistent() {
         Some(Fields(range)) => Some(range.high - range.low),
         None => None,
@@ -125,8 +129,40 @@ impl AtomicFields for Settings {
     ghost one_value = { Prim.search rules };
 }
 
+/// How many bytes settings take in a cell.
+pub const SETTINGS_SIZE: usize = u64::SIZE + u64::SIZE + (u32::SIZE + u8::SIZE + bool::SIZE);
+
 /// Settings that threads share.
-pub type SettingsCell = SequencedByteAtomic<Fields<Settings>, 22>;
+pub type SettingsCell = SequencedByteAtomic<Fields<Settings>, SETTINGS_SIZE>;
+
+/// Makes a cell of settings. Its size is that of settings, since the constant is.
+pub fn share_settings(
+    alloc: Global,
+    settings: Settings,
+) -> Result<
+    (
+        SettingsCell,
+        WriterSeat<Fields<Settings>>,
+        ReaderSeat<Fields<Settings>>,
+    ),
+    AllocError,
+>
+    ensures { IfOk result (λ made. (made.1.cell ≡ made.0) × (made.2.cell ≡ made.0)) }
+{
+    SettingsCell::new(alloc, settings.into())
+}
+
+/// Makes a byte-wise cell of settings, and one that is in memory if there is enough.
+pub fn settings_in_bytes(
+    alloc: Global,
+    settings: Settings,
+) -> (
+    FixedSizeByteAtomic<Fields<Settings>, SETTINGS_SIZE>,
+    Option<RelocatableByteAtomic<Fields<Settings>, SETTINGS_SIZE>>,
+) {
+    let in_memory = UninitByteAtomic::new_uninit().init(alloc, Fields(settings));
+    (FixedSizeByteAtomic::new(Fields(settings)), in_memory.ok())
+}
 
 /// Sets the settings, unless another thread sets them right now.
 pub fn set_settings(
@@ -160,7 +196,7 @@ pub fn read_settings(
 pub fn through_bytes(settings: Fields<Settings>) -> Option<Fields<Settings>>
     ensures { result ≡ Some settings }
 {
-    let mut bytes = [0; 22];
+    let mut bytes = [0; SETTINGS_SIZE];
     settings.encode(&mut bytes);
     Fields::decode(&bytes)
 }
@@ -216,7 +252,7 @@ impl ValueRule<Settings> for InOrder {
 pub type Ordered = Fields<Ruled<Settings, InOrder>>;
 
 /// Settings in order that threads share.
-pub type OrderedCell = SequencedByteAtomic<Ordered, 22>;
+pub type OrderedCell = SequencedByteAtomic<Ordered, SETTINGS_SIZE>;
 
 /// Sets the settings, unless another thread sets them right now.
 pub fn set_ordered(cell: &OrderedCell, seat: &mut WriterSeat<Ordered>, settings: Settings) -> bool

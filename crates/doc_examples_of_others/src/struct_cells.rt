@@ -29,6 +29,9 @@ impl AtomicFields for Settings {
     ghost one_value = { Prim.search rules };
 }
 
+/// How many bytes settings take in a cell.
+const SETTINGS_SIZE: usize = u8::SIZE + u8::SIZE + u16::SIZE;
+
 #[derive(Clone, Copy)]
 struct InOrder;
 
@@ -67,10 +70,10 @@ fn a_struct_is_its_fields(rt: HostRuntime) {
 // Shows: Fields
 #[test]
 fn a_struct_in_a_cell(rt: HostRuntime) -> Result<(), Fail> {
-    let (cell, mut writer, mut reader) = SequencedByteAtomic::<Fields<Settings>, 4>::new(
-        rt.alloc(),
-        Fields(SETTINGS),
-    )?;
+    let (cell, mut writer, mut reader) = SequencedByteAtomic::<
+        Fields<Settings>,
+        SETTINGS_SIZE,
+    >::new(rt.alloc(), Fields(SETTINGS))?;
     assert!(rt; cell.try_write(&mut writer, Fields(FALLING)) == Ok(()));
     assert!(rt; cell.try_read(&mut reader) == Ok(Fields(FALLING)));
     assert!(rt; cell.close(writer) == Ok(Fields(FALLING)));
@@ -109,7 +112,7 @@ fn width(settings: &Ruled<Settings, InOrder>) -> u8 {
 #[test]
 fn all_values_of_a_cell_obey_a_rule(rt: HostRuntime) -> Result<(), Fail> {
     let ordered = Ruled::<Settings, InOrder>::new(SETTINGS);
-    let (cell, writer, mut reader) = SequencedByteAtomic::<Fields<_>, 4>::new(
+    let (cell, writer, mut reader) = SequencedByteAtomic::<Fields<_>, SETTINGS_SIZE>::new(
         rt.alloc(),
         Fields(ordered),
     )?;

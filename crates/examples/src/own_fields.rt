@@ -1,10 +1,9 @@
 //! Structs of one's own in cells: one of plain fields, and one whose ghost field holds of all that is read.
 ghost use Rattle.std.specs.Prelude.{◌≡◌, ◌≤◌, Some};
 
-use ix_atomic::{AtomicCopy, AtomicFields, Fields};
+use ix_atomic::{AtomicCopy, AtomicFields, Fields, SequencedByteAtomic};
 
-/// Where something was, and when. `SequencedByteAtomic::<Fields<Pose>, 16>::new(alloc, Fields(pose))?` is a cell of it, with a
-/// writer's seat and a reader's.
+/// Where something was, and when.
 #[derive(Clone, Copy, PartialEq, Eq, Debug)]
 pub struct Pose {
     pub x: u32,
@@ -31,11 +30,17 @@ impl AtomicFields for Pose {
     ghost one_value = { Prim.search rules };
 }
 
+/// How many bytes a pose takes in a cell: the sizes of its fields together.
+pub const POSE_SIZE: usize = u32::SIZE + u32::SIZE + u64::SIZE;
+
+/// A pose that threads share. `PoseCell::new(alloc, Fields(pose))?` is a cell, a writer's seat and a reader's.
+pub type PoseCell = SequencedByteAtomic<Fields<Pose>, POSE_SIZE>;
+
 /// Encodes a pose and decodes it again, as a cell does.
 pub fn pose_through_bytes(pose: Fields<Pose>) -> Option<Fields<Pose>>
     ensures { result ≡ Some pose }
 {
-    let mut bytes = [0; 16];
+    let mut bytes = [0; POSE_SIZE];
     pose.encode(&mut bytes);
     Fields::decode(&bytes)
 }
@@ -76,11 +81,14 @@ impl AtomicFields for Range {
     } };
 }
 
+/// How many bytes a range takes in a cell.
+pub const RANGE_SIZE: usize = u64::SIZE + u64::SIZE;
+
 /// Encodes a range and decodes it again, as a cell does.
 pub fn range_through_bytes(range: Fields<Range>) -> Option<Fields<Range>>
     ensures { result ≡ Some range }
 {
-    let mut bytes = [0; 16];
+    let mut bytes = [0; RANGE_SIZE];
     range.encode(&mut bytes);
     Fields::decode(&bytes)
 }

@@ -4,13 +4,13 @@ ghost use Rattle.ix_atomic.specs.History.{Begins};
 ghost use Rattle.ix_atomic.specs.Shares.{IsWhole};
 ghost use Rattle.ix_atomic.specs.Writers.{Writes, AreApart, HoldsEach, places_merge};
 
-use crate::own_fields::Range;
+use crate::own_fields::{RANGE_SIZE, Range};
 use ix_atomic::{Fields, ReaderSeat, SequencedByteAtomic, WriterSeat};
 use std::alloc::{AllocError, Global};
 use std::thread::{Threads, join_mut};
 
 /// The range that the threads share.
-pub type SharedRange = SequencedByteAtomic<Fields<Range>, 16>;
+pub type SharedRange = SequencedByteAtomic<Fields<Range>, RANGE_SIZE>;
 
 /// A seat that sets it.
 pub type Writer = WriterSeat<Fields<Range>>;

@@ -35,7 +35,16 @@ pub trait AtomicFields: Copy {
     ghost one_value: { (v w : Self) → fields v ≡ fields w → v ≡ w };
 }
 
-/// A struct in a cell: `SequencedByteAtomic<Fields<Range>, 16>` is a cell of `Range`. It derefs to the struct.
+/// A struct in a cell. It derefs to the struct.
+///
+/// Its `SIZE` is the sum of the fields' sizes. The compiler takes `u32::SIZE` for the number of bytes of a cell, and no
+/// `Fields::<Pose>::SIZE` yet. So a constant beside the struct is the sum:
+///
+/// ```text
+/// pub const POSE_SIZE: usize = u32::SIZE + u32::SIZE + u64::SIZE;
+///
+/// pub type PoseCell = SequencedByteAtomic<Fields<Pose>, POSE_SIZE>;
+/// ```
 #[derive(Clone, Copy, PartialEq, Eq, Debug)]
 pub struct Fields<T>(pub T);
 
