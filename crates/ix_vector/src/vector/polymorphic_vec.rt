@@ -4,7 +4,7 @@ ghost use Rattle.std.specs.Cmp.{on_per, on_equiv};
 ghost use Rattle.std.specs.Cmp.Lexicographic.{pointwise, lists_per, lists_equiv};
 ghost use Rattle.std.proofs.Common.{arith, ap};
 ghost use Rattle.std.proofs.lemmas.Grind.{common_steps};
-ghost use Rattle.ix_tables.specs.Bounded.{bounded_new, with_items, IsFull};
+ghost use Rattle.ix_tables.specs.Bounded.{bounded_new, with_items, IsFull, IsWithin};
 ghost use Rattle.std.specs.List.{range_with_len};
 ghost use Rattle.ix_tables.specs.Calls.{Computes, IsCallableBelow, ResultsFrom};
 ghost use Rattle.ix_tables.specs.Cloning.{AreEqualClones};
@@ -195,7 +195,8 @@ impl<'a, T: Drop, A: Allocator> IntoIterator for &'a PolymorphicVec<T, A> {
 
     ghost use Rattle.ix_vector.specs.Iterating.{YieldsRefsTo};
 
-    ghost into_iter_gives = { λ vector it. YieldsRefsTo vector.now.items it };
+    ghost into_iter_gives = { λ vector it. YieldsRefsTo vector.now.items it
+        × IsWithin vector.now };
 
     fn into_iter(self) -> slice::Iter<'a, T> {
         self.iter()
@@ -211,12 +212,13 @@ impl<'a, T: Drop, A: Allocator> IntoIterator for &'a mut PolymorphicVec<T, A> {
     ghost use Rattle.std.specs.Borrow.{sem};
     ghost use Rattle.ix_vector.specs.Iterating.{YieldsMutRefsTo, polymorphic_vec_lends_iter};
 
-    ghost into_iter_gives = { λ vector it. YieldsMutRefsTo vector.now.items it };
+    ghost into_iter_gives = { λ vector it. YieldsMutRefsTo vector.now.items it
+        × IsWithin vector.now };
 
     fn into_iter(self) -> slice::IterMut<'a, T>
         ensures* writes_back { sem 𝓛
             (polymorphic_vec_lends_iter T.row A.row A.Allocator self.entry result) }
-        ensures into_iter_gives { YieldsMutRefsTo self.old.items result }
+        ensures into_iter_gives { YieldsMutRefsTo self.old.items result × IsWithin self.old }
     {
         self.iter_mut()
     }

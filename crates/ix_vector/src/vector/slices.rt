@@ -1,6 +1,7 @@
 //! The calls of slices on vectors.
-ghost use Rattle.std.specs.Prelude.{◌≡◌};
+ghost use Rattle.std.specs.Prelude.{◌≡◌, ◌≤◌, length};
 ghost use Rattle.std.specs.Borrow.{sem};
+ghost use Rattle.ix_tables.specs.Bounded.{IsWithin};
 ghost use Rattle.ix_vector.specs.Lending.{polymorphic_vec_lends, static_vec_lends};
 
 use crate::vector::{PolymorphicVec, StaticVec, Vector};
@@ -15,7 +16,10 @@ impl<T: Default + Drop, const CAPACITY: usize> DerefSlice for StaticVec<T, CAPAC
     ghost deref_gives = { λ vector items. items ≡ vector };
 
     #[inline]
-    fn deref(&self) -> &[T] {
+    fn deref(&self) -> &[T]
+        ensures value { result.now ≡ self.now }
+        ensures within { length self.now ≤ CAPACITY }
+    {
         self.items()
     }
 }
@@ -27,6 +31,7 @@ impl<T: Default + Drop, const CAPACITY: usize> DerefSliceMut for StaticVec<T, CA
         ensures* writes_back { sem 𝓛
             (static_vec_lends T.row CAPACITY.row T.Default self.entry result) }
         ensures value { result.now ≡ self.old }
+        ensures within { length self.old ≤ CAPACITY }
     {
         Vector::as_mut_slice(self)
     }
@@ -36,7 +41,10 @@ impl<T: Default + Drop, const CAPACITY: usize> AsSlice<T> for StaticVec<T, CAPAC
     ghost items = { λ vector. vector };
 
     #[inline]
-    fn as_slice(&self) -> &[T] {
+    fn as_slice(&self) -> &[T]
+        ensures value { result.now ≡ self.now }
+        ensures within { length self.now ≤ CAPACITY }
+    {
         self.deref()
     }
 }
@@ -48,7 +56,10 @@ impl<T: Drop, A: Allocator> DerefSlice for PolymorphicVec<T, A> {
     ghost deref_gives = { λ vector items. items ≡ vector.items };
 
     #[inline]
-    fn deref(&self) -> &[T] {
+    fn deref(&self) -> &[T]
+        ensures value { result.now ≡ self.now.items }
+        ensures within { IsWithin self.now }
+    {
         Vector::as_slice(self)
     }
 }
@@ -60,6 +71,7 @@ impl<T: Drop, A: Allocator> DerefSliceMut for PolymorphicVec<T, A> {
         ensures* writes_back { sem 𝓛
             (polymorphic_vec_lends T.row A.row A.Allocator self.entry result) }
         ensures value { result.now ≡ self.old.items }
+        ensures within { IsWithin self.old }
     {
         self.as_mut_slice()
     }
@@ -69,7 +81,10 @@ impl<T: Drop, A: Allocator> AsSlice<T> for PolymorphicVec<T, A> {
     ghost items = { λ vector. vector.items };
 
     #[inline]
-    fn as_slice(&self) -> &[T] {
+    fn as_slice(&self) -> &[T]
+        ensures value { result.now ≡ self.now.items }
+        ensures within { IsWithin self.now }
+    {
         DerefSlice::deref(self)
     }
 }

@@ -256,7 +256,8 @@ impl<'a, T: Default + Drop, const CAPACITY: usize> IntoIterator for &'a StaticVe
 
     ghost use Rattle.ix_vector.specs.Iterating.{YieldsRefsTo};
 
-    ghost into_iter_gives = { λ vector it. YieldsRefsTo vector.now it };
+    ghost into_iter_gives = { λ vector it. YieldsRefsTo vector.now it
+        × (length vector.now ≤ CAPACITY) };
 
     fn into_iter(self) -> slice::Iter<'a, T> {
         self.iter()
@@ -272,12 +273,14 @@ impl<'a, T: Default + Drop, const CAPACITY: usize> IntoIterator for &'a mut Stat
     ghost use Rattle.std.specs.Borrow.{sem};
     ghost use Rattle.ix_vector.specs.Iterating.{YieldsMutRefsTo, static_vec_lends_iter};
 
-    ghost into_iter_gives = { λ vector it. YieldsMutRefsTo vector.now it };
+    ghost into_iter_gives = { λ vector it. YieldsMutRefsTo vector.now it
+        × (length vector.now ≤ CAPACITY) };
 
     fn into_iter(self) -> slice::IterMut<'a, T>
         ensures* writes_back { sem 𝓛
             (static_vec_lends_iter T.row CAPACITY.row T.Default self.entry result) }
-        ensures into_iter_gives { YieldsMutRefsTo self.old result }
+        ensures into_iter_gives { YieldsMutRefsTo self.old result
+            × (length self.old ≤ CAPACITY) }
     {
         self.iter_mut()
     }

@@ -38,17 +38,20 @@ pub trait Vector<T: Drop> {
 
     /// Returns the items as a slice. O(1).
     fn as_slice(&self) -> &[T]
-        ensures { result.now ≡ (bounded self.now).items };
+        ensures value { result.now ≡ (bounded self.now).items }
+        ensures within { IsWithin (bounded self.now) };
 
     /// Returns the items as a mutable slice. O(1).
     fn as_mut_slice(&mut self) -> &mut [T]
         ensures* writes_back { sem 𝓛 (vec_lends Self.row T.row with_slice self.entry result) }
-        ensures value { result.now ≡ (bounded self.old).items };
+        ensures value { result.now ≡ (bounded self.old).items }
+        ensures within { IsWithin (bounded self.old) };
 
     /// Returns an iterator over references to the items, from the first to the last. O(1).
     #[inline]
     final fn iter(&self) -> slice::Iter<'_, T>
-        ensures { YieldsRefsTo (bounded self.now).items result }
+        ensures value { YieldsRefsTo (bounded self.now).items result }
+        ensures within { IsWithin (bounded self.now) }
     {
         self.as_slice().iter()
     }
@@ -58,6 +61,7 @@ pub trait Vector<T: Drop> {
     final fn iter_mut(&mut self) -> slice::IterMut<'_, T>
         ensures* writes_back { sem 𝓛 (vec_lends_iter Self.row T.row with_slice self.entry result) }
         ensures value { YieldsMutRefsTo (bounded self.old).items result }
+        ensures within { IsWithin (bounded self.old) }
     {
         self.as_mut_slice().iter_mut()
     }
@@ -74,7 +78,8 @@ pub trait Vector<T: Drop> {
     /// Returns `true` if the vector has no items. O(1).
     #[inline]
     final fn is_empty(&self) -> bool
-        ensures { IsTrue result ↔ ((bounded self.now).items ≡ []) }
+        ensures value { IsTrue result ↔ ((bounded self.now).items ≡ []) }
+        ensures within { IsWithin (bounded self.now) }
     {
         self.len() == 0
     }
@@ -85,6 +90,7 @@ pub trait Vector<T: Drop> {
         ensures value { IsTrue result ↔ IsFull (bounded self.now) }
         ensures room { OnFalse result
             (length (bounded self.now).items < (bounded self.now).capacity) }
+        ensures within { IsWithin (bounded self.now) }
     {
         self.len() == self.capacity()
     }
@@ -92,7 +98,8 @@ pub trait Vector<T: Drop> {
     /// Returns how many more items there is room for. O(1).
     #[inline]
     final fn remaining_capacity(&self) -> usize
-        ensures { length (bounded self.now).items + result ≡ (bounded self.now).capacity }
+        ensures value { length (bounded self.now).items + result ≡ (bounded self.now).capacity }
+        ensures within { IsWithin (bounded self.now) }
     {
         self.capacity() - self.len()
     }
@@ -106,7 +113,8 @@ pub trait Vector<T: Drop> {
     /// Removes the last item and returns it, or `None` if the vector is empty. O(1).
     fn pop(&mut self) -> Option<T>
         ensures value { result ≡ vec_last (bounded self.old) }
-        ensures vector { bounded self.new ≡ vec_pop (bounded self.old) };
+        ensures vector { bounded self.new ≡ vec_pop (bounded self.old) }
+        ensures within { IsWithin (bounded self.new) };
 
     /// Appends `item` at the end. O(1).
     ///
@@ -116,6 +124,7 @@ pub trait Vector<T: Drop> {
         ensures value { result ≡ vec_push_result (bounded self.old) }
         ensures vector { bounded self.new ≡ bounded_push (bounded self.old) item }
         ensures refused { OnErr result (self.new ≡ self.old) }
+        ensures within { IsWithin (bounded self.new) }
     {
         if self.len() < self.capacity() {
             self.push_unchecked(item);
@@ -133,6 +142,7 @@ pub trait Vector<T: Drop> {
         ensures vector { bounded self.new ≡ bounded_push (bounded self.old) item }
         ensures returned { IfErr result (λ returned. returned ≡ item) }
         ensures refused { OnErr result (self.new ≡ self.old) }
+        ensures within { IsWithin (bounded self.new) }
     {
         if self.len() == self.capacity() {
             return Err(item);
@@ -149,6 +159,7 @@ pub trait Vector<T: Drop> {
         ensures value { result ≡ vec_insert_result (bounded self.old) index }
         ensures vector { bounded self.new ≡ vec_insert (bounded self.old) index item }
         ensures refused { OnErr result (self.new ≡ self.old) }
+        ensures within { IsWithin (bounded self.new) }
     {
         match self.try_insert(index, item) {
             Ok(()) => Ok(()),
@@ -170,6 +181,7 @@ pub trait Vector<T: Drop> {
         ensures returned { IfErr result (λ refusal. refusal.1 ≡ item) }
         ensures vector { bounded self.new ≡ vec_insert (bounded self.old) index item }
         ensures refused { OnErr result (self.new ≡ self.old) }
+        ensures within { IsWithin (bounded self.new) }
     {
         if self.is_full() {
             return Err((VectorModificationError::InsertWouldExceedCapacity, item));
@@ -188,6 +200,7 @@ pub trait Vector<T: Drop> {
         ensures value { result ≡ slice_get (bounded self.old).items index }
         ensures vector { bounded self.new ≡ vec_remove (bounded self.old) index }
         ensures refused { length (bounded self.old).items ≤ index → self.new ≡ self.old }
+        ensures within { IsWithin (bounded self.new) }
     {
         if index < self.len() {
             move_to_end(self.as_mut_slice(), index);
@@ -203,6 +216,7 @@ pub trait Vector<T: Drop> {
         ensures vector { IfSome result (λ item. bounded self.new
             ≡ with_items (bounded self.old) (swap_remove (bounded self.old).items index item)) }
         ensures refused { length (bounded self.old).items ≤ index → self.new ≡ self.old }
+        ensures within { IsWithin (bounded self.new) }
     {
         let len = self.len();
         if index < len {

@@ -8,7 +8,7 @@ returns-then-len-remaining_capacity-clause-fault g c =
     let found = rw c.in-Some.is at c.as_array.ensures in
     let old = g.V.Vector.bounded c.args.vector.now in
     let more = c.if-len-remaining_capacity.true in
-    let room = c.remaining_capacity.ensures in
+    let room = c.remaining_capacity.ensures.value in
     let longer : old.capacity - length old.items < length c.in-Some.entries.now.items = grind (arith, common_steps, c.len.ensures, c.in-Some.entries.now.ok) in
     list_filled-too_long g.T.JsonForm.read old _ c.in-Some.entries.now.items found longer
 
@@ -23,7 +23,7 @@ returns-in-Err-clause-fault g c =
     let parts : values ≡ take i values ++ value ∷ drop (i + 1) values = grind (arith, common_steps, c.entry-item.is) in
     let found = rw c.in-Some.is at c.as_array.ensures in
     let old = g.V.Vector.bounded c.args.vector.now in
-    let room = c.remaining_capacity.ensures in
+    let room = c.remaining_capacity.ensures.value in
     let within = c.if-len-remaining_capacity.false in
     let fits : length values ≤ old.capacity - length old.items = grind (arith, common_steps, c.len.ensures, c.in-Some.entries.now.ok) in
     list_filled-fault g.T.JsonForm.read old _ values (take i values) (drop (i + 1) values) value (g.V.Vector.bounded c.loop-entry.vector) c.in-Err.fault found fits parts so_far c.in-Err.ensures.value
@@ -45,7 +45,7 @@ returns-clause-filled g c =
     let all : take c.loop-entry.entry-index c.deref-entry-items.result.now ≡ values = grind (arith, common_steps) in
     let found = rw c.in-Some.is at c.as_array.ensures in
     let old = g.V.Vector.bounded c.args.vector.now in
-    let room = c.remaining_capacity.ensures in
+    let room = c.remaining_capacity.ensures.value in
     let within = c.if-len-remaining_capacity.false in
     let fits : length values ≤ old.capacity - length old.items = grind (arith, common_steps, c.len.ensures, c.in-Some.entries.now.ok) in
     IsFilledWith-all g.T.JsonForm.read old _ values _ found fits (rw all at c.loop-entry.invariant)

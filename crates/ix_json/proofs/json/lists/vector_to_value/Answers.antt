@@ -21,14 +21,14 @@ loop-item-preserved g c =
 
 pub returns-clause-value : goal.returns-clause-value
 returns-clause-value g c =
-    let same = c.as_slice-item-items.ensures in
+    let same = c.as_slice-item-items.ensures.value in
     let done = c.loop-item-test.false in
     let all : take c.loop-item.item-index c.as_slice-item-items.result.now ≡ (g.V.Vector.bounded c.args.vector.now).items = grind (arith, common_steps) in
     view-Array c.loop-item.entries ∙ ap (λ trees. array (items_of trees)) (rw all at c.loop-item.invariant.trees)
 
 pub returns-clause-read_back : goal.returns-clause-read_back
 returns-clause-read_back g c =
-    let same = c.as_slice-item-items.ensures in
+    let same = c.as_slice-item-items.ensures.value in
     let done = c.loop-item-test.false in
     let all : take c.loop-item.item-index c.as_slice-item-items.result.now ≡ (g.V.Vector.bounded c.args.vector.now).items = grind (arith, common_steps) in
     list_read-AreForms g.T.JsonForm.read g.T.JsonForm.tree (g.V.Vector.bounded c.args.vector.now).capacity _ _ _ (sym (ap as_array (view-Array c.loop-item.entries))) (rw all at c.loop-item.invariant) c.len.ensures.within

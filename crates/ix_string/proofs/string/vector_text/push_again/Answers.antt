@@ -13,5 +13,5 @@ loop-idx-preserved g c =
     let is = c.loop-idx.invariant in
     let items = ap (λ (b : Bounded ℕ). get_or b.items i 0) is in
     let read : get_or c.as_slice.result.now i 0 ≡ get_or old.items i 0 =
-    rw c.as_slice.ensures (items ∙ get_or_append_left old.items (slice_range old.items a i) 0 i (omega arith)) in
+    rw c.as_slice.ensures.value (items ∙ get_or_append_left old.items (slice_range old.items a i) 0 i (omega arith)) in
     c.push_unchecked.ensures ∙ vec_extend-more old held a i (get_or c.as_slice.result.now i 0) 0 (omega arith) (omega arith) is read

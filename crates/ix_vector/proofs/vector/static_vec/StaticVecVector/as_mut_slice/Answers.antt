@@ -1,5 +1,6 @@
 use Rattle.std.proofs.Common.{List, refl, arith, rules}
 use Rattle.std.specs.List.{length_refill}
+use Rattle.ix_vector.proofs.Fronts.{length-front}
 use Rattle.ix_vector.proofs.Lists.{take-refill}
 use Rattle.ix_vector.proofs.vector.static_vec.StaticVecVector.as_mut_slice.Goals as goal
 
@@ -15,5 +16,5 @@ returns g c =
     let is = c.self.invariant in
     let shown = λ (w : List g.row.T.Denot). take-refill c.self.inside.len places w (omega (arith, is.whole, is.within)) in (
       (refl {a = c.front_mut.result.ghost_name}, λ w. rw (← c.self.view_is) (shown w)),
-      record { writes_back = tt; value = search rules },
+      record { writes_back = tt; value = search rules; within = omega (arith, length-front is c.self.view_is, is.within) },
     )

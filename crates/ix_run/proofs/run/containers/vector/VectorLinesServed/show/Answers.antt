@@ -6,4 +6,4 @@ use Rattle.ix_run.proofs.run.containers.vector.VectorLinesServed.show.Goals as g
 pub returns : goal.returns
 returns g c =
     let shown = c.append_items.ensures (λ items. map decimal (iter_rest items)) (YieldsTexts-slice decimal) in
-    rw (items_text-map decimal (iter_rest c.iter.result), c.iter.ensures.rest, c.as_slice.ensures) at shown
+    rw (items_text-map decimal (iter_rest c.iter.result), c.iter.ensures.rest, c.as_slice.ensures.value) at shown
