@@ -254,9 +254,6 @@ fn calls_of_slices_that_look(rt: HostRuntime) -> Result<(), Fail> {
     let vector = StaticVec::<u64, 4>::try_from_iter([1, 3, 5])?;
     assert!(rt; vector.len() == 3);
     assert!(rt; vector[1] == 3);
-    assert!(rt; vector.get(3) == None);
-    assert!(rt; vector.first() == Some(&1));
-    assert!(rt; vector.last() == Some(&5));
     assert!(rt; vector.contains(&3));
     assert!(rt; vector.starts_with(&[1, 3]));
     assert!(rt; vector.binary_search(&5) == Ok(2));
@@ -285,8 +282,8 @@ fn calls_of_slices_on_an_allocated_vector(rt: HostRuntime) -> Result<(), Fail> {
     assert!(rt; vector.len() == 2);
     assert!(rt; vector[0] == 1);
     vector[0] = 7;
-    assert!(rt; vector.first() == Some(&7));
-    assert!(rt; vector.contains(&5));
+    assert!(rt; vector.contains(&7));
+    assert!(rt; !vector.contains(&1));
     Ok(())
 }
 

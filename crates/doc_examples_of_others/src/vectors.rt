@@ -108,6 +108,38 @@ fn each_item_is_changed(rt: HostRuntime) -> Result<(), Fail> {
     Ok(())
 }
 
+// Shows: Vector::get, Vector::first, Vector::last
+#[test]
+fn an_item_by_its_index(rt: HostRuntime) -> Result<(), Fail> {
+    let mut vector = StaticVec::<u64, 4>::new();
+    assert!(rt; vector.first() == None);
+    vector.extend_from_slice(&[1, 2, 3])?;
+    assert!(rt; vector.get(1) == Some(&2));
+    assert!(rt; vector.get(3) == None);
+    assert!(rt; vector.first() == Some(&1));
+    assert!(rt; vector.last() == Some(&3));
+    Ok(())
+}
+
+// Shows: Vector::get_mut, Vector::first_mut, Vector::last_mut
+#[test]
+fn an_item_is_changed_in_its_place(rt: HostRuntime) -> Result<(), Fail> {
+    let mut vector = StaticVec::<u64, 4>::new();
+    vector.extend_from_slice(&[1, 2, 3])?;
+    if let Some(item) = vector.get_mut(1) {
+        *item = 20;
+    }
+    if let Some(first) = vector.first_mut() {
+        *first = 10;
+    }
+    if let Some(last) = vector.last_mut() {
+        *last = 30;
+    }
+    assert!(rt; vector.get_mut(3) == None);
+    assert!(rt; vector.as_slice() == [10, 20, 30].as_slice());
+    Ok(())
+}
+
 // Shows: Vector::insert
 #[test]
 fn an_item_is_inserted_at_an_index(rt: HostRuntime) {

@@ -1,5 +1,6 @@
 //! The vector that allocates when it is made.
-ghost use Rattle.std.specs.Prelude.{◌≡◌, ◌^◌, ℕ, ◌<◌, ◌≤◌, length, map, IsOk, IfOk};
+ghost use Rattle.std.specs.Prelude.{◌≡◌, ◌^◌, ℕ, ◌<◌, ◌≤◌, length, map, Some, IsOk, IfOk, slice_get, slice_set};
+ghost use Rattle.std.specs.Borrow.{sem};
 ghost use Rattle.std.specs.Cmp.{on_per, on_equiv};
 ghost use Rattle.std.specs.Cmp.Lexicographic.{pointwise, lists_per, lists_equiv};
 ghost use Rattle.std.proofs.Common.{arith, ap};
@@ -104,6 +105,19 @@ impl<T: Drop, A: Allocator> PolymorphicVec<T, A> {
     }
 }
 
+impl<T, A: Allocator> PolymorphicVec<T, A> {
+    ghost use Rattle.ix_vector.specs.inner.ItemLending.{polymorphic_vec_lends_item};
+
+    #[inline]
+    fn item_mut(&mut self, index: usize) -> &mut T
+        requires { index < length self.old.items }
+        ensures* writes_back { sem 𝓛 (polymorphic_vec_lends_item T.row A.row A.Allocator self.entry index result) }
+        ensures value { slice_get self.old.items index ≡ Some result.now }
+    {
+        &mut self.items[index]
+    }
+}
+
 impl<T: Clone, A: Allocator + Copy> PolymorphicVec<T, A> {
     /// Creates a vector of the same capacity that holds clones of the items, in memory of the same allocator.
     ///
@@ -124,6 +138,9 @@ impl<T: Drop, A: Allocator> Vector<T> for PolymorphicVec<T, A> {
 
     ghost with_slice = { vec_refill };
 
+    ghost with_item = { λ vector index item.
+        with_items vector (slice_set vector.items index item) };
+
     #[inline]
     fn as_slice(&self) -> &[T] {
         self.items.as_slice()
@@ -132,6 +149,15 @@ impl<T: Drop, A: Allocator> Vector<T> for PolymorphicVec<T, A> {
     #[inline]
     fn as_mut_slice(&mut self) -> &mut [T] {
         self.items.as_mut_slice()
+    }
+
+    #[inline]
+    fn get_mut(&mut self, index: usize) -> Option<&mut T> {
+        if index < self.items.len() {
+            Some(self.item_mut(index))
+        } else {
+            None
+        }
     }
 
     #[inline]

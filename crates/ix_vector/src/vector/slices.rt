@@ -9,7 +9,7 @@ use std::alloc::Allocator;
 use std::convert::AsSlice;
 use std::ops::{DerefSlice, DerefSliceMut};
 
-/// Has the calls of `[T]` that the trait [`Vector`] does not have, as `get`, `first` and `binary_search`, and `vector[i]`.
+/// Has the calls of `[T]` that the trait [`Vector`] does not have, as `contains` and `binary_search`, and `vector[i]`.
 impl<T: Default + Drop, const CAPACITY: usize> DerefSlice for StaticVec<T, CAPACITY> {
     type Elem = T;
 
@@ -49,7 +49,7 @@ impl<T: Default + Drop, const CAPACITY: usize> AsSlice<T> for StaticVec<T, CAPAC
     }
 }
 
-/// Has the calls of `[T]` that the trait [`Vector`] does not have, as `get`, `first` and `binary_search`, and `vector[i]`.
+/// Has the calls of `[T]` that the trait [`Vector`] does not have, as `contains` and `binary_search`, and `vector[i]`.
 impl<T: Drop, A: Allocator> DerefSlice for PolymorphicVec<T, A> {
     type Elem = T;
 

@@ -1,7 +1,8 @@
 //! The vector that is stored inline.
-ghost use Rattle.std.specs.Prelude.{◌≡◌, ◌+◌, ◌<◌, ◌≤◌, [], length, take, drop, Err, IsOk, IsOkUnless, IfOk, OnOk, OnErr};
+ghost use Rattle.std.specs.Prelude.{◌≡◌, ◌+◌, ◌<◌, ◌≤◌, [], length, take, drop, Err, IsOk, IsOkUnless, IfOk, OnOk, OnErr, Some, slice_get, slice_set};
 ghost use Rattle.std.specs.List.{AllZip, AppendsClones, refill};
 ghost use Rattle.std.specs.Iterator.{IsFiniteIterable};
+ghost use Rattle.std.specs.Borrow.{sem};
 ghost use Rattle.std.specs.Cmp.Lexicographic.{pointwise, lists_per, lists_equiv};
 ghost use Rattle.ix_tables.specs.Bounded.{bounded_new};
 ghost use Rattle.ix_tables.specs.Cloning.{AreInfallible};
@@ -47,6 +48,8 @@ impl<T: Default, const CAPACITY: usize> Model for StaticVec<T, CAPACITY> {
 }
 
 impl<T: Default, const CAPACITY: usize> StaticVec<T, CAPACITY> {
+    ghost use Rattle.ix_vector.specs.inner.ItemLending.{static_vec_lends_item};
+
     /// Creates an empty vector. `CAPACITY` is at most [`MAX_FIXED_CAPACITY`]. O(`CAPACITY`).
     pub fn new() -> Self
         requires { CAPACITY ≤ MAX_FIXED_CAPACITY }
@@ -70,6 +73,18 @@ impl<T: Default, const CAPACITY: usize> StaticVec<T, CAPACITY> {
         ensures within { length result.now ≤ CAPACITY }
     {
         &self.places.as_slice()[..self.len]
+    }
+
+    #[inline]
+    fn item_mut(&mut self, index: usize) -> &mut T
+        requires { index < length self.old }
+        ensures* writes_back { sem 𝓛 (static_vec_lends_item T.row CAPACITY.row T.Default self.entry index result) }
+        ensures value { slice_get self.old index ≡ Some result.now }
+    {
+        match self.places.get_mut(index) {
+            Some(item) => item,
+            None => unreachable!(),
+        }
     }
 
     /// Returns the maximum number of items. O(1).
@@ -147,6 +162,8 @@ impl<T: Default + Drop, const CAPACITY: usize> Vector<T> for StaticVec<T, CAPACI
 
     ghost with_slice = { λ vector xs. refill (length vector) vector xs };
 
+    ghost with_item = { slice_set };
+
     #[inline]
     fn as_slice(&self) -> &[T] {
         self.items()
@@ -155,6 +172,15 @@ impl<T: Default + Drop, const CAPACITY: usize> Vector<T> for StaticVec<T, CAPACI
     #[inline]
     fn as_mut_slice(&mut self) -> &mut [T] {
         front_mut(&mut self.places, self.len)
+    }
+
+    #[inline]
+    fn get_mut(&mut self, index: usize) -> Option<&mut T> {
+        if index < self.len {
+            Some(self.item_mut(index))
+        } else {
+            None
+        }
     }
 
     #[inline]

@@ -1,11 +1,12 @@
 //! The trait of all vectors.
-ghost use Rattle.std.specs.Prelude.{◌≡◌, ◌+◌, ◌-◌, ◌<◌, ◌≤◌, ◌↔◌, Bool, List, [], ◌∷◌, ◌++◌, filter, length, take, Ok, Err, IsTrue, IsErr, IsOk, IsOkUnless, IfErr, IfSome, OnOk, OnErr, slice_get};
+ghost use Rattle.std.specs.Prelude.{ℕ, ◌≡◌, ◌+◌, ◌-◌, ◌<◌, ◌≤◌, ◌↔◌, Bool, List, [], ◌∷◌, ◌++◌, filter, length, take, Ok, Err, IsTrue, IsErr, IsOk, IsOkUnless, IfErr, IfSome, IsNone, IsSome, OnOk, OnErr, option_copied, slice_get, slice_set};
 ghost use Rattle.std.specs.Bool.{OnFalse};
 ghost use Rattle.std.specs.Fn.{CalledAt};
 ghost use Rattle.std.specs.List.{AppendsResults, dedup, swap_remove};
 ghost use Rattle.std.specs.List.Retain.{IsFiltered};
-ghost use Rattle.std.specs.Borrow.{sem};
+ghost use Rattle.std.specs.Borrow.{sem, LendsIf};
 ghost use Rattle.std.specs.Iterator.{IsFiniteIterable};
+ghost use Rattle.std.specs.Option.{option_copied_mut};
 ghost use Rattle.ix_tables.specs.Bounded.{Bounded, IsWithin, IsFull, with_items, bounded_push};
 ghost use Rattle.ix_tables.specs.Calls.{Computes, IsCallableOnEach};
 ghost use Rattle.ix_tables.specs.Cloning.{AreEqualClones, AreInfallible};
@@ -36,6 +37,9 @@ pub trait Vector<T: Drop> {
     /// The vector with its items overwritten by others.
     ghost with_slice: { Self → List T → Self };
 
+    /// The vector with the item at an index replaced, if there is one.
+    ghost with_item: { Self → ℕ → T → Self };
+
     /// Returns the items as a slice. O(1).
     fn as_slice(&self) -> &[T]
         ensures value { result.now ≡ (bounded self.now).items }
@@ -64,6 +68,82 @@ pub trait Vector<T: Drop> {
         ensures within { IsWithin (bounded self.old) }
     {
         self.as_mut_slice().iter_mut()
+    }
+
+    /// Returns a reference to the item at `index`, or `None` if `index` is out of bounds. O(1).
+    ///
+    /// This hides the slice's `get`. For a range of items, call `vector.as_slice().get(1..3)`.
+    #[inline]
+    final fn get(&self, index: usize) -> Option<&T>
+        ensures value { option_copied result ≡ slice_get (bounded self.now).items index }
+        ensures bounds { IsSome result ↔ (index < length (bounded self.now).items) }
+        ensures within { IsWithin (bounded self.now) }
+    {
+        self.as_slice().get(index)
+    }
+
+    /// Returns a mutable reference to the item at `index`, or `None` if `index` is out of bounds. O(1).
+    ///
+    /// This hides the slice's `get_mut`. For a range of items, call `vector.as_mut_slice().get_mut(1..3)`.
+    fn get_mut(&mut self, index: usize) -> Option<&mut T>
+        ensures* writes_back { sem 𝓛 (LendsIf Self.row T.row self.entry result
+            (with_item self.old index) self.old) }
+        ensures value { option_copied_mut result ≡ slice_get (bounded self.old).items index }
+        ensures bounds { IsSome result ↔ (index < length (bounded self.old).items) }
+        // Whatever item is written, the vector has it, and each other item is as it was.
+        ensures holds { (written : T) → bounded (with_item self.old index written)
+            ≡ with_items (bounded self.old) (slice_set (bounded self.old).items index written) }
+        ensures within { IsWithin (bounded self.old) };
+
+    /// Returns a reference to the first item, or `None` if the vector is empty. O(1).
+    #[inline]
+    final fn first(&self) -> Option<&T>
+        ensures value { option_copied result ≡ slice_get (bounded self.now).items 0 }
+        ensures empty { IsNone result ↔ ((bounded self.now).items ≡ []) }
+        ensures within { IsWithin (bounded self.now) }
+    {
+        self.get(0)
+    }
+
+    /// Returns a mutable reference to the first item, or `None` if the vector is empty. O(1).
+    #[inline]
+    final fn first_mut(&mut self) -> Option<&mut T>
+        ensures* writes_back { sem 𝓛 (LendsIf Self.row T.row self.entry result
+            (with_item self.old 0) self.old) }
+        ensures value { option_copied_mut result ≡ slice_get (bounded self.old).items 0 }
+        ensures empty { IsNone result ↔ ((bounded self.old).items ≡ []) }
+        ensures holds { (written : T) → bounded (with_item self.old 0 written)
+            ≡ with_items (bounded self.old) (slice_set (bounded self.old).items 0 written) }
+        ensures within { IsWithin (bounded self.old) }
+    {
+        self.get_mut(0)
+    }
+
+    /// Returns a reference to the last item, or `None` if the vector is empty. O(1).
+    #[inline]
+    final fn last(&self) -> Option<&T>
+        ensures value { option_copied result ≡ vec_last (bounded self.now) }
+        ensures empty { IsNone result ↔ ((bounded self.now).items ≡ []) }
+        ensures within { IsWithin (bounded self.now) }
+    {
+        self.as_slice().last()
+    }
+
+    /// Returns a mutable reference to the last item, or `None` if the vector is empty. O(1).
+    #[inline]
+    final fn last_mut(&mut self) -> Option<&mut T>
+        ensures* writes_back { sem 𝓛 (LendsIf Self.row T.row self.entry result
+            (with_item self.old (length (bounded self.old).items - 1)) self.old) }
+        ensures value { option_copied_mut result ≡ vec_last (bounded self.old) }
+        ensures empty { IsNone result ↔ ((bounded self.old).items ≡ []) }
+        ensures holds { (written : T) → bounded
+            (with_item self.old (length (bounded self.old).items - 1) written)
+            ≡ with_items (bounded self.old) (slice_set (bounded self.old).items
+            (length (bounded self.old).items - 1) written) }
+        ensures within { IsWithin (bounded self.old) }
+    {
+        let last = self.len().saturating_sub(1);
+        self.get_mut(last)
     }
 
     /// Returns the maximum number of items. O(1).
