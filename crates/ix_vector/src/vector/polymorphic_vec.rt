@@ -68,6 +68,7 @@ impl<T: Drop, A: Allocator> PolymorphicVec<T, A> {
     ///
     /// Does not allocate. O(1).
     #[inline]
+    #[must_use]
     pub fn memory_size(capacity: usize) -> MemorySize
         ensures value { result ≡ items_memory (type_size T.row) capacity }
         ensures monotone { (greater : ℕ) → capacity ≤ greater

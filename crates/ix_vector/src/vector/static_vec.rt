@@ -89,6 +89,7 @@ impl<T: Default, const CAPACITY: usize> StaticVec<T, CAPACITY> {
 
     /// Returns the maximum number of items. O(1).
     #[inline]
+    #[must_use]
     pub const fn capacity() -> usize
         ensures { result ≡ CAPACITY }
     {

@@ -41,11 +41,13 @@ pub trait Vector<T: Drop> {
     ghost with_item: { Self → ℕ → T → Self };
 
     /// Returns the items as a slice. O(1).
+    #[must_use]
     fn as_slice(&self) -> &[T]
         ensures value { result.now ≡ (bounded self.now).items }
         ensures within { IsWithin (bounded self.now) };
 
     /// Returns the items as a mutable slice. O(1).
+    #[must_use]
     fn as_mut_slice(&mut self) -> &mut [T]
         ensures* writes_back { sem 𝓛 (vec_lends Self.row T.row with_slice self.entry result) }
         ensures value { result.now ≡ (bounded self.old).items }
@@ -53,6 +55,7 @@ pub trait Vector<T: Drop> {
 
     /// Returns an iterator over references to the items, from the first to the last. O(1).
     #[inline]
+    #[must_use]
     final fn iter(&self) -> slice::Iter<'_, T>
         ensures value { YieldsRefsTo (bounded self.now).items result }
         ensures within { IsWithin (bounded self.now) }
@@ -62,6 +65,7 @@ pub trait Vector<T: Drop> {
 
     /// Returns an iterator over mutable references to the items, from the first to the last. O(1).
     #[inline]
+    #[must_use]
     final fn iter_mut(&mut self) -> slice::IterMut<'_, T>
         ensures* writes_back { sem 𝓛 (vec_lends_iter Self.row T.row with_slice self.entry result) }
         ensures value { YieldsMutRefsTo (bounded self.old).items result }
@@ -74,6 +78,7 @@ pub trait Vector<T: Drop> {
     ///
     /// This hides the slice's `get`. For a range of items, call `vector.as_slice().get(1..3)`.
     #[inline]
+    #[must_use]
     final fn get(&self, index: usize) -> Option<&T>
         ensures value { option_copied result ≡ slice_get (bounded self.now).items index }
         ensures bounds { IsSome result ↔ (index < length (bounded self.now).items) }
@@ -85,6 +90,7 @@ pub trait Vector<T: Drop> {
     /// Returns a mutable reference to the item at `index`, or `None` if `index` is out of bounds. O(1).
     ///
     /// This hides the slice's `get_mut`. For a range of items, call `vector.as_mut_slice().get_mut(1..3)`.
+    #[must_use]
     fn get_mut(&mut self, index: usize) -> Option<&mut T>
         ensures* writes_back { sem 𝓛 (LendsIf Self.row T.row self.entry result
             (with_item self.old index) self.old) }
@@ -97,6 +103,7 @@ pub trait Vector<T: Drop> {
 
     /// Returns a reference to the first item, or `None` if the vector is empty. O(1).
     #[inline]
+    #[must_use]
     final fn first(&self) -> Option<&T>
         ensures value { option_copied result ≡ slice_get (bounded self.now).items 0 }
         ensures empty { IsNone result ↔ ((bounded self.now).items ≡ []) }
@@ -107,6 +114,7 @@ pub trait Vector<T: Drop> {
 
     /// Returns a mutable reference to the first item, or `None` if the vector is empty. O(1).
     #[inline]
+    #[must_use]
     final fn first_mut(&mut self) -> Option<&mut T>
         ensures* writes_back { sem 𝓛 (LendsIf Self.row T.row self.entry result
             (with_item self.old 0) self.old) }
@@ -121,6 +129,7 @@ pub trait Vector<T: Drop> {
 
     /// Returns a reference to the last item, or `None` if the vector is empty. O(1).
     #[inline]
+    #[must_use]
     final fn last(&self) -> Option<&T>
         ensures value { option_copied result ≡ vec_last (bounded self.now) }
         ensures empty { IsNone result ↔ ((bounded self.now).items ≡ []) }
@@ -131,6 +140,7 @@ pub trait Vector<T: Drop> {
 
     /// Returns a mutable reference to the last item, or `None` if the vector is empty. O(1).
     #[inline]
+    #[must_use]
     final fn last_mut(&mut self) -> Option<&mut T>
         ensures* writes_back { sem 𝓛 (LendsIf Self.row T.row self.entry result
             (with_item self.old (length (bounded self.old).items - 1)) self.old) }
@@ -147,16 +157,19 @@ pub trait Vector<T: Drop> {
     }
 
     /// Returns the maximum number of items. O(1).
+    #[must_use]
     fn capacity(&self) -> usize
         ensures { result ≡ (bounded self.now).capacity };
 
     /// Returns the number of items. O(1).
+    #[must_use]
     fn len(&self) -> usize
         ensures value { result ≡ length (bounded self.now).items }
         ensures within { IsWithin (bounded self.now) };
 
     /// Returns `true` if the vector has no items. O(1).
     #[inline]
+    #[must_use]
     final fn is_empty(&self) -> bool
         ensures value { IsTrue result ↔ ((bounded self.now).items ≡ []) }
         ensures within { IsWithin (bounded self.now) }
@@ -166,6 +179,7 @@ pub trait Vector<T: Drop> {
 
     /// Returns `true` if there are as many items as the capacity. A vector of capacity 0 is both empty and full. O(1).
     #[inline]
+    #[must_use]
     final fn is_full(&self) -> bool
         ensures value { IsTrue result ↔ IsFull (bounded self.now) }
         ensures room { OnFalse result
@@ -177,6 +191,7 @@ pub trait Vector<T: Drop> {
 
     /// Returns how many more items there is room for. O(1).
     #[inline]
+    #[must_use]
     final fn remaining_capacity(&self) -> usize
         ensures value { length (bounded self.now).items + result ≡ (bounded self.now).capacity }
         ensures within { IsWithin (bounded self.now) }
