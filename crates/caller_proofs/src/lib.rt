@@ -13,5 +13,7 @@ pub mod inline_queues;
 pub mod map_counts;
 /// What a queue has.
 pub mod members;
+/// Vectors: items in their places, and how many there are at most.
+pub mod vectors;
 /// Names as keys.
 pub mod words;
