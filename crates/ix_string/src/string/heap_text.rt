@@ -1,5 +1,6 @@
 //! Heap strings as texts: what is written to them, and what they lend.
 ghost use Rattle.std.specs.Prelude.{◌≡◌, ◌↔◌, length, IsOk, OnErr};
+ghost use Rattle.ix_tables.specs.Bounded.{IsWithin};
 ghost use Rattle.ix_vector.specs.VectorSteps.{HasRoomFor, vec_extend};
 ghost use Rattle.ix_string.specs.Text.{IsText};
 
@@ -33,7 +34,10 @@ impl<K: HeapStringKind, A: Allocator> AsStr for HeapString<K, A> {
     ghost text = { λ string. string.items };
 
     #[inline]
-    fn as_str(&self) -> &str {
+    fn as_str(&self) -> &str
+        ensures value { result.now ≡ self.now.items }
+        ensures within { IsWithin self.now }
+    {
         String::as_str(self)
     }
 }
@@ -43,7 +47,10 @@ impl<K: HeapStringKind, A: Allocator> AsSlice<u8> for HeapString<K, A> {
     ghost items = { λ string. string.items };
 
     #[inline]
-    fn as_slice(&self) -> &[u8] {
+    fn as_slice(&self) -> &[u8]
+        ensures value { result.now ≡ self.now.items }
+        ensures within { IsWithin self.now }
+    {
         self.as_bytes()
     }
 }
@@ -53,7 +60,10 @@ impl<K: HeapStringKind, A: Allocator> DerefStr for HeapString<K, A> {
     ghost deref_gives = { λ string text. text ≡ string.items };
 
     #[inline]
-    fn deref(&self) -> &str {
+    fn deref(&self) -> &str
+        ensures value { result.now ≡ self.now.items }
+        ensures within { IsWithin self.now }
+    {
         AsStr::as_str(self)
     }
 }

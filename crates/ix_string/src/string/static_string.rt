@@ -144,6 +144,7 @@ impl<const CAPACITY: usize> StaticString<CAPACITY> {
     pub fn as_bytes_const(&self) -> &[u8]
         ensures value { result.now ≡ self.now }
         ensures text { IsText result.now }
+        ensures within { length self.now ≤ CAPACITY }
     {
         &self.bytes[..self.count]
     }

@@ -31,7 +31,10 @@ impl<const CAPACITY: usize> AsStr for StaticString<CAPACITY> {
     ghost text = { λ string. string };
 
     #[inline]
-    fn as_str(&self) -> &str {
+    fn as_str(&self) -> &str
+        ensures value { result.now ≡ self.now }
+        ensures within { length self.now ≤ CAPACITY }
+    {
         String::as_str(self)
     }
 }
@@ -41,7 +44,10 @@ impl<const CAPACITY: usize> AsSlice<u8> for StaticString<CAPACITY> {
     ghost items = { λ string. string };
 
     #[inline]
-    fn as_slice(&self) -> &[u8] {
+    fn as_slice(&self) -> &[u8]
+        ensures value { result.now ≡ self.now }
+        ensures within { length self.now ≤ CAPACITY }
+    {
         self.as_bytes()
     }
 }
@@ -51,7 +57,10 @@ impl<const CAPACITY: usize> DerefStr for StaticString<CAPACITY> {
     ghost deref_gives = { λ string text. text ≡ string };
 
     #[inline]
-    fn deref(&self) -> &str {
+    fn deref(&self) -> &str
+        ensures value { result.now ≡ self.now }
+        ensures within { length self.now ≤ CAPACITY }
+    {
         AsStr::as_str(self)
     }
 }

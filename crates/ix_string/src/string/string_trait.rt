@@ -34,7 +34,8 @@ pub trait String: Debug + Display + Eq + Ord + Hash {
     /// Returns the bytes. O(1).
     fn as_bytes(&self) -> &[u8]
         ensures value { result.now ≡ (bounded self.now).items }
-        ensures text { IsText result.now };
+        ensures text { IsText result.now }
+        ensures within { IsWithin (bounded self.now) };
 
     /// Returns the maximum number of bytes. O(1).
     fn capacity(&self) -> usize
@@ -65,7 +66,8 @@ pub trait String: Debug + Display + Eq + Ord + Hash {
     /// Returns the bytes as a text. O(1).
     #[inline]
     final fn as_str(&self) -> &str
-        ensures { result.now ≡ (bounded self.now).items }
+        ensures value { result.now ≡ (bounded self.now).items }
+        ensures within { IsWithin (bounded self.now) }
     {
         // SAFETY: bytes from 1 to 127 are UTF-8.
         unsafe { str::from_utf8_unchecked(self.as_bytes()) }
