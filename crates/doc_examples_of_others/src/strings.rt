@@ -154,12 +154,21 @@ fn the_start_and_the_end_are_removed(rt: HostRuntime) -> Result<(), Fail> {
     Ok(())
 }
 
-// Shows: String::retain
+// Shows: String::remove_if
 #[test]
 fn the_bytes_of_which_the_answer_is_true_are_removed(rt: HostRuntime) -> Result<(), Fail> {
     let mut string = StaticString::<8>::from_bytes(b"a-b--c")?;
-    string.retain(|byte| byte == b'-');
+    string.remove_if(|byte| byte == b'-');
     assert!(rt; string.as_str() == "abc");
+    Ok(())
+}
+
+// Shows: String::retain
+#[test]
+fn what_upstream_calls_retain_removes(rt: HostRuntime) -> Result<(), Fail> {
+    let mut string = StaticString::<8>::from_bytes(b"a-b--c")?;
+    string.retain(|byte| byte == b'-');
+    assert!(rt; string.as_str() == "abc"); // the bytes that are not `-`
     Ok(())
 }
 

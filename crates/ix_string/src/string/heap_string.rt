@@ -100,7 +100,7 @@ impl<K: HeapStringKind, A: Allocator> String for HeapString<K, A> {
         true
     }
 
-    fn retain<F: FnMut(u8) -> bool>(&mut self, f: F) {
+    fn remove_if<F: FnMut(u8) -> bool>(&mut self, f: F) {
         retain_in(&mut self.bytes, f);
     }
 }

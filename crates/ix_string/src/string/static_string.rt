@@ -192,7 +192,7 @@ impl<const CAPACITY: usize> String for StaticString<CAPACITY> {
         true
     }
 
-    fn retain<F: FnMut(u8) -> bool>(&mut self, f: F) {
+    fn remove_if<F: FnMut(u8) -> bool>(&mut self, f: F) {
         let len = self.count;
         let start = move_kept_back(&mut self.bytes[..len], f);
         close_gap_with_zeros(&mut self.bytes, 0, start, len);

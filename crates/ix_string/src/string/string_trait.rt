@@ -299,9 +299,7 @@ pub trait String: Debug + Display + Eq + Ord + Hash {
 
     /// Removes each byte for which `f` returns `true`, keeping the order of the others. `f` is called once for each
     /// byte, from the last to the first. O(`len`).
-    ///
-    /// The `retain` of std keeps those bytes instead.
-    fn retain<F: FnMut(u8) -> bool>(&mut self, f: F)
+    fn remove_if<F: FnMut(u8) -> bool>(&mut self, f: F)
         requires { IsCallableAtText F.step F.pre (bounded self.old).items f }
         ensures string { Retains F.step f (bounded self.old).items (bounded self.new).items }
         // A closure that computes whether a byte is kept, and stays as it was, leaves those that are.
@@ -312,6 +310,26 @@ pub trait String: Debug + Display + Eq + Ord + Hash {
         ensures capacity { (bounded self.new).capacity ≡ (bounded self.old).capacity }
         ensures refused { (bounded self.new).items ≡ (bounded self.old).items
             → self.new ≡ self.old };
+
+    /// Removes the bytes for which `f` returns `true`: this is [`String::remove_if`], whose name says so. The `retain` of
+    /// std keeps those bytes instead. O(`len`).
+    ///
+    /// This is `retain` of iceoryx2-bb-container, whose code does this and whose documentation says the contrary.
+    #[inline]
+    final fn retain<F: FnMut(u8) -> bool>(&mut self, f: F)
+        requires { IsCallableAtText F.step F.pre (bounded self.old).items f }
+        ensures string { Retains F.step f (bounded self.old).items (bounded self.new).items }
+        // A closure that computes whether a byte is kept, and stays as it was, leaves those that are.
+        ensures filtered { (kept : ℕ → Bool)
+            → ((byte : ℕ) (removed : Bool) (next : F) → F.step f byte removed next
+            → (not removed ≡ kept byte) × (next ≡ f))
+            → (bounded self.new).items ≡ filter kept (bounded self.old).items }
+        ensures capacity { (bounded self.new).capacity ≡ (bounded self.old).capacity }
+        ensures refused { (bounded self.new).items ≡ (bounded self.old).items
+            → self.new ≡ self.old }
+    {
+        self.remove_if(f);
+    }
 
     /// Copies the bytes and then a zero to the start of `out`, and returns how many bytes that is, `len + 1`. Returns
     /// `None`, and leaves `out` unchanged, if `out` is shorter. The rest of `out` is left unchanged. O(`len`).

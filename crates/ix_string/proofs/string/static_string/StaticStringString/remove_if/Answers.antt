@@ -5,7 +5,7 @@ use Rattle.std.proofs.lemmas.List.{take_at, drop_at}
 use Rattle.ix_string.specs.Text.{IsTextByte}
 use Rattle.ix_string.proofs.Retaining.{All-Retains, Retains-kept}
 use Rattle.ix_string.proofs.Texts.{IsPadded-shortened}
-use Rattle.ix_string.proofs.string.static_string.StaticStringString.retain.Goals as goal
+use Rattle.ix_string.proofs.string.static_string.StaticStringString.remove_if.Goals as goal
 
 pub move_kept_back-start-requires-clause-callable : goal.move_kept_back-start-requires-clause-callable
 move_kept_back-start-requires-clause-callable g c = rw c.self.view_is c.requires

@@ -1,7 +1,7 @@
 use Rattle.std.proofs.Common.{rules}
 use Rattle.ix_string.proofs.Retaining.{All-Retains, Retains-kept}
 use Rattle.ix_string.specs.Text.{IsTextByte}
-use Rattle.ix_string.proofs.string.heap_string.HeapStringString.retain.Goals as goal
+use Rattle.ix_string.proofs.string.heap_string.HeapStringString.remove_if.Goals as goal
 
 pub retain_in-requires-clause-callable : goal.retain_in-requires-clause-callable
 retain_in-requires-clause-callable g c = rw c.self.view_is c.requires
