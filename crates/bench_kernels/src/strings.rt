@@ -148,7 +148,7 @@ pub fn insert_and_remove(rounds: u64) -> u64 {
         if place <= text.len() {
             let _ = text.insert_bytes(place, b"wxyz");
         }
-        text.remove_range(place, 4);
+        let _ = text.remove_range(place, 4);
         sum = sum.wrapping_add(byte_or_0(&text, (i & 63) as usize));
     }
     sum

@@ -44,6 +44,7 @@ impl<K: HeapStringKind, A: Allocator> HeapString<K, A> {
     ///
     /// Does not allocate. O(1).
     #[inline]
+    #[must_use]
     pub fn memory_size(capacity: usize) -> MemorySize
         ensures value { result ≡ items_memory 1 capacity }
         ensures monotone { (greater : ℕ) → capacity ≤ greater

@@ -31,6 +31,7 @@ impl Model for EscapedByte {
 impl EscapedByte {
     /// Returns the text. O(1).
     #[inline]
+    #[must_use]
     pub fn as_str(&self) -> &str
         ensures value { result.now ≡ self.now }
         ensures within { length result.now ≤ 4 }
@@ -61,6 +62,7 @@ impl fmt::Debug for EscapedByte {
 /// That is `\t`, `\r` and `\n` for the bytes 9, 13 and 10, the byte itself for those from 32 to 127, a backslash and a quote too,
 /// and `\x` and two lower-case hexadecimal digits for every other byte.
 #[inline]
+#[must_use]
 pub fn escape_byte(byte: u8) -> EscapedByte
     ensures { result ≡ escaped_byte byte }
 {

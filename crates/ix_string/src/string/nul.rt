@@ -6,6 +6,7 @@ ghost use Rattle.ix_string.specs.Text.{nul_position};
 /// whichever is less. O(`n`).
 ///
 /// This is `strnlen` of iceoryx2-bb-container, which reads from a pointer.
+#[must_use]
 pub fn strnlen(bytes: &[u8], n: usize) -> usize
     ensures { result ≡ min n (nul_position bytes.now) }
 {

@@ -56,6 +56,7 @@ impl<const CAPACITY: usize> StaticString<CAPACITY> {
 
     /// Returns the maximum number of bytes, `CAPACITY`. O(1).
     #[inline]
+    #[must_use]
     pub const fn capacity() -> usize
         ensures { result ≡ CAPACITY }
     {
@@ -141,6 +142,7 @@ impl<const CAPACITY: usize> StaticString<CAPACITY> {
     ///
     /// [`String::as_bytes`] is the same call of the trait.
     #[inline]
+    #[must_use]
     pub fn as_bytes_const(&self) -> &[u8]
         ensures value { result.now ≡ self.now }
         ensures text { IsText result.now }

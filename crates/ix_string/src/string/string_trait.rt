@@ -32,16 +32,19 @@ pub trait String: Debug + Display + Eq + Ord + Hash {
     ghost bounded: { Self → Bounded ℕ };
 
     /// Returns the bytes. O(1).
+    #[must_use]
     fn as_bytes(&self) -> &[u8]
         ensures value { result.now ≡ (bounded self.now).items }
         ensures text { IsText result.now }
         ensures within { IsWithin (bounded self.now) };
 
     /// Returns the maximum number of bytes. O(1).
+    #[must_use]
     fn capacity(&self) -> usize
         ensures { result ≡ (bounded self.now).capacity };
 
     /// Returns the number of bytes. O(1).
+    #[must_use]
     fn len(&self) -> usize
         ensures value { result ≡ length (bounded self.now).items }
         ensures within { IsWithin (bounded self.now) };
@@ -56,6 +59,7 @@ pub trait String: Debug + Display + Eq + Ord + Hash {
 
     /// Removes the `n` bytes from index `idx` on, shifting all later bytes to the left, and returns `true`. Returns
     /// `false` if there are fewer than `n` bytes from `idx` on, or if `idx` is greater than the length. O(`len - idx`).
+    #[must_use]
     fn remove_range(&mut self, idx: usize, n: usize) -> bool
         ensures value { IsTrue result ↔ IsRangeOf (bounded self.old) idx n }
         ensures string { OnTrue result
@@ -65,6 +69,7 @@ pub trait String: Debug + Display + Eq + Ord + Hash {
 
     /// Returns the bytes as a text. O(1).
     #[inline]
+    #[must_use]
     final fn as_str(&self) -> &str
         ensures value { result.now ≡ (bounded self.now).items }
         ensures within { IsWithin (bounded self.now) }
@@ -75,6 +80,7 @@ pub trait String: Debug + Display + Eq + Ord + Hash {
 
     /// Returns `true` if the string has no bytes. O(1).
     #[inline]
+    #[must_use]
     final fn is_empty(&self) -> bool
         ensures { IsTrue result ↔ ((bounded self.now).items ≡ []) }
     {
@@ -83,6 +89,7 @@ pub trait String: Debug + Display + Eq + Ord + Hash {
 
     /// Returns `true` if the length equals the capacity. A string of capacity 0 is both empty and full. O(1).
     #[inline]
+    #[must_use]
     final fn is_full(&self) -> bool
         ensures value { IsTrue result ↔ IsFull (bounded self.now) }
         ensures room { OnFalse result
@@ -93,6 +100,7 @@ pub trait String: Debug + Display + Eq + Ord + Hash {
 
     /// Returns how many more bytes fit, `capacity - len`. O(1).
     #[inline]
+    #[must_use]
     final fn remaining_capacity(&self) -> usize
         ensures { length (bounded self.now).items + result ≡ (bounded self.now).capacity }
     {
@@ -187,7 +195,7 @@ pub trait String: Debug + Display + Eq + Ord + Hash {
     {
         if idx < self.len() {
             let byte = self.as_bytes()[idx];
-            self.remove_range(idx, 1);
+            let _ = self.remove_range(idx, 1);
             return Some(byte);
         }
         None
@@ -214,7 +222,7 @@ pub trait String: Debug + Display + Eq + Ord + Hash {
     {
         let len = self.len();
         if n < len {
-            self.remove_range(n, len - n);
+            let _ = self.remove_range(n, len - n);
         }
     }
 
@@ -228,6 +236,7 @@ pub trait String: Debug + Display + Eq + Ord + Hash {
 
     /// Returns the least index at which `needle` occurs, or `None` if it does not occur. An empty `needle` occurs at 0.
     /// O(`len + needle.len()`).
+    #[must_use]
     final fn find(&self, needle: &[u8]) -> Option<usize>
         ensures { IsFirstMatch (bounded self.now).items needle.now result }
     {
@@ -236,6 +245,7 @@ pub trait String: Debug + Display + Eq + Ord + Hash {
 
     /// Returns the greatest index at which `needle` occurs, or `None` if it does not occur. An empty `needle` occurs at
     /// `len`. O(`len + needle.len()`).
+    #[must_use]
     final fn rfind(&self, needle: &[u8]) -> Option<usize>
         ensures { IsLastMatch (bounded self.now).items needle.now result }
     {
@@ -244,6 +254,7 @@ pub trait String: Debug + Display + Eq + Ord + Hash {
 
     /// Returns `true` if `needle` occurs in the string. An empty `needle` occurs in every string.
     /// O(`len + needle.len()`).
+    #[must_use]
     final fn contains(&self, needle: &[u8]) -> bool
         ensures { IsTrue result ↔ HasSubslice (bounded self.now).items needle.now }
     {
@@ -252,6 +263,7 @@ pub trait String: Debug + Display + Eq + Ord + Hash {
 
     /// Returns `true` if the string starts with `bytes`. Every string starts with an empty `bytes`. O(`bytes.len()`).
     #[inline]
+    #[must_use]
     final fn starts_with(&self, bytes: &[u8]) -> bool
         ensures { IsTrue result ↔ MatchesAt (bounded self.now).items bytes.now 0 }
     {
@@ -260,6 +272,7 @@ pub trait String: Debug + Display + Eq + Ord + Hash {
 
     /// Returns `true` if the string ends with `bytes`. Every string ends with an empty `bytes`. O(`bytes.len()`).
     #[inline]
+    #[must_use]
     final fn ends_with(&self, bytes: &[u8]) -> bool
         ensures { IsTrue result ↔ EndsWith (bounded self.now).items bytes.now }
     {
@@ -333,6 +346,7 @@ pub trait String: Debug + Display + Eq + Ord + Hash {
 
     /// Copies the bytes and then a zero to the start of `out`, and returns how many bytes that is, `len + 1`. Returns
     /// `None`, and leaves `out` unchanged, if `out` is shorter. The rest of `out` is left unchanged. O(`len`).
+    #[must_use]
     final fn copy_with_nul(&self, out: &mut [u8]) -> Option<usize>
         ensures variant { IsSome result ↔ (length (bounded self.now).items < length out.old) }
         ensures value { IfSome result (λ n. n ≡ length (bounded self.now).items + 1) }
@@ -352,6 +366,7 @@ pub trait String: Debug + Display + Eq + Ord + Hash {
 
     /// Returns `true` if the bytes are equal to `other`. O(`len`).
     #[inline]
+    #[must_use]
     final fn eq_bytes(&self, other: &[u8]) -> bool
         ensures { IsTrue result ↔ ((bounded self.now).items ≡ other.now) }
     {
@@ -360,6 +375,7 @@ pub trait String: Debug + Display + Eq + Ord + Hash {
 
     /// Returns `true` if the bytes are equal to those of `other`. O(`len`).
     #[inline]
+    #[must_use]
     final fn eq_str(&self, other: &str) -> bool
         ensures { IsTrue result ↔ ((bounded self.now).items ≡ other.now) }
     {
@@ -369,6 +385,7 @@ pub trait String: Debug + Display + Eq + Ord + Hash {
     /// Compares the bytes with `other`: by the first byte that differs, and otherwise the shorter one is less.
     /// O(`len`).
     #[inline]
+    #[must_use]
     final fn cmp_bytes(&self, other: &[u8]) -> Ordering
         ensures { result ≡ text_cmp (bounded self.now).items other.now }
     {
