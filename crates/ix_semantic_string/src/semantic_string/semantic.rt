@@ -60,6 +60,7 @@ impl<R: Rules<CAPACITY>, const CAPACITY: usize> Semantic<R, CAPACITY> {
     pub fn as_string(&self) -> &StaticString<CAPACITY>
         ensures value { result.now ≡ self.now }
         ensures accepted { IsAccepted CAPACITY R.rules result.now }
+        ensures within { length self.now ≤ CAPACITY }
     {
         &self.text
     }
@@ -118,6 +119,7 @@ impl<R: Rules<CAPACITY>, const CAPACITY: usize> Semantic<R, CAPACITY> {
     pub fn as_bytes(&self) -> &[u8]
         ensures value { result.now ≡ self.now }
         ensures accepted { IsAccepted CAPACITY R.rules result.now }
+        ensures within { length self.now ≤ CAPACITY }
     {
         self.text.as_bytes_const()
     }
@@ -129,6 +131,7 @@ impl<R: Rules<CAPACITY>, const CAPACITY: usize> Semantic<R, CAPACITY> {
     pub fn as_bytes_const(&self) -> &[u8]
         ensures value { result.now ≡ self.now }
         ensures accepted { IsAccepted CAPACITY R.rules result.now }
+        ensures within { length self.now ≤ CAPACITY }
     {
         self.as_bytes()
     }
@@ -138,6 +141,7 @@ impl<R: Rules<CAPACITY>, const CAPACITY: usize> Semantic<R, CAPACITY> {
     pub fn as_str(&self) -> &str
         ensures value { result.now ≡ self.now }
         ensures accepted { IsAccepted CAPACITY R.rules result.now }
+        ensures within { length self.now ≤ CAPACITY }
     {
         self.text.as_str()
     }

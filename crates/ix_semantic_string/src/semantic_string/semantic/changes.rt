@@ -44,7 +44,7 @@ impl<R: Rules<CAPACITY>, const CAPACITY: usize> Semantic<R, CAPACITY> {
     {
         self.text.insert_bytes(idx, bytes)?;
         if let Err(error) = judge::<R, CAPACITY>(self.text.as_bytes()) {
-            self.text.remove_range(idx, bytes.len());
+            let _ = self.text.remove_range(idx, bytes.len());
             return Err(error);
         }
         Ok(())
@@ -133,7 +133,7 @@ impl<R: Rules<CAPACITY>, const CAPACITY: usize> Semantic<R, CAPACITY> {
         ensures refused { OnErr result (self.new ≡ self.old) }
     {
         let mut candidate = self.text;
-        candidate.remove_range(idx, n);
+        let _ = candidate.remove_range(idx, n);
         self.become_if_accepted(candidate)
     }
 
