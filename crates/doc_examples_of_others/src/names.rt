@@ -130,16 +130,25 @@ fn a_range_of_a_name_is_removed(rt: HostRuntime) -> Result<(), Fail> {
     Ok(())
 }
 
-// Shows: Semantic::retain
+// Shows: Semantic::remove_if
 #[test]
 fn the_bytes_of_a_name_of_which_the_answer_is_true_are_removed(
     rt: HostRuntime,
 ) -> Result<(), Fail> {
     let mut name = GroupName::new(b"a-b-c")?;
+    assert!(rt; name.remove_if(|byte| byte == b'-') == Ok(()));
+    assert!(rt; name.as_str() == "abc");
+    assert!(rt; name.remove_if(|_| true) == Err(InvalidContent)); // no name is empty
+    assert!(rt; name.as_str() == "abc");
+    Ok(())
+}
+
+// Shows: Semantic::retain
+#[test]
+fn what_upstream_calls_retain_removes_bytes_of_a_name(rt: HostRuntime) -> Result<(), Fail> {
+    let mut name = GroupName::new(b"a-b-c")?;
     assert!(rt; name.retain(|byte| byte == b'-') == Ok(()));
-    assert!(rt; name.as_str() == "abc");
-    assert!(rt; name.retain(|_| true) == Err(InvalidContent)); // no name is empty
-    assert!(rt; name.as_str() == "abc");
+    assert!(rt; name.as_str() == "abc"); // the bytes that are not `-`
     Ok(())
 }
 

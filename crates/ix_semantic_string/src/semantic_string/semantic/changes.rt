@@ -1,7 +1,7 @@
 //! The changes of a semantic string.
 //!
 //! `truncate` asks the rules first. `insert_bytes`, `remove`, `strip_prefix` and `strip_suffix` change the text and undo a
-//! refused change; `remove_range` and `retain` change a copy.
+//! refused change; `remove_range` and `remove_if` change a copy.
 ghost use Rattle.std.specs.Prelude.{◌≡◌, ◌-◌, ◌≤◌, [], ◌∷◌, ◌++◌, List, ℕ, length, take, drop, remove, true, false, Some, Ok, OnOk, OnErr, slice_get};
 ghost use Rattle.std.specs.List.{insert_slice};
 ghost use Rattle.ix_string.specs.Retain.{IsCallableAtText, Retains};
@@ -141,15 +141,29 @@ impl<R: Rules<CAPACITY>, const CAPACITY: usize> Semantic<R, CAPACITY> {
     /// from the last to the first. O(`CAPACITY`) beside the rules.
     ///
     /// Returns [`SemanticStringError::InvalidContent`] if the rules do not accept the kept bytes.
-    pub fn retain<F: FnMut(u8) -> bool>(&mut self, f: F) -> Result<(), SemanticStringError>
+    pub fn remove_if<F: FnMut(u8) -> bool>(&mut self, f: F) -> Result<(), SemanticStringError>
         requires { IsCallableAtText F.step F.pre self.old f }
         ensures string { (kept : List ℕ) × Retains F.step f self.old kept
             × SemanticResult CAPACITY R.rules kept tt result × OnOk result (self.new ≡ kept) }
         ensures refused { OnErr result (self.new ≡ self.old) }
     {
         let mut candidate = self.text;
-        candidate.retain(f);
+        candidate.remove_if(f);
         self.become_if_accepted(candidate)
+    }
+
+    /// Removes the bytes for which `f` returns `true`: this is [`Semantic::remove_if`], whose name says so. The `retain` of
+    /// std keeps those bytes instead. O(`CAPACITY`) beside the rules.
+    ///
+    /// Returns the error of [`Semantic::remove_if`].
+    #[inline]
+    pub fn retain<F: FnMut(u8) -> bool>(&mut self, f: F) -> Result<(), SemanticStringError>
+        requires { IsCallableAtText F.step F.pre self.old f }
+        ensures string { (kept : List ℕ) × Retains F.step f self.old kept
+            × SemanticResult CAPACITY R.rules kept tt result × OnOk result (self.new ≡ kept) }
+        ensures refused { OnErr result (self.new ≡ self.old) }
+    {
+        self.remove_if(f)
     }
 
     /// Removes `bytes` from the start of the string and returns `Ok(true)`. Returns `Ok(false)` if the string does not start
