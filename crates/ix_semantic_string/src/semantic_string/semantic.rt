@@ -57,6 +57,7 @@ impl<R: Rules<CAPACITY>, const CAPACITY: usize> Copy for Semantic<R, CAPACITY> {
 impl<R: Rules<CAPACITY>, const CAPACITY: usize> Semantic<R, CAPACITY> {
     /// Returns the string of its bytes. O(1).
     #[inline]
+    #[must_use]
     pub fn as_string(&self) -> &StaticString<CAPACITY>
         ensures value { result.now ≡ self.now }
         ensures accepted { IsAccepted CAPACITY R.rules result.now }
@@ -116,6 +117,7 @@ impl<R: Rules<CAPACITY>, const CAPACITY: usize> Semantic<R, CAPACITY> {
 
     /// Returns the bytes. O(1).
     #[inline]
+    #[must_use]
     pub fn as_bytes(&self) -> &[u8]
         ensures value { result.now ≡ self.now }
         ensures accepted { IsAccepted CAPACITY R.rules result.now }
@@ -128,6 +130,7 @@ impl<R: Rules<CAPACITY>, const CAPACITY: usize> Semantic<R, CAPACITY> {
     ///
     /// This is [`Semantic::as_bytes`].
     #[inline]
+    #[must_use]
     pub fn as_bytes_const(&self) -> &[u8]
         ensures value { result.now ≡ self.now }
         ensures accepted { IsAccepted CAPACITY R.rules result.now }
@@ -138,6 +141,7 @@ impl<R: Rules<CAPACITY>, const CAPACITY: usize> Semantic<R, CAPACITY> {
 
     /// Returns the bytes as a text. O(1).
     #[inline]
+    #[must_use]
     pub fn as_str(&self) -> &str
         ensures value { result.now ≡ self.now }
         ensures accepted { IsAccepted CAPACITY R.rules result.now }
@@ -148,6 +152,7 @@ impl<R: Rules<CAPACITY>, const CAPACITY: usize> Semantic<R, CAPACITY> {
 
     /// Returns the maximum number of bytes, `CAPACITY`. O(1).
     #[inline]
+    #[must_use]
     pub fn capacity(&self) -> usize
         ensures { result ≡ CAPACITY }
     {
@@ -156,6 +161,7 @@ impl<R: Rules<CAPACITY>, const CAPACITY: usize> Semantic<R, CAPACITY> {
 
     /// Returns the maximum number of bytes, `CAPACITY`. O(1).
     #[inline]
+    #[must_use]
     pub const fn max_len() -> usize
         ensures { result ≡ CAPACITY }
     {
@@ -164,6 +170,7 @@ impl<R: Rules<CAPACITY>, const CAPACITY: usize> Semantic<R, CAPACITY> {
 
     /// Returns the least index at which `bytes` occur, or `None` if they do not occur. An empty `bytes` occurs at 0.
     /// O(`len + bytes.len()`).
+    #[must_use]
     pub fn find(&self, bytes: &[u8]) -> Option<usize>
         ensures { IsFirstMatch self.now bytes.now result }
     {
@@ -172,6 +179,7 @@ impl<R: Rules<CAPACITY>, const CAPACITY: usize> Semantic<R, CAPACITY> {
 
     /// Returns the greatest index at which `bytes` occur, or `None` if they do not occur. An empty `bytes` occurs at `len`.
     /// O(`len + bytes.len()`).
+    #[must_use]
     pub fn rfind(&self, bytes: &[u8]) -> Option<usize>
         ensures { IsLastMatch self.now bytes.now result }
     {
@@ -180,6 +188,7 @@ impl<R: Rules<CAPACITY>, const CAPACITY: usize> Semantic<R, CAPACITY> {
 
     /// Returns how many more bytes fit, `capacity - len`. The rules may refuse them all the same. O(1).
     #[inline]
+    #[must_use]
     pub fn remaining_capacity(&self) -> usize
         ensures { length self.now + result ≡ CAPACITY }
     {
@@ -188,6 +197,7 @@ impl<R: Rules<CAPACITY>, const CAPACITY: usize> Semantic<R, CAPACITY> {
 
     /// Returns `true` if the length equals the capacity. O(1).
     #[inline]
+    #[must_use]
     pub fn is_full(&self) -> bool
         ensures value { IsTrue result ↔ (length self.now ≡ CAPACITY) }
         ensures room { OnFalse result (length self.now < CAPACITY) }
@@ -197,6 +207,7 @@ impl<R: Rules<CAPACITY>, const CAPACITY: usize> Semantic<R, CAPACITY> {
 
     /// Returns `true` if the string has no bytes. O(1).
     #[inline]
+    #[must_use]
     pub fn is_empty(&self) -> bool
         ensures { IsTrue result ↔ (self.now ≡ []) }
     {
@@ -205,6 +216,7 @@ impl<R: Rules<CAPACITY>, const CAPACITY: usize> Semantic<R, CAPACITY> {
 
     /// Returns the number of bytes. O(1).
     #[inline]
+    #[must_use]
     pub fn len(&self) -> usize
         ensures value { result ≡ length self.now }
         ensures within { result ≤ CAPACITY }
@@ -214,6 +226,7 @@ impl<R: Rules<CAPACITY>, const CAPACITY: usize> Semantic<R, CAPACITY> {
 
     /// Returns the normal form, to which the string is equal. O(`CAPACITY`) beside the rules.
     #[inline]
+    #[must_use]
     pub fn normalize(&self) -> Self
         ensures value { result ≡ R.rules.normal_form self.now }
         ensures equal { IsTrue (means_the_same R.rules result self.now) }
@@ -223,6 +236,7 @@ impl<R: Rules<CAPACITY>, const CAPACITY: usize> Semantic<R, CAPACITY> {
 
     /// Copies the bytes and then a zero to the start of `out`, and returns how many bytes that is, `len + 1`. Returns
     /// `None`, and leaves `out` unchanged, if `out` is shorter. The rest of `out` is left unchanged. O(`len`).
+    #[must_use]
     pub fn copy_with_nul(&self, out: &mut [u8]) -> Option<usize>
         ensures variant { IsSome result ↔ (length self.now < length out.old) }
         ensures value { IfSome result (λ n. n ≡ length self.now + 1) }
@@ -243,6 +257,7 @@ impl<R: Rules<CAPACITY>, const CAPACITY: usize> Semantic<R, CAPACITY> {
     }
 
     /// Returns `true` if `other` is accepted and means the same. O(`CAPACITY`) beside the rules.
+    #[must_use]
     pub fn eq_bytes(&self, other: &[u8]) -> bool
         ensures { IsTrue result ↔ IsAccepted CAPACITY R.rules other.now
             × IsTrue (means_the_same R.rules self.now other.now) }
@@ -254,6 +269,7 @@ impl<R: Rules<CAPACITY>, const CAPACITY: usize> Semantic<R, CAPACITY> {
     }
 
     /// Returns `true` if the bytes of `other` are accepted and mean the same. O(`CAPACITY`) beside the rules.
+    #[must_use]
     pub fn eq_str(&self, other: &str) -> bool
         ensures { IsTrue result ↔ IsAccepted CAPACITY R.rules other.now
             × IsTrue (means_the_same R.rules self.now other.now) }
