@@ -13,6 +13,8 @@ pub mod inline_queues;
 pub mod map_counts;
 /// What a queue has.
 pub mod members;
+/// Strings: how many bytes there are at most, and bytes that are removed.
+pub mod strings;
 /// Vectors: items in their places, and how many there are at most.
 pub mod vectors;
 /// Names as keys.
