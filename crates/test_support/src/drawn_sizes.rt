@@ -2,10 +2,16 @@
 use crate::Findings;
 
 /// The greatest size that is drawn.
-const GREATEST: u64 = 300_000;
+const GREATEST: u64 = 100_000;
 
-/// Calls `make` with sizes from 0 to 300,000, one drawn for each number of binary digits, and notes the first size at which it
-/// returns `false`, and `name`.
+/// A size above those that are drawn.
+const ABOVE: usize = 600_000;
+
+/// A size that is above most limits, for calls that do little for each item.
+pub const LARGE: usize = 2_000_001;
+
+/// Calls `make` with sizes from 0 to 100,000, one drawn for each number of binary digits, and with 600,000, and notes the first size
+/// at which it returns `false`, and `name`.
 ///
 /// It is for calls that allocate, where there is memory for all sizes: a call that returns `AllocError` there has made up
 /// its want of memory.
@@ -24,6 +30,7 @@ pub fn check_drawn_sizes<F: Fn(usize) -> bool>(findings: &Findings, name: &str, 
         let size = ((state >> 33) % (GREATEST + 1)) >> shift;
         findings.expect_at(make(size as usize), size as usize, name);
     }
+    findings.expect_at(make(ABOVE), ABOVE, name);
 }
 
 /// As [`check_drawn_sizes`]. Besides notes each of `past_all`, sizes for which no memory is enough, at which `make` returns `true`.

@@ -28,7 +28,7 @@ mod rows;
 pub use blocks::check_memory_sizes;
 pub use by_traits::{check_display, check_printed, check_text, hash_of, order_of};
 pub use counting::{Counting, CountingTable, Tally};
-pub use drawn_sizes::{check_capacities, check_drawn_sizes};
+pub use drawn_sizes::{LARGE, check_capacities, check_drawn_sizes};
 pub use findings::Findings;
 pub use maps::check_equality;
 pub use noted::{Noted, Notes};
