@@ -34,7 +34,7 @@ TRIED_AS = {
 }
 # By reason, the calls that are not made there, as a pattern.
 REASONS = {
-    "takes no memory, by its contract": r"\w+::(from_value|fill_from_value)|SequencedByteAtomic::(reader|writer)|StringCreationError::from",
+    "takes no memory, by its contract": r"\w+::(from_value|fill_from_value)|SequencedByteAtomic::(reader|writer)|(StringCreationError|AllocError)::from",
     "copies numbers and references": r"(Iter|Keys|Values|Parts|RowPtr|Reply|\w+Command|Ruled|Semantic)::clone|(bool|[iu](8|16|32|64|size))::to_value",
     "makes no item, so it lacks room alone": r"Vector::(push|insert|try_insert|append|extend_from_iter|resize_with)|StaticVec::(try_from_iter|split_off)",
     "is part of a call that is made there": r"put_clones|(HeapTable|FilledHeapTable|HeapArray|RawSlots)::new|\w+Family::with_capacity|\w+::(new_in|copy_in)|Pair::clone|run_all|StaticVec::extend_from_slice_unchecked|\w+::show",

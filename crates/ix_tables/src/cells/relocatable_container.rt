@@ -1,6 +1,7 @@
 //! Containers that are made in two steps: first with a capacity, then with memory.
-ghost use Rattle.std.specs.Prelude.{◌≡◌, ℕ, IfOk, IfErr, Some, codes};
+ghost use Rattle.std.specs.Prelude.{◌≡◌, ℕ, IfOk, IfErr, Some, codes, ⊤};
 
+use std::alloc::AllocError;
 use std::error::Error;
 use std::fmt;
 use std::marker::Model;
@@ -58,6 +59,17 @@ impl<U> fmt::Debug for InitError<U> {
 }
 
 impl<U: Drop> Error for InitError<U> {}
+
+/// Drops the uninitialised container. So `init(alloc)?` is at home in a function that returns `AllocError`.
+impl<U: Drop> From<InitError<U>> for AllocError {
+    ghost from_gives = { λ _ _. ⊤ };
+
+    #[inline]
+    fn from(error: InitError<U>) -> AllocError {
+        drop(error);
+        AllocError
+    }
+}
 
 /// A container that is made in two steps: first uninitialised with a capacity, then initialised with memory of an
 /// allocator `A`.
