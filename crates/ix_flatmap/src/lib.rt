@@ -11,6 +11,7 @@ pub use flatmap::{
     Bound, FixedSizeFlatMap, FlatMap, FlatMapError, FlatMapFamily, MetaFlatMap, RelocatableFlatMap,
     UninitFlatMap,
 };
+pub use ix_tables::RelocatableContainer;
 pub use map::{
     CallbackProgression, HeapIndex, HeapMap, InlineIndex, InlineMap, KeyIndex, Keyed, Keys,
     MapError, MetaMap, Pair, PairIndex,

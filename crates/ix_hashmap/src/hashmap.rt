@@ -15,7 +15,7 @@ mod storage;
 pub use buckets::Buckets;
 pub use chain_link::ChainLink;
 pub use hashed::Hashed;
-pub use ix_flatmap::map::{Drain, IntoIter};
+pub use ix_flatmap::map::{CallbackProgression, Drain, IntoIter, MapError, Pair};
 pub use kinds::{
     DefaultHashBuilder, FixedSizeHashMap, HashMap, HashMapFamily, MetaHashMap, RelocatableHashMap,
     UninitHashMap, WithHasher, hash_map_memory_law,

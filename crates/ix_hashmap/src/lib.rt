@@ -5,6 +5,8 @@
 pub mod hashmap;
 
 pub use hashmap::{
-    Buckets, ChainLink, DefaultHashBuilder, FixedSizeHashMap, HashMap, HashMapFamily,
-    HashMapStorage, Hashed, MetaHashMap, RelocatableHashMap, UninitHashMap, WithHasher,
+    Buckets, CallbackProgression, ChainLink, DefaultHashBuilder, FixedSizeHashMap, HashMap,
+    HashMapFamily, HashMapStorage, Hashed, MapError, MetaHashMap, Pair, RelocatableHashMap,
+    UninitHashMap, WithHasher,
 };
+pub use ix_tables::RelocatableContainer;

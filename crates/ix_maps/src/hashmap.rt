@@ -29,7 +29,7 @@ pub mod meta_hash_map {
 }
 
 pub use ix_hashmap::hashmap::{
-    Buckets, ChainLink, DefaultHashBuilder, Drain, FixedSizeHashMap, HashMap, HashMapFamily,
-    HashMapStorage, Hashed, IntoIter, MetaHashMap, RelocatableHashMap, UninitHashMap, WithHasher,
-    hash_map_memory_law,
+    Buckets, CallbackProgression, ChainLink, DefaultHashBuilder, Drain, FixedSizeHashMap, HashMap,
+    HashMapFamily, HashMapStorage, Hashed, IntoIter, MapError, MetaHashMap, Pair,
+    RelocatableHashMap, UninitHashMap, WithHasher, hash_map_memory_law,
 };

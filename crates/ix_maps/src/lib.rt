@@ -28,3 +28,4 @@ pub use ix_slottable::{
     FixedSizeSlotTable, Heap, Inline, Link, MetaSlotTable, RelocatableSlotTable, SlotTable,
     SlotTableFamily, SlotTableKey, Storage, UninitSlotTable,
 };
+pub use ix_tables::RelocatableContainer;

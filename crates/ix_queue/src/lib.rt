@@ -6,4 +6,5 @@
 
 pub mod queue;
 
+pub use ix_tables::RelocatableContainer;
 pub use queue::{FixedSizeQueue, MetaQueue, Queue, QueueFamily, RelocatableQueue, UninitQueue};

@@ -4,6 +4,7 @@
 
 pub mod slotmap;
 
+pub use ix_tables::RelocatableContainer;
 pub use slotmap::{
     Content, FixedSizeSlotMap, MetaSlotMap, RelocatableSlotMap, SlotMap, SlotMapKey,
     SlotMapStorage, UninitSlotMap,

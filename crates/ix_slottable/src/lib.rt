@@ -6,6 +6,7 @@
 
 pub mod slottable;
 
+pub use ix_tables::RelocatableContainer;
 pub use slottable::{
     FixedSizeSlotTable, Heap, Inline, Link, MetaSlotTable, RelocatableSlotTable, SlotTable,
     SlotTableFamily, SlotTableKey, Storage, UninitSlotTable,

@@ -9,6 +9,7 @@
 
 pub mod string;
 
+pub use ix_tables::RelocatableContainer;
 pub use string::{
     EscapedByte, HeapString, HeapStringKind, Polymorphic, PolymorphicString, Relocatable,
     RelocatableString, StaticString, String, StringCreationError, StringFamily,

@@ -6,6 +6,7 @@
 
 pub mod vector;
 
+pub use ix_tables::RelocatableContainer;
 pub use vector::{
     PolymorphicVec, RelocatableVec, StaticVec, StaticVecIntoIter, UninitVec, VecFamily, Vector,
     VectorModificationError,
