@@ -317,6 +317,6 @@ fn maps_and_errors_are_printed(rt: HostRuntime) -> Result<(), Fail> {
     map.insert(80, 'a')?;
     map.insert(443, 'b')?;
     let text = format!(in rt.alloc(); "{map:?} {IsFull}")?;
-    assert!(rt; text.as_str() == "{80: 'a', 443: 'b'} FlatMapError::IsFull");
+    assert!(rt; text.as_str() == "{80: 'a', 443: 'b'} MapError::IsFull");
     Ok(())
 }

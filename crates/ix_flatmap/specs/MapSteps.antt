@@ -16,8 +16,8 @@ abbrev pub MapResult : Type 0
 MapResult = Result (Unit {0}) MapError
 
 abbrev pub map_error_text : MapError → List ℕ
-map_error_text KeyAlreadyExists = codes "FlatMapError::KeyAlreadyExists"
-map_error_text IsFull = codes "FlatMapError::IsFull"
+map_error_text KeyAlreadyExists = codes "MapError::KeyAlreadyExists"
+map_error_text IsFull = codes "MapError::IsFull"
 
 module _ {K V : Type 0} where
   -- a key that the map has is refused before a lack of room

@@ -106,7 +106,7 @@ const REFUSED: &[(u32, &str, &[u16], &str)] = &[
         &[1, 2, 3, 4, 5],
         "VectorModificationError::InsertWouldExceedCapacity",
     ),
-    (1, "pong", &[80], "FlatMapError::KeyAlreadyExists"),
+    (1, "pong", &[80], "MapError::KeyAlreadyExists"),
 ];
 
 #[test]
@@ -137,8 +137,8 @@ const REFUSED_GROUPS: &[(u8, &[u8], &str)] = &[
         "SemanticStringError::ExceedsMaximumLength",
     ),
     (10, b"", "SemanticStringError::InvalidContent"),
-    (10, b"wheel", "FlatMapError::KeyAlreadyExists"),
-    (11, b"wheel", "FlatMapError::IsFull"),
+    (10, b"wheel", "MapError::KeyAlreadyExists"),
+    (11, b"wheel", "MapError::IsFull"),
 ];
 
 #[test]

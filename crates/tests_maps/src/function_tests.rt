@@ -265,9 +265,9 @@ fn texts() -> Result<(), Fail> {
     let findings = Findings::new();
     check_text(&findings, &KeyAlreadyExists, "KeyAlreadyExists");
     check_text(&findings, &IsFull, "IsFull");
-    let text = "FlatMapError::KeyAlreadyExists";
+    let text = "MapError::KeyAlreadyExists";
     check_display(&findings, &KeyAlreadyExists, text);
-    check_display(&findings, &IsFull, "FlatMapError::IsFull");
+    check_display(&findings, &IsFull, "MapError::IsFull");
     check_text(&findings, &CallbackProgression::Continue, "Continue");
     check_text(&findings, &CallbackProgression::Stop, "Stop");
     let pair = Pair {

@@ -22,8 +22,8 @@ impl fmt::Display for MapError {
 
     fn fmt<W: fmt::Write>(&self, f: &mut fmt::Formatter<W>) -> fmt::Result {
         f.write_str(match self {
-            MapError::KeyAlreadyExists => "FlatMapError::KeyAlreadyExists",
-            MapError::IsFull => "FlatMapError::IsFull",
+            MapError::KeyAlreadyExists => "MapError::KeyAlreadyExists",
+            MapError::IsFull => "MapError::IsFull",
         })
     }
 }
