@@ -1,7 +1,7 @@
 //! Equality of maps.
 ghost use Rattle.std.specs.Prelude.{◌≡◌};
 ghost use Rattle.std.specs.List.{list_any};
-ghost use Rattle.ix_flatmap.specs.MapState.{map_items};
+ghost use Rattle.ix_flatmap.specs.MapState.{HasDistinctKeys, map_items};
 ghost use Rattle.ix_flatmap.specs.MapCompared.{is_same_item, has_each, has_same};
 ghost use Rattle.ix_flatmap.specs.laws.MapCompared.{same_items_per, same_items_equiv};
 
@@ -15,9 +15,10 @@ impl<K: Eq + Drop, V: PartialEq + Drop, M: Storage<Pair<K, V>>, I: KeyIndex<K, V
 
     ghost laws = { same_items_per K.eq V.eq K.Eq.laws V.laws };
 
-    /// Returns `true` if the maps are equal. Looks for each key of either in the other.
+    /// Returns `true` if the maps are equal. Compares the numbers of keys first, and then looks for each key of the other map
+    /// in this one.
     fn eq(&self, other: &Self) -> bool {
-        has_each_of(self, other.iter()) && has_each_of(other, self.iter())
+        self.len() == other.len() && has_each_of(self, other.iter())
     }
 }
 
@@ -31,6 +32,7 @@ fn has_each_of<K: Eq + Drop, V: PartialEq + Drop, M: Storage<Pair<K, V>>, I: Key
     map: &MetaMap<Pair<K, V>, M, I>,
     items: Iter<'_, K, V, M>,
 ) -> bool
+    requires { HasDistinctKeys K.eq map.now }
     ensures { result ≡ has_each (is_same_item K.eq V.eq) (map_items map.now) items.entry }
 {
     for (key, value) in items {
@@ -48,11 +50,10 @@ fn has_equal<K: Eq + Drop, V: PartialEq + Drop, M: Storage<Pair<K, V>>, I: KeyIn
     key: &K,
     value: &V,
 ) -> bool
+    requires { HasDistinctKeys K.eq map.now }
     ensures { result ≡ list_any (λ item. is_same_item K.eq V.eq item (key.now, value.now))
         (map_items map.now) }
 {
-    // Names the number of keys, by which the check knows that no two keys are equal.
-    let _len = map.len();
     match map.get_ref(key) {
         Some(own) => *own == *value,
         None => false,
