@@ -66,8 +66,7 @@ pub fn run_slot_map<T: Copy, M: SlotMapStorage<MaybeMoved<T>>>(
     ensures memory { commands.now ≡ [] → IsOk result }
     ensures dead { DeadStaysDead map.old commands.now }
 {
-    // A call of `len` tells that the map is well formed, from which the last clause follows.
-    let _len = map.len();
+    prove!(map.len() <= map.capacity());
     run_all(alloc, map, commands)
 }
 

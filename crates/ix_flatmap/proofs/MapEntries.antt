@@ -4,7 +4,7 @@ use Rattle.std.proofs.lemmas.Bool.{cases_Bool, cases_lt, both_ways}
 use Rattle.std.specs.Cmp.{IsEquivalence}
 use Rattle.std.specs.List.{find}
 use Rattle.std.specs.Map.{keys_of, lookup}
-use Rattle.std.specs.Prelude.{map, option_map, is_some}
+use Rattle.std.specs.Prelude.{map, option_map, is_some, replicate}
 use Rattle.std.proofs.lemmas.Simd.{map-map}
 use Rattle.ix_tables.specs.Places.{place_at}
 use Rattle.ix_slottable.specs.SlotTableState.{SlotTableState, value_at, entries, entries_from, slot_table_new}
@@ -209,6 +209,15 @@ module _ {K V : Type 0} (eq : K → K → Bool) (laws : IsEquivalence eq) where
       go : (found : Option (ℕ × Pair K V)) → map_entry eq s key ≡ found → map_entry eq t key ≡ found
       go None none = there (map_entry eq t key) refl none
       go (Some entry) some = map_entry-IsEntry t key entry.0 entry.1 distinct (to entry.0 entry.1 (IsEntry-map_entry eq s key entry some))
+
+-- no key is found where no place has a pair
+entries_from-replicate : {T : Type 0} (start n : ℕ) → entries_from {T = T} start (replicate n None) ≡ []
+entries_from-replicate start zero = refl
+entries_from-replicate start (suc n) = entries_from-replicate (start + 1) n
+
+pub map_value-vacant : {K Q V : Type 0} (eq : K → Q → Bool) (s : SlotTableState (Pair K V)) (n : ℕ) → s.values ≡ replicate n None → (key : Q) → map_value eq s key ≡ None
+map_value-vacant {K} {Q} {V} eq s n none key =
+    ap (λ items. option_map (λ (e : ℕ × Pair K V). e.1.value) (find (λ (e : ℕ × Pair K V). eq e.1.key key) items)) (ap (entries_from 0) none ∙ entries_from-replicate 0 n)
 
 -- an empty map has no two values
 pub AreDistinctBy-slot_table_new : {T : Type 0} (same : T → T → Bool) (capacity : ℕ) (s : SlotTableState T) → s ≡ slot_table_new capacity → AreDistinctBy same s

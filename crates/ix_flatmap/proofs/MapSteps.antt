@@ -7,6 +7,7 @@ use Rattle.std.specs.Option.{option_map_or}
 use Rattle.std.proofs.lemmas.List.{set-set}
 use Rattle.ix_slottable.specs.SlotTableState.{SlotTableState, value_at, IsFree}
 use Rattle.ix_slottable.specs.SlotTableSteps.{slot_table_set, slot_table_fill, slot_table_insert, keys_without, SlotTableInsert, SlotTableRemove}
+use Rattle.ix_slottable.proofs.SlotTableSteps.{SlotTableInsert-held}
 use Rattle.ix_flatmap.specs.MapState.{HasDistinctKeys, map_entry, map_value}
 use Rattle.ix_flatmap.specs.MapSteps.{map_insert, pair_set, map_set, map_replace}
 use Rattle.ix_flatmap.specs.declared.map.pair.Pair.{Pair}
@@ -71,7 +72,7 @@ module _ {K V : Type 0} (eq : K → K → Bool) (laws : IsEquivalence eq) where
     map_value-inserted_other other differs =
         ap (option_map (λ (e : ℕ × Pair K V). e.1.value))
         (map_entry_same eq laws old new other HasDistinctKeys-inserted
-        (λ place pair is. record { at = step.kept place (subst IsSome (sym is.at) refl) ∙ is.at; equal = is.equal })
+        (λ place pair is. record { at = SlotTableInsert-held old x new result step place (subst IsSome (sym is.at) refl) ∙ is.at; equal = is.equal })
         (λ place pair is. elim (value_at-inserted place pair is.at) [
           | inl here ↦ absurd (both_ways _ differs (laws.symm other x.key ∙ (ap (λ (p : Pair K V). eq p.key other) (sym here.0) ∙ is.equal)))
           | inr there ↦ record { at = there; equal = is.equal }

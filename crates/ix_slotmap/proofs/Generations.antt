@@ -1,12 +1,15 @@
 -- Lemmas on slot maps with generations.
-use Rattle.std.proofs.Common.{◌≡◌, ℕ, ◌+◌, ◌<◌, inl, inr, List, [], ◌∷◌, length, set, Option, Some, None, refl, ap, arith}
+use Rattle.std.proofs.Common.{◌≡◌, ℕ, ◌+◌, ◌<◌, inl, inr, List, [], ◌∷◌, length, set, Option, Some, None, refl, ap, ◌∙◌, arith}
 use Rattle.std.specs.Prelude.{if◌then◌else◌, is_some, count_by, nat_eq, Bool, true, false}
 use Rattle.std.specs.Option.{option_flatten}
 use Rattle.std.proofs.lemmas.Bool.Decides.{nat_tests}
 use Rattle.std.proofs.lemmas.List.{length-set}
+use Rattle.std.proofs.lemmas.List.FromFn.{length-range_with_len}
+use Rattle.std.proofs.lemmas.List.Folds.{sum_by-replicate}
 use Rattle.std.proofs.lemmas.List.Sums.{sum_by-cons, sum_by-set, count_by-le-length}
 use Rattle.ix_tables.specs.Places.{place_at}
-use Rattle.ix_slotmap.specs.Generations.{SlotMapState, generation_at, place_value, is_retired, DeadAreNotHeld}
+use Rattle.ix_tables.proofs.VacantTables.{place_at-replicate}
+use Rattle.ix_slotmap.specs.Generations.{SlotKey, SlotMapState, generation_at, place_value, slot_map_value, slot_map_len, slot_map_new, is_retired, DeadAreNotHeld}
 use Rattle.ix_slottable.proofs.SlotTables.{place_at_past}
 
 module _ {T : Type 0} where
@@ -52,6 +55,17 @@ module _ {T : Type 0} where
   slot_map_value-dead s key (inr (inr lower)) =
       let no : nat_eq (generation_at s key.index) key.generation ≡ false = grind (arith, nat_tests) in
       ap (λ b. if b then place_value s key.index else None) no
+
+  -- a new map has no key, and each place is free
+  module _ (s : SlotMapState T) (capacity generation : ℕ) (is : s ≡ slot_map_new capacity generation) where
+    pub slot_map_value-new : (key : SlotKey) → slot_map_value s key ≡ None
+    slot_map_value-new key = if_none _ _ (ap (λ (t : SlotMapState T). place_value t key.index) is ∙ ap option_flatten (place_at-replicate capacity key.index))
+
+    pub slot_map_len-new : slot_map_len s ≡ 0
+    slot_map_len-new = ap slot_map_len is ∙ (sum_by-replicate one_if_held capacity None ∙ (omega arith))
+
+    pub free-new : length s.slots.free ≡ capacity
+    free-new = ap (λ (t : SlotMapState T). length t.slots.free) is ∙ length-range_with_len 0 capacity
 
   pub free_of_usable : (content : Option (Option T)) → option_flatten content ≡ None → (content ≡ Some None → ⊥) → content ≡ None
   free_of_usable None empty unretired = refl

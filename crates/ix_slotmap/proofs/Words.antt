@@ -32,6 +32,10 @@ word_generation-retired word is = ap word_generation is
 abbrev pub state_of : {T : Type 0} → SlotTableState (Option T) → List ℕ → SlotMapState T
 state_of slots words = record { slots = slots; generations = word_generations words }
 
+-- each place has a generation
+pub generations-words : {T : Type 0} (slots : SlotTableState (Option T)) (words : List ℕ) (s : SlotMapState T) → length words ≡ length slots.values → state_of slots words ≡ s → length s.generations ≡ length s.slots.values
+generations-words {T} slots words s same is = subst (λ (t : SlotMapState T). length t.generations ≡ length t.slots.values) is (length-map words word_generation ∙ same)
+
 module _ {T : Type 0} (slots : SlotTableState (Option T)) (words : List ℕ) where
   pub generation_at-word : (place : ℕ) → generation_at (state_of slots words) place ≡ word_generation (word_at words place)
   generation_at-word place = get_or-map word_generation words place 0

@@ -1,5 +1,5 @@
 -- After each step of a slot table its tables represent the new slot state.
-use Rattle.std.proofs.Common.{◌≡◌, ℕ, zero, suc, ◌+◌, ◌-◌, ◌<◌, ◌≤◌, ◌≢◌, inl, inr, List, [], ◌∷◌, ◌++◌, length, set, true, false, Option, Some, None, refl, sym, ap, ◌∙◌, subst, arith}
+use Rattle.std.proofs.Common.{◌≡◌, ℕ, zero, suc, ◌+◌, ◌-◌, ◌<◌, ◌≤◌, ◌≢◌, inl, inr, List, [], ◌∷◌, ◌++◌, length, set, true, false, Option, Some, None, IsSome, IfSome, refl, sym, ap, ◌∙◌, subst, arith}
 use Rattle.std.specs.Prelude.{replicate, nat_eq, nat_lt, if◌then◌else◌, is_some, slice_get}
 use Rattle.std.specs.Option.{option_map_or}
 use Rattle.std.specs.List.{range_with_len}
@@ -18,7 +18,7 @@ use Rattle.ix_slottable.proofs.Counts.{count_by-set_more, count_by-set_same, cou
 use Rattle.ix_slottable.proofs.FreeKeys.{key_count, key_count-cons, hit, hit_same, hit_other, key_count-append, keys_without-absent, apart_from_last_or, apart_from_first_or, key_count-range_past, key_count-range_within}
 use Rattle.ix_tables.proofs.Places.{held_item, held_within, place_at_within}
 use Rattle.ix_slottable.proofs.Chains.{IsChain-append, IsChain-set_other, IsChain-links_set_next, IsChain-links_set_previous}
-use Rattle.ix_slottable.proofs.SlotTables.{Shows, Shows-from, represents_of, place_of, key_count_le_one, key_count-no_key, key_count-held, nil_from_first, IsLinkTable-shown, IsLinkWithin-shown, occurs-free}
+use Rattle.ix_slottable.proofs.SlotTables.{Shows, Shows-from, represents_of, place_of, key_count_le_one, key_count-no_key, key_count-held, IsLinkTable-shown, IsLinkWithin-shown, occurs-free}
 
 -- the first key after one is removed
 first_after_remove-append : (front back : List ℕ) (key first : ℕ) → key_count no_key front ≡ 0 → first ≡ first_or (front ++ key ∷ back) no_key → first_after_remove first (free_link (last_or no_key front) (first_or back no_key)) ≡ first_or (front ++ back) no_key
@@ -232,10 +232,8 @@ module _ {T : Type 0} where
       (links_are ∙ sym (links_remove-first links first link.next table.within) ∙ ap (links_remove links first) own) next values_are)
 
   -- a map without free keys refuses
-  pub SlotTableInsert-refused : (s : SlotTableState T) (values : List (Option T)) (links : List (Option Link)) (first len : ℕ) (x : T) → Shows s values links first len → first ≡ no_key → SlotTableInsert s x s None
-  SlotTableInsert-refused s values links first len x shown none =
-      let known = (represents_of s values links first len shown).0 in
-      let empty = nil_from_first s links first len known none in
+  pub SlotTableInsert-refused : (s : SlotTableState T) (x : T) → s.free ≡ [] → SlotTableInsert s x s None
+  SlotTableInsert-refused s x empty =
       record {
         key = sym (ap (λ keys. slice_get keys 0) empty);
         map = sym (ap (λ keys. option_map_or (λ key. slot_table_fill s key x) (slice_get keys 0) s) empty);
@@ -249,10 +247,9 @@ module _ {T : Type 0} where
       }
 
   -- a map with a free key inserts
-  pub SlotTableInsert-filled : (s : SlotTableState T) (values : List (Option T)) (links : List (Option Link)) (first len : ℕ) (x : T) (new : SlotTableState T) → Shows s values links first len → first ≢ no_key → new ≡ slot_table_insert s x → SlotTableInsert s x new (Some first)
-  SlotTableInsert-filled s values links first len x new shown apart is =
+  pub SlotTableInsert-filled : (s : SlotTableState T) (values : List (Option T)) (links : List (Option Link)) (first len : ℕ) (x : T) (new : SlotTableState T) → Shows s values links first len → s.free ≢ [] → new ≡ slot_table_insert s x → SlotTableInsert s x new (Some first)
+  SlotTableInsert-filled s values links first len x new shown some is =
       let known = (represents_of s values links first len shown).0 in
-      let some : s.free ≢ [] = λ none. apart (known.head ∙ ap (λ keys. first_or keys no_key) none) in
       let front = first_shown s values links first len x shown some in
       let is_free = first_is_free s values links first len x shown some in
       let filled : new ≡ slot_table_fill s first x = is ∙ sym front.step in
@@ -263,9 +260,7 @@ module _ {T : Type 0} where
         holds = ap (λ t. value_at t first) filled ∙ get_or-set_same s.values first (Some x) None is_free.0;
         full = ((λ none. absurd (let no : true ≡ false = none in cc)), (λ none. absurd (some none)));
         refused = λ none. absurd (let no : true ≡ false = none in cc);
-        kept = λ key held.
-            ap (λ t. value_at t key) filled
-            ∙ get_or-set_other s.values first key (Some x) None (λ e. absurd (let absent = key_count-held s links first len known key held in let occurs = ap (λ k. key_count k s.free) e in let all = front.occurs in omega arith));
+        kept = λ other apart. ap (λ t. value_at t other) filled ∙ get_or-set_other s.values first other (Some x) None (λ e. apart (ap Some (sym e)));
         count = λ _. ap held_count filled ∙ held_count-slot_table_fill s first x is_free;
         room = λ _. ap (λ (t : SlotTableState T). length t.free + 1) filled ∙ free-slot_table_fill s first x known.formed is_free;
       }
@@ -345,6 +340,12 @@ module _ {T : Type 0} where
   -- what is inserted is at the key that is returned
   pub SlotTableInsert-fills : (s : SlotTableState T) (value : T) (new : SlotTableState T) (key : ℕ) → SlotTableInsert s value new (Some key) → new ≡ slot_table_fill s key value
   SlotTableInsert-fills s value new key step = step.map ∙ ap (λ first. option_map_or (λ key. slot_table_fill s key value) first s) (sym step.key)
+
+  -- a held key keeps its value
+  pub SlotTableInsert-held : (s : SlotTableState T) (value : T) (new : SlotTableState T) (result : Option ℕ) → SlotTableInsert s value new result → (key : ℕ) → IsHeld s key → value_at new key ≡ value_at s key
+  SlotTableInsert-held s value new result step key held = step.kept key (λ is.
+      let empty = (subst (λ (r : Option ℕ). IfSome r (IsFree s)) is step.was_free).1 in
+      absurd (let no : false ≡ true = subst IsSome empty held in cc))
 
   pub SlotTableInsertAt-fills : (s : SlotTableState T) (key : ℕ) (value : T) (new : SlotTableState T) → SlotTableInsertAt s key value new true → new ≡ slot_table_fill s key value
   SlotTableInsertAt-fills s key value new step =

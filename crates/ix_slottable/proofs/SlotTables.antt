@@ -4,7 +4,7 @@ use Rattle.std.proofs.lemmas.Bool.{cases_eq}
 use Rattle.std.proofs.lemmas.List.{length-append}
 use Rattle.ix_tables.specs.Places.{place_at, IsEmptyAt, IsHeldAt, IsVacant}
 use Rattle.ix_slottable.specs.declared.slottable.link.Link.{Link}
-use Rattle.ix_slottable.specs.SlotTableState.{SlotTableState, value_at, IsHeld, IsFree, IsWellFormed}
+use Rattle.ix_slottable.specs.SlotTableState.{SlotTableState, value_at, IsHeld, IsFree, IsWellFormed, held_count}
 use Rattle.ix_slottable.specs.SlotTableSteps.{keys_without}
 use Rattle.ix_slottable.specs.inner.FreeList.{no_key, held_link, free_link, first_or, last_or, links_keys_from, IsChain, IsLinkTable, IsKeyOrNone, IsLinkWithin, slots_of, IsLinkOf, MatchesLink, MatchesLinks, Represents}
 use Rattle.ix_slottable.proofs.FreeKeys.{key_count, key_count-cons, hit, hit_same, key_count-append, split_at_key, first_occurs, apart_from_last_or, apart_from_first_or}
@@ -193,6 +193,12 @@ module _ {T : Type 0} where
 
   pub represents_of : (s : SlotTableState T) (values : List (Option T)) (links : List (Option Link)) (first len : ℕ) → Shows s values links first len → Represents s links first len × (values ≡ s.values)
   represents_of s values links first len shown = (subst (λ t. Represents t links first len) shown.is shown.sound, ap (λ (t : SlotTableState T). t.values) shown.is)
+
+  -- each key is held or free
+  pub held_count-and-free : (s : SlotTableState T) (values : List (Option T)) (links : List (Option Link)) (first len : ℕ) → Shows s values links first len → held_count s + length s.free ≡ length s.values
+  held_count-and-free s values links first len shown =
+      let known = (represents_of s values links first len shown).0 in
+      let held = known.held in let counted = known.counted in omega (arith, held, counted)
 
   pub link_held : (s : SlotTableState T) (values : List (Option T)) (links : List (Option Link)) (first len key : ℕ) → Shows s values links first len → key < length s.values → IsHeldAt links key
   link_held s values links first len key shown below =

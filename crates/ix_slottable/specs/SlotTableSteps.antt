@@ -47,7 +47,7 @@ module _ {T : Type 0} where
     pub holds : IfSome result (λ key. value_at new key ≡ Some x)
     pub full : IsNone result ↔ (old.free ≡ [])
     pub refused : IsNone result → new ≡ old
-    pub kept : (key : ℕ) → IsHeld old key → value_at new key ≡ value_at old key
+    pub kept : (other : ℕ) → result ≢ Some other → value_at new other ≡ value_at old other
     pub count : IsSome result → held_count new ≡ held_count old + 1
     pub room : IsSome result → length new.free + 1 ≡ length old.free
 

@@ -94,8 +94,8 @@ impl<K: Eq + Drop, V: Drop> KeyIndex<K, V> for Bound {
         ensures returned { IfErr result (λ refused. refused ≡ pair) }
         ensures fits { IsBound pairs.new self.new.place }
     {
-        // Names the capacity, by which the check knows that the bound does not overflow.
-        let _capacity = pairs.capacity();
+        // So the bound does not overflow.
+        prove!(pairs.capacity() <= usize::MAX);
         match pairs.try_insert(pair) {
             Ok(place) => {
                 self.place = bound_with(self.place, place.value());

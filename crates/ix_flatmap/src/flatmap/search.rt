@@ -99,6 +99,7 @@ fn index_in_row<K: Eq, V, M: Storage<Pair<K, V>>>(
     start: usize,
     key: &K,
 ) -> Option<usize>
+    requires fits { start + ROW_LEN ≤ 18446744073709551615 }
     requires within { start + ROW_LEN ≤ length pairs.now.values }
     requires held { (place : ℕ) → place < start + ROW_LEN → IsHeld pairs.now place }
     ensures found { IfSome result (λ index.
@@ -106,8 +107,6 @@ fn index_in_row<K: Eq, V, M: Storage<Pair<K, V>>>(
     ensures within { IfSome result (λ index. index < ROW_LEN) }
     ensures absent { IsNone result → HasNoKeyIn K.eq pairs.now key.now start ROW_LEN }
 {
-    // Names the capacity, by which the check knows that the sum does not overflow.
-    let _capacity = pairs.capacity();
     let (first, second) = indexes_in_blocks(pairs, start, key);
     let (third, fourth) = indexes_in_blocks(pairs, start + 2 * BLOCK_LEN, key);
     if first.min(second).min(third).min(fourth) == BLOCK_LEN {
@@ -126,6 +125,7 @@ fn indexes_in_blocks<K: Eq, V, M: Storage<Pair<K, V>>>(
     start: usize,
     key: &K,
 ) -> (usize, usize)
+    requires fits { start + BLOCK_LEN + BLOCK_LEN ≤ 18446744073709551615 }
     requires within { start + BLOCK_LEN + BLOCK_LEN ≤ length pairs.now.values }
     requires held { (place : ℕ) → place < start + BLOCK_LEN + BLOCK_LEN
         → IsHeld pairs.now place }
@@ -133,8 +133,6 @@ fn indexes_in_blocks<K: Eq, V, M: Storage<Pair<K, V>>>(
     ensures second { IsFoundIn K.eq pairs.now key.now (start + BLOCK_LEN) BLOCK_LEN BLOCK_LEN
         result.1 }
 {
-    // Names the capacity, by which the check knows that the sums do not overflow.
-    let _capacity = pairs.capacity();
     let mut first = BLOCK_LEN;
     let mut second = BLOCK_LEN;
     for i in 0..BLOCK_LEN {
@@ -157,12 +155,11 @@ fn index_in_block<K: Eq, V, M: Storage<Pair<K, V>>>(
     start: usize,
     key: &K,
 ) -> usize
+    requires fits { start + BLOCK_LEN ≤ 18446744073709551615 }
     requires within { start + BLOCK_LEN ≤ length pairs.now.values }
     requires held { (place : ℕ) → place < start + BLOCK_LEN → IsHeld pairs.now place }
     ensures { IsFoundIn K.eq pairs.now key.now start BLOCK_LEN BLOCK_LEN result }
 {
-    // Names the capacity, by which the check knows that `start + i` does not overflow.
-    let _capacity = pairs.capacity();
     let mut found = BLOCK_LEN;
     for i in 0..BLOCK_LEN {
         if has_key_at(pairs, start + i, key) {

@@ -39,6 +39,7 @@ impl<K: Eq + Drop, V: Drop, M: Storage<Pair<K, V>>, I: KeyIndex<K, V>> MetaMap<P
         // With these two a caller knows what the map is once the iterator is dropped.
         ensures same_reference { drain_lender result ≡ self.entry.ghost_name }
         ensures stays { DrainingKeepsAlong drain_items drain_lender drain_left result }
+        ensures known { M.Items.Table.IsLen (length self.old.values) }
     {
         // Names the number of keys, by which the check knows how many places are free.
         let _len = self.len();

@@ -1,9 +1,10 @@
 //! How maps are made: stored inline, in memory of an allocator, and in two steps.
-ghost use Rattle.std.specs.Prelude.{◌≡◌, ℕ, ◌≤◌, IfOk, IsOk};
+ghost use Rattle.std.specs.Prelude.{◌≡◌, ℕ, ◌≤◌, None, length, IfOk, IsOk};
 ghost use Rattle.std.specs.Mem.{type_size};
 ghost use Rattle.ix_tables.specs.Memory.{no_memory};
 ghost use Rattle.ix_slottable.specs.Memory.{slot_table_memory};
-ghost use Rattle.ix_slottable.specs.SlotTableState.{slot_table_new};
+ghost use Rattle.ix_slottable.specs.SlotTableState.{held_count, slot_table_new};
+ghost use Rattle.ix_flatmap.specs.MapState.{map_value};
 
 use crate::map::{HeapIndex, InlineIndex, MetaMap, Pair};
 use ix_slottable::{FixedSizeSlotTable, Heap, Inline, SlotTable};
@@ -31,14 +32,20 @@ impl<K: Eq + Drop, V: Drop, const CAPACITY: usize, I: InlineIndex<K, V, CAPACITY
     where
         I::Setup: Default,
         requires { CAPACITY ≤ MAX_FIXED_CAPACITY }
-        ensures { result ≡ slot_table_new CAPACITY }
+        ensures value { result ≡ slot_table_new CAPACITY }
+        ensures empty { (key : K) → map_value K.eq result key ≡ None }
+        ensures count { held_count result ≡ 0 }
+        ensures room { length result.free ≡ CAPACITY }
     {
         InlineMap::inline(I::Setup::default())
     }
 
     /// Creates an empty map, whose index is made of `setup`.
     fn inline(setup: I::Setup) -> Self
-        ensures { result ≡ slot_table_new CAPACITY }
+        ensures value { result ≡ slot_table_new CAPACITY }
+        ensures empty { (key : K) → map_value K.eq result key ≡ None }
+        ensures count { held_count result ≡ 0 }
+        ensures room { length result.free ≡ CAPACITY }
     {
         MetaMap {
             pairs: FixedSizeSlotTable::default(),
@@ -61,7 +68,10 @@ where
     /// O(`CAPACITY`). `CAPACITY` is at most [`MAX_FIXED_CAPACITY`].
     pub fn with_hasher(hasher: I::Setup) -> Self
         requires { CAPACITY ≤ MAX_FIXED_CAPACITY }
-        ensures { result ≡ slot_table_new CAPACITY }
+        ensures value { result ≡ slot_table_new CAPACITY }
+        ensures empty { (key : K) → map_value K.eq result key ≡ None }
+        ensures count { held_count result ≡ 0 }
+        ensures room { length result.free ≡ CAPACITY }
     {
         InlineMap::inline(hasher)
     }
@@ -113,6 +123,9 @@ impl<K: Eq + Drop, V: Drop, A: Allocator + Copy, I: HeapIndex<K, V, A, In = I>> 
     where
         I::Setup: Default + Drop,
         ensures value { IfOk result (λ map. map ≡ slot_table_new capacity) }
+        ensures empty { IfOk result (λ map. (key : K) → map_value K.eq map key ≡ None) }
+        ensures count { IfOk result (λ map. held_count map ≡ 0) }
+        ensures room { IfOk result (λ map. length map.free ≡ capacity) }
         ensures memory { capacity ≡ 0 → IsOk result }
     {
         HeapMap::made_of(alloc, capacity, I::Setup::default())
@@ -123,6 +136,9 @@ impl<K: Eq + Drop, V: Drop, A: Allocator + Copy, I: HeapIndex<K, V, A, In = I>> 
     where
         I::Setup: Drop,
         ensures value { IfOk result (λ map. map ≡ slot_table_new capacity) }
+        ensures empty { IfOk result (λ map. (key : K) → map_value K.eq map key ≡ None) }
+        ensures count { IfOk result (λ map. held_count map ≡ 0) }
+        ensures room { IfOk result (λ map. length map.free ≡ capacity) }
         ensures memory { capacity ≡ 0 → IsOk result }
     {
         let pairs = SlotTable::new(alloc, capacity)?;
@@ -151,6 +167,9 @@ where
     /// dropped. A capacity of 0 needs no memory.
     pub fn with_hasher(alloc: A, capacity: usize, hasher: I::Setup) -> Result<Self, AllocError>
         ensures value { IfOk result (λ map. map ≡ slot_table_new capacity) }
+        ensures empty { IfOk result (λ map. (key : K) → map_value K.eq map key ≡ None) }
+        ensures count { IfOk result (λ map. held_count map ≡ 0) }
+        ensures room { IfOk result (λ map. length map.free ≡ capacity) }
         ensures memory { capacity ≡ 0 → IsOk result }
     {
         HeapMap::made_of(alloc, capacity, hasher)

@@ -68,6 +68,7 @@ impl<K: Eq + Drop, V: Drop, M: Storage<Pair<K, V>>, I: KeyIndex<K, V>> MetaMap<P
         ensures distinct { HasDistinctKeys K.eq self.new }
         ensures count { IsOk result → held_count self.new ≡ held_count self.old + 1 }
         ensures room { IsOk result → length self.new.free + 1 ≡ length self.old.free }
+        ensures known { M.Items.Table.IsLen (length self.old.values) }
     {
         match self.try_insert(key, value) {
             Ok(()) => Ok(()),
@@ -85,6 +86,7 @@ impl<K: Eq + Drop, V: Drop, M: Storage<Pair<K, V>>, I: KeyIndex<K, V>> MetaMap<P
         requires clones { AreEqualClones V.is_clone }
         ensures value { IfOk result (λ value. value ≡ map_value K.eq self.now key.now) }
         ensures memory { IfSome (map_value K.eq self.now key.now) V.is_infallible → IsOk result }
+        ensures known { M.Items.Table.IsLen (length self.now.values) }
     {
         match self.get_ref(key) {
             Some(value) => Ok(Some(value.clone()?)),
@@ -101,6 +103,7 @@ impl<K: Eq + Drop, V: Drop, M: Storage<Pair<K, V>>, I: KeyIndex<K, V>> MetaMap<P
             → K.eq pair.key key.now ≡ true → option_copied result ≡ Some pair.value }
         ensures absent { IsNone result ↔ ((place : ℕ) (pair : Pair K V)
             → value_at self.now place ≡ Some pair → K.eq pair.key key.now ≡ false) }
+        ensures known { M.Items.Table.IsLen (length self.now.values) }
     {
         match self.find(key) {
             Some((_, pair)) => Some(&pair.value),
@@ -121,6 +124,7 @@ impl<K: Eq + Drop, V: Drop, M: Storage<Pair<K, V>>, I: KeyIndex<K, V>> MetaMap<P
         // That is the value of each key with these bytes.
         ensures key { (key : K) → K.items key ≡ bytes.now
             → option_copied result ≡ map_value K.eq self.now key }
+        ensures known { M.Items.Table.IsLen (length self.now.values) }
     {
         // Names the number of keys, by which the check knows that no two keys are equal.
         let _len = self.len();
@@ -141,6 +145,7 @@ impl<K: Eq + Drop, V: Drop, M: Storage<Pair<K, V>>, I: KeyIndex<K, V>> MetaMap<P
         // That is the value of each key with these bytes.
         ensures key { (key : K) → K.items key ≡ text.now
             → option_copied result ≡ map_value K.eq self.now key }
+        ensures known { M.Items.Table.IsLen (length self.now.values) }
     {
         self.get_bytes(text.as_bytes())
     }
@@ -148,8 +153,9 @@ impl<K: Eq + Drop, V: Drop, M: Storage<Pair<K, V>>, I: KeyIndex<K, V>> MetaMap<P
     /// Returns references to the equal key of the map and to its value, or `None` if the map has no equal key.
     #[inline]
     pub fn get_key_value(&self, key: &K) -> Option<(&K, &V)>
-        ensures { option_map (λ item. (item.0.now, item.1.now)) result
+        ensures value { option_map (λ item. (item.0.now, item.1.now)) result
             ≡ option_map (λ entry. map_item entry) (map_entry K.eq self.now key.now) }
+        ensures known { M.Items.Table.IsLen (length self.now.values) }
     {
         match self.find(key) {
             Some((_, pair)) => Some((&pair.key, &pair.value)),
@@ -170,8 +176,9 @@ impl<K: Eq + Drop, V: Drop, M: Storage<Pair<K, V>>, I: KeyIndex<K, V>> MetaMap<P
         ensures kept { (written : V) (other : K) → K.eq other key.now ≡ false
             → map_value K.eq (map_set K.eq self.old key.now written) other
             ≡ map_value K.eq self.old other }
+        ensures known { M.Items.Table.IsLen (length self.old.values) }
     {
-        let seat = self.index.seat(&self.pairs, key);
+        let seat = seat(&self.index, &self.pairs, key);
         match self.index.place(&self.pairs, seat, key) {
             Some(place) => Some(self.value_mut(place)),
             None => None,
@@ -189,6 +196,7 @@ impl<K: Eq + Drop, V: Drop, M: Storage<Pair<K, V>>, I: KeyIndex<K, V>> MetaMap<P
         ensures distinct { HasDistinctKeys K.eq self.new }
         ensures count { IsSome result → held_count self.new + 1 ≡ held_count self.old }
         ensures room { IsSome result → length self.new.free ≡ length self.old.free + 1 }
+        ensures known { M.Items.Table.IsLen (length self.old.values) }
     {
         let (_, value) = self.remove_entry(key)?;
         Some(value)
@@ -206,8 +214,9 @@ impl<K: Eq + Drop, V: Drop, M: Storage<Pair<K, V>>, I: KeyIndex<K, V>> MetaMap<P
         ensures distinct { HasDistinctKeys K.eq self.new }
         ensures count { IsSome result → held_count self.new + 1 ≡ held_count self.old }
         ensures room { IsSome result → length self.new.free ≡ length self.old.free + 1 }
+        ensures known { M.Items.Table.IsLen (length self.old.values) }
     {
-        let seat = self.index.seat(&self.pairs, key);
+        let seat = seat(&self.index, &self.pairs, key);
         let place = self.index.place(&self.pairs, seat, key)?;
         let pair = self.index.remove(&mut self.pairs, seat, place);
         Some((pair.key, pair.value))
@@ -220,6 +229,7 @@ impl<K: Eq + Drop, V: Drop, M: Storage<Pair<K, V>>, I: KeyIndex<K, V>> MetaMap<P
     pub fn clear(&mut self)
         ensures map { self.new ≡ slot_table_clear self.old }
         ensures values { self.new.values ≡ replicate (length self.old.values) None }
+        ensures empty { (key : K) → map_value K.eq self.new key ≡ None }
         ensures count { held_count self.new ≡ 0 }
         ensures room { length self.new.free ≡ length self.old.values }
     {
@@ -230,7 +240,7 @@ impl<K: Eq + Drop, V: Drop, M: Storage<Pair<K, V>>, I: KeyIndex<K, V>> MetaMap<P
     #[inline]
     pub fn capacity(&self) -> usize
         ensures value { result ≡ length self.now.values }
-        // Of an inline map: the capacity is that of its type.
+        // The capacity of an inline map is that of its type: every method says so.
         ensures known { M.Items.Table.IsLen (length self.now.values) }
     {
         self.pairs.capacity()
@@ -239,7 +249,8 @@ impl<K: Eq + Drop, V: Drop, M: Storage<Pair<K, V>>, I: KeyIndex<K, V>> MetaMap<P
     /// Returns `true` if the map has no key. O(1).
     #[inline]
     pub fn is_empty(&self) -> bool
-        ensures { IsTrue result ↔ (held_count self.now ≡ 0) }
+        ensures value { IsTrue result ↔ (held_count self.now ≡ 0) }
+        ensures known { M.Items.Table.IsLen (length self.now.values) }
     {
         self.pairs.is_empty()
     }
@@ -249,6 +260,7 @@ impl<K: Eq + Drop, V: Drop, M: Storage<Pair<K, V>>, I: KeyIndex<K, V>> MetaMap<P
     pub fn is_full(&self) -> bool
         ensures value { IsTrue result ↔ (held_count self.now ≡ length self.now.values) }
         ensures free { IsTrue result ↔ (self.now.free ≡ []) }
+        ensures known { M.Items.Table.IsLen (length self.now.values) }
     {
         self.pairs.is_full()
     }
@@ -258,6 +270,7 @@ impl<K: Eq + Drop, V: Drop, M: Storage<Pair<K, V>>, I: KeyIndex<K, V>> MetaMap<P
     pub fn remaining_capacity(&self) -> usize
         ensures value { result ≡ length self.now.free }
         ensures full { result ≡ 0 ↔ (self.now.free ≡ []) }
+        ensures known { M.Items.Table.IsLen (length self.now.values) }
     {
         self.pairs.remaining_capacity()
     }
@@ -265,7 +278,8 @@ impl<K: Eq + Drop, V: Drop, M: Storage<Pair<K, V>>, I: KeyIndex<K, V>> MetaMap<P
     /// Returns `true` if the map has an equal key.
     #[inline]
     pub fn contains(&self, key: &K) -> bool
-        ensures { IsTrue result ↔ IsSome (map_value K.eq self.now key.now) }
+        ensures value { IsTrue result ↔ IsSome (map_value K.eq self.now key.now) }
+        ensures known { M.Items.Table.IsLen (length self.now.values) }
     {
         self.find(key).is_some()
     }
@@ -286,15 +300,34 @@ impl<K: Eq + Drop, V: Drop, M: Storage<Pair<K, V>>, I: KeyIndex<K, V>> MetaMap<P
     /// Calls `callback` with each key in slot order, until it returns [`CallbackProgression::Stop`]. O(capacity).
     pub fn list_keys<F: FnMut(&K) -> CallbackProgression>(&self, mut callback: F)
         requires { F.IsAlwaysCallable callback }
-        ensures { (last : F) × ListsUntilStop F.FnMut callback (map_keys self.now) last }
+        ensures calls { (last : F) × ListsUntilStop F.FnMut callback (map_keys self.now) last }
+        ensures known { M.Items.Table.IsLen (length self.now.values) }
     {
         self.list_with(&mut callback);
+    }
+
+    /// Does what [`MetaMap::list_keys`] does, and leaves `callback` as its last call left it. O(capacity).
+    ///
+    /// A caller knows then what the calls have changed, and that none came after [`CallbackProgression::Stop`].
+    #[inline]
+    pub fn list_with<F: FnMut(&K) -> CallbackProgression>(&self, callback: &mut F)
+        requires { F.IsAlwaysCallable callback.old }
+        ensures calls { ListsUntilStop F.FnMut callback.old (map_keys self.now) callback.new }
+        ensures known { M.Items.Table.IsLen (length self.now.values) }
+    {
+        for key in self.keys() {
+            match callback(key) {
+                CallbackProgression::Continue => {}
+                CallbackProgression::Stop => return,
+            }
+        }
     }
 
     /// Returns an iterator over the keys in slot order. O(1), and O(capacity) for all of its items together.
     #[inline]
     pub fn keys(&self) -> Keys<'_, K, V, M>
-        ensures { result ≡ map_keys self.now }
+        ensures keys { result ≡ map_keys self.now }
+        ensures known { M.Items.Table.IsLen (length self.now.values) }
     {
         Keys::new(self.pairs.iter())
     }
@@ -302,7 +335,8 @@ impl<K: Eq + Drop, V: Drop, M: Storage<Pair<K, V>>, I: KeyIndex<K, V>> MetaMap<P
     /// Returns an iterator over the values in slot order of their keys. O(1), and O(capacity) for all of its items together.
     #[inline]
     pub fn values(&self) -> Values<'_, K, V, M>
-        ensures { result ≡ map_values self.now }
+        ensures values { result ≡ map_values self.now }
+        ensures known { M.Items.Table.IsLen (length self.now.values) }
     {
         Values::new(self.pairs.iter())
     }
@@ -313,32 +347,21 @@ impl<K: Eq + Drop, V: Drop, M: Storage<Pair<K, V>>, I: KeyIndex<K, V>> MetaMap<P
     pub fn iter(&self) -> Iter<'_, K, V, M>
         ensures items { result ≡ map_items self.now }
         ensures keys { keys_of result ≡ map_keys self.now }
+        ensures distinct { HasDistinctKeys K.eq self.now }
         // A key comes with its value exactly if the map has an equal one.
         ensures exactly { (key : K)
             → lookup (λ other. K.eq other key) result ≡ map_value K.eq self.now key }
+        ensures known { M.Items.Table.IsLen (length self.now.values) }
     {
         Iter::new(self.pairs.iter())
     }
 
     /// Returns the key that [`MetaMap::list_keys`] lists after `n` others, or `None` if there are at most `n` keys. O(capacity).
     pub fn nth_key(&self, n: usize) -> Option<&K>
-        ensures { option_copied result ≡ slice_get (map_keys self.now) n }
+        ensures value { option_copied result ≡ slice_get (map_keys self.now) n }
+        ensures known { M.Items.Table.IsLen (length self.now.values) }
     {
         self.keys().nth(n)
-    }
-
-    /// Does what [`MetaMap::list_keys`] does. The callback is left as its last call leaves it.
-    #[inline]
-    fn list_with<F: FnMut(&K) -> CallbackProgression>(&self, callback: &mut F)
-        requires { F.IsAlwaysCallable callback.old }
-        ensures { ListsUntilStop F.FnMut callback.old (map_keys self.now) callback.new }
-    {
-        for key in self.keys() {
-            match callback(key) {
-                CallbackProgression::Continue => {}
-                CallbackProgression::Stop => return,
-            }
-        }
     }
 
     /// Returns the place of the key that equals `key`, and the pair there.
@@ -347,8 +370,9 @@ impl<K: Eq + Drop, V: Drop, M: Storage<Pair<K, V>>, I: KeyIndex<K, V>> MetaMap<P
         ensures value { option_map (λ entry. (entry.0, entry.1.now)) result
             ≡ map_entry K.eq self.now key.now }
         ensures distinct { HasDistinctKeys K.eq self.now }
+        ensures known { M.Items.Table.IsLen (length self.now.values) }
     {
-        let seat = self.index.seat(&self.pairs, key);
+        let seat = seat(&self.index, &self.pairs, key);
         self.index.find(&self.pairs, seat, key)
     }
 
@@ -364,6 +388,24 @@ impl<K: Eq + Drop, V: Drop, M: Storage<Pair<K, V>>, I: KeyIndex<K, V>> MetaMap<P
     {
         &mut self.pairs.get_unchecked_mut(place).value
     }
+}
+
+/// Returns where `key` belongs in a map of these pairs.
+#[inline(always)]
+pub(crate) fn seat<K: Eq + Drop, V: Drop, M: Storage<Pair<K, V>>, I: KeyIndex<K, V>>(
+    index: &I,
+    pairs: &MetaSlotTable<Pair<K, V>, M>,
+    key: &K,
+) -> I::Seat
+    requires { I.PairIndex.Fits index.now pairs.now }
+    ensures seat { I.IsSeat index.now pairs.now key.now result }
+    ensures equal { IfSome (map_entry K.eq pairs.now key.now) (λ entry.
+        I.IsSeat index.now pairs.now entry.1.key result) }
+    ensures known { M.Items.Table.IsLen (length pairs.now.values) }
+{
+    // Names the capacity, for what is known of it.
+    let _capacity = pairs.capacity();
+    index.seat(pairs, key)
 }
 
 /// Prints a map from the keys to their values, in slot order. O(capacity).

@@ -32,6 +32,7 @@ impl<K: Eq + Drop, V: Drop, M: Storage<Pair<K, V>>, I: KeyIndex<K, V>> MetaMap<P
         ensures free { self.new.free ≡ self.old.free }
         ensures distinct { HasDistinctKeys K.eq self.new }
         ensures capacity { length self.new.values ≡ length self.old.values }
+        ensures known { M.Items.Table.IsLen (length self.old.values) }
     {
         for number in 0..self.bound() {
             let place = SlotTableKey::new(number);
@@ -66,6 +67,7 @@ impl<K: Eq + Drop, V: Drop, M: Storage<Pair<K, V>>, I: KeyIndex<K, V>> MetaMap<P
         ensures count { held_count self.new ≤ held_count self.old }
         // As many places are free as were, and those whose keys are gone.
         ensures room { held_count self.new + length self.new.free ≡ held_count self.old + length self.old.free }
+        ensures known { M.Items.Table.IsLen (length self.old.values) }
     {
         for number in 0..self.bound() {
             let place = SlotTableKey::new(number);
@@ -83,8 +85,11 @@ impl<K: Eq + Drop, V: Drop, M: Storage<Pair<K, V>>, I: KeyIndex<K, V>> MetaMap<P
     fn bound(&self) -> usize
         ensures bound { IsBound self.now result }
         ensures distinct { HasDistinctKeys K.eq self.now }
+        ensures known { M.Items.Table.IsLen (length self.now.values) }
     {
-        self.index.bound(&self.pairs)
+        let bound = self.index.bound(&self.pairs);
+        prove!(bound <= self.pairs.capacity());
+        bound
     }
 
     /// Returns `true` if a place has a pair.

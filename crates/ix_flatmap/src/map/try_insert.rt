@@ -7,6 +7,7 @@ ghost use Rattle.ix_slottable.specs.SlotTableState.{held_count};
 ghost use Rattle.ix_flatmap.specs.MapState.{HasDistinctKeys, map_value};
 ghost use Rattle.ix_flatmap.specs.MapSteps.{map_insert_result, map_insert, map_replace};
 
+use crate::map::meta_map::seat;
 use crate::map::{KeyIndex, Keyed, MapError, MetaMap, Pair};
 use ix_slottable::slottable::Storage;
 use ix_tables::Table;
@@ -34,8 +35,9 @@ impl<K: Eq + Drop, V: Drop, M: Storage<Pair<K, V>>, I: KeyIndex<K, V>> MetaMap<P
         ensures distinct { HasDistinctKeys K.eq self.new }
         ensures count { IsOk result → held_count self.new ≡ held_count self.old + 1 }
         ensures room { IsOk result → length self.new.free + 1 ≡ length self.old.free }
+        ensures known { M.Items.Table.IsLen (length self.old.values) }
     {
-        let seat = self.index.seat(&self.pairs, &key);
+        let seat = seat(&self.index, &self.pairs, &key);
         if self.index.place(&self.pairs, seat, &key).is_some() {
             return Err((MapError::KeyAlreadyExists, key, value));
         }
@@ -68,8 +70,9 @@ impl<K: Eq + Drop, V: Drop, M: Storage<Pair<K, V>>, I: KeyIndex<K, V>> MetaMap<P
         ensures same_count { IsSome (map_value K.eq self.old key)
             → held_count self.new ≡ held_count self.old }
         ensures same_free { IsSome (map_value K.eq self.old key) → self.new.free ≡ self.old.free }
+        ensures known { M.Items.Table.IsLen (length self.old.values) }
     {
-        let seat = self.index.seat(&self.pairs, &key);
+        let seat = seat(&self.index, &self.pairs, &key);
         if let Some(place) = self.index.place(&self.pairs, seat, &key) {
             return Ok(Some(mem::replace(self.value_mut(place), value)));
         }
@@ -112,8 +115,9 @@ impl<K: Eq + Drop, V: Drop, M: Storage<Pair<K, V>>, I: KeyIndex<K, V>> MetaMap<P
             → held_count (map_replace K.eq self.old key written) ≡ held_count self.old }
         ensures same_free { (written : V) → IsSome (map_value K.eq self.old key)
             → (map_replace K.eq self.old key written).free ≡ self.old.free }
+        ensures known { M.Items.Table.IsLen (length self.old.values) }
     {
-        let seat = self.index.seat(&self.pairs, &key);
+        let seat = seat(&self.index, &self.pairs, &key);
         if let Some(place) = self.index.place(&self.pairs, seat, &key) {
             return Ok(self.value_mut(place));
         }

@@ -190,8 +190,7 @@ impl<K: Eq + Hash + Drop, V: Drop, const CAPACITY: usize, B: BuildHasher> Inline
     }
 
     fn copy_inline(&self, setup: B) -> Self {
-        // Names the number of places, by which the check knows that the arrays have as many.
-        let _places = self.links.len();
+        prove!(self.links.len() == CAPACITY);
         Buckets {
             links: ChainTable::copy_of(InlineArray::new(NO_LINK), &self.links),
             hasher: setup,

@@ -31,8 +31,6 @@ fn map_to_value<
     ensures fault { IfErr result (λ fault. fault ≡ OutOfMemory) }
     ensures memory { map_items map.now ≡ [] → IsOk result }
 {
-    // Names the number of keys, by which the check knows that no two of them are equal.
-    let _len = map.len();
     let mut members = Map::new(alloc);
     for (key, value) in map.iter() {
         let name = text_from_string(key, alloc)?;

@@ -85,8 +85,7 @@ impl<T: Clone, const CAPACITY: usize> Clone for FixedSizeSlotMap<T, CAPACITY> {
     ///
     /// Returns the error of the first clone that fails, and drops those already made.
     fn clone(&self) -> Result<Self, AllocError> {
-        // Names the capacity, by which the check knows that the tables have as many places.
-        let _capacity = self.slots.capacity();
+        prove!(self.slots.capacity() == CAPACITY);
         let words = WordTable::copy_of(InlineArray::new(0), &self.words);
         let mut slots = FixedSizeSlotTable::<MaybeMoved<T>, CAPACITY>::default();
         self.clone_contents(&mut slots)?;

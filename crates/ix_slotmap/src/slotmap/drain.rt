@@ -45,6 +45,7 @@ impl<T, M: SlotMapStorage<MaybeMoved<T>>> MetaSlotMap<T, MaybeMoved<T>, M> {
         // With these two a caller knows what the map is once the iterator is dropped.
         ensures same_reference { drain_lender result ≡ self.entry.ghost_name }
         ensures stays { DrainingKeepsAlong drain_items drain_lender drain_left result }
+        ensures known { M.Slots.Items.Table.IsLen (length self.old.slots.values) }
     {
         // Names the number of values, by which the check knows that all are still to come.
         let _len = self.len();

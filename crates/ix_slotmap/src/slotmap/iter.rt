@@ -46,7 +46,8 @@ impl<'a, T, M: SlotMapStorage<MaybeMoved<T>>> Iter<'a, T, M> {
     /// Returns an iterator over all held keys. O(1).
     #[inline]
     pub(crate) fn new(map: &'a MetaSlotMap<T, MaybeMoved<T>, M>) -> Self
-        ensures { result ≡ slot_map_entries map.now }
+        ensures entries { result ≡ slot_map_entries map.now }
+        ensures known { M.Slots.Items.Table.IsLen (length map.now.slots.values) }
     {
         Iter {
             map,

@@ -1,10 +1,10 @@
 //! The kinds of slot maps: stored inline, in memory of an allocator, and made in two steps.
-ghost use Rattle.std.specs.Prelude.{◌≡◌, ℕ, ◌≤◌, IfOk, IsOk, IfErr};
+ghost use Rattle.std.specs.Prelude.{◌≡◌, ℕ, ◌≤◌, None, length, IfOk, IsOk, IfErr};
 ghost use Rattle.std.specs.Borrow.{u64};
 ghost use Rattle.std.specs.Mem.{type_size};
 ghost use Rattle.ix_tables.specs.Memory.{no_memory};
 ghost use Rattle.ix_slottable.specs.Memory.{slot_map_memory};
-ghost use Rattle.ix_slotmap.specs.Generations.{slot_map_new};
+ghost use Rattle.ix_slotmap.specs.Generations.{SlotKey, slot_map_len, slot_map_new, slot_map_value};
 ghost use Rattle.ix_slottable.specs.SlotTableState.{slot_table_new};
 
 use crate::slotmap::{MetaSlotMap, WordTable};
@@ -32,7 +32,10 @@ impl<T: Drop, const CAPACITY: usize> FixedSizeSlotMap<T, CAPACITY> {
     /// O(`CAPACITY`). `CAPACITY` is at most [`MAX_FIXED_CAPACITY`].
     pub fn new() -> Self
         requires { CAPACITY ≤ MAX_FIXED_CAPACITY }
-        ensures { result ≡ slot_map_new CAPACITY 0 }
+        ensures value { result ≡ slot_map_new CAPACITY 0 }
+        ensures empty { (key : SlotKey) → slot_map_value result key ≡ None }
+        ensures count { slot_map_len result ≡ 0 }
+        ensures room { length result.slots.free ≡ CAPACITY }
     {
         Self::starting_at(0)
     }
@@ -42,7 +45,10 @@ impl<T: Drop, const CAPACITY: usize> FixedSizeSlotMap<T, CAPACITY> {
     /// O(`CAPACITY`). `CAPACITY` is at most [`MAX_FIXED_CAPACITY`].
     pub fn starting_at(generation: u32) -> Self
         requires { CAPACITY ≤ MAX_FIXED_CAPACITY }
-        ensures { result ≡ slot_map_new CAPACITY generation }
+        ensures value { result ≡ slot_map_new CAPACITY generation }
+        ensures empty { (key : SlotKey) → slot_map_value result key ≡ None }
+        ensures count { slot_map_len result ≡ 0 }
+        ensures room { length result.slots.free ≡ CAPACITY }
     {
         MetaSlotMap {
             slots: FixedSizeSlotTable::new(),
@@ -97,6 +103,9 @@ impl<T: Drop, A: Allocator + Copy> SlotMap<T, A> {
     /// than `isize::MAX` bytes; nothing stays allocated then. A capacity of 0 needs no memory.
     pub fn new(alloc: A, capacity: usize) -> Result<Self, AllocError>
         ensures value { IfOk result (λ map. map ≡ slot_map_new capacity 0) }
+        ensures empty { IfOk result (λ map. (key : SlotKey) → slot_map_value map key ≡ None) }
+        ensures count { IfOk result (λ map. slot_map_len map ≡ 0) }
+        ensures room { IfOk result (λ map. length map.slots.free ≡ capacity) }
         ensures memory { capacity ≡ 0 → IsOk result }
     {
         Self::starting_at(alloc, capacity, 0)
@@ -108,6 +117,9 @@ impl<T: Drop, A: Allocator + Copy> SlotMap<T, A> {
     /// than `isize::MAX` bytes; nothing stays allocated then. A capacity of 0 needs no memory.
     pub fn starting_at(alloc: A, capacity: usize, generation: u32) -> Result<Self, AllocError>
         ensures value { IfOk result (λ map. map ≡ slot_map_new capacity generation) }
+        ensures empty { IfOk result (λ map. (key : SlotKey) → slot_map_value map key ≡ None) }
+        ensures count { IfOk result (λ map. slot_map_len map ≡ 0) }
+        ensures room { IfOk result (λ map. length map.slots.free ≡ capacity) }
         ensures memory { capacity ≡ 0 → IsOk result }
     {
         let slots = SlotTable::new(alloc, capacity)?;

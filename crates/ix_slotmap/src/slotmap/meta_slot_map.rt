@@ -62,7 +62,7 @@ impl<T, M: SlotMapStorage<MaybeMoved<T>>> MetaSlotMap<T, MaybeMoved<T>, M> {
     #[inline]
     pub fn capacity(&self) -> usize
         ensures value { result ≡ length self.now.slots.values }
-        // Of an inline map: the capacity is that of its type.
+        // The capacity of an inline map is that of its type: every method says so.
         ensures known { M.Slots.Items.Table.IsLen (length self.now.slots.values) }
     {
         self.slots.capacity()
@@ -93,6 +93,7 @@ impl<T, M: SlotMapStorage<MaybeMoved<T>>> MetaSlotMap<T, MaybeMoved<T>, M> {
     #[inline]
     pub fn is_empty(&self) -> bool
         ensures value { IsTrue result ↔ (slot_map_len self.now ≡ 0) }
+        ensures known { M.Slots.Items.Table.IsLen (length self.now.slots.values) }
     {
         self.len() == 0
     }
@@ -101,6 +102,7 @@ impl<T, M: SlotMapStorage<MaybeMoved<T>>> MetaSlotMap<T, MaybeMoved<T>, M> {
     #[inline]
     pub fn is_full(&self) -> bool
         ensures value { IsTrue result ↔ (self.now.slots.free ≡ []) }
+        ensures known { M.Slots.Items.Table.IsLen (length self.now.slots.values) }
     {
         self.slots.is_full()
     }
@@ -110,6 +112,7 @@ impl<T, M: SlotMapStorage<MaybeMoved<T>>> MetaSlotMap<T, MaybeMoved<T>, M> {
     pub fn remaining_capacity(&self) -> usize
         ensures value { result ≡ length self.now.slots.free }
         ensures full { result ≡ 0 ↔ (self.now.slots.free ≡ []) }
+        ensures known { M.Slots.Items.Table.IsLen (length self.now.slots.values) }
     {
         self.slots.remaining_capacity()
     }
@@ -131,6 +134,7 @@ impl<T, M: SlotMapStorage<MaybeMoved<T>>> MetaSlotMap<T, MaybeMoved<T>, M> {
     pub fn contains(&self, key: SlotMapKey) -> bool
         ensures value { IsTrue result ↔ IsSome (slot_map_value self.now key) }
         ensures dead { IsDead self.now key → result ≡ false }
+        ensures known { M.Slots.Items.Table.IsLen (length self.now.slots.values) }
     {
         self.is_held(key, &mut Touches::new())
     }
@@ -140,6 +144,7 @@ impl<T, M: SlotMapStorage<MaybeMoved<T>>> MetaSlotMap<T, MaybeMoved<T>, M> {
     pub fn get(&self, key: SlotMapKey) -> Option<&T>
         ensures value { option_copied result ≡ slot_map_value self.now key }
         ensures dead { IsDead self.now key → IsNone result }
+        ensures known { M.Slots.Items.Table.IsLen (length self.now.slots.values) }
     {
         if !self.is_held(key, &mut Touches::new()) {
             return None;
@@ -162,6 +167,7 @@ impl<T, M: SlotMapStorage<MaybeMoved<T>>> MetaSlotMap<T, MaybeMoved<T>, M> {
         ensures dead { (written : T) (other : SlotKey) → IsSome (slot_map_value self.old key)
             → IsDead self.old other → IsDead (slot_map_set self.old key written) other }
         ensures not_held { IsDead self.old key → IsNone result }
+        ensures known { M.Slots.Items.Table.IsLen (length self.old.slots.values) }
     {
         if self.contains(key) {
             Some(self.value_mut(key.index()))
@@ -179,6 +185,7 @@ impl<T, M: SlotMapStorage<MaybeMoved<T>>> MetaSlotMap<T, MaybeMoved<T>, M> {
         ensures exactly { ListsExactly result self.now }
         ensures dead { (key : SlotKey) → IsDead self.now key
             → lookup (slot_key_eq key) result ≡ None }
+        ensures known { M.Slots.Items.Table.IsLen (length self.now.slots.values) }
     {
         Iter::new(self)
     }
@@ -189,7 +196,8 @@ impl<T, M: SlotMapStorage<MaybeMoved<T>>> MetaSlotMap<T, MaybeMoved<T>, M> {
     pub fn insert(&mut self, value: T) -> Option<SlotMapKey>
     where
         T: Drop,
-        ensures { SlotMapInsert self.old value self.new result }
+        ensures step { SlotMapInsert self.old value self.new result }
+        ensures known { M.Slots.Items.Table.IsLen (length self.old.slots.values) }
     {
         self.insert_counted(value, &mut Touches::new())
     }
@@ -203,7 +211,8 @@ impl<T, M: SlotMapStorage<MaybeMoved<T>>> MetaSlotMap<T, MaybeMoved<T>, M> {
     pub fn insert_at(&mut self, index: usize, value: T) -> Option<SlotMapKey>
     where
         T: Drop,
-        ensures { SlotMapInsertAt self.old index value self.new result }
+        ensures step { SlotMapInsertAt self.old index value self.new result }
+        ensures known { M.Slots.Items.Table.IsLen (length self.old.slots.values) }
     {
         self.insert_at_counted(index, value, &mut Touches::new())
     }
@@ -214,7 +223,8 @@ impl<T, M: SlotMapStorage<MaybeMoved<T>>> MetaSlotMap<T, MaybeMoved<T>, M> {
     /// generation `u32::MAX` is retired.
     #[inline]
     pub fn remove(&mut self, key: SlotMapKey) -> Option<T>
-        ensures { SlotMapRemove self.old key self.new result }
+        ensures step { SlotMapRemove self.old key self.new result }
+        ensures known { M.Slots.Items.Table.IsLen (length self.old.slots.values) }
     {
         self.remove_counted(key, &mut Touches::new())
     }
@@ -227,6 +237,7 @@ impl<T, M: SlotMapStorage<MaybeMoved<T>>> MetaSlotMap<T, MaybeMoved<T>, M> {
         ensures step { SlotMapInsert self.old value self.new result }
         ensures touches { touches.new ≤ touches.old + 20 }
         ensures rises { touches.old ≤ touches.new }
+        ensures known { M.Slots.Items.Table.IsLen (length self.old.slots.values) }
     {
         let (place, generation) = self.fill_first(value, touches).ok()?;
         Some(SlotMapKey::new(place.value(), generation))
@@ -245,6 +256,7 @@ impl<T, M: SlotMapStorage<MaybeMoved<T>>> MetaSlotMap<T, MaybeMoved<T>, M> {
         ensures step { SlotMapInsertAt self.old index value self.new result }
         ensures touches { touches.new ≤ touches.old + 20 }
         ensures rises { touches.old ≤ touches.new }
+        ensures known { M.Slots.Items.Table.IsLen (length self.old.slots.values) }
     {
         let (key, _replaced) = self.try_insert_at_counted(index, value, touches).ok()?;
         Some(key)
@@ -256,6 +268,7 @@ impl<T, M: SlotMapStorage<MaybeMoved<T>>> MetaSlotMap<T, MaybeMoved<T>, M> {
         ensures step { SlotMapRemove self.old key self.new result }
         ensures touches { touches.new ≤ touches.old + 20 }
         ensures rises { touches.old ≤ touches.new }
+        ensures known { M.Slots.Items.Table.IsLen (length self.old.slots.values) }
     {
         if !self.is_held(key, touches) {
             return None;
@@ -290,6 +303,7 @@ impl<T, M: SlotMapStorage<MaybeMoved<T>>> MetaSlotMap<T, MaybeMoved<T>, M> {
     fn is_held(&self, key: SlotMapKey, touches: &mut Touches) -> bool
         ensures value { IsTrue result ↔ IsSome (slot_map_value self.now key) }
         ensures most { length self.now.slots.values ≤ 18446744073709551615 }
+        ensures known { M.Slots.Items.Table.IsLen (length self.now.slots.values) }
         ensures touches { touches.new ≤ touches.old + 1 }
         ensures rises { touches.old ≤ touches.new }
     {
@@ -338,8 +352,7 @@ impl<T, M: SlotMapStorage<MaybeMoved<T>>> MetaSlotMap<T, MaybeMoved<T>, M> {
         ensures entries { held_entries self.now (entries_from result (drop result self.now.slots.values))
             ≡ held_entries self.now (entries_from start (drop start self.now.slots.values)) }
     {
-        // Names the capacity, by which the check knows that `index + 1` does not overflow.
-        let _capacity = self.capacity();
+        prove!(start < self.capacity());
         let mut touches = Touches::new();
         // Asked once before the loop, as a slot table does.
         if self.has_value(start, &mut touches) {
@@ -399,6 +412,7 @@ impl<T, M: SlotMapStorage<MaybeMoved<T>>> MetaSlotMap<T, MaybeMoved<T>, M> {
         ensures generations { self.new.generations ≡ self.old.generations }
         ensures touches { touches.new ≤ touches.old + 18 }
         ensures rises { touches.old ≤ touches.new }
+        ensures known { M.Slots.Items.Table.IsLen (length self.old.slots.values) }
     {
         match self
             .slots

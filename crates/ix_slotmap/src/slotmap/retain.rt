@@ -27,20 +27,20 @@ impl<T, M: SlotMapStorage<MaybeMoved<T>>> MetaSlotMap<T, MaybeMoved<T>, M> {
         // Each place is free then, or retired.
         ensures room { retired_count self.new + length self.new.slots.free ≡ length self.old.slots.values }
         ensures grows { length self.old.slots.free ≤ length self.new.slots.free }
+        ensures known { M.Slots.Items.Table.IsLen (length self.old.slots.values) }
     {
-        // Names the number of values, by which the check knows that the map is well-formed.
-        let _before = self.len();
-        for place in 0..self.capacity() {
+        for place in 0..self.slots.capacity() {
             drop(self.remove_at(place));
         }
-        let _after = self.len();
+        prove!(self.len() == 0);
     }
 
     /// Returns an iterator over the held keys in rising order of their indexes. O(1), and O(capacity) for all of its items
     /// together.
     #[inline]
     pub fn keys(&self) -> Keys<'_, T, M>
-        ensures { result ≡ keys_of (slot_map_entries self.now) }
+        ensures keys { result ≡ keys_of (slot_map_entries self.now) }
+        ensures known { M.Slots.Items.Table.IsLen (length self.now.slots.values) }
     {
         Keys::new(self.iter())
     }
@@ -49,7 +49,8 @@ impl<T, M: SlotMapStorage<MaybeMoved<T>>> MetaSlotMap<T, MaybeMoved<T>, M> {
     /// items together.
     #[inline]
     pub fn values(&self) -> Values<'_, T, M>
-        ensures { result ≡ map (λ item. item.1) (slot_map_entries self.now) }
+        ensures values { result ≡ map (λ item. item.1) (slot_map_entries self.now) }
+        ensures known { M.Slots.Items.Table.IsLen (length self.now.slots.values) }
     {
         Values::new(self.iter())
     }
@@ -69,6 +70,7 @@ impl<T, M: SlotMapStorage<MaybeMoved<T>>> MetaSlotMap<T, MaybeMoved<T>, M> {
         ensures generations { self.new.generations ≡ self.old.generations }
         ensures dead { (key : SlotKey) → IsDead self.old key → IsDead self.new key }
         ensures capacity { length self.new.slots.values ≡ length self.old.slots.values }
+        ensures known { M.Slots.Items.Table.IsLen (length self.old.slots.values) }
     {
         for index in 0..self.capacity() {
             if !self.has_value(index, &mut Touches::new()) {
@@ -100,6 +102,7 @@ impl<T, M: SlotMapStorage<MaybeMoved<T>>> MetaSlotMap<T, MaybeMoved<T>, M> {
         ensures capacity { length self.new.slots.values ≡ length self.old.slots.values }
         ensures count { slot_map_len self.new ≤ slot_map_len self.old }
         ensures grows { length self.old.slots.free ≤ length self.new.slots.free }
+        ensures known { M.Slots.Items.Table.IsLen (length self.old.slots.values) }
     {
         for index in 0..self.capacity() {
             if !self.has_value(index, &mut Touches::new()) {

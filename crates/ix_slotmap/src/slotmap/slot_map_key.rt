@@ -90,5 +90,5 @@ impl fmt::Display for SlotMapKey {
 pub fn default_key_law<T, M: SlotMapStorage<MaybeMoved<T>>>(map: &MetaSlotMap<T, MaybeMoved<T>, M>)
     ensures { IsDead map.now null_key }
 {
-    let _capacity = map.capacity();
+    prove!(map.capacity() <= usize::MAX);
 }

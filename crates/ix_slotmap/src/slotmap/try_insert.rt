@@ -1,5 +1,5 @@
 //! The calls of a slot map that insert a value and hand back what they don't keep.
-ghost use Rattle.std.specs.Prelude.{◌≡◌, ◌+◌, ◌<◌, ◌≤◌, IfOk, IsSome, option_map};
+ghost use Rattle.std.specs.Prelude.{◌≡◌, ◌+◌, ◌<◌, ◌≤◌, IfOk, IsSome, length, option_map};
 ghost use Rattle.std.specs.Result.{IfErr, result_ok};
 ghost use Rattle.ix_slotmap.specs.Generations.{greatest_generation, generation_at, place_value, slot_map_len};
 ghost use Rattle.ix_slotmap.specs.SlotMapSteps.{slot_map_replace, SlotMapInsert, SlotMapInsertAt};
@@ -17,6 +17,7 @@ impl<T, M: SlotMapStorage<MaybeMoved<T>>> MetaSlotMap<T, MaybeMoved<T>, M> {
     pub fn try_insert(&mut self, value: T) -> Result<SlotMapKey, T>
         ensures step { SlotMapInsert self.old value self.new (result_ok result) }
         ensures returned { IfErr result (λ refused. refused ≡ value) }
+        ensures known { M.Slots.Items.Table.IsLen (length self.old.slots.values) }
     {
         let (place, generation) = self.fill_first(value, &mut Touches::new())?;
         Ok(SlotMapKey::new(place.value(), generation))
@@ -34,6 +35,7 @@ impl<T, M: SlotMapStorage<MaybeMoved<T>>> MetaSlotMap<T, MaybeMoved<T>, M> {
             (option_map (λ both. both.0) (result_ok result)) }
         ensures replaced { IfOk result (λ both. both.1 ≡ place_value self.old index) }
         ensures returned { IfErr result (λ refused. refused ≡ value) }
+        ensures known { M.Slots.Items.Table.IsLen (length self.old.slots.values) }
     {
         self.try_insert_at_counted(index, value, &mut Touches::new())
     }
@@ -52,6 +54,7 @@ impl<T, M: SlotMapStorage<MaybeMoved<T>>> MetaSlotMap<T, MaybeMoved<T>, M> {
         ensures returned { IfErr result (λ refused. refused ≡ value) }
         ensures touches { touches.new ≤ touches.old + 20 }
         ensures rises { touches.old ≤ touches.new }
+        ensures known { M.Slots.Items.Table.IsLen (length self.old.slots.values) }
     {
         if index >= self.capacity() {
             return Err(value);

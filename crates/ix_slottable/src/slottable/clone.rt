@@ -71,8 +71,7 @@ impl<T: Clone, const CAPACITY: usize> Clone for FixedSizeSlotTable<T, CAPACITY> 
     ///
     /// Returns the error of the first clone that fails, and drops those already made.
     fn clone(&self) -> Result<Self, AllocError> {
-        // Names the capacity, by which the check knows that the copy has the same.
-        let _capacity = self.capacity();
+        prove!(self.capacity() == CAPACITY);
         let mut copy = FixedSizeSlotTable::<T, CAPACITY>::default();
         copy.fill_with_clones(self)?;
         Ok(copy)

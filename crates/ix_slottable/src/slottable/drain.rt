@@ -40,6 +40,7 @@ impl<T, M: Storage<T>> MetaSlotTable<T, M> {
         // With these two a caller knows what the map is once the iterator is dropped.
         ensures same_reference { drain_lender result ≡ self.entry.ghost_name }
         ensures stays { DrainingKeepsAlong drain_items drain_lender drain_left result }
+        ensures known { M.Items.Table.IsLen (length self.old.values) }
     {
         // Names the number of values, by which the check knows how many keys are free.
         let _len = self.len();

@@ -42,7 +42,8 @@ impl<'a, T, M: Storage<T>> Iter<'a, T, M> {
     /// Returns an iterator over all held keys. O(1).
     #[inline]
     pub(crate) fn new(map: &'a MetaSlotTable<T, M>) -> Self
-        ensures { result ≡ entries map.now }
+        ensures entries { result ≡ entries map.now }
+        ensures known { M.Items.Table.IsLen (length map.now.values) }
     {
         Iter {
             map,

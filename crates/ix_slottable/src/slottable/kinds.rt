@@ -1,9 +1,9 @@
 //! The kinds of slot tables: stored inline, in memory of an allocator, and made in two steps.
-ghost use Rattle.std.specs.Prelude.{◌≡◌, ℕ, ◌≤◌, IfOk, IsOk};
+ghost use Rattle.std.specs.Prelude.{◌≡◌, ℕ, ◌≤◌, None, length, IfOk, IsOk};
 ghost use Rattle.std.specs.Mem.{type_size};
 ghost use Rattle.ix_tables.specs.Memory.{no_memory};
 ghost use Rattle.ix_slottable.specs.Memory.{slot_table_memory};
-ghost use Rattle.ix_slottable.specs.SlotTableState.{slot_table_new};
+ghost use Rattle.ix_slottable.specs.SlotTableState.{slot_table_new, value_at, held_count};
 
 use crate::slottable::{Heap, Inline, Link, MetaSlotTable};
 use ix_tables::{
@@ -24,7 +24,10 @@ impl<T: Drop, const CAPACITY: usize> FixedSizeSlotTable<T, CAPACITY> {
     /// O(`CAPACITY`). `CAPACITY` is at most [`MAX_FIXED_CAPACITY`].
     pub fn new() -> Self
         requires { CAPACITY ≤ MAX_FIXED_CAPACITY }
-        ensures { result ≡ slot_table_new CAPACITY }
+        ensures value { result ≡ slot_table_new CAPACITY }
+        ensures empty { (key : ℕ) → value_at result key ≡ None }
+        ensures count { held_count result ≡ 0 }
+        ensures room { length result.free ≡ CAPACITY }
     {
         MetaSlotTable::over(InlineTable::new(), FilledInlineTable::new(Link::default()))
     }
@@ -72,6 +75,9 @@ impl<T: Drop, A: Allocator + Copy> SlotTable<T, A> {
     /// than `isize::MAX` bytes; nothing stays allocated then. A capacity of 0 needs no memory.
     pub fn new(alloc: A, capacity: usize) -> Result<Self, AllocError>
         ensures value { IfOk result (λ map. map ≡ slot_table_new capacity) }
+        ensures empty { IfOk result (λ map. (key : ℕ) → value_at map key ≡ None) }
+        ensures count { IfOk result (λ map. held_count map ≡ 0) }
+        ensures room { IfOk result (λ map. length map.free ≡ capacity) }
         ensures memory { capacity ≡ 0 → IsOk result }
     {
         let links = FilledHeapTable::new(alloc, capacity, Link::default())?;

@@ -91,7 +91,7 @@ impl<T, M: Storage<T>> MetaSlotTable<T, M> {
     #[inline]
     pub fn capacity(&self) -> usize
         ensures value { result ≡ length self.now.values }
-        // Of an inline table: the capacity is that of its type.
+        // The capacity of an inline table is that of its type: every method says so.
         ensures known { M.Items.Table.IsLen (length self.now.values) }
     {
         self.values.len()
@@ -114,9 +114,10 @@ impl<T, M: Storage<T>> MetaSlotTable<T, M> {
     /// Returns `true` if no key has a value.
     #[inline]
     pub fn is_empty(&self) -> bool
-        ensures { IsTrue result ↔ (held_count self.now ≡ 0) }
+        ensures value { IsTrue result ↔ (held_count self.now ≡ 0) }
+        ensures known { M.Items.Table.IsLen (length self.now.values) }
     {
-        self.len == 0
+        self.len() == 0
     }
 
     /// Returns `true` if every key has a value. A table of capacity 0 is both empty and full.
@@ -124,6 +125,7 @@ impl<T, M: Storage<T>> MetaSlotTable<T, M> {
     pub fn is_full(&self) -> bool
         ensures value { IsTrue result ↔ (held_count self.now ≡ length self.now.values) }
         ensures free { IsTrue result ↔ (self.now.free ≡ []) }
+        ensures known { M.Items.Table.IsLen (length self.now.values) }
     {
         self.len == self.values.len()
     }
@@ -133,6 +135,7 @@ impl<T, M: Storage<T>> MetaSlotTable<T, M> {
     pub fn remaining_capacity(&self) -> usize
         ensures value { result ≡ length self.now.free }
         ensures full { result ≡ 0 ↔ (self.now.free ≡ []) }
+        ensures known { M.Items.Table.IsLen (length self.now.values) }
     {
         self.capacity() - self.len()
     }
@@ -154,7 +157,8 @@ impl<T, M: Storage<T>> MetaSlotTable<T, M> {
     /// Returns `true` if `key` has a value, and `false` if it is free or out of range.
     #[inline]
     pub fn contains(&self, key: SlotTableKey) -> bool
-        ensures { IsTrue result ↔ IsHeld self.now key }
+        ensures value { IsTrue result ↔ IsHeld self.now key }
+        ensures known { M.Items.Table.IsLen (length self.now.values) }
     {
         self.contains_counted(key, &mut Touches::new())
     }
@@ -162,7 +166,8 @@ impl<T, M: Storage<T>> MetaSlotTable<T, M> {
     /// Returns a reference to the value at `key`, or `None` if `key` is free or out of range.
     #[inline]
     pub fn get(&self, key: SlotTableKey) -> Option<&T>
-        ensures { option_copied result ≡ value_at self.now key }
+        ensures value { option_copied result ≡ value_at self.now key }
+        ensures known { M.Items.Table.IsLen (length self.now.values) }
     {
         self.get_counted(key, &mut Touches::new())
     }
@@ -187,6 +192,7 @@ impl<T, M: Storage<T>> MetaSlotTable<T, M> {
             → value_at (slot_table_set self.old key written) key ≡ Some written }
         ensures kept { (written : T) (other : ℕ) → other ≢ key
             → value_at (slot_table_set self.old key written) other ≡ value_at self.old other }
+        ensures known { M.Items.Table.IsLen (length self.old.values) }
     {
         self.get_mut_counted(key, &mut Touches::new())
     }
@@ -209,6 +215,7 @@ impl<T, M: Storage<T>> MetaSlotTable<T, M> {
         ensures entries { result ≡ entries self.now }
         ensures rising { IsStrictlyIncreasing (keys_of result) }
         ensures exactly { (key : ℕ) → lookup (nat_eq key) result ≡ value_at self.now key }
+        ensures known { M.Items.Table.IsLen (length self.now.values) }
     {
         Iter::new(self)
     }
@@ -219,7 +226,8 @@ impl<T, M: Storage<T>> MetaSlotTable<T, M> {
     pub fn insert(&mut self, value: T) -> Option<SlotTableKey>
     where
         T: Drop,
-        ensures { SlotTableInsert self.old value self.new result }
+        ensures step { SlotTableInsert self.old value self.new result }
+        ensures known { M.Items.Table.IsLen (length self.old.values) }
     {
         self.insert_counted(value, &mut Touches::new())
     }
@@ -230,7 +238,8 @@ impl<T, M: Storage<T>> MetaSlotTable<T, M> {
     pub fn insert_at(&mut self, key: SlotTableKey, value: T) -> bool
     where
         T: Drop,
-        ensures { SlotTableInsertAt self.old key value self.new result }
+        ensures step { SlotTableInsertAt self.old key value self.new result }
+        ensures known { M.Items.Table.IsLen (length self.old.values) }
     {
         self.insert_at_counted(key, value, &mut Touches::new())
     }
@@ -239,7 +248,7 @@ impl<T, M: Storage<T>> MetaSlotTable<T, M> {
     #[inline]
     pub fn insert_at_unchecked(&mut self, key: SlotTableKey, value: T)
         requires { IsFree self.old key }
-        ensures { SlotTableInsertAt self.old key value self.new true }
+        ensures step { SlotTableInsertAt self.old key value self.new true }
     {
         self.insert_at_unchecked_counted(key, value, &mut Touches::new())
     }
@@ -248,7 +257,8 @@ impl<T, M: Storage<T>> MetaSlotTable<T, M> {
     /// first free key.
     #[inline]
     pub fn remove(&mut self, key: SlotTableKey) -> Option<T>
-        ensures { SlotTableRemove self.old key self.new result }
+        ensures step { SlotTableRemove self.old key self.new result }
+        ensures known { M.Items.Table.IsLen (length self.old.values) }
     {
         self.remove_counted(key, &mut Touches::new())
     }
@@ -257,7 +267,7 @@ impl<T, M: Storage<T>> MetaSlotTable<T, M> {
     #[inline]
     pub fn remove_unchecked(&mut self, key: SlotTableKey) -> T
         requires { IsHeld self.old key }
-        ensures { SlotTableRemove self.old key self.new (Some result) }
+        ensures step { SlotTableRemove self.old key self.new (Some result) }
     {
         self.remove_unchecked_counted(key, &mut Touches::new())
     }
@@ -268,6 +278,7 @@ impl<T, M: Storage<T>> MetaSlotTable<T, M> {
         ensures value { IsTrue result ↔ IsHeld self.now key }
         ensures touches { touches.new ≤ touches.old + 2 }
         ensures rises { touches.old ≤ touches.new }
+        ensures known { M.Items.Table.IsLen (length self.now.values) }
     {
         let key = key.value();
         key < self.capacity() && !self.is_free(key, touches)
@@ -279,6 +290,7 @@ impl<T, M: Storage<T>> MetaSlotTable<T, M> {
         ensures value { option_copied result ≡ value_at self.now key }
         ensures touches { touches.new ≤ touches.old + 3 }
         ensures rises { touches.old ≤ touches.new }
+        ensures known { M.Items.Table.IsLen (length self.now.values) }
     {
         let key = key.value();
         if key >= self.capacity() {
@@ -303,6 +315,7 @@ impl<T, M: Storage<T>> MetaSlotTable<T, M> {
             → value_at (slot_table_set self.old key written) other ≡ value_at self.old other }
         ensures touches { touches.new ≤ touches.old + 4 }
         ensures rises { touches.old ≤ touches.new }
+        ensures known { M.Items.Table.IsLen (length self.old.values) }
     {
         if self.contains_counted(key, touches) {
             Some(self.get_unchecked_mut_counted(key, touches))
@@ -331,6 +344,7 @@ impl<T, M: Storage<T>> MetaSlotTable<T, M> {
         ensures step { SlotTableInsert self.old value self.new result }
         ensures touches { touches.new ≤ touches.old + 16 }
         ensures rises { touches.old ≤ touches.new }
+        ensures known { M.Items.Table.IsLen (length self.old.values) }
     {
         self.try_insert_counted(value, touches).ok()
     }
@@ -343,6 +357,7 @@ impl<T, M: Storage<T>> MetaSlotTable<T, M> {
         ensures step { SlotTableInsertAt self.old key value self.new result }
         ensures touches { touches.new ≤ touches.old + 16 }
         ensures rises { touches.old ≤ touches.new }
+        ensures known { M.Items.Table.IsLen (length self.old.values) }
     {
         let key = key.value();
         if key >= self.capacity() {
@@ -380,6 +395,7 @@ impl<T, M: Storage<T>> MetaSlotTable<T, M> {
         ensures step { SlotTableRemove self.old key self.new result }
         ensures touches { touches.new ≤ touches.old + 16 }
         ensures rises { touches.old ≤ touches.new }
+        ensures known { M.Items.Table.IsLen (length self.old.values) }
     {
         if self.contains_counted(key, touches) {
             Some(self.remove_unchecked_counted(key, touches))

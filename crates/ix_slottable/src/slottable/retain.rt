@@ -18,12 +18,12 @@ impl<T, M: Storage<T>> MetaSlotTable<T, M> {
         T: Drop,
         ensures map { self.new ≡ slot_table_clear self.old }
         ensures values { self.new.values ≡ replicate (length self.old.values) None }
+        ensures empty { (key : ℕ) → value_at self.new key ≡ None }
         ensures count { held_count self.new ≡ 0 }
         ensures room { length self.new.free ≡ length self.old.values }
+        ensures known { M.Items.Table.IsLen (length self.old.values) }
     {
-        // Names the number of values, by which the check knows how many keys are free.
-        let _len = self.len();
-        for key in 0..self.capacity() {
+        for key in 0..self.values.len() {
             drop(self.remove(SlotTableKey::new(key)));
         }
     }
@@ -31,7 +31,8 @@ impl<T, M: Storage<T>> MetaSlotTable<T, M> {
     /// Returns an iterator over the held keys in rising order. O(1), and O(capacity) for all of its items together.
     #[inline]
     pub fn keys(&self) -> Keys<'_, T, M>
-        ensures { result ≡ keys_of (entries self.now) }
+        ensures keys { result ≡ keys_of (entries self.now) }
+        ensures known { M.Items.Table.IsLen (length self.now.values) }
     {
         Keys::new(self.iter())
     }
@@ -39,7 +40,8 @@ impl<T, M: Storage<T>> MetaSlotTable<T, M> {
     /// Returns an iterator over the values in rising order of their keys. O(1), and O(capacity) for all of its items together.
     #[inline]
     pub fn values(&self) -> Values<'_, T, M>
-        ensures { result ≡ map (λ item. item.1) (entries self.now) }
+        ensures values { result ≡ map (λ item. item.1) (entries self.now) }
+        ensures known { M.Items.Table.IsLen (length self.now.values) }
     {
         Values::new(self.iter())
     }
@@ -56,6 +58,7 @@ impl<T, M: Storage<T>> MetaSlotTable<T, M> {
         ensures keys { (key : ℕ) → IsHeld self.new key ↔ IsHeld self.old key }
         ensures free { self.new.free ≡ self.old.free }
         ensures capacity { length self.new.values ≡ length self.old.values }
+        ensures known { M.Items.Table.IsLen (length self.old.values) }
     {
         for number in 0..self.capacity() {
             let key = SlotTableKey::new(number);
@@ -83,6 +86,7 @@ impl<T, M: Storage<T>> MetaSlotTable<T, M> {
         ensures count { held_count self.new ≤ held_count self.old }
         // As many keys are free as were, and those that are no longer held.
         ensures room { held_count self.new + length self.new.free ≡ held_count self.old + length self.old.free }
+        ensures known { M.Items.Table.IsLen (length self.old.values) }
     {
         for number in 0..self.capacity() {
             let key = SlotTableKey::new(number);

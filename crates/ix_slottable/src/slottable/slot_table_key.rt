@@ -69,5 +69,5 @@ pub fn default_key_law<T, M: Storage<T>>(map: &MetaSlotTable<T, M>)
     ensures past { length map.now.values ≤ 18446744073709551615 }
     ensures free { value_at map.now 18446744073709551615 ≡ None }
 {
-    let _capacity = map.capacity();
+    prove!(map.capacity() <= usize::MAX);
 }

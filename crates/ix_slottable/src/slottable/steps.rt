@@ -27,6 +27,7 @@ impl<T, M: Storage<T>> MetaSlotTable<T, M> {
         requires { IsKey self.now key }
         ensures free { result ≡ true → IsFree self.now key }
         ensures held { result ≡ false → IsHeld self.now key }
+        ensures below { key < 18446744073709551615 }
         ensures touches { touches.new ≡ touches.old + 1 }
     {
         self.links.get(key, touches).is_free(key)
@@ -42,8 +43,6 @@ impl<T, M: Storage<T>> MetaSlotTable<T, M> {
         ensures entries { entries_from result (drop result self.now.values)
             ≡ entries_from start (drop start self.now.values) }
     {
-        // Names the capacity, by which the check knows that `key + 1` does not overflow.
-        let _capacity = self.capacity();
         let mut touches = Touches::new();
         // Asked once before the loop: LLVM makes slower code of a loop that is the whole of a loop's body.
         if !self.is_free(start, &mut touches) {

@@ -1,10 +1,9 @@
 //! The calls of a slot table that insert a value and hand back what they don't keep.
-ghost use Rattle.std.specs.Prelude.{◌≡◌, ◌+◌, ◌≤◌, IfOk, Some};
+ghost use Rattle.std.specs.Prelude.{◌≡◌, ◌+◌, ◌≤◌, IfOk, Some, length};
 ghost use Rattle.std.specs.Result.{IfErr, is_ok, result_ok};
 ghost use Rattle.ix_slottable.specs.SlotTableState.{value_at, IsHeld, held_count};
 ghost use Rattle.ix_slottable.specs.SlotTableSteps.{slot_table_fill, SlotTableInsert, SlotTableInsertAt};
 
-use crate::slottable::link::NO_KEY;
 use crate::slottable::{MetaSlotTable, SlotTableKey, Storage};
 use ix_tables::Touches;
 use std::mem;
@@ -17,6 +16,7 @@ impl<T, M: Storage<T>> MetaSlotTable<T, M> {
     pub fn try_insert(&mut self, value: T) -> Result<SlotTableKey, T>
         ensures step { SlotTableInsert self.old value self.new (result_ok result) }
         ensures returned { IfErr result (λ refused. refused ≡ value) }
+        ensures known { M.Items.Table.IsLen (length self.old.values) }
     {
         self.try_insert_counted(value, &mut Touches::new())
     }
@@ -29,8 +29,9 @@ impl<T, M: Storage<T>> MetaSlotTable<T, M> {
         ensures returned { IfErr result (λ refused. refused ≡ value) }
         ensures touches { touches.new ≤ touches.old + 16 }
         ensures rises { touches.old ≤ touches.new }
+        ensures known { M.Items.Table.IsLen (length self.old.values) }
     {
-        if self.first == NO_KEY {
+        if self.is_full() {
             return Err(value);
         }
         let key = self.first;
@@ -45,6 +46,7 @@ impl<T, M: Storage<T>> MetaSlotTable<T, M> {
         ensures step { SlotTableInsertAt self.old key value self.new (is_ok result) }
         ensures replaced { IfOk result (λ replaced. replaced ≡ value_at self.old key) }
         ensures returned { IfErr result (λ refused. refused ≡ value) }
+        ensures known { M.Items.Table.IsLen (length self.old.values) }
     {
         let mut touches = Touches::new();
         let key = key.value();

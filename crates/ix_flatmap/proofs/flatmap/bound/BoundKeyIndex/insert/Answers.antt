@@ -8,8 +8,8 @@ pub bound_with-self-requires : goal.bound_with-self-requires
 bound_with-self-requires g c =
     let place = c.value.ensures in
     let below = c.in-Ok.ensures.step.was_free.0 in
-    let capacity = c.capacity-capacity.ensures.value in
-    let fits = c.capacity-capacity.type_inv in omega (arith, place, below, capacity, fits)
+    let capacity = c.capacity.ensures.value in
+    let fits = c.capacity.type_inv in omega (arith, place, below, capacity, fits)
 
 pub returns-in-Ok-clause-fits : goal.returns-in-Ok-clause-fits
 returns-in-Ok-clause-fits g c =

@@ -1,7 +1,9 @@
-use Rattle.std.proofs.Common.{◌≡◌, Some, None, IsSome, refl, sym, ap, ◌∙◌, inl, subst}
+use Rattle.std.proofs.Common.{◌≡◌, length, Some, None, IsSome, refl, sym, ap, ◌∙◌, inl, subst}
 use Rattle.std.specs.Prelude.{option_map}
 use Rattle.std.specs.Option.{option_map_or}
+use Rattle.ix_slottable.specs.SlotTableState.{SlotTableState}
 use Rattle.ix_flatmap.specs.MapState.{HasDistinctKeys, map_entry}
+use Rattle.ix_flatmap.specs.declared.map.pair.Pair.{Pair}
 use Rattle.ix_flatmap.specs.MapSteps.{pair_set}
 use Rattle.ix_flatmap.proofs.MapEntries.{map_entry-place, map_value-none}
 use Rattle.ix_flatmap.proofs.MapSteps.{map_value-map_set, map_value-map_set_other}
@@ -23,6 +25,7 @@ returns-in-Some g c =
         value = sym c.value_mut.ensures.value ∙ (ap (option_map (λ pair. pair.value)) entry.2.at ∙ sym (ap (option_map (λ e. e.1.value)) entry.1));
         holds = λ written. map_value-map_set g.K.PartialEq.eq g.met.K.Eq.laws c.args.self.now c.args.key.now written (subst (HasDistinctKeys g.K.PartialEq.eq) c.self.view_is c.self.invariant.0);
         kept = λ written. map_value-map_set_other g.K.PartialEq.eq g.met.K.Eq.laws c.args.self.now c.args.key.now written (subst (HasDistinctKeys g.K.PartialEq.eq) c.self.view_is c.self.invariant.0);
+        known = subst (λ (s : SlotTableState (Pair g.row.K.Denot g.row.V.Denot)). g.M.Items.Table.IsLen (length s.values)) c.self.view_is c.seat-seat.ensures.known;
       },
     )
 
@@ -34,5 +37,6 @@ returns-in-None g c = (
     value = map_value-none g.K.PartialEq.eq c.args.self.now c.args.key.now (subst (λ s. None ≡ option_map (λ e. e.0) (map_entry g.K.PartialEq.eq s c.args.key.now)) c.self.view_is c.in-None.ensures);
     holds = λ written. map_value-map_set g.K.PartialEq.eq g.met.K.Eq.laws c.args.self.now c.args.key.now written (subst (HasDistinctKeys g.K.PartialEq.eq) c.self.view_is c.self.invariant.0);
     kept = λ written. map_value-map_set_other g.K.PartialEq.eq g.met.K.Eq.laws c.args.self.now c.args.key.now written (subst (HasDistinctKeys g.K.PartialEq.eq) c.self.view_is c.self.invariant.0);
+    known = subst (λ (s : SlotTableState (Pair g.row.K.Denot g.row.V.Denot)). g.M.Items.Table.IsLen (length s.values)) c.self.view_is c.seat-seat.ensures.known;
   },
 )

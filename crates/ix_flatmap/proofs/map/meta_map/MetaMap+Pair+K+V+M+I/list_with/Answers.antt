@@ -11,7 +11,7 @@ loop-key-preserved g c = record {
       (ListsUntilStop-continue g.F.FnMut c.loop-key.callback c.callback.new.self last c.in-Some.key.now _ c.callback.result _ refl c.callback.ensures c.in-Continue.is later));
 }
 
-pub returns-in-Stop : goal.returns-in-Stop
-returns-in-Stop g c = c.loop-key.invariant.calls c.callback.new.self
+pub returns-in-Stop-clause-calls : goal.returns-in-Stop-clause-calls
+returns-in-Stop-clause-calls g c = c.loop-key.invariant.calls c.callback.new.self
     (subst (λ (keys : List g.row.K.Denot). ListsUntilStop g.F.FnMut c.loop-key.callback keys c.callback.new.self) (sym c.in-Some.ensures.steps)
     (ListsUntilStop-stop g.F.FnMut c.loop-key.callback c.callback.new.self c.in-Some.key.now _ c.callback.result _ refl c.callback.ensures c.in-Stop.is))

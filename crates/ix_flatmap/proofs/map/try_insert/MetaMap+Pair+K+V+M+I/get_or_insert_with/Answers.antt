@@ -1,10 +1,11 @@
 use Rattle.std.proofs.Common.{◌≡◌, ◌+◌, Some, None, IsSome, length, inl, refl, sym, ap, ◌∙◌, subst}
 use Rattle.std.specs.Prelude.{option_map, slice_get, unwrap_or}
 use Rattle.std.specs.Option.{UnwrapsOrElse}
-use Rattle.ix_slottable.specs.SlotTableState.{IsFree, held_count}
+use Rattle.ix_slottable.specs.SlotTableState.{SlotTableState, IsFree, held_count}
 use Rattle.ix_slottable.proofs.Counts.{held_count-slot_table_set}
 use Rattle.ix_flatmap.specs.MapState.{HasDistinctKeys, map_entry, map_value}
 use Rattle.ix_flatmap.specs.MapSteps.{map_insert}
+use Rattle.ix_flatmap.specs.declared.map.pair.Pair.{Pair}
 use Rattle.ix_flatmap.proofs.MapEntries.{map_entry-place, map_entry-without_place}
 use Rattle.ix_flatmap.proofs.MapSteps.{map_insert-fresh, HasDistinctKeys-inserted, map_value-inserted, map_value-inserted_other, map_replace-found, map_replace-found_set, pair_set-found, value_at-new, map_replace-new, map_replace-new_set, map_value-map_set, map_value-map_set_other, map_value-replace_new, map_value-replace_new_other}
 use Rattle.ix_flatmap.proofs.map.try_insert.MetaMap+Pair+K+V+M+I.get_or_insert_with.Goals as goal
@@ -43,6 +44,7 @@ returns-in-Some g c =
         room = λ written ok absent. absurd (let no : Some entry.0.value ≡ None = sym has ∙ absent in cc);
         same_count = λ written some. ap held_count (set written) ∙ held_count-slot_table_set s place entry.0 (record entry.0 { value = written }) entry.2.at;
         same_free = λ written some. ap (λ t. t.free) (set written);
+        known = subst (λ (s : SlotTableState (Pair g.row.K.Denot g.row.V.Denot)). g.M.Items.Table.IsLen (length s.values)) c.self.view_is c.seat-seat.ensures.known;
       },
     )
 
@@ -96,5 +98,6 @@ returns g c =
         room = λ written ok was_none. ap (λ t. length t.free + 1) (set written) ∙ step.room some ∙ ap (λ t. length t.free) c.self.view_is;
         same_count = λ written has. absurd (let no = subst IsSome absent has in cc);
         same_free = λ written has. absurd (let no = subst IsSome absent has in cc);
+        known = subst (λ (s : SlotTableState (Pair g.row.K.Denot g.row.V.Denot)). g.M.Items.Table.IsLen (length s.values)) c.self.view_is c.seat-seat.ensures.known;
       },
     )

@@ -27,12 +27,12 @@ remove-requires-clause-has g c =
 pub returns-then-not-has_chains-clause-fits : goal.returns-then-not-has_chains-clause-fits
 returns-then-not-has_chains-clause-fits g c =
     let none : g.S.HashMapStorage.has_chains ≡ false = search rules in
-    IsIndexed-remove _ _ c.args.pairs.now _ c.remove_unchecked.result c.args.self.now.links c.requires.fits none c.args.place c.remove_unchecked.ensures
+    IsIndexed-remove _ _ c.args.pairs.now _ c.remove_unchecked.result c.args.self.now.links c.requires.fits none c.args.place c.remove_unchecked.ensures.step
 
 pub returns-clause-fits : goal.returns-clause-fits
 returns-clause-fits g c =
     let has : g.S.HashMapStorage.has_chains ≡ true = search rules in
-    let step = c.remove_unchecked-2.ensures in
+    let step = c.remove_unchecked-2.ensures.step in
     IsIndexed-removed _ _ c.args.pairs.now _ c.remove_unchecked-2.result c.args.self.now.links c.requires.fits has c.args.place c.args.seat.number _ step
     (c.requires.seat c.remove_unchecked-2.result (sym step.value)).is
     (subst (λ (place : ℕ). IsUnlinked c.args.self.now.links c.args.seat.number place c.remove.new.self) c.value.ensures c.remove.ensures)

@@ -13,5 +13,6 @@ returns-else-contains g c = (
     kept = λ written other held. absurd (iff_false c.contains.ensures.value c.if-contains.false held);
     dead = λ written other held. absurd (iff_false c.contains.ensures.value c.if-contains.false held);
     not_held = λ dead. refl;
+    known = c.contains.ensures.known;
   },
 )

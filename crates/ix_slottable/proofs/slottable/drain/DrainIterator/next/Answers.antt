@@ -12,7 +12,7 @@ returns-clause-steps g c =
     let number = c.held_from-number.result in
     let value = c.remove_unchecked.result in
     let rest = entries_from (number + 1) (drop (number + 1) new.values) in
-    let step = subst (λ n. SlotTableRemove s n new (Some value)) c.new-key.ensures c.remove_unchecked.ensures in (
+    let step = subst (λ n. SlotTableRemove s n new (Some value)) c.new-key.ensures c.remove_unchecked.ensures.step in (
       next_item s new drain.key number value c.held_from-number.ensures.entries step ∙ ap (λ n. (n, value) ∷ rest) (sym c.new-key.ensures),
       (refl, slot_table_clear-next s new drain.key number value drain.counted c.held_from-number.ensures.entries step),
     )

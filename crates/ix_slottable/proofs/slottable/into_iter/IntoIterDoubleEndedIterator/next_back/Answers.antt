@@ -9,13 +9,13 @@ use Rattle.ix_slottable.proofs.slottable.into_iter.IntoIterDoubleEndedIterator.n
 pub held_before-number-requires-clause-some : goal.held_before-number-requires-clause-some
 held_before-number-requires-clause-some g c =
     items-before entries_from entries_from-append c.self.inside.map.values _ _ _ c.self.invariant
-    (λ none. (let empty = c.is_empty.ensures.1 none in let some = c.if-is_empty.false in absurd (cc)))
+    (λ none. (let empty = c.is_empty.ensures.value.1 none in let some = c.if-is_empty.false in absurd (cc)))
 
 step : (g : _) (c : goal.After-remove_unchecked g)
     → SlotTableRemove c.self.inside.map c.held_before-number.result c.remove_unchecked.new.self (Some c.remove_unchecked.result)
 step g c =
     let value = c.remove_unchecked.result in
-    subst (λ n. SlotTableRemove c.self.inside.map n c.remove_unchecked.new.self (Some value)) c.new-key.ensures c.remove_unchecked.ensures
+    subst (λ n. SlotTableRemove c.self.inside.map n c.remove_unchecked.new.self (Some value)) c.new-key.ensures c.remove_unchecked.ensures.step
 
 pub invariant_of-self : goal.invariant_of-self
 invariant_of-self g c =

@@ -14,7 +14,7 @@ loop-number-preserved-then-not-contains g c =
     let all = c.capacity-number-end.ensures.value in
     record {
       visited = Visited-free (ChangesItem slot_table_set (goal.F-step g)) _ _ c.loop-number.number _ _ c.loop-number.invariant.visited (omega (arith, below, all))
-          (ap (value_at c.loop-number.self) (sym c.new-key.ensures) ∙ none_of_not_some _ (iff_false c.contains.ensures c.if-not-contains.true));
+          (ap (value_at c.loop-number.self) (sym c.new-key.ensures) ∙ none_of_not_some _ (iff_false c.contains.ensures.value c.if-not-contains.true));
       keys = c.loop-number.invariant.keys;
       free = c.loop-number.invariant.free;
     }

@@ -6,7 +6,7 @@ use Rattle.ix_slottable.proofs.slottable.meta_slot_table.MetaSlotTable.iter.Goal
 
 pub returns-clause-rising : goal.returns-clause-rising
 returns-clause-rising g c =
-    subst (λ items. IsStrictlyIncreasing (keys_of items)) (sym c.new.ensures) (IsStrictlyIncreasing-entries c.args.self.now)
+    subst (λ items. IsStrictlyIncreasing (keys_of items)) (sym c.new.ensures.entries) (IsStrictlyIncreasing-entries c.args.self.now)
 
 pub returns-clause-exactly : goal.returns-clause-exactly
-returns-clause-exactly g c key = ap (lookup (nat_eq key)) c.new.ensures ∙ lookup-entries c.args.self.now key
+returns-clause-exactly g c key = ap (lookup (nat_eq key)) c.new.ensures.entries ∙ lookup-entries c.args.self.now key

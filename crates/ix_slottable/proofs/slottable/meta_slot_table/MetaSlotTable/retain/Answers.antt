@@ -17,7 +17,7 @@ loop-number-preserved-then-not-contains g c =
     let all = c.capacity-number-end.ensures.value in
     record {
       visited = Visited-free (RetainsItem slot_table_set slot_table_remove (goal.F-step g)) _ _ c.loop-number.number _ _ c.loop-number.invariant.visited (omega (arith, below, all))
-          (ap (value_at c.loop-number.self) (sym c.new-key.ensures) ∙ none_of_not_some _ (iff_false c.contains.ensures c.if-not-contains.true));
+          (ap (value_at c.loop-number.self) (sym c.new-key.ensures) ∙ none_of_not_some _ (iff_false c.contains.ensures.value c.if-not-contains.true));
       thins = c.loop-number.invariant.thins;
     }
 
@@ -32,7 +32,7 @@ loop-number-preserved g c =
     let left = c.f.new.arg3 in
     let is : c.if-not-f.self ≡ (if c.f.result then slot_table_set c.loop-number.self c.new-key.result left else slot_table_remove c.loop-number.self c.new-key.result) =
     elim c.if-not-f.branch [
-      | then-not-f w ↦ w.self-is ∙ w.remove.ensures.map ∙ slot_table_remove-slot_table_set c.loop-number.self c.new-key.result c.get_unchecked_mut.result.now left at
+      | then-not-f w ↦ w.self-is ∙ w.remove.ensures.step.map ∙ slot_table_remove-slot_table_set c.loop-number.self c.new-key.result c.get_unchecked_mut.result.now left at
           ∙ sym (ap (λ (b : Bool). if b then slot_table_set c.loop-number.self c.new-key.result left else slot_table_remove c.loop-number.self c.new-key.result) w.if-not-f.true)
       | else-not-f w ↦ w.self-is
           ∙ sym (ap (λ (b : Bool). if b then slot_table_set c.loop-number.self c.new-key.result left else slot_table_remove c.loop-number.self c.new-key.result) w.if-not-f.false)
