@@ -190,14 +190,14 @@ pub fn queue_turn_back(queue: &mut Queue<u64>) -> Option<u64>
     ensures { length queue.new.items ≡ length queue.old.items }
 {
     let item = queue.pop_back()?;
-    queue.push(item);
+    let _ = queue.push(item);
     Some(item)
 }
 
 pub fn queue_push_within(queue: &mut Queue<u64>)
     ensures { IsWithin queue.new }
 {
-    queue.push(1);
+    let _ = queue.push(1);
 }
 
 pub fn queue_overflow_within(queue: &mut Queue<u64>) -> Option<u64>
@@ -275,7 +275,7 @@ pub fn table_insert_at(table: &mut Table, key: SlotTableKey)
     ensures count { held_count table.new ≡ held_count table.old + 1 }
     ensures room { length table.new.free + 1 ≡ length table.old.free }
 {
-    table.insert_at(key, 1);
+    let _ = table.insert_at(key, 1);
 }
 
 pub fn table_replace(table: &mut Table, key: SlotTableKey)
@@ -283,7 +283,7 @@ pub fn table_replace(table: &mut Table, key: SlotTableKey)
     ensures count { held_count table.new ≡ held_count table.old }
     ensures room { length table.new.free ≡ length table.old.free }
 {
-    table.insert_at(key, 1);
+    let _ = table.insert_at(key, 1);
 }
 
 pub fn table_try_insert_at(table: &mut Table, key: SlotTableKey)
@@ -319,7 +319,6 @@ pub fn table_clear(table: &mut Table)
     ensures count { held_count table.new ≡ 0 }
     ensures room { length table.new.free ≡ 8 }
 {
-    table.capacity();
     table.clear();
 }
 
@@ -351,7 +350,7 @@ pub fn slot_map_insert_at(map: &mut Map, index: usize)
     ensures count { slot_map_len map.new ≡ slot_map_len map.old + 1 }
     ensures room { length map.new.slots.free + 1 ≡ length map.old.slots.free }
 {
-    map.insert_at(index, 1);
+    let _ = map.insert_at(index, 1);
 }
 
 pub fn slot_map_replace(map: &mut Map, index: usize)
@@ -404,6 +403,6 @@ pub fn slot_map_drain_one(map: &mut Map, key: SlotMapKey)
 pub fn slot_map_cleared(map: &Map, key: SlotMapKey)
     ensures { IsSome (slot_map_value map.now key) → IsDead (slot_map_clear map.now) key }
 {
-    map.len();
+    prove!(map.len() <= map.capacity());
     cleared_keys_law::<u64>();
 }

@@ -7,8 +7,8 @@ use std::test::Fail;
 #[test]
 fn a_map_is_gone_through_in_rising_order_of_the_indexes(rt: HostRuntime) {
     let mut ports = FixedSizeSlotMap::<u16, 3>::new();
-    ports.insert_at(2, 443);
-    ports.insert(80);
+    let _ = ports.insert_at(2, 443);
+    let _ = ports.insert(80);
     let mut items = ports.iter();
     assert!(rt; items.len() == 2);
     assert!(rt; items.next() == Some((SlotMapKey::new(0, 0), &80)));
@@ -25,8 +25,8 @@ fn a_map_is_gone_through_in_rising_order_of_the_indexes(rt: HostRuntime) {
 #[test]
 fn keys_and_values_come_alone(rt: HostRuntime) {
     let mut ports = FixedSizeSlotMap::<u16, 3>::new();
-    ports.insert_at(2, 443);
-    ports.insert(80);
+    let _ = ports.insert_at(2, 443);
+    let _ = ports.insert(80);
     let mut keys = ports.keys();
     assert!(rt; keys.next() == Some(SlotMapKey::new(0, 0)));
     assert!(rt; (keys.len(), keys.next()) == (1, Some(SlotMapKey::new(2, 0))));
@@ -39,9 +39,9 @@ fn keys_and_values_come_alone(rt: HostRuntime) {
 #[test]
 fn a_map_is_gone_through_from_both_ends(rt: HostRuntime) {
     let mut ports = FixedSizeSlotMap::<u16, 3>::new();
-    ports.insert(80);
-    ports.insert(443);
-    ports.insert(22);
+    let _ = ports.insert(80);
+    let _ = ports.insert(443);
+    let _ = ports.insert(22);
     let mut items = ports.iter();
     assert!(rt; items.next_back() == Some((SlotMapKey::new(2, 0), &22)));
     assert!(rt; items.next() == Some((SlotMapKey::new(0, 0), &80)));
@@ -57,7 +57,7 @@ fn a_map_is_gone_through_from_both_ends(rt: HostRuntime) {
 fn a_drain_removes_what_it_does_not_yield_too(rt: HostRuntime) {
     let mut ports = FixedSizeSlotMap::<u16, 3>::new();
     let web = ports.insert(80).expect(&rt, "there is room");
-    ports.insert(443);
+    let _ = ports.insert(443);
     let mut items = ports.drain();
     assert!(rt; items.next() == Some((web, 80)));
     assert!(rt; items.len() == 1);
@@ -71,8 +71,8 @@ fn a_drain_removes_what_it_does_not_yield_too(rt: HostRuntime) {
 #[test]
 fn what_is_still_to_come_is_printed_and_cloned(rt: HostRuntime) -> Result<(), Fail> {
     let mut ports = FixedSizeSlotMap::<u16, 3>::new();
-    ports.insert(80);
-    ports.insert(443);
+    let _ = ports.insert(80);
+    let _ = ports.insert(443);
     let mut items = ports.iter();
     items.next();
     let (keys, values) = (ports.keys(), ports.values());

@@ -97,8 +97,8 @@ fn counted_calls_bound_their_work(rt: HostRuntime) {
 #[test]
 fn all_values_are_changed_or_removed(rt: HostRuntime) {
     let mut ports = FixedSizeSlotMap::<u16, 3>::new();
-    ports.insert(80);
-    ports.insert(22);
+    let _ = ports.insert(80);
+    let _ = ports.insert(22);
     ports.for_each_mut(|_, port| *port = port.saturating_add(8000));
     assert!(rt; ports.get(SlotMapKey::new(0, 0)) == Some(&8080));
     ports.retain(|key, _| key.index() > 0);
@@ -178,9 +178,9 @@ fn a_key_is_an_index_and_a_generation(rt: HostRuntime) {
 #[test]
 fn maps_and_keys_are_printed(rt: HostRuntime) -> Result<(), Fail> {
     let mut ports = FixedSizeSlotMap::<u16, 3>::new();
-    ports.insert_at(2, 443);
+    let _ = ports.insert_at(2, 443);
     let web = ports.insert_at(2, 80).expect(&rt, "there is a place 2");
-    ports.insert(22);
+    let _ = ports.insert(22);
     let text = format!(in rt.alloc(); "{web} of {ports:?}")?;
     assert!(rt; text.as_str() == "2v1 of {(0, 0): 22, (2, 1): 80}");
     Ok(())

@@ -6,8 +6,8 @@ use std::test::Fail;
 #[test]
 fn iter_yields_keys_in_rising_order_with_their_values(rt: HostRuntime) {
     let mut table = FixedSizeSlotTable::<char, 3>::new();
-    table.insert_at(SlotTableKey::new(2), 'c');
-    table.insert('a');
+    let _ = table.insert_at(SlotTableKey::new(2), 'c');
+    let _ = table.insert('a');
     let mut items = table.iter();
     assert!(rt; (items.len(), items.size_hint()) == (2, (2, Some(2))));
     assert!(rt; items.next() == Some((SlotTableKey::new(0), &'a')));
@@ -19,8 +19,8 @@ fn iter_yields_keys_in_rising_order_with_their_values(rt: HostRuntime) {
 #[test]
 fn a_loop_goes_through_a_table(rt: HostRuntime) {
     let mut table = FixedSizeSlotTable::<char, 3>::new();
-    table.insert('a');
-    table.insert('b');
+    let _ = table.insert('a');
+    let _ = table.insert('b');
     let mut last = None;
     for (key, value) in &table {
         last = Some((key, *value));
@@ -33,8 +33,8 @@ fn a_loop_goes_through_a_table(rt: HostRuntime) {
 #[test]
 fn into_iter_yields_the_values_themselves(rt: HostRuntime) {
     let mut table = FixedSizeSlotTable::<char, 3>::new();
-    table.insert('a');
-    table.insert('b');
+    let _ = table.insert('a');
+    let _ = table.insert('b');
     let mut items = table.into_iter();
     assert!(rt; (items.len(), items.size_hint()) == (2, (2, Some(2))));
     assert!(rt; items.next() == Some((SlotTableKey::new(0), 'a')));
@@ -47,8 +47,8 @@ fn into_iter_yields_the_values_themselves(rt: HostRuntime) {
 #[test]
 fn a_drain_takes_the_values_out_and_keeps_the_memory(rt: HostRuntime) {
     let mut table = FixedSizeSlotTable::<char, 3>::new();
-    table.insert('a');
-    table.insert('b');
+    let _ = table.insert('a');
+    let _ = table.insert('b');
     let mut items = table.drain();
     assert!(rt; (items.len(), items.size_hint()) == (2, (2, Some(2))));
     assert!(rt; items.next() == Some((SlotTableKey::new(0), 'a')));
@@ -61,8 +61,8 @@ fn a_drain_takes_the_values_out_and_keeps_the_memory(rt: HostRuntime) {
 #[test]
 fn keys_rise(rt: HostRuntime) {
     let mut table = FixedSizeSlotTable::<char, 3>::new();
-    table.insert_at(SlotTableKey::new(2), 'c');
-    table.insert('a');
+    let _ = table.insert_at(SlotTableKey::new(2), 'c');
+    let _ = table.insert('a');
     let mut keys = table.keys();
     assert!(rt; (keys.len(), keys.size_hint()) == (2, (2, Some(2))));
     assert!(rt; keys.next() == Some(SlotTableKey::new(0)));
@@ -74,8 +74,8 @@ fn keys_rise(rt: HostRuntime) {
 #[test]
 fn values_come_in_rising_order_of_their_keys(rt: HostRuntime) {
     let mut table = FixedSizeSlotTable::<char, 3>::new();
-    table.insert_at(SlotTableKey::new(2), 'c');
-    table.insert('a');
+    let _ = table.insert_at(SlotTableKey::new(2), 'c');
+    let _ = table.insert('a');
     let mut values = table.values();
     assert!(rt; (values.len(), values.size_hint()) == (2, (2, Some(2))));
     assert!(rt; values.next() == Some(&'a'));
@@ -88,9 +88,9 @@ fn values_come_in_rising_order_of_their_keys(rt: HostRuntime) {
 #[test]
 fn a_table_is_gone_through_from_both_ends(rt: HostRuntime) {
     let mut table = FixedSizeSlotTable::<char, 3>::new();
-    table.insert('a');
-    table.insert('b');
-    table.insert('c');
+    let _ = table.insert('a');
+    let _ = table.insert('b');
+    let _ = table.insert('c');
     let mut items = table.iter();
     assert!(rt; items.next_back() == Some((SlotTableKey::new(2), &'c')));
     assert!(rt; items.next() == Some((SlotTableKey::new(0), &'a')));
@@ -108,8 +108,8 @@ fn a_table_is_gone_through_from_both_ends(rt: HostRuntime) {
 #[test]
 fn what_is_still_to_come_is_printed_and_cloned(rt: HostRuntime) -> Result<(), Fail> {
     let mut table = FixedSizeSlotTable::<char, 3>::new();
-    table.insert('a');
-    table.insert('b');
+    let _ = table.insert('a');
+    let _ = table.insert('b');
     let mut items = table.iter();
     items.next();
     let (keys, values) = (table.keys(), table.values());
@@ -125,12 +125,12 @@ fn what_is_still_to_come_is_printed_and_cloned(rt: HostRuntime) -> Result<(), Fa
 #[test]
 fn iterators_that_take_values_print_them(rt: HostRuntime) -> Result<(), Fail> {
     let mut table = FixedSizeSlotTable::<char, 3>::new();
-    table.insert('a');
+    let _ = table.insert('a');
     let items = table.drain();
     let text = format!(in rt.alloc(); "{items:?}")?;
     assert!(rt; text.as_str() == "[(0, 'a')]");
     drop(items);
-    table.insert('b');
+    let _ = table.insert('b');
     let items = table.into_iter();
     let text = format!(in rt.alloc(); "{items:?}")?;
     assert!(rt; text.as_str() == "[(0, 'b')]");

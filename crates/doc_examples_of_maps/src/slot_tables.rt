@@ -148,7 +148,7 @@ fn unchecked_calls_are_counted_too(rt: HostRuntime) {
 fn a_table_knows_how_many_values_it_has(rt: HostRuntime) {
     let mut table = FixedSizeSlotTable::<char, 3>::new();
     assert!(rt; table.is_empty());
-    table.insert('a');
+    let _ = table.insert('a');
     assert!(rt; (table.len(), table.capacity()) == (1, 3));
     assert!(rt; !table.is_empty() && !table.is_full());
 }
@@ -157,8 +157,8 @@ fn a_table_knows_how_many_values_it_has(rt: HostRuntime) {
 #[test]
 fn after_clear_the_key_removed_last_comes_first(rt: HostRuntime) {
     let mut table = FixedSizeSlotTable::<char, 3>::new();
-    table.insert('a');
-    table.insert('b');
+    let _ = table.insert('a');
+    let _ = table.insert('b');
     table.clear();
     assert!(rt; table.is_empty());
     assert!(rt; table.next_free_key() == Some(SlotTableKey::new(1)));
@@ -168,8 +168,8 @@ fn after_clear_the_key_removed_last_comes_first(rt: HostRuntime) {
 #[test]
 fn each_value_is_changed_in_its_place(rt: HostRuntime) {
     let mut table = FixedSizeSlotTable::<char, 3>::new();
-    table.insert('a');
-    table.insert('b');
+    let _ = table.insert('a');
+    let _ = table.insert('b');
     table.for_each_mut(|_, value| *value = value.to_ascii_uppercase());
     assert!(rt; table.get(SlotTableKey::new(0)) == Some(&'A'));
     assert!(rt; table.get(SlotTableKey::new(1)) == Some(&'B'));
@@ -179,8 +179,8 @@ fn each_value_is_changed_in_its_place(rt: HostRuntime) {
 #[test]
 fn some_values_are_kept_and_the_others_dropped(rt: HostRuntime) {
     let mut table = FixedSizeSlotTable::<char, 3>::new();
-    table.insert('a');
-    table.insert('b');
+    let _ = table.insert('a');
+    let _ = table.insert('b');
     table.retain(|_, value| *value != 'a');
     assert!(rt; table.len() == 1);
     assert!(rt; table.get(SlotTableKey::new(1)) == Some(&'b'));
@@ -190,7 +190,7 @@ fn some_values_are_kept_and_the_others_dropped(rt: HostRuntime) {
 #[test]
 fn a_clone_has_the_same_keys(rt: HostRuntime) -> Result<(), Fail> {
     let mut table = FixedSizeSlotTable::<char, 3>::new();
-    table.insert('a');
+    let _ = table.insert('a');
     let mut copy = table.clone()?;
     assert!(rt; copy == table);
     assert!(rt; copy.remove(SlotTableKey::new(0)) == Some('a'));
@@ -202,7 +202,7 @@ fn a_clone_has_the_same_keys(rt: HostRuntime) -> Result<(), Fail> {
 #[test]
 fn a_clone_may_have_another_allocator(rt: HostRuntime) -> Result<(), Fail> {
     let mut table = SlotTable::<char>::new(rt.alloc(), 3)?;
-    table.insert('a');
+    let _ = table.insert('a');
     let copy = table.try_clone_in(rt.alloc())?;
     assert!(rt; copy == table);
     assert!(rt; copy.capacity() == 3);
@@ -271,8 +271,8 @@ fn a_table_stands_over_tables_of_any_kind(rt: HostRuntime) -> Result<(), Fail> {
 #[test]
 fn a_table_prints_its_keys_and_values(rt: HostRuntime) -> Result<(), Fail> {
     let mut table = FixedSizeSlotTable::<char, 3>::new();
-    table.insert_at(SlotTableKey::new(2), 'c');
-    table.insert('a');
+    let _ = table.insert_at(SlotTableKey::new(2), 'c');
+    let _ = table.insert('a');
     let text = format!(in rt.alloc(); "{table:?}")?;
     assert!(rt; text.as_str() == "{0: 'a', 2: 'c'}");
     Ok(())

@@ -72,8 +72,8 @@ fn a_text_is_read_as_a_name_if_it_is_one(rt: HostRuntime) -> Result<(), Fail> {
 #[test]
 fn a_queue_is_written_from_the_oldest_item_on(rt: HostRuntime) -> Result<(), Fail> {
     let mut queue = FixedSizeQueue::<u64, 2>::new();
-    queue.push(1);
-    queue.push(2);
+    let _ = queue.push(1);
+    let _ = queue.push(2);
     let value = queue.to_value(rt.alloc())?;
     assert!(rt; value.to_string(rt.alloc())?.as_str() == "[1,2]");
     Ok(())

@@ -42,7 +42,7 @@ fn how_much_memory_a_queue_takes(rt: HostRuntime) {
 #[test]
 fn a_copy_in_memory_of_any_allocator(rt: HostRuntime) -> Result<(), Fail> {
     let mut queue = Queue::<u64>::new(rt.alloc(), 2)?;
-    queue.push(1);
+    let _ = queue.push(1);
     let mut copy = queue.try_clone_in(rt.alloc())?;
     assert!(rt; copy.pop() == Some(1));
     assert!(rt; queue.len() == 1);
@@ -83,7 +83,7 @@ fn a_queue_over_a_table(rt: HostRuntime) {
 #[test]
 fn a_copy_of_an_inline_queue(rt: HostRuntime) -> Result<(), Fail> {
     let mut queue = FixedSizeQueue::<u64, 2>::new();
-    queue.push(1);
+    let _ = queue.push(1);
     let copy = queue.clone()?;
     assert!(rt; queue.pop() == Some(1));
     assert!(rt; copy.peek() == Some(&1));
@@ -95,10 +95,10 @@ fn a_copy_of_an_inline_queue(rt: HostRuntime) -> Result<(), Fail> {
 fn queues_are_compared_by_their_items(rt: HostRuntime) {
     let mut queue = FixedSizeQueue::<u64, 2>::new();
     let mut other = FixedSizeQueue::<u64, 2>::new();
-    queue.push(1);
-    other.push(1);
+    let _ = queue.push(1);
+    let _ = other.push(1);
     assert!(rt; queue == other);
-    other.push(2);
+    let _ = other.push(2);
     assert!(rt; queue != other);
     assert!(rt; queue < other);
     assert!(rt; other.cmp(&queue) == Greater);
@@ -109,9 +109,9 @@ fn queues_are_compared_by_their_items(rt: HostRuntime) {
 fn equal_queues_have_one_hash(rt: HostRuntime) {
     let mut queue = FixedSizeQueue::<u64, 2>::new();
     let mut turned = FixedSizeQueue::<u64, 2>::new();
-    queue.push(1);
-    turned.push(0);
-    turned.push(1);
+    let _ = queue.push(1);
+    let _ = turned.push(0);
+    let _ = turned.push(1);
     assert!(rt; turned.pop() == Some(0));
     let mut hasher = DefaultHasher::new();
     queue.hash(&mut hasher);
@@ -124,8 +124,8 @@ fn equal_queues_have_one_hash(rt: HostRuntime) {
 #[test]
 fn a_queue_is_printed_as_a_list(rt: HostRuntime) {
     let mut queue = FixedSizeQueue::<u64, 2>::new();
-    queue.push(1);
-    queue.push(2);
+    let _ = queue.push(1);
+    let _ = queue.push(2);
     let text = InlineText::<80>::of(format_args!("{queue:?}"));
     assert!(rt; text.as_str() == "[1, 2]");
 }

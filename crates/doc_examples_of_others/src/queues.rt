@@ -51,7 +51,7 @@ fn the_oldest_item_makes_room(rt: HostRuntime) {
 fn how_many_items_wait(rt: HostRuntime) -> Result<(), Fail> {
     let mut queue = Queue::<u64>::new(rt.alloc(), 5)?;
     assert!(rt; queue.is_empty());
-    queue.push(7);
+    let _ = queue.push(7);
     assert!(rt; queue.len() == 1);
     assert!(rt; queue.capacity() == 5);
     Ok(())
@@ -62,8 +62,8 @@ fn how_many_items_wait(rt: HostRuntime) -> Result<(), Fail> {
 fn the_oldest_item_and_the_newest_one(rt: HostRuntime) {
     let mut queue = FixedSizeQueue::<u64, 3>::new();
     assert!(rt; queue.peek() == None);
-    queue.push(1);
-    queue.push(2);
+    let _ = queue.push(1);
+    let _ = queue.push(2);
     assert!(rt; queue.peek() == Some(&1));
     assert!(rt; queue.back() == Some(&2));
     assert!(rt; queue.len() == 2);
@@ -73,8 +73,8 @@ fn the_oldest_item_and_the_newest_one(rt: HostRuntime) {
 #[test]
 fn the_oldest_item_is_changed_in_its_place(rt: HostRuntime) {
     let mut queue = FixedSizeQueue::<u64, 3>::new();
-    queue.push(1);
-    queue.push(2);
+    let _ = queue.push(1);
+    let _ = queue.push(2);
     if let Some(front) = queue.peek_mut() {
         *front = 5;
     }
@@ -86,8 +86,8 @@ fn the_oldest_item_is_changed_in_its_place(rt: HostRuntime) {
 #[test]
 fn the_newest_item_is_changed_and_taken_back(rt: HostRuntime) {
     let mut queue = FixedSizeQueue::<u64, 3>::new();
-    queue.push(1);
-    queue.push(2);
+    let _ = queue.push(1);
+    let _ = queue.push(2);
     if let Some(back) = queue.back_mut() {
         *back = 5;
     }
@@ -100,8 +100,8 @@ fn the_newest_item_is_changed_and_taken_back(rt: HostRuntime) {
 #[test]
 fn an_item_by_an_index_that_is_known_to_be_below_the_length(rt: HostRuntime) {
     let mut queue = FixedSizeQueue::<u64, 3>::new();
-    queue.push(7);
-    queue.push(8);
+    let _ = queue.push(7);
+    let _ = queue.push(8);
     assert!(rt; queue.len() == 2);
     assert!(rt; queue.get(1) == 8);
     assert!(rt; queue.get_unchecked(0) == 7);
@@ -112,8 +112,8 @@ fn an_item_by_an_index_that_is_known_to_be_below_the_length(rt: HostRuntime) {
 #[test]
 fn an_item_by_its_index_from_the_oldest_one(rt: HostRuntime) {
     let mut queue = FixedSizeQueue::<u64, 3>::new();
-    queue.push(7);
-    queue.push(8);
+    let _ = queue.push(7);
+    let _ = queue.push(8);
     assert!(rt; queue.get_ref(0) == Some(&7));
     assert!(rt; queue.get_ref(1) == Some(&8));
     assert!(rt; queue.get_ref(2) == None);
@@ -123,8 +123,8 @@ fn an_item_by_its_index_from_the_oldest_one(rt: HostRuntime) {
 #[test]
 fn an_item_is_changed_in_its_place(rt: HostRuntime) {
     let mut queue = FixedSizeQueue::<u64, 3>::new();
-    queue.push(7);
-    queue.push(8);
+    let _ = queue.push(7);
+    let _ = queue.push(8);
     if let Some(item) = queue.get_mut_ref(1) {
         *item = 9;
     }
@@ -136,8 +136,8 @@ fn an_item_is_changed_in_its_place(rt: HostRuntime) {
 #[test]
 fn whether_a_queue_has_an_item(rt: HostRuntime) {
     let mut queue = FixedSizeQueue::<u64, 3>::new();
-    queue.push(7);
-    queue.push(8);
+    let _ = queue.push(7);
+    let _ = queue.push(8);
     assert!(rt; queue.contains(&8));
     assert!(rt; !queue.contains(&9));
 }
@@ -146,9 +146,9 @@ fn whether_a_queue_has_an_item(rt: HostRuntime) {
 #[test]
 fn the_newest_items_are_dropped(rt: HostRuntime) {
     let mut queue = FixedSizeQueue::<u64, 3>::new();
-    queue.push(1);
-    queue.push(2);
-    queue.push(3);
+    let _ = queue.push(1);
+    let _ = queue.push(2);
+    let _ = queue.push(3);
     queue.truncate(2);
     assert!(rt; queue.back() == Some(&2));
     queue.clear();
@@ -159,9 +159,9 @@ fn the_newest_items_are_dropped(rt: HostRuntime) {
 #[test]
 fn a_waiting_item_is_removed(rt: HostRuntime) {
     let mut queue = FixedSizeQueue::<u64, 3>::new();
-    queue.push(7);
-    queue.push(8);
-    queue.push(9);
+    let _ = queue.push(7);
+    let _ = queue.push(8);
+    let _ = queue.push(9);
     assert!(rt; queue.remove(1) == Some(8));
     assert!(rt; queue.remove(2) == None); // two items are left
     assert!(rt; queue.pop() == Some(7));
@@ -172,9 +172,9 @@ fn a_waiting_item_is_removed(rt: HostRuntime) {
 #[test]
 fn some_items_stay_in_their_order(rt: HostRuntime) {
     let mut queue = FixedSizeQueue::<u64, 3>::new();
-    queue.push(1);
-    queue.push(2);
-    queue.push(3);
+    let _ = queue.push(1);
+    let _ = queue.push(2);
+    let _ = queue.push(3);
     queue.retain(|item| *item != 2);
     assert!(rt; queue.pop() == Some(1));
     assert!(rt; queue.pop() == Some(3));
@@ -185,8 +185,8 @@ fn some_items_stay_in_their_order(rt: HostRuntime) {
 #[test]
 fn each_waiting_item_is_changed(rt: HostRuntime) {
     let mut queue = FixedSizeQueue::<u64, 3>::new();
-    queue.push(10);
-    queue.push(20);
+    let _ = queue.push(10);
+    let _ = queue.push(20);
     queue.for_each_mut(|item| *item /= 10);
     assert!(rt; queue.pop() == Some(1));
     assert!(rt; queue.pop() == Some(2));
@@ -196,8 +196,8 @@ fn each_waiting_item_is_changed(rt: HostRuntime) {
 #[test]
 fn the_items_from_the_oldest_to_the_newest(rt: HostRuntime) {
     let mut queue = FixedSizeQueue::<u64, 3>::new();
-    queue.push(1);
-    queue.push(2);
+    let _ = queue.push(1);
+    let _ = queue.push(2);
     let mut items = queue.iter();
     assert!(rt; items.len() == 2);
     assert!(rt; items.next() == Some(&1));
@@ -214,8 +214,8 @@ fn the_items_from_the_oldest_to_the_newest(rt: HostRuntime) {
 #[test]
 fn an_iterator_goes_on_at_either_end(rt: HostRuntime) -> Result<(), Fail> {
     let mut queue = FixedSizeQueue::<u64, 2>::new();
-    queue.push(1);
-    queue.push(2);
+    let _ = queue.push(1);
+    let _ = queue.push(2);
     queue.push_with_overflow(3);
     let mut items = queue.iter();
     let copy = items.clone()?;
@@ -231,9 +231,9 @@ fn an_iterator_goes_on_at_either_end(rt: HostRuntime) -> Result<(), Fail> {
 #[test]
 fn a_drained_queue_is_empty_and_takes_items_again(rt: HostRuntime) {
     let mut queue = FixedSizeQueue::<u64, 3>::new();
-    queue.push(1);
-    queue.push(2);
-    queue.push(3);
+    let _ = queue.push(1);
+    let _ = queue.push(2);
+    let _ = queue.push(3);
     let mut items = queue.drain();
     assert!(rt; (items.len(), items.size_hint()) == (3, (3, Some(3))));
     assert!(rt; items.next() == Some(1));
@@ -248,8 +248,8 @@ fn a_drained_queue_is_empty_and_takes_items_again(rt: HostRuntime) {
 #[test]
 fn the_items_are_moved_out(rt: HostRuntime) {
     let mut queue = FixedSizeQueue::<u64, 3>::new();
-    queue.push(1);
-    queue.push(2);
+    let _ = queue.push(1);
+    let _ = queue.push(2);
     let mut items = queue.into_iter();
     assert!(rt; (items.len(), items.size_hint()) == (2, (2, Some(2))));
     assert!(rt; items.next_back() == Some(2));

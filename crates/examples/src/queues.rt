@@ -12,9 +12,9 @@ pub fn fixed() -> (Option<u64>, FixedSizeQueue<u64, 2>)
     ensures queue { result.1.items ≡ 2 ∷ 3 ∷ [] }
 {
     let mut queue = FixedSizeQueue::<u64, 2>::new();
-    queue.push(1); // true
-    queue.push(2); // true
-    queue.push(3); // false: the queue is full and stays as it is
+    let _ = queue.push(1); // true
+    let _ = queue.push(2); // true
+    let _ = queue.push(3); // false: the queue is full and stays as it is
     let oldest = queue.push_with_overflow(3); // Some(1)
     (oldest, queue)
 }
@@ -26,7 +26,7 @@ pub fn allocated<A: Allocator>(alloc: A, items: &[u64]) -> Result<Queue<u64, A>,
 {
     let mut queue = Queue::new(alloc, items.len())?;
     for item in items {
-        queue.push(*item);
+        let _ = queue.push(*item);
     }
     Ok(queue)
 }

@@ -95,6 +95,7 @@ impl<K: Eq + Drop, V: Drop, M: Storage<Pair<K, V>>, I: KeyIndex<K, V>> MetaMap<P
     }
 
     /// Returns a reference to the value of `key`, or `None` if the map has no equal key.
+    #[must_use]
     #[inline]
     pub fn get_ref(&self, key: &K) -> Option<&V>
         ensures value { option_copied result ≡ map_value K.eq self.now key.now }
@@ -114,6 +115,7 @@ impl<K: Eq + Drop, V: Drop, M: Storage<Pair<K, V>>, I: KeyIndex<K, V>> MetaMap<P
     /// Returns a reference to the value of the key with these bytes, or `None` if the map has none. The bytes are not copied.
     ///
     /// Keys are equal exactly if their bytes are, and those of a hash map feed a hasher their bytes in one write, as strings do.
+    #[must_use]
     #[inline]
     pub fn get_bytes(&self, bytes: &[u8]) -> Option<&V>
     where
@@ -135,6 +137,7 @@ impl<K: Eq + Drop, V: Drop, M: Storage<Pair<K, V>>, I: KeyIndex<K, V>> MetaMap<P
     }
 
     /// Returns a reference to the value of the key with the bytes of `text`, as [`MetaMap::get_bytes`] does.
+    #[must_use]
     #[inline]
     pub fn get_str(&self, text: &str) -> Option<&V>
     where
@@ -151,6 +154,7 @@ impl<K: Eq + Drop, V: Drop, M: Storage<Pair<K, V>>, I: KeyIndex<K, V>> MetaMap<P
     }
 
     /// Returns references to the equal key of the map and to its value, or `None` if the map has no equal key.
+    #[must_use]
     #[inline]
     pub fn get_key_value(&self, key: &K) -> Option<(&K, &V)>
         ensures value { option_map (λ item. (item.0.now, item.1.now)) result
@@ -237,6 +241,7 @@ impl<K: Eq + Drop, V: Drop, M: Storage<Pair<K, V>>, I: KeyIndex<K, V>> MetaMap<P
     }
 
     /// Returns the maximum number of keys. O(1).
+    #[must_use]
     #[inline]
     pub fn capacity(&self) -> usize
         ensures value { result ≡ length self.now.values }
@@ -247,6 +252,7 @@ impl<K: Eq + Drop, V: Drop, M: Storage<Pair<K, V>>, I: KeyIndex<K, V>> MetaMap<P
     }
 
     /// Returns `true` if the map has no key. O(1).
+    #[must_use]
     #[inline]
     pub fn is_empty(&self) -> bool
         ensures value { IsTrue result ↔ (held_count self.now ≡ 0) }
@@ -256,6 +262,7 @@ impl<K: Eq + Drop, V: Drop, M: Storage<Pair<K, V>>, I: KeyIndex<K, V>> MetaMap<P
     }
 
     /// Returns `true` if there is no room for another key. A map of capacity 0 is both empty and full. O(1).
+    #[must_use]
     #[inline]
     pub fn is_full(&self) -> bool
         ensures value { IsTrue result ↔ (held_count self.now ≡ length self.now.values) }
@@ -266,6 +273,7 @@ impl<K: Eq + Drop, V: Drop, M: Storage<Pair<K, V>>, I: KeyIndex<K, V>> MetaMap<P
     }
 
     /// Returns how many more keys there is room for. O(1).
+    #[must_use]
     #[inline]
     pub fn remaining_capacity(&self) -> usize
         ensures value { result ≡ length self.now.free }
@@ -276,6 +284,7 @@ impl<K: Eq + Drop, V: Drop, M: Storage<Pair<K, V>>, I: KeyIndex<K, V>> MetaMap<P
     }
 
     /// Returns `true` if the map has an equal key.
+    #[must_use]
     #[inline]
     pub fn contains(&self, key: &K) -> bool
         ensures value { IsTrue result ↔ IsSome (map_value K.eq self.now key.now) }
@@ -285,6 +294,7 @@ impl<K: Eq + Drop, V: Drop, M: Storage<Pair<K, V>>, I: KeyIndex<K, V>> MetaMap<P
     }
 
     /// Returns the number of keys. O(1).
+    #[must_use]
     #[inline]
     pub fn len(&self) -> usize
         ensures value { result ≡ held_count self.now }
@@ -324,6 +334,7 @@ impl<K: Eq + Drop, V: Drop, M: Storage<Pair<K, V>>, I: KeyIndex<K, V>> MetaMap<P
     }
 
     /// Returns an iterator over the keys in slot order. O(1), and O(capacity) for all of its items together.
+    #[must_use]
     #[inline]
     pub fn keys(&self) -> Keys<'_, K, V, M>
         ensures keys { result ≡ map_keys self.now }
@@ -333,6 +344,7 @@ impl<K: Eq + Drop, V: Drop, M: Storage<Pair<K, V>>, I: KeyIndex<K, V>> MetaMap<P
     }
 
     /// Returns an iterator over the values in slot order of their keys. O(1), and O(capacity) for all of its items together.
+    #[must_use]
     #[inline]
     pub fn values(&self) -> Values<'_, K, V, M>
         ensures values { result ≡ map_values self.now }
@@ -343,6 +355,7 @@ impl<K: Eq + Drop, V: Drop, M: Storage<Pair<K, V>>, I: KeyIndex<K, V>> MetaMap<P
 
     /// Returns an iterator over the keys in slot order, each with its value. O(1), and O(capacity) for all of its items
     /// together.
+    #[must_use]
     #[inline]
     pub fn iter(&self) -> Iter<'_, K, V, M>
         ensures items { result ≡ map_items self.now }
@@ -357,6 +370,7 @@ impl<K: Eq + Drop, V: Drop, M: Storage<Pair<K, V>>, I: KeyIndex<K, V>> MetaMap<P
     }
 
     /// Returns the key that [`MetaMap::list_keys`] lists after `n` others, or `None` if there are at most `n` keys. O(capacity).
+    #[must_use]
     pub fn nth_key(&self, n: usize) -> Option<&K>
         ensures value { option_copied result ≡ slice_get (map_keys self.now) n }
         ensures known { M.Items.Table.IsLen (length self.now.values) }

@@ -13,6 +13,7 @@ impl<T, S: Table<T>> MetaQueue<T, S> {
     ghost use Rattle.ix_queue.specs.contracts.queue.meta_queue.MetaQueue.{the_row};
 
     /// Returns a reference to the back item, which is the newest, or `None` if the queue is empty.
+    #[must_use]
     #[inline]
     pub fn back(&self) -> Option<&T>
         ensures value { option_copied result ≡ vec_last self.now }
@@ -44,6 +45,7 @@ impl<T, S: Table<T>> MetaQueue<T, S> {
     }
 
     /// Returns a reference to the item at `index`, where 0 is the front, or `None` if `index` is out of bounds.
+    #[must_use]
     #[inline]
     pub fn get_ref(&self, index: usize) -> Option<&T>
         ensures value { option_copied result ≡ slice_get self.now.items index }
@@ -74,6 +76,7 @@ impl<T, S: Table<T>> MetaQueue<T, S> {
     }
 
     /// Returns `true` if the queue has an item that equals `item`. O(`len`).
+    #[must_use]
     pub fn contains(&self, item: &T) -> bool
     where
         T: PartialEq,

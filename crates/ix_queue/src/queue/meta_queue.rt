@@ -91,6 +91,7 @@ impl<T, S: Table<T>> MetaQueue<T, S> {
     }
 
     /// Returns the maximum number of items.
+    #[must_use]
     #[inline]
     pub fn capacity(&self) -> usize
         ensures value { result ≡ self.now.capacity }
@@ -101,6 +102,7 @@ impl<T, S: Table<T>> MetaQueue<T, S> {
     }
 
     /// Returns the number of items, which is at most the capacity.
+    #[must_use]
     #[inline]
     pub fn len(&self) -> usize
         ensures value { result ≡ length self.now.items }
@@ -113,6 +115,7 @@ impl<T, S: Table<T>> MetaQueue<T, S> {
     }
 
     /// Returns `true` if the queue has no items.
+    #[must_use]
     #[inline]
     pub fn is_empty(&self) -> bool
         ensures value { IsTrue result ↔ (self.now.items ≡ []) }
@@ -122,6 +125,7 @@ impl<T, S: Table<T>> MetaQueue<T, S> {
     }
 
     /// Returns `true` if the number of items is the capacity. A queue of capacity 0 is both empty and full.
+    #[must_use]
     #[inline]
     pub fn is_full(&self) -> bool
         ensures value { IsTrue result ↔ IsFull self.now }
@@ -132,6 +136,7 @@ impl<T, S: Table<T>> MetaQueue<T, S> {
     }
 
     /// Returns how many more items there is room for.
+    #[must_use]
     #[inline]
     pub fn remaining_capacity(&self) -> usize
         ensures value { length self.now.items + result ≡ self.now.capacity }
@@ -142,6 +147,7 @@ impl<T, S: Table<T>> MetaQueue<T, S> {
     }
 
     /// Appends `value` at the back and returns `true`. Returns `false`, and drops `value`, if the queue is full.
+    #[must_use]
     #[inline]
     pub fn push(&mut self, value: T) -> bool
     where
@@ -262,6 +268,7 @@ impl<T, S: Table<T>> MetaQueue<T, S> {
     }
 
     /// Returns a reference to the front item, or `None` if the queue is empty.
+    #[must_use]
     #[inline]
     pub fn peek(&self) -> Option<&T>
         ensures value { option_copied result ≡ queue_front self.now }
@@ -291,6 +298,7 @@ impl<T, S: Table<T>> MetaQueue<T, S> {
     }
 
     /// Returns a copy of the item at `index`, where 0 is the front. `index` is less than the number of items.
+    #[must_use]
     #[inline]
     pub fn get(&self, index: usize) -> T
     where
@@ -303,6 +311,7 @@ impl<T, S: Table<T>> MetaQueue<T, S> {
     }
 
     /// Returns a copy of the item at `index`, as [`MetaQueue::get`] does.
+    #[must_use]
     #[inline]
     pub fn get_unchecked(&self, index: usize) -> T
     where
@@ -315,6 +324,7 @@ impl<T, S: Table<T>> MetaQueue<T, S> {
     }
 
     /// Returns an iterator over the items, the front item first. O(1), and O(`len`) for all of its items together.
+    #[must_use]
     #[inline]
     pub fn iter(&self) -> Iter<'_, T, S>
         ensures items { result ≡ self.now.items }

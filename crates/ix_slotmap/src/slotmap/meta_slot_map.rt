@@ -59,6 +59,7 @@ impl<T, M: SlotMapStorage<MaybeMoved<T>>> MetaSlotMap<T, MaybeMoved<T>, M> {
     ghost use Rattle.ix_slotmap.specs.contracts.slotmap.meta_slot_map.MetaSlotMap.{the_row};
 
     /// Returns the number of places, free, held and retired.
+    #[must_use]
     #[inline]
     pub fn capacity(&self) -> usize
         ensures value { result ≡ length self.now.slots.values }
@@ -69,6 +70,7 @@ impl<T, M: SlotMapStorage<MaybeMoved<T>>> MetaSlotMap<T, MaybeMoved<T>, M> {
     }
 
     /// Returns the number of retired places.
+    #[must_use]
     #[inline]
     pub fn retired(&self) -> usize
         ensures value { result ≡ retired_count self.now }
@@ -77,6 +79,7 @@ impl<T, M: SlotMapStorage<MaybeMoved<T>>> MetaSlotMap<T, MaybeMoved<T>, M> {
     }
 
     /// Returns the number of values, which is that of the held keys.
+    #[must_use]
     #[inline]
     pub fn len(&self) -> usize
         ensures value { result ≡ slot_map_len self.now }
@@ -90,6 +93,7 @@ impl<T, M: SlotMapStorage<MaybeMoved<T>>> MetaSlotMap<T, MaybeMoved<T>, M> {
     }
 
     /// Returns `true` if no key is held.
+    #[must_use]
     #[inline]
     pub fn is_empty(&self) -> bool
         ensures value { IsTrue result ↔ (slot_map_len self.now ≡ 0) }
@@ -99,6 +103,7 @@ impl<T, M: SlotMapStorage<MaybeMoved<T>>> MetaSlotMap<T, MaybeMoved<T>, M> {
     }
 
     /// Returns `true` if no place is free. A map of capacity 0, and one whose places are all retired, is both empty and full.
+    #[must_use]
     #[inline]
     pub fn is_full(&self) -> bool
         ensures value { IsTrue result ↔ (self.now.slots.free ≡ []) }
@@ -108,6 +113,7 @@ impl<T, M: SlotMapStorage<MaybeMoved<T>>> MetaSlotMap<T, MaybeMoved<T>, M> {
     }
 
     /// Returns the number of free places, which is how many more values there is room for.
+    #[must_use]
     #[inline]
     pub fn remaining_capacity(&self) -> usize
         ensures value { result ≡ length self.now.slots.free }
@@ -118,6 +124,7 @@ impl<T, M: SlotMapStorage<MaybeMoved<T>>> MetaSlotMap<T, MaybeMoved<T>, M> {
     }
 
     /// Returns the key that the next [`MetaSlotMap::insert`] will return, or `None` if no place is free.
+    #[must_use]
     #[inline]
     pub fn next_free_key(&self) -> Option<SlotMapKey>
         ensures value { result ≡ option_map (key_at self.now) (slice_get self.now.slots.free 0) }
@@ -130,6 +137,7 @@ impl<T, M: SlotMapStorage<MaybeMoved<T>>> MetaSlotMap<T, MaybeMoved<T>, M> {
     }
 
     /// Returns `true` if `key` is held.
+    #[must_use]
     #[inline]
     pub fn contains(&self, key: SlotMapKey) -> bool
         ensures value { IsTrue result ↔ IsSome (slot_map_value self.now key) }
@@ -140,6 +148,7 @@ impl<T, M: SlotMapStorage<MaybeMoved<T>>> MetaSlotMap<T, MaybeMoved<T>, M> {
     }
 
     /// Returns a reference to the value of `key`, or `None` if `key` is not held.
+    #[must_use]
     #[inline]
     pub fn get(&self, key: SlotMapKey) -> Option<&T>
         ensures value { option_copied result ≡ slot_map_value self.now key }
@@ -178,6 +187,7 @@ impl<T, M: SlotMapStorage<MaybeMoved<T>>> MetaSlotMap<T, MaybeMoved<T>, M> {
 
     /// Returns an iterator over the held keys in rising order of their indexes, each with its value. O(1), and O(capacity)
     /// for all of its items together.
+    #[must_use]
     #[inline]
     pub fn iter(&self) -> Iter<'_, T, M>
         ensures entries { result ≡ slot_map_entries self.now }
@@ -192,6 +202,7 @@ impl<T, M: SlotMapStorage<MaybeMoved<T>>> MetaSlotMap<T, MaybeMoved<T>, M> {
 
     /// Inserts `value` in the first free place and returns the key of that place; or drops `value` and returns `None` if no
     /// place is free.
+    #[must_use]
     #[inline]
     pub fn insert(&mut self, value: T) -> Option<SlotMapKey>
     where
@@ -207,6 +218,7 @@ impl<T, M: SlotMapStorage<MaybeMoved<T>>> MetaSlotMap<T, MaybeMoved<T>, M> {
     /// A value that is there already is dropped, its key is dead, and the new key has the next generation. Drops `value` and
     /// returns `None` if `index` is out of range, if the place is retired, and if a value is there with the generation
     /// `u32::MAX`.
+    #[must_use]
     #[inline]
     pub fn insert_at(&mut self, index: usize, value: T) -> Option<SlotMapKey>
     where
@@ -230,6 +242,7 @@ impl<T, M: SlotMapStorage<MaybeMoved<T>>> MetaSlotMap<T, MaybeMoved<T>, M> {
     }
 
     /// Does what [`MetaSlotMap::insert`] does, and raises `touches` by at most 20, whatever the capacity.
+    #[must_use]
     #[inline]
     pub fn insert_counted(&mut self, value: T, touches: &mut Touches) -> Option<SlotMapKey>
     where
@@ -244,6 +257,7 @@ impl<T, M: SlotMapStorage<MaybeMoved<T>>> MetaSlotMap<T, MaybeMoved<T>, M> {
     }
 
     /// Does what [`MetaSlotMap::insert_at`] does, and raises `touches` by at most 20, whatever the capacity.
+    #[must_use]
     #[inline]
     pub fn insert_at_counted(
         &mut self,

@@ -37,6 +37,7 @@ impl<T, M: SlotMapStorage<MaybeMoved<T>>> MetaSlotMap<T, MaybeMoved<T>, M> {
 
     /// Returns an iterator over the held keys in rising order of their indexes. O(1), and O(capacity) for all of its items
     /// together.
+    #[must_use]
     #[inline]
     pub fn keys(&self) -> Keys<'_, T, M>
         ensures keys { result ≡ keys_of (slot_map_entries self.now) }
@@ -47,6 +48,7 @@ impl<T, M: SlotMapStorage<MaybeMoved<T>>> MetaSlotMap<T, MaybeMoved<T>, M> {
 
     /// Returns an iterator over the values in rising order of the indexes of their keys. O(1), and O(capacity) for all of its
     /// items together.
+    #[must_use]
     #[inline]
     pub fn values(&self) -> Values<'_, T, M>
         ensures values { result ≡ map (λ item. item.1) (slot_map_entries self.now) }

@@ -88,6 +88,7 @@ impl<T, M: Storage<T>> MetaSlotTable<T, M> {
     }
 
     /// Returns the number of keys, held and free: the maximum number of values.
+    #[must_use]
     #[inline]
     pub fn capacity(&self) -> usize
         ensures value { result ≡ length self.now.values }
@@ -98,6 +99,7 @@ impl<T, M: Storage<T>> MetaSlotTable<T, M> {
     }
 
     /// Returns the number of values.
+    #[must_use]
     #[inline]
     pub fn len(&self) -> usize
         ensures value { result ≡ held_count self.now }
@@ -112,6 +114,7 @@ impl<T, M: Storage<T>> MetaSlotTable<T, M> {
     }
 
     /// Returns `true` if no key has a value.
+    #[must_use]
     #[inline]
     pub fn is_empty(&self) -> bool
         ensures value { IsTrue result ↔ (held_count self.now ≡ 0) }
@@ -121,6 +124,7 @@ impl<T, M: Storage<T>> MetaSlotTable<T, M> {
     }
 
     /// Returns `true` if every key has a value. A table of capacity 0 is both empty and full.
+    #[must_use]
     #[inline]
     pub fn is_full(&self) -> bool
         ensures value { IsTrue result ↔ (held_count self.now ≡ length self.now.values) }
@@ -131,6 +135,7 @@ impl<T, M: Storage<T>> MetaSlotTable<T, M> {
     }
 
     /// Returns how many more values there is room for.
+    #[must_use]
     #[inline]
     pub fn remaining_capacity(&self) -> usize
         ensures value { result ≡ length self.now.free }
@@ -141,6 +146,7 @@ impl<T, M: Storage<T>> MetaSlotTable<T, M> {
     }
 
     /// Returns the key that the next [`MetaSlotTable::insert`] will return, or `None` if the table is full.
+    #[must_use]
     #[inline]
     pub fn next_free_key(&self) -> Option<SlotTableKey>
         ensures value { result ≡ slice_get self.now.free 0 }
@@ -155,6 +161,7 @@ impl<T, M: Storage<T>> MetaSlotTable<T, M> {
     }
 
     /// Returns `true` if `key` has a value, and `false` if it is free or out of range.
+    #[must_use]
     #[inline]
     pub fn contains(&self, key: SlotTableKey) -> bool
         ensures value { IsTrue result ↔ IsHeld self.now key }
@@ -164,6 +171,7 @@ impl<T, M: Storage<T>> MetaSlotTable<T, M> {
     }
 
     /// Returns a reference to the value at `key`, or `None` if `key` is free or out of range.
+    #[must_use]
     #[inline]
     pub fn get(&self, key: SlotTableKey) -> Option<&T>
         ensures value { option_copied result ≡ value_at self.now key }
@@ -173,6 +181,7 @@ impl<T, M: Storage<T>> MetaSlotTable<T, M> {
     }
 
     /// Returns a reference to the value at `key`, which has one.
+    #[must_use]
     #[inline]
     pub fn get_unchecked(&self, key: SlotTableKey) -> &T
         requires { IsHeld self.now key }
@@ -210,6 +219,7 @@ impl<T, M: Storage<T>> MetaSlotTable<T, M> {
 
     /// Returns an iterator over the held keys in rising order, each with its value. O(1), and O(capacity) for all of
     /// its items together.
+    #[must_use]
     #[inline]
     pub fn iter(&self) -> Iter<'_, T, M>
         ensures entries { result ≡ entries self.now }
@@ -222,6 +232,7 @@ impl<T, M: Storage<T>> MetaSlotTable<T, M> {
 
     /// Inserts `value` at the first free key and returns that key; or drops `value` and returns `None` if the table is
     /// full.
+    #[must_use]
     #[inline]
     pub fn insert(&mut self, value: T) -> Option<SlotTableKey>
     where
@@ -234,6 +245,7 @@ impl<T, M: Storage<T>> MetaSlotTable<T, M> {
 
     /// Inserts `value` at `key` and returns `true`; a value that is there already is dropped. Drops `value` and returns
     /// `false` if `key` is out of range.
+    #[must_use]
     #[inline]
     pub fn insert_at(&mut self, key: SlotTableKey, value: T) -> bool
     where
@@ -273,6 +285,7 @@ impl<T, M: Storage<T>> MetaSlotTable<T, M> {
     }
 
     /// Does what [`MetaSlotTable::contains`] does, and raises `touches` by at most 2.
+    #[must_use]
     #[inline]
     pub fn contains_counted(&self, key: SlotTableKey, touches: &mut Touches) -> bool
         ensures value { IsTrue result ↔ IsHeld self.now key }
@@ -285,6 +298,7 @@ impl<T, M: Storage<T>> MetaSlotTable<T, M> {
     }
 
     /// Does what [`MetaSlotTable::get`] does, and raises `touches` by at most 3.
+    #[must_use]
     #[inline]
     pub fn get_counted(&self, key: SlotTableKey, touches: &mut Touches) -> Option<&T>
         ensures value { option_copied result ≡ value_at self.now key }
@@ -337,6 +351,7 @@ impl<T, M: Storage<T>> MetaSlotTable<T, M> {
     }
 
     /// Does what [`MetaSlotTable::insert`] does, and raises `touches` by at most 16, whatever the capacity.
+    #[must_use]
     #[inline]
     pub fn insert_counted(&mut self, value: T, touches: &mut Touches) -> Option<SlotTableKey>
     where
@@ -350,6 +365,7 @@ impl<T, M: Storage<T>> MetaSlotTable<T, M> {
     }
 
     /// Does what [`MetaSlotTable::insert_at`] does, and raises `touches` by at most 16, whatever the capacity.
+    #[must_use]
     #[inline]
     pub fn insert_at_counted(&mut self, key: SlotTableKey, value: T, touches: &mut Touches) -> bool
     where

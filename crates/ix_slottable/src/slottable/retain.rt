@@ -29,6 +29,7 @@ impl<T, M: Storage<T>> MetaSlotTable<T, M> {
     }
 
     /// Returns an iterator over the held keys in rising order. O(1), and O(capacity) for all of its items together.
+    #[must_use]
     #[inline]
     pub fn keys(&self) -> Keys<'_, T, M>
         ensures keys { result ≡ keys_of (entries self.now) }
@@ -38,6 +39,7 @@ impl<T, M: Storage<T>> MetaSlotTable<T, M> {
     }
 
     /// Returns an iterator over the values in rising order of their keys. O(1), and O(capacity) for all of its items together.
+    #[must_use]
     #[inline]
     pub fn values(&self) -> Values<'_, T, M>
         ensures values { result ≡ map (λ item. item.1) (entries self.now) }
