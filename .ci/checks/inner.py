@@ -2,7 +2,7 @@
 
 It fails if a public item of the library, hidden or not, cites an inner word in its contract or in what an impl of a trait pins, and
 if a file of specs/ outside inner/ and laws/ uses one of them. And it fails if a definition outside of these is one that no public contract rests
-on: neither cites it, nor cites a definition that rests on it. Nor may a public contract cite a word of a crate below that
+on: neither cites it, nor cites a definition that rests on it, unless it is for the contracts of callers. Nor may a public contract cite a word of a crate below that
 specs/Lib.antt does not pass on, since a caller would have to name that crate for it.
 """
 
@@ -15,6 +15,8 @@ DEFINITION = re.compile(r"^( *)(?:unfoldable |abbrev )?pub (?!mod |use )(?:recor
 # What an index means by itself is no more a promise to callers than the invariant of the map that has it.
 PINNED = re.compile(r"^ *ghost (?!use|view|invariant|coded|inverse|Fits|IsSeat)\w+ = .*?;$", re.M | re.S)
 ROOMS = ("/specs/inner/", "/specs/laws/")
+# The files whose words are for contracts of callers: their lemmas are in proofs/.
+FOR_CALLERS = ("ix_slottable/specs/KeyLists.antt",)
 
 
 def contracts(item, lines):
@@ -85,7 +87,7 @@ def uncited():
     for path in (path for crate in LIBRARY for path in paths(crate, "specs/**/*.antt")):
         for word, lines in definitions(path):
             rests_on.setdefault(word, set()).update(WORD.findall("\n".join(lines)))
-            if not any(room in path for room in ROOMS):
+            if not any(room in path for room in (*ROOMS, *FOR_CALLERS)):
                 homes.setdefault(word, path)
     left = {word for crate in LIBRARY for word in words_of_models(crate)}
     for path, items in (it for crate in LIBRARY for module in public_modules(crate, with_hidden=True) for it in module.items):

@@ -1,5 +1,4 @@
 mod Appending
-mod KeyOrders
 mod ReadyTasks
 mod Windows
 pub mod Written

@@ -1,4 +1,3 @@
-pub mod InStep
 pub mod Tasks
 pub mod UnitNames
 pub mod UnitNamesLaws

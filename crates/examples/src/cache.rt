@@ -1,9 +1,9 @@
 //! A cache of 64 values by their keys, which evicts the key that was used least recently.
 ghost use Rattle.std.specs.Prelude.{◌≡◌, ◌≢◌, ◌↔◌, ◌<◌, ℕ, [], None, Some, IsSome, IsNone, IfSome, drop, length, nat_eq, count_by};
-ghost use Rattle.ix_flatmap.specs.MapState.{map_value};
-ghost use Rattle.ix_slottable.specs.SlotTableState.{slot_table_new};
+ghost use Rattle.ix_hashmap.specs.KeyLists.{IsInStep, used_last};
+ghost use Rattle.ix_hashmap.specs.MapState.{map_value};
+ghost use Rattle.ix_hashmap.specs.SlotTableState.{held_count, slot_table_new};
 ghost use Rattle.ix_queue.specs.QueueSteps.{queue_front};
-ghost use Rattle.examples.specs.InStep.{IsInStep, used_last};
 
 use ix_hashmap::FixedSizeHashMap;
 use ix_queue::FixedSizeQueue;
@@ -19,7 +19,7 @@ pub type Order = FixedSizeQueue<u64, 64>;
 pub struct Cache {
     pub values: Values,
     pub order: Order,
-    pub ghost in_step: { IsInStep values order.items },
+    pub ghost in_step: { IsInStep nat_eq (map_value nat_eq values) (held_count values) order.items },
 }
 
 impl Cache {
@@ -38,7 +38,7 @@ impl Cache {
     pub fn get(&mut self, key: u64) -> Option<u64>
         ensures value { result ≡ map_value nat_eq self.old.values key }
         ensures values { self.new.values ≡ self.old.values }
-        ensures used { IsSome result → self.new.order.items ≡ used_last key self.old.order.items }
+        ensures used { IsSome result → self.new.order.items ≡ used_last nat_eq key self.old.order.items }
         ensures refused { IsNone result → self.new ≡ self.old }
     {
         let value = *self.values.get_ref(&key)?;
@@ -56,9 +56,9 @@ impl Cache {
         ensures oldest { IsSome result → result ≡ queue_front self.old.order }
         ensures full { IsSome result
             ↔ ((length self.old.order.items ≡ 64) × (map_value nat_eq self.old.values key ≡ None)) }
-        ensures used { IsNone result → self.new.order.items ≡ used_last key self.old.order.items }
+        ensures used { IsNone result → self.new.order.items ≡ used_last nat_eq key self.old.order.items }
         ensures evicted { IsSome result
-            → self.new.order.items ≡ used_last key (drop 1 self.old.order.items) }
+            → self.new.order.items ≡ used_last nat_eq key (drop 1 self.old.order.items) }
     {
         if self.values.contains(&key) {
             set_held(&mut self.values, &mut self.order, key, value);
@@ -77,9 +77,10 @@ impl Cache {
 /// Sets the value of a key that is held, which is then the one that was used last.
 fn set_held(values: &mut Values, order: &mut Order, key: u64, value: u64)
     requires held { IsSome (map_value nat_eq values.old key) }
-    requires in_step { IsInStep values.old order.old.items }
-    ensures in_step { IsInStep values.new order.new.items }
-    ensures used { order.new.items ≡ used_last key order.old.items }
+    requires in_step { IsInStep nat_eq (map_value nat_eq values.old) (held_count values.old) order.old.items }
+    ensures in_step { IsInStep nat_eq (map_value nat_eq values.new) (held_count values.new)
+        order.new.items }
+    ensures used { order.new.items ≡ used_last nat_eq key order.old.items }
     ensures holds { map_value nat_eq values.new key ≡ Some value }
     ensures kept { (other : ℕ) → other ≢ key
         → map_value nat_eq values.new other ≡ map_value nat_eq values.old other }
@@ -93,15 +94,14 @@ fn set_held(values: &mut Values, order: &mut Order, key: u64, value: u64)
 fn insert_new(values: &mut Values, order: &mut Order, key: u64, value: u64)
     requires new { map_value nat_eq values.old key ≡ None }
     requires room { length order.old.items < 64 }
-    requires in_step { IsInStep values.old order.old.items }
-    ensures in_step { IsInStep values.new order.new.items }
-    ensures used { order.new.items ≡ used_last key order.old.items }
+    requires in_step { IsInStep nat_eq (map_value nat_eq values.old) (held_count values.old) order.old.items }
+    ensures in_step { IsInStep nat_eq (map_value nat_eq values.new) (held_count values.new)
+        order.new.items }
+    ensures used { order.new.items ≡ used_last nat_eq key order.old.items }
     ensures holds { map_value nat_eq values.new key ≡ Some value }
     ensures kept { (other : ℕ) → other ≢ key
         → map_value nat_eq values.new other ≡ map_value nat_eq values.old other }
 {
-    // Names how many keys fit: there is room in both.
-    let _both = (values.len(), order.capacity());
     let inserted = values.insert(key, value).is_ok();
     let pushed = order.push(key);
     prove!(inserted && pushed);
@@ -110,21 +110,21 @@ fn insert_new(values: &mut Values, order: &mut Order, key: u64, value: u64)
 /// Moves a key to the back of the queue that has it once.
 fn touch(order: &mut Order, key: u64)
     requires { count_by (nat_eq key) order.old.items ≡ 1 }
-    ensures items { order.new.items ≡ used_last key order.old.items }
+    ensures items { order.new.items ≡ used_last nat_eq key order.old.items }
     ensures counts { (other : ℕ) → count_by (nat_eq other) order.new.items
         ≡ count_by (nat_eq other) order.old.items }
     ensures len { length order.new.items ≡ length order.old.items }
 {
-    // Names the number of keys, which is at most the capacity: one less has room.
-    let _len = order.len();
     order.retain(|other| *other != key);
-    order.push(key);
+    let pushed = order.push(key);
+    prove!(pushed);
 }
 
 /// Removes the key that was used least recently and its value, and returns it, or `None` if there is none.
 fn evict(values: &mut Values, order: &mut Order) -> Option<u64>
-    requires in_step { IsInStep values.old order.old.items }
-    ensures in_step { IsInStep values.new order.new.items }
+    requires in_step { IsInStep nat_eq (map_value nat_eq values.old) (held_count values.old) order.old.items }
+    ensures in_step { IsInStep nat_eq (map_value nat_eq values.new) (held_count values.new)
+        order.new.items }
     ensures oldest { result ≡ queue_front order.old }
     ensures held { IfSome result (λ oldest. IsSome (map_value nat_eq values.old oldest)) }
     ensures gone { IfSome result (λ oldest. map_value nat_eq values.new oldest ≡ None) }
@@ -134,8 +134,6 @@ fn evict(values: &mut Values, order: &mut Order) -> Option<u64>
     ensures none { IsNone result ↔ (order.old.items ≡ []) }
     ensures room { length order.new.items < 64 }
 {
-    // Names how many keys fit.
-    let _capacity = order.capacity();
     let oldest = order.pop()?;
     values.remove(&oldest);
     Some(oldest)

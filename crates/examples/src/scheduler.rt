@@ -45,9 +45,9 @@ impl Scheduler {
         ensures count { IsSome result → held_count self.new.tasks ≡ held_count self.old.tasks + 1 }
     {
         let key = self.tasks.insert(steps)?;
-        // Names what both hold and have room for: no more keys are ready than there are tasks, and so the push succeeds.
-        let _both = (self.tasks.len(), self.ready.capacity());
-        self.ready.push(key);
+        // No more keys are ready than there are tasks.
+        let pushed = self.ready.push(key);
+        prove!(pushed);
         Some(key)
     }
 
@@ -84,7 +84,8 @@ fn run_ready(tasks: &mut Tasks, ready: &mut Ready)
 {
     while let Some(key) = ready.pop() {
         if step(tasks, key) {
-            ready.push(key);
+            let pushed = ready.push(key);
+            prove!(pushed);
         }
     }
 }

@@ -3,6 +3,7 @@ pub mod Counts
 pub mod Draining
 pub mod Entries
 pub mod FreeKeys
+pub mod KeyLists
 pub mod KeyRanges
 pub mod Memory
 pub mod Outcomes

@@ -1,15 +1,18 @@
-use Rattle.std.proofs.Common.{rules, ◌∙◌, ap, length}
-use Rattle.examples.proofs.KeyOrders.{room-without, count-moved, length-moved}
+use Rattle.std.proofs.Common.{rules, ◌∙◌, ap, length, arith}
+use Rattle.std.specs.Prelude.{nat_eq}
+use Rattle.std.proofs.lemmas.Bool.Decides.{nat_tests}
+use Rattle.std.proofs.lemmas.Cmp.{nat_eq_equiv}
+use Rattle.ix_slottable.proofs.KeyLists.{length-without, count-used_last, length-used_last}
 use Rattle.examples.proofs.cache.touch.Goals as goal
 
 pub returns-clause-items : goal.returns-clause-items
 returns-clause-items c =
-    let room = room-without c.args.key c.args.order.now.items c.requires in search (rules, room)
+    let room = length-without nat_eq nat_eq_equiv c.args.key c.args.order.now.items in search (rules, room)
 
 pub returns-clause-counts : goal.returns-clause-counts
 returns-clause-counts c other =
-    let moved = count-moved c.args.key c.args.order.now.items c.requires other in
+    let moved = count-used_last nat_eq nat_eq_equiv c.args.key c.args.order.now.items c.requires (λ a b equal. grind (arith, nat_tests)) other in
     let items = returns-clause-items c in search (rules, items, moved)
 
 pub returns-clause-len : goal.returns-clause-len
-returns-clause-len c = ap length (returns-clause-items c) ∙ length-moved c.args.key c.args.order.now.items c.requires
+returns-clause-len c = ap length (returns-clause-items c) ∙ length-used_last nat_eq nat_eq_equiv c.args.key c.args.order.now.items c.requires
