@@ -9,6 +9,8 @@ pub mod closures;
 pub mod counts;
 /// The capacity of inline queues.
 pub mod inline_queues;
+/// The capacity of inline tables and maps, and that a new one has no key.
+pub mod known;
 /// How many keys a map holds, and how many more fit.
 pub mod map_counts;
 /// What a queue has.
