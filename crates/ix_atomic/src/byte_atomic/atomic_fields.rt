@@ -38,13 +38,8 @@ pub trait AtomicFields: Copy {
 /// A struct in a cell. It derefs to the struct.
 ///
 /// Its `SIZE` is the sum of the fields' sizes. The compiler takes `u32::SIZE` for the number of bytes of a cell, and no
-/// `Fields::<Pose>::SIZE` yet. So a constant beside the struct is the sum:
-///
-/// ```text
-/// pub const POSE_SIZE: usize = u32::SIZE + u32::SIZE + u64::SIZE;
-///
-/// pub type PoseCell = SequencedByteAtomic<Fields<Pose>, POSE_SIZE>;
-/// ```
+/// `Fields::<Pose>::SIZE` yet. So a constant beside the struct is the sum, as `u32::SIZE + u32::SIZE + u64::SIZE`, and is the
+/// `SIZE` of the cell's type.
 #[derive(Clone, Copy, PartialEq, Eq, Debug)]
 pub struct Fields<T>(pub T);
 
