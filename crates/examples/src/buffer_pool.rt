@@ -87,6 +87,8 @@ impl BufferPool {
     {
         let buffer = self.lent.remove(handle)?;
         if handle.generation() < u32::MAX {
+            // Names the number of buffers that are lent: these and the free ones are no more than 8.
+            let _len = self.lent.len();
             self.free += 1;
         }
         Some(buffer)

