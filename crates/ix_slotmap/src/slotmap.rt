@@ -13,6 +13,7 @@ mod iter;
 mod keys;
 mod kinds;
 mod meta_slot_map;
+mod places;
 mod retain;
 mod slot_map_key;
 mod storage;

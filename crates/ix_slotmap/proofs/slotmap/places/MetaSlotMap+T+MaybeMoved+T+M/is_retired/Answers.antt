@@ -3,7 +3,7 @@ use Rattle.std.specs.Prelude.{IsTrue}
 use Rattle.ix_slotmap.specs.Generations.{SlotMapState, IsRetired}
 use Rattle.ix_slotmap.specs.inner.Words.{retired_word}
 use Rattle.ix_slotmap.proofs.Words.{state_of, retired_by_word}
-use Rattle.ix_slotmap.proofs.slotmap.meta_slot_map.MetaSlotMap+T+MaybeMoved+T+M.is_retired.Goals as goal
+use Rattle.ix_slotmap.proofs.slotmap.places.MetaSlotMap+T+MaybeMoved+T+M.is_retired.Goals as goal
 
 pub returns-clause-value : goal.returns-clause-value
 returns-clause-value g c =

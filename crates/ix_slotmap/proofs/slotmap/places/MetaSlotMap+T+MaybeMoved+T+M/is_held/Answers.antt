@@ -3,7 +3,7 @@ use Rattle.std.specs.Prelude.{IsTrue}
 use Rattle.ix_slotmap.specs.Generations.{SlotMapState, slot_map_value}
 use Rattle.ix_slotmap.specs.inner.Words.{word_at}
 use Rattle.ix_slotmap.proofs.Words.{state_of, key_by_word}
-use Rattle.ix_slotmap.proofs.slotmap.meta_slot_map.MetaSlotMap+T+MaybeMoved+T+M.is_held.Goals as goal
+use Rattle.ix_slotmap.proofs.slotmap.places.MetaSlotMap+T+MaybeMoved+T+M.is_held.Goals as goal
 
 pub returns-then-index-capacity-clause-value : goal.returns-then-index-capacity-clause-value
 returns-then-index-capacity-clause-value g c =

@@ -2,7 +2,7 @@ use Rattle.std.proofs.Common.{length, sym, subst, ap, IsSome, arith, ◌∙◌}
 use Rattle.ix_slottable.specs.SlotTableSteps.{slot_table_set}
 use Rattle.ix_slotmap.specs.Generations.{SlotMapState, place_value}
 use Rattle.ix_slotmap.proofs.Words.{room_to_retire, word_fits, removes, removes_last}
-use Rattle.ix_slotmap.proofs.slotmap.meta_slot_map.MetaSlotMap+T+MaybeMoved+T+M.remove_held.Goals as goal
+use Rattle.ix_slotmap.proofs.slotmap.places.MetaSlotMap+T+MaybeMoved+T+M.remove_held.Goals as goal
 
 pub raise-requires-clause-fits : goal.raise-requires-clause-fits
 raise-requires-clause-fits g c =

@@ -4,7 +4,7 @@ use Rattle.ix_slottable.specs.SlotTableSteps.{SlotTableInsertAt}
 use Rattle.ix_slotmap.specs.Generations.{SlotMapState, generation_at, slot_map_len}
 use Rattle.ix_slotmap.proofs.Words.{word_within, free_word, state_of, fills}
 use Rattle.ix_slotmap.proofs.SlotMapCounts.{slot_map_len-slot_map_fill}
-use Rattle.ix_slotmap.proofs.slotmap.meta_slot_map.MetaSlotMap+T+MaybeMoved+T+M.fill.Goals as goal
+use Rattle.ix_slotmap.proofs.slotmap.places.MetaSlotMap+T+MaybeMoved+T+M.fill.Goals as goal
 
 pub raise-requires-clause-fits : goal.raise-requires-clause-fits
 raise-requires-clause-fits g c =

@@ -1,7 +1,7 @@
 use Rattle.std.proofs.Common.{◌-◌, ◌<◌, length, arith}
 use Rattle.ix_slottable.proofs.KeyRanges.{down_first, down}
 use Rattle.ix_slotmap.proofs.HeldRanges.{held_of, held_of-append, some_before, held_within-none}
-use Rattle.ix_slotmap.proofs.slotmap.meta_slot_map.MetaSlotMap+T+MaybeMoved+T+M.held_before.Goals as goal
+use Rattle.ix_slotmap.proofs.slotmap.places.MetaSlotMap+T+MaybeMoved+T+M.held_before.Goals as goal
 
 pub loop-touches-init : goal.loop-touches-init
 loop-touches-init g c =

@@ -1,7 +1,7 @@
 use Rattle.std.proofs.Common.{◌≡◌, ◌-◌, length, drop}
 use Rattle.ix_slottable.specs.SlotTableState.{entries_from}
 use Rattle.ix_slotmap.specs.Generations.{held_entries}
-use Rattle.ix_slotmap.proofs.slotmap.meta_slot_map.MetaSlotMap+T+MaybeMoved+T+M.held_from.Given as goal
+use Rattle.ix_slotmap.proofs.slotmap.places.MetaSlotMap+T+MaybeMoved+T+M.held_from.Given as goal
 
 -- no value was passed
 abbrev pub invariant-loop-touches : goal.invariant-loop-touches

@@ -2,7 +2,7 @@ use Rattle.std.proofs.Common.{◌<◌, ◌↔◌, ◌%◌, ℕ, length, nat_eq, 
 use Rattle.std.specs.Prelude.{IsTrue}
 use Rattle.ix_slotmap.specs.Generations.{SlotMapState, place_value}
 use Rattle.ix_slotmap.proofs.Words.{state_of, held_by_word}
-use Rattle.ix_slotmap.proofs.slotmap.meta_slot_map.MetaSlotMap+T+MaybeMoved+T+M.has_value.Goals as goal
+use Rattle.ix_slotmap.proofs.slotmap.places.MetaSlotMap+T+MaybeMoved+T+M.has_value.Goals as goal
 
 pub returns-clause-value : goal.returns-clause-value
 returns-clause-value g c =

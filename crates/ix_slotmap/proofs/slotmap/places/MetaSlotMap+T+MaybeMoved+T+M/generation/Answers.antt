@@ -1,7 +1,7 @@
 use Rattle.std.proofs.Common.{◌<◌, ◌/◌, length, sym, ap, ◌∙◌, subst, arith}
 use Rattle.ix_slotmap.specs.Generations.{SlotMapState, generation_at, IsRetired}
 use Rattle.ix_slotmap.proofs.Words.{generation_by_word}
-use Rattle.ix_slotmap.proofs.slotmap.meta_slot_map.MetaSlotMap+T+MaybeMoved+T+M.generation.Goals as goal
+use Rattle.ix_slotmap.proofs.slotmap.places.MetaSlotMap+T+MaybeMoved+T+M.generation.Goals as goal
 
 pub overflow_cast-result : goal.overflow_cast-result
 overflow_cast-result g c =

@@ -5,7 +5,7 @@ use Rattle.ix_slottable.specs.SlotTableState.{IsFree}
 use Rattle.ix_slotmap.specs.Generations.{SlotMapState}
 use Rattle.ix_slotmap.specs.inner.Words.{retired_word}
 use Rattle.ix_slotmap.proofs.Words.{free_by_word}
-use Rattle.ix_slotmap.proofs.slotmap.meta_slot_map.MetaSlotMap+T+MaybeMoved+T+M.is_free.Goals as goal
+use Rattle.ix_slotmap.proofs.slotmap.places.MetaSlotMap+T+MaybeMoved+T+M.is_free.Goals as goal
 
 pub returns-then-word-eq0-clause-value : goal.returns-then-word-eq0-clause-value
 returns-then-word-eq0-clause-value g c =

@@ -3,7 +3,7 @@ use Rattle.ix_slottable.specs.SlotTableState.{IsFree}
 use Rattle.ix_slottable.specs.SlotTableSteps.{SlotTableInsert}
 use Rattle.ix_slotmap.specs.Generations.{SlotMapState, generation_at}
 use Rattle.ix_slotmap.proofs.Words.{word_within, free_word, state_of, inserts}
-use Rattle.ix_slotmap.proofs.slotmap.meta_slot_map.MetaSlotMap+T+MaybeMoved+T+M.fill_first.Goals as goal
+use Rattle.ix_slotmap.proofs.slotmap.places.MetaSlotMap+T+MaybeMoved+T+M.fill_first.Goals as goal
 
 pub raise-word-requires-clause-fits : goal.raise-word-requires-clause-fits
 raise-word-requires-clause-fits g c =
