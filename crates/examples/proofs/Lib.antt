@@ -1,4 +1,2 @@
-mod Appending
+mod Limits
 mod ReadyTasks
-mod Windows
-pub mod Written

@@ -1,4 +1,4 @@
+pub mod Limits
 pub mod Tasks
 pub mod UnitNames
 pub mod UnitNamesLaws
-pub mod Written

@@ -4,7 +4,7 @@ ghost use Rattle.std.specs.List.{Contains};
 ghost use Rattle.ix_atomic.specs.History.{history_value};
 ghost use Rattle.ix_atomic.specs.Shares.{IsWhole};
 ghost use Rattle.ix_atomic.specs.Writers.{AreOwn, AreApart, IsRising, Refuses, places_merge};
-ghost use Rattle.examples.specs.Written.{HasWritten, StandAt};
+ghost use Rattle.ix_atomic.specs.Written.{HasWritten, StandAt};
 
 use ix_atomic::{SequencedByteAtomic, TryWriteError, WriterSeat};
 

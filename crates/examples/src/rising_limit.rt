@@ -4,7 +4,8 @@ ghost use Rattle.std.specs.List.Sorted.{IsNonDecreasing};
 ghost use Rattle.ix_atomic.specs.History.{Begins, history_value};
 ghost use Rattle.ix_atomic.specs.Writers.{AreOwn, Refuses};
 ghost use Rattle.ix_atomic.specs.declared.sequenced.errors.TryWriteError.{TryWriteError};
-ghost use Rattle.examples.specs.Written.{HasSet, GrewTo};
+ghost use Rattle.ix_atomic.specs.Written.{HasSet};
+ghost use Rattle.examples.specs.Limits.{GrewTo};
 
 use crate::configuration::Limit;
 use ix_atomic::{ReaderSeat, WriterSeat};

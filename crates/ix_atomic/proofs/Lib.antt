@@ -26,5 +26,6 @@ pub mod EveryValue
 pub mod Shares
 pub mod SequencedKeeps
 pub mod SequencedCalls
+pub mod Written
 mod WorkedHistory
 mod WorkedWriters

@@ -10,5 +10,6 @@ pub mod VersionedSteps
 pub mod History
 pub mod Shares
 pub mod Writers
+pub mod Written
 pub mod laws
 pub mod inner

@@ -8,4 +8,5 @@ pub mod QueueOrders
 pub mod QueueRemoves
 pub mod Ranges
 pub mod Rings
+pub mod Windows
 mod WorkedQueues

@@ -1,3 +1,4 @@
+pub mod Appending
 pub mod Gaps
 pub mod Insertions
 pub mod Matches

@@ -2,8 +2,8 @@ use Rattle.std.proofs.Common.{◌≡◌, ℕ, ◌++◌, ◌∷◌, [], List, Res
 use Rattle.std.specs.Result.{IfErr}
 use Rattle.std.proofs.lemmas.Result.{IfOk-weaker}
 use Rattle.ix_atomic.specs.Writers.{Writes, Refuses}
-use Rattle.examples.proofs.Written.{refused_written, written_more}
-use Rattle.examples.specs.Written.{HasWritten}
+use Rattle.ix_atomic.proofs.Written.{refused_written, written_more}
+use Rattle.ix_atomic.specs.Written.{HasWritten}
 use Rattle.examples.proofs.log_position.publish.Goals as goal
 
 from_both : {X Y : Type 0} (result : Result X Y) (P Q R : Y → Type 0) → ((error : Y) → P error → Q error → R error) → IfErr result P → IfErr result Q → IfErr result R

@@ -1,6 +1,6 @@
 use Rattle.std.proofs.Common.{subst, sym}
 use Rattle.ix_atomic.specs.Shares.{IsWhole}
-use Rattle.examples.proofs.Written.{StandAt-longer, merged_values}
+use Rattle.ix_atomic.proofs.Written.{StandAt-longer, merged_values}
 use Rattle.examples.proofs.log_position.take_back.Goals as goal
 
 pub returns-clause-seat : goal.returns-clause-seat

@@ -1,5 +1,6 @@
 use Rattle.std.proofs.Common.{refl}
-use Rattle.examples.proofs.Written.{refused_set, set_more, GrewTo-push}
+use Rattle.ix_atomic.proofs.Written.{refused_set, set_more}
+use Rattle.examples.proofs.Limits.{GrewTo-push}
 use Rattle.examples.proofs.rising_limit.raise_limit.Goals as goal
 
 pub returns-in-Ok-clause-raised : goal.returns-in-Ok-clause-raised

@@ -1,7 +1,7 @@
 use Rattle.std.proofs.Common.{◌≡◌, ℕ, ◌/◌, List, true, sym, ap, ◌∙◌, subst, eqb-true}
 use Rattle.ix_atomic.specs.History.{Begins}
-use Rattle.examples.specs.Written.{HasSet}
-use Rattle.examples.proofs.Written.{wrote_all, never_lower}
+use Rattle.ix_atomic.specs.Written.{HasSet}
+use Rattle.ix_atomic.proofs.Written.{wrote_all, never_lower}
 use Rattle.examples.proofs.rising_limit.take_back.Goals.{After-drop-newest-inside, then-version-eq0, else-version-eq0}
 use Rattle.examples.proofs.rising_limit.take_back.Goals as goal
 

@@ -1,5 +1,5 @@
 use Rattle.std.proofs.Common.{refl}
-use Rattle.examples.proofs.Windows.{window_step}
+use Rattle.ix_queue.proofs.Windows.{window_step}
 use Rattle.examples.proofs.rolling_window.last_samples.Goals as goal
 
 pub loop-sample-preserved : goal.loop-sample-preserved

@@ -1,6 +1,6 @@
 use Rattle.std.proofs.Common.{◌++◌, ◌∷◌, [], ◌∙◌, length, refl, sym, ap, arith}
 use Rattle.ix_cells.specs.Bounded.{Bounded}
-use Rattle.examples.proofs.Appending.{Appended-ok, IsText-yes, not_refused}
+use Rattle.ix_string.proofs.Appending.{Appended-ok, IsText-yes, not_refused}
 use Rattle.examples.proofs.strings.allocated.Goals as goal
 use Rattle.examples.proofs.strings.allocated.Goals.{then-is_err-via-then-is_err, then-is_err-via-else-is_err+then-is_err-2, then-is_err-via-else-is_err+else-is_err-2+then-is_err-3}
 

@@ -1,6 +1,5 @@
 -- What was written with a seat of a cell.
-use Rattle.std.specs.Prelude.{◌≡◌, ℕ, ◌≤◌, List, ◌∷◌, map, Some, slice_get, All}
-use Rattle.std.specs.List.Sorted.{IsNonDecreasing}
+use Rattle.std.specs.Prelude.{◌≡◌, ℕ, List, ◌∷◌, map, Some, slice_get}
 use Rattle.ix_atomic.specs.Writers.{Writer}
 
 -- these values stand at these places of the history, in order
@@ -14,7 +13,3 @@ HasWritten writer values = StandAt writer.known writer.places values
 -- the same after the opening value
 abbrev pub HasSet : {T : Type 0} → Writer T → List T → Type 0
 HasSet writer values = StandAt writer.known (0 ∷ writer.places) values
-
--- no limit is less than one before it, and the greatest is at most this one
-abbrev pub GrewTo : ℕ → List ℕ → Type 0
-GrewTo last limits = IsNonDecreasing limits × All (λ limit. limit ≤ last) limits

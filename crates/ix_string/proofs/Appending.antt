@@ -1,10 +1,10 @@
--- Bytes that are appended to a string, or refused.
+-- What `push_bytes` and its like promise of a string, and when they return an error.
 use Rattle.std.proofs.Common.{ℕ, ◌≡◌, ◌+◌, ◌≤◌, List, ◌++◌, length, Bool, true, false, cond, Ok, Err, refl, ap, ◌∙◌, arith}
 use Rattle.std.proofs.lemmas.Bool.Decides.{nat_tests}
 use Rattle.std.proofs.lemmas.Grind.{common_steps}
 use Rattle.std.proofs.lemmas.List.Sums.{AllPass-from_list_all}
 use Rattle.std.specs.Prelude.{is_err}
-use Rattle.ix_cells.specs.Bounded.{Bounded}
+use Rattle.ix_tables.specs.Bounded.{Bounded}
 use Rattle.ix_string.specs.Text.{IsText, is_text, is_text_byte}
 use Rattle.ix_string.specs.TextSteps.{TextResult, has_room_for, text_insert, text_insert_slice, text_insert_result}
 use Rattle.ix_string.specs.declared.string.modification_error.StringModificationError.TheVariants.{InvalidCharacter, InsertWouldExceedCapacity}

@@ -1,9 +1,7 @@
 -- Values that stand in a history stay where they are, and a seat that wrote all of it knows it.
-use Rattle.std.proofs.Common.{◌≡◌, ℕ, zero, suc, ◌+◌, ◌-◌, ◌/◌, ◌<◌, ◌≤◌, List, [], ◌∷◌, ◌++◌, length, drop, get_or, Some, None, refl, sym, ap, ◌∙◌, subst, ◌⊎◌, inl, inr, ⊎_elim, arith, add-one, le_refl, All}
+use Rattle.std.proofs.Common.{◌≡◌, ℕ, zero, suc, ◌+◌, ◌-◌, ◌/◌, ◌<◌, ◌≤◌, List, [], ◌∷◌, ◌++◌, length, drop, get_or, Some, None, refl, sym, ap, ◌∙◌, subst, ◌⊎◌, inl, inr, ⊎_elim, arith, add-one, All}
 use Rattle.std.specs.Prelude.{slice_get}
 use Rattle.std.proofs.lemmas.Option.{slice_get_within, slice_get-get_or, get_or_from_slice_get}
-use Rattle.std.proofs.lemmas.List.Elements.{All-push}
-use Rattle.std.proofs.lemmas.List.Sorted.{IsNonDecreasingBy-push}
 use Rattle.std.proofs.lemmas.List.{get_or-map, get_or_push, ext_get_or, length-append, length-map, map-append}
 use Rattle.std.specs.List.{Contains}
 use Rattle.std.specs.List.Sorted.{IsNonDecreasing}
@@ -13,9 +11,9 @@ use Rattle.ix_atomic.specs.History.{Begins, IsEven, IsOdd, Loads, LoadsTwice, hi
 use Rattle.ix_atomic.specs.Versions.{last_version}
 use Rattle.ix_atomic.specs.laws.HistoryLaws.{Begins-trans, Begins-length, Begins-loads, slice_get-begins, history_value-begins}
 use Rattle.ix_atomic.specs.Writers.{Writer, Writes, Refuses, AreOwn, HoldsEach, IsRising, as_reader, places_merge}
+use Rattle.ix_atomic.specs.Written.{StandAt, HasWritten, HasSet}
 use Rattle.ix_atomic.proofs.OwnPlaces.{merge-cases}
 use Rattle.ix_atomic.proofs.EveryValue.{every_value}
-use Rattle.examples.specs.Written.{StandAt, HasWritten, HasSet, GrewTo}
 
 module _ {T : Type 0} where
   pub StandAt-longer : (history history' : List T) (places : List ℕ) (values : List T) → Begins history history' → StandAt history places values → StandAt history' places values
@@ -85,12 +83,6 @@ never_lower history known begins grows earlier later first second order one two 
     let up = grows (earlier / 2) (later / 2) 0 (omega (arith, order)) inside in
     let is_first = get_or_from_slice_get history (earlier / 2) first 0 at_first in let is_second = get_or_from_slice_get history (later / 2) second 0 at_second in
     omega (arith, up, is_first, is_second)
-
-pub GrewTo-push : (limits : List ℕ) (last value : ℕ) → GrewTo last limits → last ≤ value → GrewTo value (limits ++ value ∷ [])
-GrewTo-push limits last value grew up = (
-  IsNonDecreasingBy-push (λ limit. limit) limits value grew.0 (λ d some_limit. let below = grew.1 (length limits - 1) d (omega (arith, some_limit)) in omega (arith, below, up)),
-  All-push (λ limit. limit ≤ value) limits value (λ k d inside. let below = grew.1 k d inside in omega (arith, below, up)) (le_refl value),
-)
 
 -- what one more write adds to the values of a seat
 module _ {T : Type 0} where
