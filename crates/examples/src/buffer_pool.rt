@@ -87,8 +87,8 @@ impl BufferPool {
     {
         let buffer = self.lent.remove(handle)?;
         if handle.generation() < u32::MAX {
-            // Names the number of buffers that are lent: these and the free ones are no more than 8.
-            let _len = self.lent.len();
+            // One of the 8 buffers is neither lent nor free now.
+            prove!(self.lent.len() + self.free < 8);
             self.free += 1;
         }
         Some(buffer)

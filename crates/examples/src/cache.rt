@@ -64,7 +64,7 @@ impl Cache {
             set_held(&mut self.values, &mut self.order, key, value);
             return None;
         }
-        let evicted = if self.order.len() == 64 {
+        let evicted = if self.values.len() == 64 {
             evict(&mut self.values, &mut self.order)
         } else {
             None
@@ -94,6 +94,7 @@ fn set_held(values: &mut Values, order: &mut Order, key: u64, value: u64)
 fn insert_new(values: &mut Values, order: &mut Order, key: u64, value: u64)
     requires new { map_value nat_eq values.old key ≡ None }
     requires room { length order.old.items < 64 }
+    requires free { 0 < length values.old.free }
     requires in_step { IsInStep nat_eq (map_value nat_eq values.old) (held_count values.old) order.old.items }
     ensures in_step { IsInStep nat_eq (map_value nat_eq values.new) (held_count values.new)
         order.new.items }
@@ -102,8 +103,6 @@ fn insert_new(values: &mut Values, order: &mut Order, key: u64, value: u64)
     ensures kept { (other : ℕ) → other ≢ key
         → map_value nat_eq values.new other ≡ map_value nat_eq values.old other }
 {
-    // Names how many keys fit: there is room in both.
-    let _both = (values.len(), order.capacity());
     let inserted = values.insert(key, value).is_ok();
     let pushed = order.push(key);
     prove!(inserted && pushed);
@@ -117,8 +116,6 @@ fn touch(order: &mut Order, key: u64)
         ≡ count_by (nat_eq other) order.old.items }
     ensures len { length order.new.items ≡ length order.old.items }
 {
-    // Names the number of keys, which is at most the capacity: one less has room.
-    let _len = order.len();
     order.retain(|other| *other != key);
     let _ = order.push(key);
 }
@@ -136,6 +133,7 @@ fn evict(values: &mut Values, order: &mut Order) -> Option<u64>
     ensures rest { order.new.items ≡ drop 1 order.old.items }
     ensures none { IsNone result ↔ (order.old.items ≡ []) }
     ensures room { length order.new.items < 64 }
+    ensures free { IsSome result → 0 < length values.new.free }
 {
     let oldest = order.pop()?;
     values.remove(&oldest);

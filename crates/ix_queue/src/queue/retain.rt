@@ -2,7 +2,7 @@
 ghost use Rattle.std.specs.Prelude.{◌≡◌, ◌≤◌, length, Bool, filter, map};
 ghost use Rattle.std.specs.Fn.{CalledAt, CalledAtMut};
 ghost use Rattle.std.specs.List.Retain.{IsFiltered};
-ghost use Rattle.ix_tables.specs.Bounded.{vec_truncate};
+ghost use Rattle.ix_tables.specs.Bounded.{IsWithin, vec_truncate};
 ghost use Rattle.ix_tables.specs.Calls.{Computes, IsCallableOnEach};
 ghost use Rattle.ix_queue.specs.QueueCalls.{ChangesInTurn, IsCallableOnEachMut};
 
@@ -54,6 +54,8 @@ impl<T, S: Table<T>> MetaQueue<T, S> {
         ensures filtered { (test : T → Bool) → Computes (CalledAt F.FnMut) f test
             → self.new.items ≡ filter test self.old.items }
         ensures capacity { self.new.capacity ≡ self.old.capacity }
+        // So there is room for as many items as were dropped.
+        ensures within { IsWithin self.old }
         ensures known { S.IsLen self.old.capacity }
     {
         let capacity = self.capacity();
