@@ -1,2 +1,1 @@
 mod Limits
-mod ReadyTasks

@@ -5,7 +5,7 @@ use Rattle.std.specs.Cmp.{IsEquivalence}
 use Rattle.std.proofs.lemmas.Bool.{cases_Bool}
 use Rattle.std.proofs.lemmas.List.{length-append}
 use Rattle.std.proofs.lemmas.List.Sums.{sum_by-cons, sum_by-append}
-use Rattle.ix_slottable.specs.KeyLists.{IsInStep, without, used_last}
+use Rattle.ix_slottable.specs.KeyLists.{IsInStep, ListsEach, without, used_last}
 
 abbrev one_if : Bool → ℕ
 one_if b = if b then 1 else 0
@@ -159,3 +159,13 @@ module _ {K : Type 0} (eq : K → K → Bool) (laws : IsEquivalence eq) where
           once = λ other. count-used_last key keys once decides other ∙ (step.once other ∙ sym (ap one_if (same other)));
           as_many = length-used_last key keys once ∙ (step.as_many ∙ sym as_many);
         }
+
+  -- a key is put at the end of the list, whatever it finds now
+  pub ListsEach-pushed : {V : Type 0} {IsSuch : V → Type 0} {find find' : K → Option V} → (keys : List K) → ListsEach eq IsSuch find keys → (key : K)
+      → ((other : K) → eq other key ≡ false → find' other ≡ find other) → ListsEach eq IsSuch find' (keys ++ key ∷ [])
+  ListsEach-pushed keys lists key kept other value at such =
+      let ends : count_by (eq other) (keys ++ key ∷ []) ≡ count_by (eq other) keys + count_by (eq other) (key ∷ []) = sum_by-append _ keys (key ∷ []) in
+      let one = count-cons other key [] in elim (cases_Bool (eq other key)) [
+        | inl same ↦ let here : one_if (eq other key) ≡ 1 = ap one_if same in omega (arith, ends, one, here)
+        | inr apart ↦ let was = lists other value (sym (kept other apart) ∙ at) such in omega (arith, ends, was)
+      ]

@@ -1,9 +1,12 @@
-use Rattle.std.proofs.Common.{rules}
-use Rattle.examples.proofs.ReadyTasks.{AreReady-insert}
+use Rattle.std.proofs.Common.{rules, ◌≡◌, ◌<◌, ◌++◌, ◌∷◌, [], nat_eq, subst, sym}
+use Rattle.ix_maps.specs.SlotTableState.{value_at}
+use Rattle.ix_slottable.specs.KeyLists.{ListsEach}
+use Rattle.ix_slottable.proofs.KeyLists.{ListsEach-pushed}
+use Rattle.std.proofs.lemmas.Cmp.{nat_eq_equiv}
 use Rattle.examples.proofs.scheduler.Scheduler.spawn.Goals as goal
 
 pub invariant_of-self-2-clause-are_ready : goal.invariant_of-self-2-clause-are_ready
 invariant_of-self-2-clause-are_ready c =
-    let before = c.args.self.now in
-    let inserted = c.in_ok-key.ensures.step in
-    AreReady-insert before.tasks _ before.ready.items c.push-pushed.new.self.items c.in_ok-key.key c.args.steps before.are_ready inserted.key inserted.map (search rules)
+    let pushed : c.push-pushed.new.self.items ≡ c.args.self.now.ready.items ++ c.in_ok-key.key ∷ [] = search rules in
+    subst (ListsEach nat_eq (λ left. 0 < left) (value_at c.insert.new.self)) (sym pushed)
+    (ListsEach-pushed nat_eq nat_eq_equiv c.args.self.now.ready.items c.args.self.now.are_ready c.in_ok-key.key (λ other apart. c.in_ok-key.ensures.step.kept other (search (rules, apart))))
