@@ -1,4 +1,5 @@
 pub use Rattle.ix_slottable.specs.Draining
+pub use Rattle.ix_slottable.specs.KeyIndexes
 pub use Rattle.ix_slottable.specs.KeyLists
 pub use Rattle.ix_slottable.specs.Memory
 pub use Rattle.ix_slottable.specs.SlotTableCalls

@@ -4,6 +4,7 @@ pub use Rattle.ix_flatmap.specs.MapCopies
 pub use Rattle.ix_flatmap.specs.MapState
 pub use Rattle.ix_flatmap.specs.MapSteps
 pub use Rattle.ix_slottable.specs.Draining
+pub use Rattle.ix_slottable.specs.KeyIndexes
 pub use Rattle.ix_slottable.specs.KeyLists
 pub use Rattle.ix_slottable.specs.Memory
 pub use Rattle.ix_slottable.specs.SlotTableCalls

@@ -8,5 +8,6 @@ pub mod SlotMapCalls
 pub mod SlotMapCopies
 pub mod PlaceSizes
 pub mod WordedValues
+pub mod SlotMapIndexes
 pub mod Words
 mod WorkedSlotMaps

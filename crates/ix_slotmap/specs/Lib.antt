@@ -1,5 +1,6 @@
 pub use Rattle.ix_slottable.specs.SlotTableCopies
 pub use Rattle.ix_slottable.specs.Draining
+pub use Rattle.ix_slottable.specs.KeyIndexes
 pub use Rattle.ix_slottable.specs.KeyLists
 pub use Rattle.ix_slottable.specs.Memory
 pub use Rattle.ix_slottable.specs.SlotTableCalls

@@ -3,6 +3,7 @@ pub mod Counts
 pub mod Draining
 pub mod Entries
 pub mod FreeKeys
+pub mod KeyIndexes
 pub mod KeyLists
 pub mod KeyRanges
 pub mod Memory

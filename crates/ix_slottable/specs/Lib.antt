@@ -1,6 +1,7 @@
 pub use Rattle.ix_tables.specs.Cloning
 pub use Rattle.ix_tables.specs.Places
 pub mod Draining
+pub mod KeyIndexes
 pub mod KeyLists
 pub mod Memory
 pub mod SlotTableCalls
