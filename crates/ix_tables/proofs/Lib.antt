@@ -1,5 +1,6 @@
 pub mod Calls
 pub mod Counts
+pub mod Filtered
 pub mod Fronts
 pub mod FullArrays
 pub mod HeldItems
