@@ -165,7 +165,7 @@ pub trait InlineIndex<K: Eq + Drop, V: Drop, const CAPACITY: usize>: KeyIndex<K,
             → Self.PairIndex.Fits self.now pairs → Self.PairIndex.Fits result pairs };
 }
 
-/// An index of a map whose memory is allocated, of which there is one in memory of each `A`.
+/// An index of a map whose memory is allocated: [`HeapIndex::In`] is one in memory of `A`.
 pub trait HeapIndex<K: Eq + Drop, V: Drop, A: Allocator + Copy>: KeyIndex<K, V> {
     /// The index in memory of `A`.
     type In: PairIndex<Pair<K, V>>;
