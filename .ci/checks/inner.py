@@ -16,7 +16,7 @@ DEFINITION = re.compile(r"^( *)(?:unfoldable |abbrev )?pub (?!mod |use )(?:recor
 PINNED = re.compile(r"^ *ghost (?!use|view|invariant|coded|inverse|Fits|IsSeat)\w+ = .*?;$", re.M | re.S)
 ROOMS = ("/specs/inner/", "/specs/laws/")
 # The files whose words are for contracts of callers: their lemmas are in proofs/.
-FOR_CALLERS = ("ix_slottable/specs/KeyLists.antt",)
+FOR_CALLERS = ("ix_atomic/specs/Written.antt", "ix_slottable/specs/KeyIndexes.antt", "ix_slottable/specs/KeyLists.antt")
 
 
 def contracts(item, lines):
