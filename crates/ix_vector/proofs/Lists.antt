@@ -1,7 +1,7 @@
 -- Lemmas on lists with an item moved to the end, and on overwritten lists.
 use Rattle.std.proofs.Common.{◌≡◌, ℕ, zero, suc, ◌-◌, ◌<◌, ◌≤◌, List, [], ◌∷◌, ◌++◌, length, length-set, take, drop, set, Some, refl, sym, ap, ◌∙◌, arith}
 use native.Mathlib.Numerals.{unary_clauses}
-use Rattle.std.specs.Prelude.{slice_get}
+use Rattle.std.specs.Prelude.{slice_get, slice_set}
 use Rattle.std.proofs.Math.ListN.{get_or}
 use Rattle.std.proofs.lemmas.List.{get_or-set_same}
 use Rattle.std.proofs.lemmas.Option.{slice_get-get_or}
@@ -35,3 +35,10 @@ module _ {T : Type 0} where
       slice_get-get_or (set once j (get_or (d ∷ xs) i d)) j d (omega (arith, long, there, below))
       ∙ ap Some (get_or-set_same once j (get_or (d ∷ xs) i d) d (omega (arith, long, below)))
       ∙ sym (slice_get-get_or (d ∷ xs) i d lt)
+
+  pub slice_set_same : (xs : List T) (i : ℕ) (x : T) → slice_get xs i ≡ Some x → slice_set xs i x ≡ xs
+  slice_set_same [] i x at = refl
+  slice_set_same (y ∷ ys) zero x at =
+      let is : y ≡ x = cc in
+      ap (λ z. z ∷ ys) (sym is)
+  slice_set_same (y ∷ ys) (suc i) x at = ap (λ (zs : List T). y ∷ zs) (slice_set_same ys i x at)

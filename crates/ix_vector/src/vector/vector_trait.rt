@@ -99,6 +99,9 @@ pub trait Vector<T: Drop> {
         // Whatever item is written, the vector has it, and each other item is as it was.
         ensures holds { (written : T) → bounded (with_item self.old index written)
             ≡ with_items (bounded self.old) (slice_set (bounded self.old).items index written) }
+        // An item that is written as it was leaves the vector as it was.
+        ensures unchanged { (item : T) → option_copied_mut result ≡ Some item
+            → with_item self.old index item ≡ self.old }
         ensures within { IsWithin (bounded self.old) };
 
     /// Returns a reference to the first item, or `None` if the vector is empty. O(1).
@@ -122,6 +125,8 @@ pub trait Vector<T: Drop> {
         ensures empty { IsNone result ↔ ((bounded self.old).items ≡ []) }
         ensures holds { (written : T) → bounded (with_item self.old 0 written)
             ≡ with_items (bounded self.old) (slice_set (bounded self.old).items 0 written) }
+        ensures unchanged { (item : T) → option_copied_mut result ≡ Some item
+            → with_item self.old 0 item ≡ self.old }
         ensures within { IsWithin (bounded self.old) }
     {
         self.get_mut(0)
@@ -150,6 +155,8 @@ pub trait Vector<T: Drop> {
             (with_item self.old (length (bounded self.old).items - 1) written)
             ≡ with_items (bounded self.old) (slice_set (bounded self.old).items
             (length (bounded self.old).items - 1) written) }
+        ensures unchanged { (item : T) → option_copied_mut result ≡ Some item
+            → with_item self.old (length (bounded self.old).items - 1) item ≡ self.old }
         ensures within { IsWithin (bounded self.old) }
     {
         let last = self.len().saturating_sub(1);
