@@ -30,11 +30,16 @@ def example_of(shows, body):
     return Example(names, lines, set(re.findall(r"\w+", body + " ".join(names))))
 
 
+def all_paths(crate):
+    """Returns the files of a crate's tests, and of those that are only run."""
+    return [*paths(crate, "src/**/*.rt"), *paths(crate, "unproved/*.unproved")]
+
+
 def read():
     """Returns the examples, and a fault for each file with a `Shows` that is above no test."""
     found, faults = [], []
     for crate in libraries_of_crates():
-        for path in paths(crate, "src/**/*.rt") if crate.startswith("doc_examples") else ():
+        for path in all_paths(crate) if crate.startswith("doc_examples") else ():
             text = text_of(path)
             tests = [(shows, body) for shows, between, body in SHOWS.findall(text) if "#[test]" in between]
             if sum(shows.count("// Shows: ") for shows, _ in tests) != text.count("// Shows:"):

@@ -22,7 +22,7 @@ container to take, and which call.
 A page begins with the main type of its module and the calls by task. A call has its signature and its docs first. "Errors" says
 when it returns one, "Conditions" what its caller owes, "Promises" what it ensures, and "Words" where the words of these are
 defined; those of the kit are [below](#words-of-contracts). What several calls promise alike is a record, whose fields follow. What
-stands under "Example" is the body of a proved test, which is handed the machine, `rt`. An example or a record that several calls of
+stands under "Example" is the body of a test, which is handed the machine, `rt`. An example or a record that several calls of
 a page share stands at the first of them. In a program a `Result` has to be used, by `?`, `match` or `let _ = ..`.
 
 A line `impl<..>` shows the bounds of the calls below it. `T: Drop` says that a value of `T` may be let go: a type is so if it is

@@ -1,13 +1,5 @@
-//! Tests of the crate of examples.
+//! Tests of the crate of examples. Those of threads are proved, the others in `unproved/` are only run: what they call is proved.
 #![tactic(auto)]
 
 #[cfg(test)]
 mod cell_tests;
-#[cfg(test)]
-mod example_tests;
-#[cfg(test)]
-mod own_type_tests;
-#[cfg(test)]
-mod program_tests;
-#[cfg(test)]
-mod session_tests;
