@@ -7,7 +7,7 @@ use Rattle.std.proofs.lemmas.List.{get_or-set_other}
 use Rattle.ix_slottable.specs.KeyIndexes.{IsIndexOf}
 use Rattle.ix_slottable.specs.SlotTableSteps.{slot_table_fill}
 pub use Rattle.ix_slottable.proofs.KeyIndexes.{nat_eq-Decides, IsIndexOf-held, IsIndexOf-empty}
-use Rattle.ix_slottable.proofs.KeyIndexes.{IsIndexOf-inserted, IsIndexOf-removed}
+use Rattle.ix_slottable.proofs.KeyIndexes.{some_same, IsIndexOf-inserted, IsIndexOf-removed}
 use Rattle.ix_slotmap.specs.Generations.{SlotKey, SlotMapState, generation_at, key_at, place_value, slot_map_value}
 use Rattle.ix_slotmap.specs.SlotMapSteps.{slot_map_fill, SlotMapInsert, SlotMapRemove}
 use Rattle.ix_slotmap.proofs.Generations.{if_none, slot_map_value-dead}
@@ -20,9 +20,6 @@ cases_key a b = elim (cases_eq a.index b.index) [
   | inl places ↦ elim (cases_eq a.generation b.generation) [ inl generations ↦ inl (ap₂ key_of places generations) | inr apart ↦ inr (λ e. apart (ap (λ (key : SlotKey). key.generation) e)) ]
   | inr apart ↦ inr (λ e. apart (ap (λ (key : SlotKey). key.index) e))
 ]
-
-some_same : {X : Type 0} {a b : X} → Some a ≡ Some b → a ≡ b
-some_same e = cc
 
 module _ {T : Type 0} where
   -- every key but that of the place finds what it found

@@ -6,7 +6,7 @@ use Rattle.ix_slottable.specs.KeyIndexes.{IsIndexOf}
 use Rattle.ix_slottable.specs.SlotTableState.{SlotTableState, value_at, IsFree}
 use Rattle.ix_slottable.specs.SlotTableSteps.{SlotTableInsert, SlotTableRemove}
 
-some_same : {X : Type 0} {a b : X} → Some a ≡ Some b → a ≡ b
+pub some_same : {X : Type 0} {a b : X} → Some a ≡ Some b → a ≡ b
 some_same e = cc
 
 none_some : {X : Type 0} {x : X} → None ≡ Some x → ⊥
