@@ -12,8 +12,10 @@ module _ {T : Type 0} (test : T → Bool) where
   )
 
   -- an item that fails the test is not left
-  pub filter_leaves_out : (items : List T) (item : T) → test item ≡ false → ¬ (Contains (filter test items) item)
-  filter_leaves_out items item fails left = true≢false (sym (Contains-filter items item left).1 ∙ fails)
+  pub filter_leaves_out : (items left : List T) → left ≡ filter test items → (item : T) → test item ≡ false → ¬ (Contains left item)
+  filter_leaves_out items left is item fails found =
+      let passes : test item ≡ true = (Contains-filter items item (subst (λ (xs : List T). Contains xs item) is found)).1 in
+      true≢false (sym passes ∙ fails)
 
   -- an item that passes the test is left
   pub filter_keeps : (items : List T) (item : T) → Contains items item → test item ≡ true → Contains (filter test items) item
