@@ -13,6 +13,7 @@ pub mod keep_even;
 pub mod log_position;
 pub mod message;
 pub mod own_fields;
+pub mod peers;
 pub mod queues;
 pub mod registry;
 pub mod rising_limit;
