@@ -8,9 +8,9 @@ import collections
 import re
 
 from checks.items import base_of, facade_of, is_own, title_of, trait_of
-from checks.layout import docs_of, is_later, kinds_of
-from checks.sections import MARK, anchor_of, first_sentence, heading_of, is_bare, shown_members, unheaded
-from checks.words import kit_table
+from reference.layout import docs_of, is_later, kinds_of
+from reference.sections import MARK, anchor_of, first_sentence, heading_of, is_bare, shown_members, unheaded
+from reference.words import kit_table
 
 INDEX = "README.md"
 INTRODUCTION = """# Reference

@@ -9,7 +9,7 @@ import collections
 import re
 
 from checks.items import base_of, is_own, text_of, title_of, trait_of
-from checks.sections import file_of, first_sentence, heading_of, is_bare, mark, shown_members
+from reference.sections import file_of, first_sentence, heading_of, is_bare, mark, shown_members
 
 MAIN_CALLS = 6
 # So many calls of the main type are one group, and fewer than so many in another file are none.

@@ -6,7 +6,7 @@ import textwrap
 
 from checks.items import ALIAS, LIBRARY, base_of, extent, facade_of, is_own, is_shown, items_of, paths, printed_texts, public_modules
 from checks.items import text_of, title_of, trait_of
-from checks.words import Words
+from reference.words import Words
 
 WORD = re.compile(r"[^\W\d][\w-]*")
 # What an impl of a trait of std says of it. What it says of a trait of the library is what the contracts of that trait cite.

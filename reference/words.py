@@ -4,7 +4,7 @@ A word leads to the file of specs/ that defines it, to the type, the constant or
 whose ghost member it is. A word of the kit's logic has a line in KIT, which docs/api/README.md lists, if the guide's section on
 contracts does not explain it. It fails if a clause has a word that none of these explains, and if no clause has a word of KIT.
 
-cd .ci && python3 -m checks.words    prints the words that nothing explains, each with a call that has it
+python3 -m reference.words    prints the words that nothing explains, each with a call that has it
 """
 
 import functools
@@ -13,7 +13,7 @@ import re
 import textwrap
 
 from checks.items import text_of
-from checks.kit import KIT
+from reference.kit import KIT
 from crates import ROOT
 
 SECTION = re.compile(r"^## How to read a contract$(.*?)\Z", re.M | re.S)
@@ -153,12 +153,12 @@ def explained():
 
 def faults(used):
     """Yields what is wrong with the words of all clauses, each with a place that has it."""
-    yield from (f"{place}: nothing explains the word {word}: KIT in .ci/checks/kit.py" for word, place in used.items() if word not in explained())
-    yield from (f".ci/checks/kit.py explains {word}, which no clause has" for word in sorted(explained_by_kit() - set(used)))
+    yield from (f"{place}: nothing explains the word {word}: KIT in reference/kit.py" for word, place in used.items() if word not in explained())
+    yield from (f"reference/kit.py explains {word}, which no clause has" for word in sorted(explained_by_kit() - set(used)))
 
 
 def main():
-    from checks.api import first_pass
+    from reference.api import first_pass
 
     print("\n".join(faults(first_pass()[0].kit_words)))
 

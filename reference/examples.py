@@ -4,7 +4,7 @@ Above a test of a crate `doc_examples..` stand lines `// Shows: MetaQueue, MetaQ
 a type or a trait, alone or with a call of it, a function behind its module, or a trait and a type that has it. Where several
 pages have a name, as `Iter::next`, the example is shown on those that have a type of its body.
 
-cd .ci && python3 -m checks.examples    prints the calls of the reference that have no example, but for laws, and the types and
+python3 -m reference.examples    prints the calls of the reference that have no example, but for laws, and the types and
                                         traits that have none, but for errors, enums and what only proofs need
 """
 
@@ -67,7 +67,7 @@ def assigned(known, types):
 
 
 def main():
-    from checks.api import pages_with_names
+    from reference.api import pages_with_names
 
     known, types, wanted = pages_with_names()
     found, faults = assigned(known, types)

@@ -9,7 +9,7 @@ the library uses a lemma of it that the page does not have.
 import re
 
 from checks.items import LIBRARY, text_of, title_of
-from checks.sections import block, contract, first_sentence
+from reference.sections import block, contract, first_sentence
 from crates import files, libraries_of_crates
 
 PAGE = "lemmas.md"
