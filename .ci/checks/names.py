@@ -6,6 +6,8 @@
   crates, each word in the last column of a table is a clause there, a call or a definition.
 - No page states how many mutants, tests or scripts there are: scripts count them.
 - docs/EXAMPLES.md names each file of the crate of examples.
+
+The first column of FOREIGN has names of other crates, which are not looked up.
 """
 
 import os
@@ -31,6 +33,7 @@ UPSTREAM = set("""
     VectorMemoryLayoutMetrics __internal_ __internal_insert _unchecked as_bytes_with_nul as_c_str const_memory_size memory_size
     placement_default
 """.split())
+FOREIGN = "docs/NAMES.md"
 CODE = {".antt": r"--.*", ".rt": r"//.*", ".rs": r"//.*", ".unproved": r"//.*", ".c": r"//.*", ".py": r"(?s:\"\"\".*?\"\"\")|(?m:#.*$)"}
 WORD = re.compile(r"[^\W\d]\w*")
 SPAN = re.compile(r"`([^`]+)`")
@@ -132,6 +135,8 @@ def foreign_words(text, room):
 
 def faults(text, room, page):
     """Yields each untrue word of a paragraph, and what is wrong with it."""
+    if page == FOREIGN and text.startswith("|"):
+        text = text[1:].partition("|")[2]
     yield from unknown_words(text)
     yield from lost_links(text, page)
     yield from foreign_clauses(text, room)
