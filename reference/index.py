@@ -34,7 +34,7 @@ is `Sync`.
 
 ## Modules
 
-A module with a path in the column "also" is passed on there too, with all its items.
+A module with a path in the column "also" is re-exported there too, with all its items.
 """
 
 

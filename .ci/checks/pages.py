@@ -21,7 +21,7 @@ def repository_files():
 
 FILES = sorted(repository_files())
 DOCUMENTS = [path for path in FILES if re.fullmatch(r"(?:docs/)?\w+\.md", path)]
-ENDS = {path.split("/", i)[i] for path in FILES for i in range(path.count("/") + 1)} | {"out"}
+ENDS = {path.split("/", i)[i] for path in FILES for i in range(path.count("/") + 1)} | {"out", "docs/tolkzin"}
 
 
 def is_path(text):
