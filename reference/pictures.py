@@ -10,7 +10,7 @@ from reference.drawing import CONTAINER, OTHER, WARNING, Drawing, above, left_of
 
 FOLDER = os.path.join("docs", "pictures")
 # The groups of crates.txt that the map has, each with whether its crates are containers.
-GROUPS = {"The library: a crate for each container": True, "Several in one": False, "Scripts": False, "Programs": False}
+GROUPS = {"The library: a crate for each container": True, "Several in one": False, "The harness: commands, scripts and the program that runs them": False}
 NO_CONTAINER = ("ix_tables", "ix_json")
 COLUMN, ROW = 168, 74
 PIXELS_A_BYTE = 9
