@@ -81,24 +81,40 @@ def words_of_models(crate):
     return WORD.findall("\n".join(lines))
 
 
-def uncited():
-    """Yields each definition outside the rooms that no public contract rests on."""
-    rests_on, homes = {}, {}
+def parts_of_definitions():
+    """Returns the words that the definitions of each name are made of, and each definition as its file and its name."""
+    rests_on, homes = {}, []
     for path in (path for crate in LIBRARY for path in paths(crate, "specs/**/*.antt")):
         for word, lines in definitions(path):
             rests_on.setdefault(word, set()).update(WORD.findall("\n".join(lines)))
-            if not any(room in path for room in (*ROOMS, *FOR_CALLERS)):
-                homes.setdefault(word, path)
-    left = {word for crate in LIBRARY for word in words_of_models(crate)}
+            homes.append((path, word))
+    return rests_on, homes
+
+
+def reached(left, rests_on):
+    """Returns these words, and all words that they rest on."""
+    found = set()
+    while left:
+        found |= left
+        left = {lower for word in left for lower in rests_on.get(word, ())} - found
+    return found
+
+
+def words_of_contracts():
+    """Returns the words of the public contracts of the library, and of the types of models."""
+    found = {word for crate in LIBRARY for word in words_of_models(crate)}
     for path, items in (it for crate in LIBRARY for module in public_modules(crate, with_hidden=True) for it in module.items):
         lines = text_of(path).splitlines()
-        left |= {word for item in items for text in contracts(item, lines) for word in WORD.findall(text)}
-    reached = set()
-    while left:
-        reached |= left
-        left = {lower for word in left for lower in rests_on.get(word, ())} - reached
-    for word, path in homes.items():
-        if word not in reached:
+        found |= {word for item in items for text in contracts(item, lines) for word in WORD.findall(text)}
+    return found
+
+
+def uncited():
+    """Yields each definition outside the rooms that no public contract rests on."""
+    rests_on, homes = parts_of_definitions()
+    used_words = reached(words_of_contracts(), rests_on)
+    for path, word in homes:
+        if word not in used_words and not any(room in path for room in (*ROOMS, *FOR_CALLERS)):
             yield f"{path}: no public contract rests on {word}, which so is an inner word"
 
 
