@@ -22,7 +22,7 @@ from checks.pages import DOCUMENTS, FILES, headings, is_file, is_path, paragraph
 # was removed.
 WORDS = set("""
     AtomicCell Deref MaybeUninit Mutex SecondaryMap SendError memmove no_std python3 replace_with rustc scope slab xmllint
-    Handles Wait allow dac8208d650f15bf holes lemma trusted
+    Handles Wait allow anew axioms build dac8208d650f15bf holes incremental lemma libc statements trusted
     _counted CRATE FILE FUNCTION MODULE REV SUBJECT WHAT_IT_DOES_WRONG my_program
     inline_len
     BoundedMap bounded_map CopyIn CopyInline IsCapacity LinkTable full state state_with_pair with_pair
