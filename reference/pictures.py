@@ -78,7 +78,7 @@ def slots():
     """Returns the bytes of a slot of each container, inline and allocated, and of other crates, for a `u64` or a pair of two."""
     bars = []
     for cells in rows_of("By how many bytes it takes"):
-        name = cells[0].replace("`", "").partition(",")[0]
+        name = re.sub(r"\[([^\]]*)\]\([^)]*\)", r"\1", cells[0].replace("`", "")).partition(",")[0]
         sizes = {"size": 16 if "map, of" in cells[0] else 8, "align": 8}
         if re.fullmatch(r"(?:size|\d+)(?: \+ (?:align|\d+))*", cells[1]) and len(cells) == 4:
             bars += [(f"{name}, {kind}", sum(sizes.get(it) or int(it) for it in cell.split(" + ")), CONTAINER) for kind, cell in zip(("inline", "allocated"), cells[1:3])]
