@@ -274,12 +274,13 @@ impl<T, M: SlotMapStorage<MaybeMoved<T>>> MetaSlotMap<T, MaybeMoved<T>, M> {
         Some(key)
     }
 
-    /// Does what [`MetaSlotMap::remove`] does, and raises `touches` by at most 20, whatever the capacity.
+    /// Does what [`MetaSlotMap::remove`] does, and raises `touches` by 1 to 20 if the index of `key` is in range, whatever the capacity.
     #[inline]
     pub fn remove_counted(&mut self, key: SlotMapKey, touches: &mut Touches) -> Option<T>
         ensures step { SlotMapRemove self.old key self.new result }
         ensures touches { touches.new ≤ touches.old + 20 }
         ensures rises { touches.old ≤ touches.new }
+        ensures counted { key.index < length self.old.slots.values → touches.old < touches.new }
         ensures known { M.Slots.Items.Table.IsLen (length self.old.slots.values) }
     {
         if !self.is_held(key, touches) {

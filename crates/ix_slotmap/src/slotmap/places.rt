@@ -45,6 +45,7 @@ impl<T, M: SlotMapStorage<MaybeMoved<T>>> MetaSlotMap<T, MaybeMoved<T>, M> {
         ensures known { M.Slots.Items.Table.IsLen (length self.now.slots.values) }
         ensures touches { touches.new ≤ touches.old + 1 }
         ensures rises { touches.old ≤ touches.new }
+        ensures counted { key.index < length self.now.slots.values → touches.old < touches.new }
     {
         let index = key.index();
         index < self.capacity() && self.words.get(index, touches) == 2 * key.generation() as u64 + 1

@@ -284,26 +284,28 @@ impl<T, M: Storage<T>> MetaSlotTable<T, M> {
         self.remove_unchecked_counted(key, &mut Touches::new())
     }
 
-    /// Does what [`MetaSlotTable::contains`] does, and raises `touches` by at most 2.
+    /// Does what [`MetaSlotTable::contains`] does, and raises `touches` by 1 or 2 if `key` is in range.
     #[must_use]
     #[inline]
     pub fn contains_counted(&self, key: SlotTableKey, touches: &mut Touches) -> bool
         ensures value { IsTrue result ↔ IsHeld self.now key }
         ensures touches { touches.new ≤ touches.old + 2 }
         ensures rises { touches.old ≤ touches.new }
+        ensures counted { IsKey self.now key → touches.old < touches.new }
         ensures known { M.Items.Table.IsLen (length self.now.values) }
     {
         let key = key.value();
         key < self.capacity() && !self.is_free(key, touches)
     }
 
-    /// Does what [`MetaSlotTable::get`] does, and raises `touches` by at most 3.
+    /// Does what [`MetaSlotTable::get`] does, and raises `touches` by 1 to 3 if `key` is in range.
     #[must_use]
     #[inline]
     pub fn get_counted(&self, key: SlotTableKey, touches: &mut Touches) -> Option<&T>
         ensures value { option_copied result ≡ value_at self.now key }
         ensures touches { touches.new ≤ touches.old + 3 }
         ensures rises { touches.old ≤ touches.new }
+        ensures counted { IsKey self.now key → touches.old < touches.new }
         ensures known { M.Items.Table.IsLen (length self.now.values) }
     {
         let key = key.value();
@@ -317,7 +319,7 @@ impl<T, M: Storage<T>> MetaSlotTable<T, M> {
         Some(self.values.get(key, touches))
     }
 
-    /// Does what [`MetaSlotTable::get_mut`] does, and raises `touches` by at most 4.
+    /// Does what [`MetaSlotTable::get_mut`] does, and raises `touches` by 1 to 4 if `key` is in range.
     #[inline]
     pub fn get_mut_counted(&mut self, key: SlotTableKey, touches: &mut Touches) -> Option<&mut T>
         ensures* writes_back { sem 𝓛 (LendsIf (the_row T.row M.row M.Items.row M.Links.row M.Items.Table M.Links.Table)
@@ -329,6 +331,7 @@ impl<T, M: Storage<T>> MetaSlotTable<T, M> {
             → value_at (slot_table_set self.old key written) other ≡ value_at self.old other }
         ensures touches { touches.new ≤ touches.old + 4 }
         ensures rises { touches.old ≤ touches.new }
+        ensures counted { IsKey self.old key → touches.old < touches.new }
         ensures known { M.Items.Table.IsLen (length self.old.values) }
     {
         if self.contains_counted(key, touches) {
@@ -364,7 +367,7 @@ impl<T, M: Storage<T>> MetaSlotTable<T, M> {
         self.try_insert_counted(value, touches).ok()
     }
 
-    /// Does what [`MetaSlotTable::insert_at`] does, and raises `touches` by at most 16, whatever the capacity.
+    /// Does what [`MetaSlotTable::insert_at`] does, and raises `touches` by 1 to 16 if `key` is in range, whatever the capacity.
     #[must_use]
     #[inline]
     pub fn insert_at_counted(&mut self, key: SlotTableKey, value: T, touches: &mut Touches) -> bool
@@ -373,6 +376,7 @@ impl<T, M: Storage<T>> MetaSlotTable<T, M> {
         ensures step { SlotTableInsertAt self.old key value self.new result }
         ensures touches { touches.new ≤ touches.old + 16 }
         ensures rises { touches.old ≤ touches.new }
+        ensures counted { IsKey self.old key → touches.old < touches.new }
         ensures known { M.Items.Table.IsLen (length self.old.values) }
     {
         let key = key.value();
@@ -405,12 +409,13 @@ impl<T, M: Storage<T>> MetaSlotTable<T, M> {
         self.fill(key.value(), link, value, touches);
     }
 
-    /// Does what [`MetaSlotTable::remove`] does, and raises `touches` by at most 16, whatever the capacity.
+    /// Does what [`MetaSlotTable::remove`] does, and raises `touches` by 1 to 16 if `key` is in range, whatever the capacity.
     #[inline]
     pub fn remove_counted(&mut self, key: SlotTableKey, touches: &mut Touches) -> Option<T>
         ensures step { SlotTableRemove self.old key self.new result }
         ensures touches { touches.new ≤ touches.old + 16 }
         ensures rises { touches.old ≤ touches.new }
+        ensures counted { IsKey self.old key → touches.old < touches.new }
         ensures known { M.Items.Table.IsLen (length self.old.values) }
     {
         if self.contains_counted(key, touches) {
