@@ -20,6 +20,18 @@ pub fn map_insert(map: &mut Flat) -> Result<(), MapError>
     map.insert(1, 1)
 }
 
+pub fn flat_insert_new(map: &mut Flat, key: u64, value: u64) -> bool
+    ensures { IsTrue result → map_value nat_eq map.old key ≡ None }
+{
+    map.insert(key, value).is_ok()
+}
+
+pub fn hash_try_insert_new(map: &mut Hash, key: u64, value: u64) -> bool
+    ensures { IsTrue result → map_value nat_eq map.old key ≡ None }
+{
+    map.try_insert(key, value).is_ok()
+}
+
 pub fn flat_try_insert(map: &mut Flat) -> bool
     ensures count { IsTrue result → held_count map.new ≡ held_count map.old + 1 }
     ensures room { IsTrue result → length map.new.free + 1 ≡ length map.old.free }

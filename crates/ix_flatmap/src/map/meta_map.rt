@@ -61,6 +61,7 @@ impl<K: Eq + Drop, V: Drop, M: Storage<Pair<K, V>>, I: KeyIndex<K, V>> MetaMap<P
     pub fn insert(&mut self, key: K, value: V) -> Result<(), MapError>
         ensures value { result ≡ map_insert_result K.eq self.old key }
         ensures map { self.new ≡ map_insert K.eq self.old key value }
+        ensures absent { IsOk result → map_value K.eq self.old key ≡ None }
         ensures holds { IsOk result → map_value K.eq self.new key ≡ Some value }
         ensures refused { OnErr result (self.new ≡ self.old) }
         ensures kept { (other : K) → K.eq other key ≡ false

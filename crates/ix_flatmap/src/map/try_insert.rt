@@ -28,6 +28,7 @@ impl<K: Eq + Drop, V: Drop, M: Storage<Pair<K, V>>, I: KeyIndex<K, V>> MetaMap<P
             IfErr (map_insert_result K.eq self.old key) (λ error. refused.0 ≡ error)) }
         ensures returned { IfErr result (λ refused. (refused.1 ≡ key) × (refused.2 ≡ value)) }
         ensures map { self.new ≡ map_insert K.eq self.old key value }
+        ensures absent { IsOk result → map_value K.eq self.old key ≡ None }
         ensures holds { IsOk result → map_value K.eq self.new key ≡ Some value }
         ensures refused { OnErr result (self.new ≡ self.old) }
         ensures kept { (other : K) → K.eq other key ≡ false
