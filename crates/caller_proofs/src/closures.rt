@@ -1,6 +1,6 @@
 //! Calls with a closure that computes a test or a value, and stays as it was.
-ghost use Rattle.std.specs.Prelude.{◌≡◌, ◌↔◌, ◌/◌, ◌==◌, ◌||◌, ℕ, [], None, IsNone, not, nat_eq, nat_lt, Contains, filter, map, option_map, unwrap_or, IfOk, IfSome, OnOk};
-ghost use Rattle.std.specs.List.{range_with_len};
+ghost use Rattle.std.specs.Prelude.{◌≡◌, ◌↔◌, ◌/◌, ◌==◌, ◌||◌, ℕ, [], None, IsNone, not, nat_eq, nat_lt, true, Contains, filter, map, option_map, unwrap_or, IfOk, IfSome, OnOk};
+ghost use Rattle.std.specs.List.{All, range_with_len};
 ghost use Rattle.ix_tables.specs.Bounded.{with_items};
 ghost use Rattle.ix_vector.specs.VectorSteps.{vec_resize};
 ghost use Rattle.ix_slottable.specs.SlotTableState.{value_at};
@@ -43,6 +43,14 @@ pub fn static_without(vector: &mut StaticVec<u64, 8>, key: u64)
     ensures { vector.new ≡ filter (λ x. not (x == key)) vector.old }
 {
     vector.retain(|x| *x != key);
+}
+
+/// Drops the items of a fixed vector that equal `key`, so that each that is left is another.
+#[tactic(auto, using(std::proofs::lemmas::List::Elements::filter_passes))]
+pub fn keep_others(vector: &mut StaticVec<u64, 8>, key: u64)
+    ensures { All (λ x. not (x == key) ≡ true) vector.new }
+{
+    static_without(vector, key);
 }
 
 /// Drops the items of a fixed vector that equal `key`, so that it has none.

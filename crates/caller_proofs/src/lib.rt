@@ -5,6 +5,8 @@
 pub mod cells;
 /// Calls with a closure that computes a test or a value.
 pub mod closures;
+/// Calls with a condition.
+pub mod conditions;
 /// How many items a container holds, how many more fit, and the capacity of inline kinds.
 pub mod counts;
 /// The capacity of inline queues.
