@@ -1,5 +1,6 @@
-//! Tests of semantic strings beside their contracts: rows of commands under each kind of rules, every function once, how
-//! often a closure is called, how comparisons and hashes agree, the printed texts, and code over any rules.
+//! Tests of semantic strings beside their contracts: rows of commands under each kind of rules, every function once, how often a
+//! closure is called, how comparisons and hashes agree, and code that is generic over the rules. In unproved/, which no proof
+//! reads: printed strings, and bytes that are inserted.
 #![tactic(auto)]
 
 #[cfg(test)]
@@ -14,5 +15,3 @@ mod retain_tests;
 mod row_tests;
 #[cfg(test)]
 mod rows;
-#[cfg(test)]
-mod text_tests;

@@ -1,6 +1,6 @@
-//! Tests of options and of conversions to and from JSON beside their contracts: worked examples, each fault and their
-//! order, every function of options once, and the printed texts. In unproved/, which no proof reads: lists, queues and maps, long
-//! texts, numbers of further types, and the calls of closures, clones and drops.
+//! Tests of options and of conversions to and from JSON beside their contracts: worked examples, each error and their order, and
+//! every function of options once. In unproved/, which no proof reads: printed texts, lists, queues and maps, long strings, numbers
+//! of further types, and the calls of closures, clones and drops.
 #![tactic(auto)]
 
 #[cfg(test)]
@@ -11,7 +11,5 @@ mod object_tests;
 mod option_tests;
 #[cfg(test)]
 mod reading_tests;
-#[cfg(test)]
-mod text_tests;
 #[cfg(test)]
 mod writing_tests;

@@ -1,6 +1,6 @@
-//! Tests of strings beside their contracts: rows of commands at each kind and in each memory, every function once, the
-//! printed texts, how comparisons and hashes agree, and code over any string. In unproved/, which no proof reads: formatted
-//! text that is written, which bytes are removed, and how much memory is taken.
+//! Tests of strings beside their contracts: rows of commands at each kind and in each memory, every function once, how comparisons
+//! and hashes agree, and code over any string. In unproved/, which no proof reads: printed texts, formatted text that is written,
+//! bytes that are removed, and how much memory is allocated.
 #![tactic(auto)]
 
 #[cfg(test)]
@@ -13,5 +13,3 @@ mod order_tests;
 mod row_tests;
 #[cfg(test)]
 mod rows;
-#[cfg(test)]
-mod text_tests;
