@@ -1,11 +1,13 @@
-//! An example of each call and type of the library but for maps, as a user writes it: of vectors, strings, tables, queues, options,
-//! names, JSON, cells, commands and scripts. A line `Shows` above an example names what it shows as the reference does. Those here
-//! are proved too, since they call what has a condition and no other proved caller outside the library; those in `unproved/` are
-//! only run.
+//! An example of each method and type of the library except maps, as a user writes it: of vectors, strings, tables, queues,
+//! options, names, JSON, cells, commands and scripts. A line `Shows` above an example names what it shows as the reference does.
+//! The examples here are proved too, since they call what has a condition and no other proved caller outside the library. Those in
+//! `unproved/` are only run.
 #![tactic(auto)]
 
 #[cfg(test)]
 mod byte_cells;
+#[cfg(test)]
+mod lines;
 #[cfg(test)]
 mod options;
 #[cfg(test)]

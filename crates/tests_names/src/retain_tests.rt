@@ -1,4 +1,4 @@
-//! How often `retain` calls its closure, and at which bytes, whether the rules accept what is kept or not.
+//! How often `retain` (also named `remove_if`) calls its closure, and at which bytes, whether the rules accept what is kept or not.
 ghost use Rattle.std.specs.Prelude.{◌<◌};
 
 use crate::own_rules::{EvenLengthRules, NonEmptyRules};
@@ -9,8 +9,8 @@ use std::cell::Cell;
 use std::test::Fail;
 use test_support::Findings;
 
-/// A text, what the closure returns in the order of its calls, what `retain` returns, the bytes that are left, and the
-/// bytes at which the closure is called: three digits for each.
+/// A string, the results of the closure in the order of its calls, the result of `retain`, the bytes that are left, and the bytes
+/// at which the closure is called: three digits for each.
 type Row<'a> = (
     &'a str,
     &'a [bool],
@@ -21,7 +21,7 @@ type Row<'a> = (
 
 const INVALID: Result<(), SemanticStringError> = Err(SemanticStringError::InvalidContent);
 
-/// Of texts that may not be empty.
+/// Of strings that may not be empty.
 const TEXTS: &[Row] = &[
     ("abc", &[false, false, false], Ok(()), "abc", 99_098_097),
     ("abc", &[true, true, true], INVALID, "abc", 99_098_097),
@@ -40,7 +40,7 @@ const NAMES: &[Row] = &[
 /// The bytes of "abcd", from the last to the first.
 const ABCD: u64 = 100_099_098_097;
 
-/// Of texts of an even length.
+/// Of strings of an even length.
 const PAIRS: &[Row] = &[
     ("", &[], Ok(()), "", 0),
     ("abcd", &[true, false, true, false], Ok(()), "ac", ABCD),
@@ -74,5 +74,19 @@ fn once_a_byte_from_the_last_to_the_first() -> Result<(), Fail> {
     check_rows::<GroupNameRules, 31>(&findings, NAMES);
     check_rows::<EvenLengthRules, 4>(&findings, PAIRS);
     check_rows::<TrailingSlashRules, 255>(&findings, &PAIRS[..2]);
+    findings.verdict()
+}
+
+#[test]
+fn by_its_other_name() -> Result<(), Fail> {
+    let findings = Findings::new();
+    match Semantic::<GroupNameRules, 31>::new(b"a-c") {
+        Ok(mut name) => {
+            let removed = name.remove_if(|byte: u8| byte == b'-');
+            findings.expect_same(removed, Ok(()), "the result");
+            findings.expect_same(name.as_bytes(), b"ac".as_slice(), "the text");
+        }
+        Err(_) => findings.miss("a name"),
+    }
     findings.verdict()
 }
