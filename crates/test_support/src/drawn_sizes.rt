@@ -1,4 +1,4 @@
-//! Sizes of which no test knows a limit.
+//! Drawn sizes, which find a limit that code has and no test expects.
 use crate::Findings;
 
 /// The greatest size that is drawn.
@@ -7,14 +7,14 @@ const GREATEST: u64 = 100_000;
 /// A size above those that are drawn.
 const ABOVE: usize = 600_000;
 
-/// A size that is above most limits, for calls that do little for each item.
+/// A size that is above most limits, for calls that do little for each element.
 pub const LARGE: usize = 2_000_001;
 
-/// Calls `make` with sizes from 0 to 100,000, one drawn for each number of binary digits, and with 600,000, and notes the first size
-/// at which it returns `false`, and `name`.
+/// Calls `make` with sizes from 0 to 100,000, one drawn for each number of binary digits, and with 600,000. Notes the first size at
+/// which it returns `false`, and `name`.
 ///
-/// It is for calls that allocate, where there is memory for all sizes: a call that returns `AllocError` there has made up
-/// its want of memory.
+/// It is for calls that allocate, where there is memory for all sizes. A call that returns `AllocError` there reports a failure
+/// that did not happen.
 ///
 /// ```text
 /// check_drawn_sizes(&findings, "a queue", |n| Queue::<u64, _>::new(alloc, n).is_ok());
@@ -33,7 +33,8 @@ pub fn check_drawn_sizes<F: Fn(usize) -> bool>(findings: &Findings, name: &str, 
     findings.expect_at(make(ABOVE), ABOVE, name);
 }
 
-/// As [`check_drawn_sizes`]. Besides notes each of `past_all`, sizes for which no memory is enough, at which `make` returns `true`.
+/// Does the same as [`check_drawn_sizes`], and notes each size of `past_all` at which `make` returns `true`. No memory is enough
+/// for these sizes.
 pub fn check_capacities<F: Fn(usize) -> bool>(
     findings: &Findings,
     name: &str,
