@@ -1,5 +1,5 @@
-//! Kernels that measure the containers: each makes one, runs an operation `rounds` times and returns a checksum, so that a
-//! bench program can link them beside other libraries and compare both times and results.
+//! Kernels that measure the containers. Each kernel makes a container, runs an operation `rounds` times and returns a checksum. So
+//! a bench program can link them beside other libraries, and compare times and results.
 #![tactic(auto)]
 
 mod drawn_keys;
@@ -42,19 +42,19 @@ pub extern "C" fn ix_bench_overflow_heap(alloc: Global, rounds: u64, param: u64)
     queues::allocated_overflow(alloc, rounds, param as usize)
 }
 
-/// Push and pop of items of 256 bytes on a fixed queue of 16 that holds 5.
+/// Push and pop of elements of 256 bytes on a fixed queue of 16 that holds 5.
 #[unsafe(no_mangle)]
 pub extern "C" fn ix_bench_queue_big(rounds: u64, _param: u64) -> u64 {
     queues::fixed_large(rounds)
 }
 
-/// Push and pop of items of 256 bytes on an allocated queue of `param` that holds 5.
+/// Push and pop of elements of 256 bytes on an allocated queue of `param` that holds 5.
 #[unsafe(no_mangle)]
 pub extern "C" fn ix_bench_queue_big_heap(alloc: Global, rounds: u64, param: u64) -> u64 {
     queues::allocated_large(alloc, rounds, param as usize)
 }
 
-/// Makes a fixed queue of 64, pushes an item and pops it.
+/// Makes a fixed queue of 64, pushes an element and pops it.
 #[unsafe(no_mangle)]
 pub extern "C" fn ix_bench_queue_new(rounds: u64, _param: u64) -> u64 {
     queues::made(rounds)
@@ -78,7 +78,7 @@ pub extern "C" fn ix_bench_slot_at(alloc: Global, rounds: u64, param: u64) -> u6
     slot_tables::at_any_key(alloc, rounds, param as usize)
 }
 
-/// Iterates an allocated slot table of `param`, of which every second key is held.
+/// Iterates over an allocated slot table of `param`. Every second key is held.
 #[unsafe(no_mangle)]
 pub extern "C" fn ix_bench_slot_iter(alloc: Global, rounds: u64, param: u64) -> u64 {
     slot_tables::walk(alloc, rounds, param as usize)
@@ -102,13 +102,13 @@ pub extern "C" fn ix_bench_slot_map_get(alloc: Global, rounds: u64, param: u64) 
     slot_maps::allocated_get(alloc, rounds, param as usize)
 }
 
-/// `insert_at` of a free place or `remove` of a held key, on an allocated slot map of `param`.
+/// `insert_at` of a free slot or `remove` of a held key, on an allocated slot map of `param`.
 #[unsafe(no_mangle)]
 pub extern "C" fn ix_bench_slot_map_at(alloc: Global, rounds: u64, param: u64) -> u64 {
     slot_maps::at_any_place(alloc, rounds, param as usize)
 }
 
-/// Iterates an allocated slot map of `param`, of which every second place has a value.
+/// Iterates over an allocated slot map of `param`. Every second slot has a value.
 #[unsafe(no_mangle)]
 pub extern "C" fn ix_bench_slot_map_iter(alloc: Global, rounds: u64, param: u64) -> u64 {
     slot_maps::walk(alloc, rounds, param as usize)
@@ -138,25 +138,25 @@ pub extern "C" fn ix_bench_flat_miss__front(alloc: Global, rounds: u64, param: u
     flat_maps::misses(alloc, rounds, param, Layout::Front)
 }
 
-/// Looks up a key of an allocated flat map of `param` and one, whose first place is free.
+/// Looks up a key of an allocated flat map of `param` and one, whose first slot is free.
 #[unsafe(no_mangle)]
 pub extern "C" fn ix_bench_flat_get__hole(alloc: Global, rounds: u64, param: u64) -> u64 {
     flat_maps::hits(alloc, rounds, param, Layout::Hole)
 }
 
-/// Looks up a key that is not there, in an allocated flat map of `param` and one, whose first place is free.
+/// Looks up a key that is not there, in an allocated flat map of `param` and one, whose first slot is free.
 #[unsafe(no_mangle)]
 pub extern "C" fn ix_bench_flat_miss__hole(alloc: Global, rounds: u64, param: u64) -> u64 {
     flat_maps::misses(alloc, rounds, param, Layout::Hole)
 }
 
-/// Looks up a key of an allocated flat map of twice `param`, of which every second place is free.
+/// Looks up a key of an allocated flat map of twice `param`. Every second slot is free.
 #[unsafe(no_mangle)]
 pub extern "C" fn ix_bench_flat_get__half(alloc: Global, rounds: u64, param: u64) -> u64 {
     flat_maps::hits(alloc, rounds, param, Layout::Half)
 }
 
-/// Looks up a key that is not there, in an allocated flat map of twice `param`, of which every second place is free.
+/// Looks up a key that is not there, in an allocated flat map of twice `param`. Every second slot is free.
 #[unsafe(no_mangle)]
 pub extern "C" fn ix_bench_flat_miss__half(alloc: Global, rounds: u64, param: u64) -> u64 {
     flat_maps::misses(alloc, rounds, param, Layout::Half)
@@ -258,7 +258,7 @@ pub extern "C" fn ix_bench_vec_extend(rounds: u64, _param: u64) -> u64 {
     vectors::extend_and_clear(rounds)
 }
 
-/// Makes a fixed vector of 64 and pushes an item.
+/// Makes a fixed vector of 64 and pushes an element.
 #[unsafe(no_mangle)]
 pub extern "C" fn ix_bench_vec_new(rounds: u64, _param: u64) -> u64 {
     vectors::made(rounds)

@@ -1,10 +1,12 @@
 //! Times a sequenced cell that some threads write while others read it.
 //!
 //! Its arguments are a word that it does not read, the size of the value in bytes (8, 64 or 256), the number of readers (1, 2 or
-//! 3), how often each writer tries to write, how many loads it makes after each try, and the number of writers (1, 2 or 3), which
-//! is 1 if it is not given. Writes numbers to standard output: the nanoseconds that all took, how often the readers tried to
-//! read, and how many tries returned a value; if the number of writers is given, then also how often the writers tried to write,
-//! and how many writes were finished.
+//! 3), how often each writer tries to write, how many loads it makes after each try, and the number of writers (1, 2 or 3). The
+//! number of writers is 1 if it is not given.
+//!
+//! Writes numbers to standard output: the nanoseconds that all took, how often the readers tried to read, and how many tries
+//! returned a value. If the number of writers is given, then also how often the writers tried to write, and how many writes were
+//! finished.
 #![tactic(auto)]
 
 mod workload;

@@ -13,7 +13,7 @@ type Writer<const SIZE: usize> = WriterSeat<[u8; SIZE]>;
 
 type Reader<const SIZE: usize> = ReaderSeat<[u8; SIZE]>;
 
-/// How many threads write, or how many read.
+/// The number of threads that write, or that read.
 #[derive(Clone, Copy)]
 pub enum Crew {
     One,
@@ -21,7 +21,7 @@ pub enum Crew {
     Three,
 }
 
-/// What writers did.
+/// The counts of writers.
 #[derive(Clone, Copy)]
 pub struct WriteCounts {
     pub tries: u64,
@@ -29,7 +29,7 @@ pub struct WriteCounts {
 }
 
 impl WriteCounts {
-    /// Returns what both did.
+    /// Returns the sums of both.
     fn add(self, other: WriteCounts) -> WriteCounts {
         WriteCounts {
             tries: self.tries.wrapping_add(other.tries),
@@ -38,7 +38,7 @@ impl WriteCounts {
     }
 }
 
-/// What readers did.
+/// The counts of readers.
 #[derive(Clone, Copy)]
 pub struct ReadCounts {
     pub tries: u64,
@@ -48,7 +48,7 @@ pub struct ReadCounts {
 }
 
 impl ReadCounts {
-    /// Returns what both did.
+    /// Returns the sums of both.
     fn add(self, other: ReadCounts) -> ReadCounts {
         ReadCounts {
             tries: self.tries.wrapping_add(other.tries),
@@ -58,8 +58,8 @@ impl ReadCounts {
     }
 }
 
-/// Who writes and reads, how often each writer tries to write, how many loads it makes after each try, and whether all writers
-/// are done.
+/// The numbers of writers and readers, how often each writer tries to write, how many loads it makes after each try, and whether
+/// all writers are done.
 #[derive(Drop)]
 pub struct Workload {
     writers: Crew,
@@ -346,7 +346,7 @@ impl Workload {
     }
 }
 
-/// Writes a new cell while it is read. Returns what the writers and the readers did.
+/// Writes a new cell while it is read. Returns the counts of the writers and the readers.
 pub fn run<const SIZE: usize, R: Threads + Sync>(
     rt: &R,
     alloc: Global,

@@ -1,8 +1,8 @@
 //! Runs a script of container commands: reads commands from standard input, one a line, and writes one line of reply to
 //! each to standard output.
 //!
-//! Ends with status 0. After a read or a write fault, ends with status 1, and with status 2 if there is no memory for the
-//! container; then a line on standard error names the fault.
+//! Ends with status 0. After a read or a write error, ends with status 1, and with status 2 if the allocation of the container
+//! fails. Then a line on standard error names the error.
 #![tactic(auto)]
 
 use ix_run::{exit_status, fault_line, script};

@@ -1,4 +1,4 @@
-//! Structs in cells, and what holds of all values of a cell.
+//! Structs in cells, and properties of all values of a cell.
 ghost use Rattle.std.specs.Prelude.{◌≡◌, ◌≤◌, Some, IfSome, IfOk};
 ghost use Rattle.ix_atomic.specs.Writers.{Writes};
 ghost use Rattle.ix_atomic.specs.laws.HistoryLaws.{Knows};
@@ -129,7 +129,7 @@ impl AtomicFields for Settings {
     ghost one_value = { Prim.search rules };
 }
 
-/// How many bytes settings take in a cell.
+/// The number of bytes of settings in a cell.
 pub const SETTINGS_SIZE: usize = u64::SIZE + u64::SIZE + (u32::SIZE + u8::SIZE + bool::SIZE);
 
 /// Settings that threads share.
@@ -236,7 +236,7 @@ impl AtomicFields for Pose {
     ghost one_value = { Prim.search rules };
 }
 
-/// Settings whose `low` is not above their `high`: a rule beside a type that knows nothing of it.
+/// Settings whose `low` is not above their `high`: a rule beside a type that does not state it.
 #[derive(Clone, Copy)]
 pub struct InOrder;
 
@@ -297,7 +297,7 @@ pub fn ordered_width(cell: &OrderedCell, reader: &mut ReaderSeat<Ordered>) -> Op
     }
 }
 
-/// Reads the limit, and keeps the one that was read last if a write interferes: that one is of a known version still.
+/// Reads the limit, or keeps the one that was read last if a write interferes. The kept limit is still of a known version.
 #[tactic(auto, using(ix_atomic::specs::laws::HistoryLaws::latest_known))]
 pub fn read_or_keep(
     cell: &SequencedByteAtomic<u64, 8>,

@@ -17,35 +17,35 @@ use ix_string::String;
 use ix_vector::{PolymorphicVec, StaticVec, Vector, VectorModificationError};
 use std::alloc::{AllocError, Allocator};
 
-/// Drops the items of a queue that equal `key`.
+/// Drops the elements of a queue that equal `key`.
 pub fn without(queue: &mut FixedSizeQueue<u64, 8>, key: u64)
     ensures { queue.new ≡ with_items queue.old (filter (λ x. not (x == key)) queue.old.items) }
 {
     queue.retain(|x| *x != key);
 }
 
-/// Drops the items of a queue that equal one of two.
+/// Drops the elements of a queue that equal one of two.
 pub fn without_two(queue: &mut FixedSizeQueue<u64, 8>, key: u64, other: u64)
     ensures { queue.new.items ≡ filter (λ x. not (x == key || x == other)) queue.old.items }
 {
     queue.retain(|x| *x != key && *x != other);
 }
 
-/// Halves each item of a queue.
+/// Halves each element of a queue.
 pub fn halve(queue: &mut FixedSizeQueue<u64, 8>)
     ensures { queue.new.items ≡ map (λ x. x / 2) queue.old.items }
 {
     queue.for_each_mut(|x| *x /= 2);
 }
 
-/// Drops the items of a fixed vector that equal `key`.
+/// Drops the elements of a fixed vector that equal `key`.
 pub fn static_without(vector: &mut StaticVec<u64, 8>, key: u64)
     ensures { vector.new ≡ filter (λ x. not (x == key)) vector.old }
 {
     vector.retain(|x| *x != key);
 }
 
-/// Drops the items of a fixed vector that equal `key`, so that each that is left is another.
+/// Drops the elements of a fixed vector that equal `key`, so that each that is left is another.
 #[tactic(auto, using(std::proofs::lemmas::List::Elements::filter_passes))]
 pub fn keep_others(vector: &mut StaticVec<u64, 8>, key: u64)
     ensures { All (λ x. not (x == key) ≡ true) vector.new }
@@ -53,14 +53,14 @@ pub fn keep_others(vector: &mut StaticVec<u64, 8>, key: u64)
     static_without(vector, key);
 }
 
-/// Drops the items of a fixed vector that equal `key`, so that it has none.
+/// Drops the elements of a fixed vector that equal `key`, so that it has none.
 pub fn forget(vector: &mut StaticVec<u64, 8>, key: u64)
     ensures { ¬ (Contains vector.new key) }
 {
     static_without(vector, key);
 }
 
-/// Drops the items of a vector of any kind that are less than `least`.
+/// Drops the elements of a vector of any kind that are less than `least`.
 pub fn drop_below<V: Vector<u64>>(vector: &mut V, least: u64)
     ensures { (V.bounded vector.new).items
         ≡ filter (λ x. not (nat_lt x least)) (V.bounded vector.old).items }
@@ -68,7 +68,7 @@ pub fn drop_below<V: Vector<u64>>(vector: &mut V, least: u64)
     vector.retain(|x| *x >= least);
 }
 
-/// Resizes a vector with copies of an item.
+/// Resizes a vector with copies of an element.
 pub fn resize_with_copies<V: Vector<u64>>(
     vector: &mut V,
     n: usize,

@@ -1,4 +1,4 @@
-//! Calls with a condition: copies in memory of an allocator, of containers whose items clone to equal ones, and places in range.
+//! Calls with a condition: copies, in memory of an allocator, of containers whose elements clone to equal ones; and keys in range.
 ghost use Rattle.std.specs.Prelude.{◌≡◌, ◌<◌, length, Some, IfOk, slice_get};
 ghost use Rattle.ix_slottable.specs.SlotTableState.{IsKey};
 
@@ -39,7 +39,7 @@ pub fn flat_map_copy<A: Allocator + Copy>(
     map.try_clone_in(alloc)
 }
 
-/// Returns the oldest item of a queue that has one.
+/// Returns the oldest element of a queue that has one.
 pub fn oldest(queue: &FixedSizeQueue<u64, 8>) -> u64
     requires { 0 < length queue.now.items }
     ensures { slice_get queue.now.items 0 ≡ Some result }

@@ -1,5 +1,5 @@
-//! How many items a container holds, how many more fit, and the capacity of inline kinds. Each function is proved from what
-//! the calls in it promise.
+//! The number of elements of a container, how many more fit, and the capacity of inline kinds. Each function is proved from the
+//! contracts of its calls.
 ghost use Rattle.std.specs.Prelude.{◌≡◌, ◌+◌, ◌-◌, ◌<◌, ◌≤◌, length, IsTrue, IsSome, IsOk};
 ghost use Rattle.ix_tables.specs.Bounded.{IsWithin};
 ghost use Rattle.ix_slottable.specs.SlotTableState.{held_count, IsHeld, IsFree};

@@ -18,7 +18,7 @@ pub fn has_three(table: &FixedSizeSlotTable<u64, 3>) -> bool
     table.is_full()
 }
 
-/// Whether a slot table finds a value, it has three keys.
+/// A slot table has three keys, whether it finds a value or not.
 pub fn finds(table: &FixedSizeSlotTable<u64, 3>, key: SlotTableKey) -> bool
     ensures { length table.now.values ≡ 3 }
 {
@@ -37,7 +37,7 @@ pub fn insert_leaves_others(
     table.insert(value)
 }
 
-/// A slot map of three has three places.
+/// A slot map of three has three slots.
 pub fn is_free(map: &FixedSizeSlotMap<u64, 3>) -> bool
     ensures { length map.now.slots.values ≡ 3 }
 {
@@ -51,7 +51,7 @@ pub fn has_eight(map: &FixedSizeFlatMap<u64, u64, 8>) -> bool
     map.is_full()
 }
 
-/// A hash map of eight has eight places, whether it has the key or not.
+/// A hash map of eight has eight slots, whether it has the key or not.
 pub fn has_key(map: &FixedSizeHashMap<u64, u64, 8>, key: u64) -> bool
     ensures { length map.now.values ≡ 8 }
 {
@@ -72,7 +72,7 @@ pub fn map_without_keys(alloc: Global, capacity: usize) -> Result<HashMap<u64, u
     HashMap::new(alloc, capacity)
 }
 
-/// A hash map that is made in two steps: the error of the second is an `AllocError` by `?`.
+/// A hash map that is initialised in two phases: the error of the second is an `AllocError` by `?`.
 pub fn made_in_two_steps(alloc: Global, capacity: usize) -> Result<HashMap<u64, u64>, AllocError>
     ensures { IfOk result (λ map. map ≡ slot_table_new capacity) }
 {

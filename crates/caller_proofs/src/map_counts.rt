@@ -1,4 +1,4 @@
-//! How many keys a map holds, and how many more fit.
+//! The number of keys of a map, and how many more fit.
 ghost use Rattle.std.specs.Prelude.{◌≡◌, ◌+◌, ◌≤◌, nat_eq, length, IsTrue, IsSome, IsOk, None};
 ghost use Rattle.ix_slottable.specs.SlotTableState.{held_count};
 ghost use Rattle.ix_flatmap.specs.MapState.{map_value};

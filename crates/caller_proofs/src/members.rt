@@ -1,4 +1,4 @@
-//! What a queue has.
+//! The elements of a queue.
 ghost use Rattle.std.specs.Prelude.{◌↔◌, IsTrue};
 ghost use Rattle.std.specs.List.{Contains};
 

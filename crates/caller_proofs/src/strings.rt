@@ -1,5 +1,5 @@
-//! Strings: how many bytes there are at most, by a call that lends them, and bytes that are removed. Each function is proved from
-//! what the call in it promises.
+//! Strings: the maximum number of bytes, by a call that lends them, and bytes that are removed. Each function is proved from the
+//! contract of its call.
 ghost use Rattle.std.specs.Prelude.{◌≡◌, ◌≤◌, ◌==◌, filter, length, not};
 
 use ix_string::{PolymorphicString, StaticString, String};

@@ -1,5 +1,5 @@
-//! Vectors: items that are changed in their places, and how many items there are at most. Each function is proved from what the
-//! calls in it promise, the loops with an invariant.
+//! Vectors: elements that are changed in place, and the maximum number of elements. Each function is proved from the contracts of
+//! its calls, the loops with an invariant.
 ghost use Rattle.std.specs.Prelude.{◌≡◌, ◌-◌, ◌<◌, ◌≤◌, ◌↔◌, [], IsTrue, length, slice_get, slice_set};
 ghost use Rattle.std.specs.Bool.{OnFalse};
 ghost use Rattle.ix_tables.specs.Bounded.{with_items};
@@ -8,7 +8,7 @@ use ix_vector::{PolymorphicVec, StaticVec, Vector};
 
 type Samples = StaticVec<u32, 4>;
 
-// How many items there are at most, by a call that lends them.
+// The maximum number of elements, by a call that lends them.
 
 pub fn slice_len(samples: &Samples) -> usize
     ensures { result ≤ 4 }
@@ -81,7 +81,7 @@ pub fn remove_len(samples: &mut Samples, index: usize) -> Option<u32>
     samples.remove(index)
 }
 
-// Items by their indexes, and items that are changed in their places.
+// Elements by their indexes, and elements that are changed in place.
 
 pub fn replace(samples: &mut Samples, index: usize, sample: u32) -> bool
     ensures value { IsTrue result ↔ (index < length samples.old) }

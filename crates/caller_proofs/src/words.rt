@@ -29,14 +29,14 @@ pub fn handle_of(handles: &Handles, name: &StaticString<32>) -> Option<SlotMapKe
     handles.get_ref(name).copied()
 }
 
-/// Does what [`handle_of`] does, for a text of any length.
+/// Does the same as [`handle_of`], for a string of any length.
 pub fn handle_named(handles: &Handles, name: &str) -> Option<SlotMapKey>
     ensures { result ≡ map_value text_eq handles.now name.now }
 {
     handles.get_str(name).copied()
 }
 
-/// Does what [`handle_named`] does, of a hash map.
+/// Does the same as [`handle_named`], for a hash map.
 pub fn hashed_handle_named(
     handles: &FixedSizeHashMap<StaticString<32>, SlotMapKey, 8>,
     name: &str,

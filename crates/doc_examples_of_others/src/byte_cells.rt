@@ -1,4 +1,4 @@
-//! An example of each call of a byte-wise atomic cell, of encodings, and of the words that bytes make.
+//! An example of each method of a byte-wise atomic cell, of encodings, and of the words that bytes make.
 use ix_atomic::{
     AtomicCopy, FixedSizeByteAtomic, MaybeTorn, RelocatableByteAtomic, UninitByteAtomic,
     decode_array, decode_pair, decode_triple, encode_array, encode_pair, encode_triple, pack_word,

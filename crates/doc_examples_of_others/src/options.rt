@@ -1,4 +1,4 @@
-//! An example of each call of an option.
+//! An example of each method of an option.
 use ix_names::RelocatableOption;
 use std::test::Fail;
 

@@ -1,4 +1,5 @@
-//! An example of each call of a table, an array, a counted table or array, a row of places, and of what is made in two steps.
+//! An example of each method of a table, an array, a counted table or array, a row of slots, and of containers that are initialised
+//! in two phases.
 use ix_cells::{
     Array, ContainerFamily, Counted, FilledHeapTable, FilledInlineTable, HeapArray, HeapTable,
     InitError, InlineArray, InlineTable, MaybeMoved, MemorySize, PolymorphicVec, RawSlots,

@@ -8,6 +8,6 @@ use Rattle.ix_slottable.specs.KeyLists.{ListsEach}
 abbrev pub AreReady : SlotTableState ℕ → List ℕ → Type 0
 AreReady tasks ready = ListsEach nat_eq (λ left. 0 < left) (value_at tasks) ready
 
--- how many steps all of them have left
+-- the number of steps that all tasks have left
 abbrev pub steps_left : SlotTableState ℕ → ℕ
 steps_left tasks = sum_by (λ place. unwrap_or place 0) tasks.values

@@ -1,11 +1,11 @@
--- Names of units: which texts they are, and which mean the same.
+-- Names of units: the strings that are names, and the names that mean the same.
 use Rattle.std.specs.Prelude.{ℕ, ◌==◌, List, length, not}
 use Rattle.std.specs.Char.{is_ascii_alphanumeric}
 use Rattle.std.specs.List.{list_any}
 use Rattle.std.specs.Str.{str_to_ascii_lowercase}
 use Rattle.ix_names.specs.Rules.{TextRules}
 
--- letters and digits make names, none of which is empty, and names in two cases mean the same
+-- letters and digits make names, no name is empty, and names in two cases mean the same
 abbrev pub unit_name_rules : TextRules
 unit_name_rules = record {
   invalid_content = λ name. length name == 0;

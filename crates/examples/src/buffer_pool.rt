@@ -1,4 +1,5 @@
-//! A pool of buffers that are lent and given back. A handle that was given back is refused from then on.
+//! A pool of buffers that are lent and given back. After a buffer is given back, the methods return `None` or `false` for its
+//! handle.
 ghost use Rattle.std.specs.Prelude.{◌≡◌, ◌≢◌, ◌↔◌, ◌+◌, ◌<◌, ◌≤◌, ℕ, List, ◌++◌, false, [], None, Some, IsTrue, IsSome, IsNone, IfSome, length, option_map};
 ghost use Rattle.std.specs.Bool.{OnFalse};
 ghost use Rattle.ix_maps.specs.Generations.{SlotKey, greatest_generation, slot_map_value, slot_map_new, IsDead};
@@ -16,7 +17,7 @@ pub type Buffer = StaticVec<u8, 256>;
 pub struct BufferPool {
     /// The buffers that are lent, by their handles.
     pub lent: FixedSizeSlotMap<Buffer, 8>,
-    /// How many buffers may be lent still.
+    /// The number of buffers that may still be lent.
     pub free: usize,
     pub ghost counted: { free ≡ length lent.slots.free },
 }
@@ -51,7 +52,8 @@ impl BufferPool {
         Some(handle)
     }
 
-    /// Appends `bytes` to a buffer that is lent. Returns `false` if the handle is not, or if there is no room for all of them.
+    /// Appends `bytes` to a buffer that is lent. Returns `false` if the handle is of no lent buffer, or if there is no room for all
+    /// of them.
     pub fn append(&mut self, handle: SlotMapKey, bytes: &[u8]) -> bool
         ensures appended { IsTrue result → slot_map_value self.new.lent handle
             ≡ option_map (λ buffer. buffer ++ bytes.now) (slot_map_value self.old.lent handle) }
@@ -71,8 +73,8 @@ impl BufferPool {
         }
     }
 
-    /// Gives a buffer back and returns what is in it, or `None` if the handle is not of a buffer that is lent. A handle that
-    /// found one is dead then. The buffer is free, unless its place has had all of its handles, 2³² of them.
+    /// Gives a buffer back and returns its bytes, or `None` if the handle is of no lent buffer. A handle that found a buffer is
+    /// dead then. The buffer is free, unless its slot has had all of its 2³² handles.
     pub fn give_back(&mut self, handle: SlotMapKey) -> Option<Buffer>
         ensures value { result ≡ slot_map_value self.old.lent handle }
         ensures killed { IsSome result → IsDead self.new.lent handle }

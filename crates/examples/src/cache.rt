@@ -14,7 +14,7 @@ pub type Values = FixedSizeHashMap<u64, u64, 64>;
 /// Keys, the one that was used least recently first.
 pub type Order = FixedSizeQueue<u64, 64>;
 
-/// Values and the order of their keys, which are in step: each key of the one is in the other once.
+/// Values and the order of their keys. They are in step: each key of one is in the other once.
 #[derive(Drop)]
 pub struct Cache {
     pub values: Values,
@@ -34,7 +34,7 @@ impl Cache {
         }
     }
 
-    /// Returns the value of a key, which is then the one that was used last; or `None` if the cache has no such key.
+    /// Returns the value of a key, or `None` if the cache has no such key. The key is then the one that was used last.
     pub fn get(&mut self, key: u64) -> Option<u64>
         ensures value { result ≡ map_value nat_eq self.old.values key }
         ensures values { self.new.values ≡ self.old.values }
@@ -46,8 +46,8 @@ impl Cache {
         Some(value)
     }
 
-    /// Sets the value of a key, which is then the one that was used last. If the key is new and there are 64 already, the one
-    /// that was used least recently goes: it is returned.
+    /// Sets the value of a key, which is then the one that was used last. If the key is new and there are 64 already, removes the
+    /// key that was used least recently, and returns it.
     pub fn put(&mut self, key: u64, value: u64) -> Option<u64>
         ensures holds { map_value nat_eq self.new.values key ≡ Some value }
         ensures kept { (other : ℕ) → other ≢ key → result ≢ Some other
@@ -120,7 +120,7 @@ fn touch(order: &mut Order, key: u64)
     let _ = order.push(key);
 }
 
-/// Removes the key that was used least recently and its value, and returns it, or `None` if there is none.
+/// Removes the key that was used least recently and its value, and returns the key, or `None` if there is none.
 fn evict(values: &mut Values, order: &mut Order) -> Option<u64>
     requires in_step { IsInStep nat_eq (map_value nat_eq values.old) (held_count values.old) order.old.items }
     ensures in_step { IsInStep nat_eq (map_value nat_eq values.new) (held_count values.new)

@@ -12,7 +12,7 @@ use std::alloc::Allocator;
 /// The names of groups by their numbers. `Groups::new(alloc, 3)?` allocates room for 3 of them.
 pub type Groups<A> = FlatMap<u8, GroupName, A>;
 
-/// Registers a group. Returns an error that prints as the first refusal does: that of the name, or of the map.
+/// Registers a group. Returns an error that prints as the first error does: that of the name, or that of the map.
 pub fn register<A: Allocator>(
     groups: &mut Groups<A>,
     number: u8,
@@ -30,7 +30,7 @@ pub fn register<A: Allocator>(
     Ok(())
 }
 
-/// Withdraws a group and returns its name, or `None` if there is no such group. The next group gets its place in the map.
+/// Withdraws a group and returns its name, or `None` if there is no such group. The next group gets its slot in the map.
 pub fn withdraw<A: Allocator>(groups: &mut Groups<A>, number: u8) -> Option<GroupName>
     ensures value { result ≡ map_value nat_eq groups.old number }
     ensures gone { map_value nat_eq groups.new number ≡ None }

@@ -16,7 +16,7 @@ pub fn stored_inline<A: Allocator>(
     StaticVec::try_from_iter(samples.iter().copied())
 }
 
-/// Appends all items of `more`. Returns an error if there is no room for all of them, and appends none then.
+/// Appends all elements of `more`. Returns an error if there is no room for all of them, and appends none then.
 pub fn append<V: Vector<u64>>(
     vector: &mut V,
     more: StaticVec<u64, 4>,

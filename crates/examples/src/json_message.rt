@@ -12,8 +12,7 @@ use std::alloc::Global;
 /// At most 8 samples of a sensor, or `None` if the sensor is off.
 pub type Samples = RelocatableOption<StaticVec<i64, 8>>;
 
-/// Converts to JSON: a list of numbers, or null. The same samples are read from it. Returns an error only if there is not enough
-/// memory.
+/// Converts to JSON: an array of numbers, or null. The same samples are read from it. Returns an error only if an allocation fails.
 pub fn to_json(samples: &Samples, alloc: Global) -> Result<Value, JsonFault>
     ensures value { IfOk result (λ value.
         option_read (list_read 8 i64_read) (view value) ≡ Ok samples.now) }
@@ -29,7 +28,7 @@ pub fn from_json(value: &Value) -> Result<Samples, JsonFault>
     Samples::from_value(value)
 }
 
-/// Sends the samples as JSON, and returns what is received. Returns an error only if there is not enough memory.
+/// Sends the samples as JSON, and returns the samples that are received. Returns an error only if an allocation fails.
 pub fn send(samples: &Samples, alloc: Global) -> Result<Samples, JsonFault>
     ensures received { IfOk result (λ received. received ≡ samples.now) }
     ensures fault { IfErr result (λ fault. fault ≡ OutOfMemory) }

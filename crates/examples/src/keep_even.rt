@@ -1,4 +1,4 @@
-//! A loop that removes items from a vector of any kind.
+//! A loop that removes elements from a vector of any kind.
 ghost use Rattle.std.specs.Prelude.{◌≡◌, ◌%◌, All};
 
 use ix_vector::Vector;

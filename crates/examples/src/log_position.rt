@@ -1,4 +1,4 @@
-//! Positions of a log that two threads publish, neither of which waits for the other.
+//! Positions of a log that two threads publish. Neither thread waits for the other.
 ghost use Rattle.std.specs.Prelude.{◌≡◌, ◌⊎◌, ◌++◌, ◌∷◌, ℕ, [], List, Some, IfOk, IfErr};
 ghost use Rattle.std.specs.List.{Contains};
 ghost use Rattle.ix_atomic.specs.History.{history_value};
@@ -8,8 +8,8 @@ ghost use Rattle.ix_atomic.specs.Written.{HasWritten, StandAt};
 
 use ix_atomic::{SequencedByteAtomic, TryWriteError, WriterSeat};
 
-/// The last position. `Position::new(alloc, 0)?` is one, with a writer's seat and a reader's; `position.writer(alloc, &mut seat)?`
-/// is a seat for another thread.
+/// The last position. `Position::new(alloc, 0)?` is a cell, a writer's seat and a reader's. `position.writer(alloc, &mut seat)?` is
+/// a seat for another thread.
 pub type Position = SequencedByteAtomic<u64, 8>;
 
 /// Publishes a position, unless another thread is publishing one right now.
@@ -34,9 +34,9 @@ pub fn publish(
     position.try_write(seat, value)
 }
 
-/// Takes back the seat of another thread. What was published with either seat stands in one history, each position once and in
-/// its order. If no other thread has a seat, nothing else stands there but the first position: what holds of that and of each
-/// published one holds of all that any reader read.
+/// Takes back the seat of another thread. All positions that were published with either seat are in one history, each once and in
+/// its order. If no other thread has a seat, the history has nothing else but the first position. Then a statement that holds of
+/// the first and of each published position holds of all positions that any reader read.
 pub fn take_back(position: &Position, seat: &mut WriterSeat<u64>, other: WriterSeat<u64>)
     requires seat { (seat.old.cell ≡ position.now) × AreOwn seat.old }
     requires other { (other.cell ≡ position.now) × AreOwn other }

@@ -13,7 +13,7 @@ pub struct Message {
     pub values: StaticVec<u64, 8>,
 }
 
-/// Why no message is made.
+/// The error of making a message.
 #[derive(Clone, Copy, PartialEq, Eq, Debug)]
 pub enum MessageError {
     Topic,

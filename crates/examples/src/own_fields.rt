@@ -1,9 +1,9 @@
-//! Structs of one's own in cells: one of plain fields, and one whose ghost field holds of all that is read.
+//! Structs of your own in cells: one of plain fields, and one whose ghost field holds of each value that is read.
 ghost use Rattle.std.specs.Prelude.{◌≡◌, ◌≤◌, Some};
 
 use ix_atomic::{AtomicCopy, AtomicFields, Fields, SequencedByteAtomic};
 
-/// Where something was, and when.
+/// A position, and a time.
 #[derive(Clone, Copy, PartialEq, Eq, Debug)]
 pub struct Pose {
     pub x: u32,
@@ -30,7 +30,7 @@ impl AtomicFields for Pose {
     ghost one_value = { Prim.search rules };
 }
 
-/// How many bytes a pose takes in a cell: the sizes of its fields together.
+/// The number of bytes of a pose in a cell: the sum of the sizes of its fields.
 pub const POSE_SIZE: usize = u32::SIZE + u32::SIZE + u64::SIZE;
 
 /// A pose that threads share. `PoseCell::new(alloc, Fields(pose))?` is a cell, a writer's seat and a reader's.
@@ -81,7 +81,7 @@ impl AtomicFields for Range {
     } };
 }
 
-/// How many bytes a range takes in a cell.
+/// The number of bytes of a range in a cell.
 pub const RANGE_SIZE: usize = u64::SIZE + u64::SIZE;
 
 /// Encodes a range and decodes it again, as a cell does.

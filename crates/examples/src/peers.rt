@@ -13,7 +13,7 @@ use ix_string::StaticString;
 /// The name of a peer.
 pub type Name = StaticString<32>;
 
-/// What is known of a peer.
+/// The data of a peer.
 #[derive(Clone, Copy, PartialEq, Eq, Debug)]
 pub struct Peer {
     pub name: Name,

@@ -6,7 +6,7 @@ use ix_cells::{InitError, RelocatableContainer};
 use ix_maps::{FixedSizeQueue, Queue, RelocatableQueue, UninitQueue};
 use std::alloc::{AllocError, Allocator};
 
-/// A fixed queue is stored inline. Returns the item that an overflow removed, and the queue.
+/// Returns the element that an overflow removed, and the queue. A fixed queue is stored inline.
 pub fn fixed() -> (Option<u64>, FixedSizeQueue<u64, 2>)
     ensures overflow { result.0 ≡ Some 1 }
     ensures queue { result.1.items ≡ 2 ∷ 3 ∷ [] }
@@ -19,7 +19,7 @@ pub fn fixed() -> (Option<u64>, FixedSizeQueue<u64, 2>)
     (oldest, queue)
 }
 
-/// An allocated queue allocates when it is made, and never after. Returns a queue of the items of `items`.
+/// Returns a queue of the elements of `items`. An allocated queue allocates when it is made, and never after.
 pub fn allocated<A: Allocator>(alloc: A, items: &[u64]) -> Result<Queue<u64, A>, AllocError>
     ensures queue { IfOk result (λ queue. queue.items ≡ items.now) }
     ensures capacity { IfOk result (λ queue. queue.capacity ≡ length items.now) }
@@ -31,7 +31,7 @@ pub fn allocated<A: Allocator>(alloc: A, items: &[u64]) -> Result<Queue<u64, A>,
     Ok(queue)
 }
 
-/// A queue that is not full takes one more item. Appends `item` if there is room, and returns whether there was.
+/// Appends `item` if there is room, and returns whether there was. A queue that is not full has room for one more element.
 pub fn append_if_room<A: Allocator>(queue: &mut Queue<u64, A>, item: u64) -> bool
     ensures value { IsTrue result ↔ length queue.old.items < queue.old.capacity }
     ensures queue { queue.new ≡ bounded_push queue.old item }
@@ -44,8 +44,8 @@ pub fn append_if_room<A: Allocator>(queue: &mut Queue<u64, A>, item: u64) -> boo
     true
 }
 
-/// A relocatable queue has a capacity first, and memory later. Returns an empty queue in memory of `first`, or of
-/// `second` if the first one refuses.
+/// Returns an empty queue in memory of `first`, or of `second` if the allocation from `first` fails. A relocatable queue is
+/// initialised in two phases: it has a capacity first, and memory later.
 pub fn relocatable<A: Allocator>(
     first: A,
     second: A,

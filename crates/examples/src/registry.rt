@@ -17,7 +17,7 @@ pub struct Service {
 /// At most 64 services. `Registry::new()` is empty.
 pub type Registry = FixedSizeSlotMap<Service, 64>;
 
-/// Registers a service and returns its handle, or `None` if the registry is full, which is unchanged then.
+/// Registers a service and returns its handle, or `None` if the registry is full. Then the registry is unchanged.
 pub fn register(registry: &mut Registry, service: Service) -> Option<SlotMapKey>
     ensures found { IfSome result (λ handle. slot_map_value registry.new handle ≡ Some service) }
     ensures kept { (other : SlotKey) → IsSome (slot_map_value registry.old other)
@@ -52,7 +52,7 @@ pub fn unregister(registry: &mut Registry, handle: SlotMapKey) -> Option<Service
 }
 
 /// Removes the service with this handle, and registers others, as many as there is room for. If the handle found a service, it
-/// finds none of them, whichever places they get.
+/// finds none of the others, whichever slots they get.
 pub fn hand_over(registry: &mut Registry, handle: SlotMapKey, services: &[Service])
     ensures dead { IsSome (slot_map_value registry.old handle) → slot_map_value registry.new handle ≡ None }
     ensures registry { registry.new

@@ -12,7 +12,7 @@ use ix_atomic::{ReaderSeat, WriterSeat};
 use std::alloc::Global;
 
 /// Raises the limit from `last` to `value`, unless that is less, another thread sets it right now, or no version is left. Returns
-/// whether it did, and then `last` is `value`.
+/// whether it did. If it did, `last` is `value`.
 pub fn raise_limit(limit: &Limit, writer: &mut WriterSeat<u64>, last: &mut u64, value: u64) -> bool
     requires { writer.old.cell ≡ limit.now }
     ensures cell { writer.new.cell ≡ writer.old.cell }
@@ -39,8 +39,8 @@ pub fn raise_limit(limit: &Limit, writer: &mut WriterSeat<u64>, last: &mut u64, 
     }
 }
 
-/// Takes back the seat of a reader. Returns whether the limit was set `raises` times in all: if each was with this writer's seat,
-/// the reader never read a lower limit after a higher one.
+/// Takes back the seat of a reader. Returns whether the limit was set `raises` times in all. If each time was with this writer's
+/// seat, the reader never read a lower limit after a higher one.
 pub fn take_back(
     limit: &Limit,
     alloc: Global,

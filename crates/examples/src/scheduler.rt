@@ -13,7 +13,7 @@ pub type Tasks = FixedSizeSlotTable<u32, 16>;
 /// The keys of tasks, the one whose turn is next first.
 pub type Ready = FixedSizeQueue<SlotTableKey, 16>;
 
-/// Tasks, and those that are ready. Each task with steps left is.
+/// Tasks, and those that are ready. Each task with steps left is ready.
 #[derive(Drop)]
 pub struct Scheduler {
     pub tasks: Tasks,
@@ -51,7 +51,7 @@ impl Scheduler {
         Some(key)
     }
 
-    /// Makes a step of each task in turn until all of them are done: all tasks that there were are there, with no step left.
+    /// Makes a step of each task in turn until all of them are done. All tasks are still there then, with no step left.
     pub fn run(&mut self)
         ensures done { (key : ℕ) → IsHeld self.old.tasks key → value_at self.new.tasks key ≡ Some 0 }
         ensures free { self.new.tasks.free ≡ self.old.tasks.free }

@@ -7,8 +7,8 @@ ghost use Rattle.ix_run.specs.declared.run.devices.fault.ScriptFault.TheVariants
 use ix_run::{ScriptFault, script};
 use std::alloc::Global;
 
-/// Appends the replies to a script to `output`, one line for each of its lines. After a fault they are a first part of
-/// the replies; without memory for the container they are those before `ready`.
+/// Appends the replies to a script to `output`, one line for each of its lines. After an error they are a first part of the
+/// replies. If the allocation of the container fails, they are those before `ready`.
 pub fn append_replies(alloc: Global, text: &[u8], output: &mut Vec<u8>) -> Result<(), ScriptFault>
     ensures ok { OnOk result (output.new.items ≡ output.old.items ++ replies_to text.now) }
     ensures err { OnErr result ((unread : List ℕ) × WritesPartOfReplies

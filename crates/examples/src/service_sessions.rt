@@ -5,7 +5,7 @@ ghost use Rattle.ix_maps.specs.Generations.{SlotKey, slot_map_value};
 
 use ix_maps::{SlotMap, SlotMapKey};
 
-/// A service, and how many sessions it may have.
+/// A service, and the number of sessions that it may have.
 #[derive(Clone, Copy, Drop)]
 pub struct Service {
     pub sessions: u8,
@@ -19,7 +19,7 @@ pub fn open_session(services: &mut SlotMap<Service>, key: SlotMapKey) -> Option<
         → slot_map_value services.new other ≡ slot_map_value services.old other }
 {
     let held = services.get_mut(key)?;
-    // A copy: its numbers have the range of their type, those behind the reference have none that is known.
+    // This is a copy: its numbers have the range of their type. The numbers behind the reference have no range that is known.
     let before = *held;
     if before.sessions < before.max_sessions {
         held.sessions = before.sessions + 1;
@@ -28,7 +28,7 @@ pub fn open_session(services: &mut SlotMap<Service>, key: SlotMapKey) -> Option<
     None
 }
 
-/// Does what [`open_session`] does for items that can't be copied, and returns `true` if it opened a session.
+/// Does the same as [`open_session`] for elements that can't be copied, and returns `true` if it opened a session.
 pub fn open_in_place(services: &mut SlotMap<Service>, key: SlotMapKey) -> bool {
     match services.get_mut(key) {
         Some(held) => raise(held),

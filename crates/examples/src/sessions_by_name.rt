@@ -8,7 +8,7 @@ ghost use Rattle.ix_maps.specs.declared.flatmap.MapError.TheVariants.{KeyAlready
 use ix_maps::{FixedSizeFlatMap, FixedSizeHashMap, KeyIndex, MapError, MetaMap, Pair, Storage};
 use std::hash::RandomState;
 
-/// What is known of a session.
+/// The data of a session.
 #[derive(Clone, Copy, PartialEq, Eq, Debug)]
 pub struct Seen {
     pub opened: u64,
@@ -23,9 +23,9 @@ pub type FewSessions<N> = FixedSizeFlatMap<N, Seen, 16>;
 
 /// At most 1,024 sessions. A look-up may compare the name with those in its bucket.
 ///
-/// Peers choose their names, so the hasher is std's `RandomState`, which draws a seed: a map is made by
-/// `ManySessions::with_hasher(RandomState::new(&rt)?)`. By a seed that is known, as that of the default hasher, a stranger finds 1,024
-/// names with one bucket, and a look-up may compare a name with all of them. No contract here depends on the hasher.
+/// Peers choose their names, so the hasher is std's `RandomState`, which draws a seed. A map is made by
+/// `ManySessions::with_hasher(RandomState::new(&rt)?)`. If the seed is known, as that of the default hasher, a stranger finds 1,024
+/// names with one bucket. Then a look-up may compare a name with all of them. No contract here depends on the hasher.
 pub type ManySessions<N> = FixedSizeHashMap<N, Seen, 1024, RandomState>;
 
 /// Opens the session of a peer at `time`. Returns an error if the peer has one, or if there is no room.
@@ -53,7 +53,7 @@ pub fn open<N: Eq + Drop, M: Storage<Pair<N, Seen>>, I: KeyIndex<N, Seen>>(
     )
 }
 
-/// Opens the session of a peer at `time` if it has none and there is room: a map that is not full takes a new key. Returns
+/// Opens the session of a peer at `time` if it has none and there is room. A map that is not full accepts a new key. Returns
 /// `false` otherwise.
 pub fn open_new<N: Eq + Drop, M: Storage<Pair<N, Seen>>, I: KeyIndex<N, Seen>>(
     sessions: &mut Sessions<N, M, I>,
@@ -98,7 +98,7 @@ pub fn note_heard<N: Eq + Drop, M: Storage<Pair<N, Seen>>, I: KeyIndex<N, Seen>>
     }
 }
 
-/// Closes the session of a peer and returns what was known of it, or `None` if it has none.
+/// Closes the session of a peer and returns its data, or `None` if the peer has no session.
 pub fn close<N: Eq + Drop, M: Storage<Pair<N, Seen>>, I: KeyIndex<N, Seen>>(
     sessions: &mut Sessions<N, M, I>,
     peer: &N,

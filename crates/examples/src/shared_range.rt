@@ -1,4 +1,4 @@
-//! A range that two threads set while two others read it, none of which waits. Each range that is read is in order.
+//! A range that two threads set while two others read it. No thread waits. Each range that is read is in order.
 ghost use Rattle.std.specs.Prelude.{◌≡◌, ◌≤◌, ◌++◌, ◌∷◌, [], length, true, false, IfOk, IfSome};
 ghost use Rattle.ix_atomic.specs.History.{Begins};
 ghost use Rattle.ix_atomic.specs.Shares.{IsWhole};
@@ -42,7 +42,7 @@ pub fn set_range(cell: &SharedRange, seat: &mut Writer, range: Range) -> bool
     }
 }
 
-/// Sets `rounds` ranges, as far as no other thread sets one.
+/// Tries to set `rounds` ranges.
 fn set_ranges(cell: &SharedRange, seat: &mut Writer, rounds: u64)
     requires { seat.old.cell ≡ cell.now }
     ensures cell { seat.new.cell ≡ seat.old.cell }
@@ -67,7 +67,7 @@ fn read_ranges(cell: &SharedRange, reader: &mut Reader, rounds: u64) -> Option<R
     latest
 }
 
-/// Two threads set ranges.
+/// Sets ranges in two threads.
 fn set_both<R: Threads>(
     rt: &R,
     cell: &SharedRange,
@@ -86,7 +86,7 @@ fn set_both<R: Threads>(
     );
 }
 
-/// Two threads read the range. Returns what each read last.
+/// Reads the range in two threads. Returns the range that each thread read last.
 fn read_both<R: Threads>(
     rt: &R,
     cell: &SharedRange,
@@ -104,7 +104,7 @@ fn read_both<R: Threads>(
     )
 }
 
-/// Two threads set ranges while two others read them. Returns what each of these read last.
+/// Sets ranges in two threads while two others read them. Returns the range that each reader read last.
 fn set_beside_reads<R: Threads + Sync>(
     rt: &R,
     cell: &SharedRange,
@@ -138,8 +138,8 @@ fn set_beside_reads<R: Threads + Sync>(
     latest
 }
 
-/// Takes back the seat of another thread. What was set with either seat stands in one history, each range once; if no other
-/// thread has a seat, nothing else stands there but the first range.
+/// Takes back the seat of another thread. All ranges that were set with either seat are in one history, each once. If no other
+/// thread has a seat, the history has nothing else but the first range.
 pub fn take_back(cell: &SharedRange, seat: &mut Writer, other: Writer)
     requires { (seat.old.cell ≡ cell.now) × (other.cell ≡ cell.now) }
     ensures cell { seat.new.cell ≡ seat.old.cell }
@@ -152,8 +152,8 @@ pub fn take_back(cell: &SharedRange, seat: &mut Writer, other: Writer)
     cell.merge(seat, other);
 }
 
-/// Sets ranges in two threads, one of which has a seat of its own, while two others read them. Returns what each of these read
-/// last. All that was ever set is known in the end, and all that was read is in order.
+/// Sets ranges in two threads while two others read them. One of the writing threads has its own seat. Returns the range that each
+/// reader read last. In the end, all ranges that were ever set are known, and all ranges that were read are in order.
 pub fn set_and_read<R: Threads + Sync>(
     rt: &R,
     alloc: Global,

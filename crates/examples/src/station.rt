@@ -1,4 +1,4 @@
-//! A struct of a program's own, which has one of each container but a hash map.
+//! A struct of a program, which has one of each container except a hash map.
 ghost use Rattle.std.specs.Prelude.{◌≡◌, IfOk};
 ghost use Rattle.ix_cells.specs.Bounded.{bounded_push, has_room};
 ghost use Rattle.ix_maps.specs.Generations.{slot_map_new};
@@ -11,7 +11,7 @@ use ix_names::{GroupName, RelocatableOption};
 use ix_string::StaticString;
 use std::alloc::{AllocError, Global};
 
-/// What a station knows.
+/// The data of a station.
 #[derive(Drop)]
 pub struct Station {
     pub name: GroupName,
@@ -58,7 +58,7 @@ pub fn empty_station(
     Ok((station, writer))
 }
 
-/// Moves a station to the others, unless there are four already: then it is dropped, with all that it has.
+/// Moves a station to the others. If there are four already, drops it, with all that it has.
 pub fn add_station(stations: &mut FixedSizeQueue<Station, 4>, station: Station) -> bool
     ensures added { result ≡ has_room stations.old }
     ensures stations { stations.new ≡ bounded_push stations.old station }

@@ -10,7 +10,7 @@ use ix_string::{
 };
 use std::alloc::{AllocError, Allocator};
 
-/// A fixed string is stored inline. It holds bytes from 1 to 127.
+/// Returns a fixed string, which is stored inline. It holds bytes from 1 to 127.
 pub fn fixed() -> Result<StaticString<8>, StringModificationError>
     ensures { result ≡ Ok (codes "hello") }
 {
@@ -20,8 +20,8 @@ pub fn fixed() -> Result<StaticString<8>, StringModificationError>
     Ok(string)
 }
 
-/// An allocated string allocates once, when it is made. Returns `folder`, a slash and `name`, or `None` if that is longer
-/// than 64 bytes or has a byte that is 0 or above 127.
+/// Returns `folder`, a slash and `name`, or `None` if that is longer than 64 bytes or has a byte that is 0 or above 127. An
+/// allocated string allocates once, when it is made.
 pub fn allocated<A: Allocator>(
     alloc: A,
     folder: &[u8],
@@ -42,8 +42,8 @@ pub fn allocated<A: Allocator>(
     Ok(Some(path))
 }
 
-/// A relocatable string has a capacity first, and memory later. Returns an empty string in memory of `first`, or of
-/// `second` if the first one refuses.
+/// Returns an empty string in memory of `first`, or of `second` if the allocation from `first` fails. A relocatable string is
+/// initialised in two phases: it has a capacity first, and memory later.
 pub fn relocatable<A: Allocator>(
     first: A,
     second: A,

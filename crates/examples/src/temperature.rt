@@ -1,4 +1,4 @@
-//! A type of one's own, in cells that threads share and in JSON.
+//! A type of your own, in cells that threads share and in JSON.
 ghost use Rattle.std.specs.Prelude.{◌≡◌, Some};
 
 use ix_atomic::AtomicCopy;
@@ -8,8 +8,8 @@ use std::alloc::Global;
 
 /// A temperature in thousandths of a kelvin.
 ///
-/// `FixedSizeByteAtomic::<Temperature, 8>::new(temperature)` and `SequencedByteAtomic::<Temperature, 8>::new(alloc, temperature)?`
-/// are a cell of it, and one with a writer's seat and a reader's.
+/// `FixedSizeByteAtomic::<Temperature, 8>::new(temperature)` is a cell of it.
+/// `SequencedByteAtomic::<Temperature, 8>::new(alloc, temperature)?` is a cell with a writer's seat and a reader's.
 #[derive(Clone, Copy, PartialEq, Eq, Debug)]
 pub struct Temperature {
     pub millikelvin: u64,

@@ -1,4 +1,4 @@
-//! Errors of three containers, which `?` passes on as one.
+//! Errors of three containers, which `?` returns as one.
 ghost use Rattle.std.specs.Prelude.{◌≡◌, nat_eq, IsOk, OnErr, IsSomeAnd};
 ghost use Rattle.ix_maps.specs.MapState.{map_value};
 
@@ -16,7 +16,7 @@ pub struct Service {
 /// At most 8 services, by their numbers. `Services::new()` is empty.
 pub type Services = FixedSizeFlatMap<u32, Service, 8>;
 
-/// Adds a service. Returns an error that prints as the first refusal does: that of the name, of the ports, or of the map.
+/// Adds a service. Returns an error that prints as the first error does: that of the name, of the ports, or of the map.
 pub fn add(
     services: &mut Services,
     number: u32,

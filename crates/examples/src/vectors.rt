@@ -9,7 +9,7 @@ use ix_cells::{
 };
 use std::alloc::{AllocError, Allocator};
 
-/// A fixed vector is stored inline.
+/// Returns a fixed vector, which is stored inline.
 pub fn fixed() -> Result<StaticVec<u64, 2>, VectorModificationError>
     ensures { result ≡ Ok (2 ∷ 1 ∷ []) }
 {
@@ -20,7 +20,7 @@ pub fn fixed() -> Result<StaticVec<u64, 2>, VectorModificationError>
     Ok(vector)
 }
 
-/// An allocated vector allocates once, when it is made. Returns the squares of the numbers below `n`.
+/// Returns the squares of the numbers below `n`. An allocated vector allocates once, when it is made.
 pub fn allocated<A: Allocator>(alloc: A, n: u32) -> Result<PolymorphicVec<u64, A>, AllocError>
     ensures { IfOk result (λ vector. vector.items ≡ map (λ i. i * i) (range_with_len 0 n)) }
 {
@@ -40,8 +40,8 @@ pub fn push_if_room<T: Drop, V: Vector<T>>(vector: &mut V, item: T)
     }
 }
 
-/// A relocatable vector has a capacity first, and memory later. Returns an empty vector in memory of `first`, or of
-/// `second` if the first one refuses.
+/// Returns an empty vector in memory of `first`, or of `second` if the allocation from `first` fails. A relocatable vector is
+/// initialised in two phases: it has a capacity first, and memory later.
 pub fn relocatable<A: Allocator>(
     first: A,
     second: A,

@@ -14,7 +14,8 @@ signed_encoding w z = to_le_bytes w (cast_unsigned w z)
 abbrev pub i64_encoding : ℤ → List ℕ
 i64_encoding z = signed_encoding w64 z
 
--- the bytes of two encodings, one behind the other: `usize::MAX`, which no slice has, if they are more than a `usize` can count
+-- the number of bytes of two encodings, one behind the other; `usize::MAX`, which is the length of no slice, if a `usize` cannot
+-- count them
 abbrev pub joint_size : ℕ → ℕ → ℕ
 joint_size m n = min (m + n) (2 ^ 64 - 1)
 

@@ -1,4 +1,5 @@
--- The history of a sequenced cell: its finished values in order, the opening one first. And what the holder of a seat knows of it.
+-- The history of a sequenced cell, and what the holder of a seat knows of it. The history is the list of finished values in order,
+-- the opening one first.
 use Rattle.std.specs.Prelude.{◌≡◌, ℕ, zero, suc, ◌+◌, ◌-◌, ◌*◌, ◌/◌, ◌%◌, ◌≤◌, List, [], ◌∷◌, ◌++◌, length, Option, slice_get, All, codes}
 use Rattle.atomic_table.specs.Seated.{TableId}
 use Rattle.ix_atomic.specs.Words.{word_count}
@@ -34,7 +35,7 @@ data_words (suc count) = data_words count ++ suc count ∷ []
 abbrev pub all_words : ℕ → List ℕ
 all_words size = 0 ∷ (data_words (word_count size) ++ 0 ∷ [])
 
--- a reader's seat: its cell, the beginning of the history that it knows, and the versions and the words that it has loaded, in order
+-- a reader's seat: its cell, the beginning of the history that it knows, and the versions and words that it has loaded, in order
 pub record Reader (T : Type 0) : Type 0 where
   pub cell : TableId
   pub known : List T

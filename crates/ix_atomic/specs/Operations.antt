@@ -66,7 +66,7 @@ pub record Lasts (first : List ℕ) (steps : List Step) (op index : ℕ) : Type 
 abbrev pub Overlap : List ℕ → List Step → ℕ → ℕ → Type 0
 Overlap first steps a b = (index : ℕ) × Lasts first steps a index × Lasts first steps b index
 
--- no write overlaps the operation, but the operation itself if it is a write
+-- no write overlaps the operation, except the operation itself if it is a write
 abbrev pub OverlapsNoWrite : List ℕ → List Step → ℕ → Type 0
 OverlapsNoWrite first steps op = (write : ℕ) → IsWrite first steps write → Overlap first steps write op → write ≡ op
 

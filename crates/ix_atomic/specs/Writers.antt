@@ -7,7 +7,8 @@ use Rattle.ix_atomic.specs.declared.sequenced.errors.TryWriteError.TheVariants.{
 use Rattle.ix_atomic.specs.Versions.{last_version, versions_used_up_text}
 use Rattle.ix_atomic.specs.History.{Begins, IsEven, IsOdd, Reader, Loads, LoadsTwice, version_of}
 
--- a writer's seat: as a reader's, the places in the history of the values that were written with it, and its share of the right to write
+-- a writer's seat: the fields of a reader's seat, the places in the history of the values that were written with it, and its share
+-- of the right to write
 pub record Writer (T : Type 0) : Type 0 where
   pub cell : TableId
   pub known : List T
@@ -27,7 +28,7 @@ IsRising places = AllPairs (λ earlier later. earlier < later) places
 abbrev pub AreOwn : {T : Type 0} → Writer T → Type 0
 AreOwn writer = IsRising writer.places × All (λ place. (0 < place) × (place < length writer.known)) writer.places
 
--- each place of a history of so many values is in the list, but the opening value's
+-- each place of a history of so many values is in the list, except the opening value's
 abbrev pub HoldsEach : ℕ → List ℕ → Type 0
 HoldsEach count places = (place : ℕ) → 0 < place → place < count → Contains places place
 
@@ -56,7 +57,8 @@ pub record Writes {T : Type 0} (before after : Writer T) (value : T) : Type 0 wh
   pub later : All (λ version. version ≤ version_of earlier) before.seen
   pub not_used_up : version_of earlier < last_version
 
--- A refused write has loaded an odd version; or an even one and then, when it tried to begin, a later one; or the last one.
+-- A write that returns an error has loaded an odd version; or an even one and then, when it tried to begin, a later one; or the
+-- last one.
 abbrev pub Refuses : {T : Type 0} → Writer T → Writer T → TryWriteError → Type 0
 Refuses before after (Busy loaded found) =
     (IsOdd loaded × (found ≡ loaded) × Loads (as_reader before) (as_reader after) loaded × (after.touched ≡ before.touched ++ 0 ∷ []))

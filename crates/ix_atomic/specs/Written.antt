@@ -1,4 +1,4 @@
--- What was written with a seat of a cell.
+-- The values that were written with a seat of a cell.
 use Rattle.std.specs.Prelude.{◌≡◌, ℕ, List, ◌∷◌, map, Some, slice_get}
 use Rattle.ix_atomic.specs.Writers.{Writer}
 

@@ -1,7 +1,7 @@
 //! Values with an encoding of a fixed number of bytes, and cells that store it byte by byte.
 //!
-//! [`FixedSizeByteAtomic`] is stored inline, [`RelocatableByteAtomic`] is made in two steps and allocates once.
-//! A struct is stored as its fields are: [`AtomicFields`], [`Fields`]. [`Ruled`] gives a rule to values of a type.
+//! [`FixedSizeByteAtomic`] is stored inline. [`RelocatableByteAtomic`] is initialised in two phases and allocates once. A struct is
+//! stored as its fields are, by [`AtomicFields`] and [`Fields`]. [`Ruled`] gives a rule to values of a type.
 //!
 //! [`pack_word`] makes one number of up to eight bytes, and [`unpack_word`] writes its bytes.
 

@@ -1,5 +1,5 @@
-//! Tables and arrays, what counts the calls on them, and containers that are made in two steps, as [`ix_tables::cells`] has
-//! them.
+//! Tables and arrays, the counter of the calls on them, and containers with two-phase initialisation, re-exported from
+//! [`ix_tables::cells`].
 
 #[doc(hidden)]
 pub mod counted {
@@ -43,7 +43,8 @@ pub mod relocatable_container {
 
 #[doc(hidden)]
 pub mod table {
-    /// [`ix_tables::cells::MAX_FIXED_CAPACITY`]. A clause cites a constant of the crate that it names.
+    /// The same as [`ix_tables::cells::MAX_FIXED_CAPACITY`]. It is defined here because a clause cites a constant of the crate that
+    /// it names.
     pub const MAX_FIXED_CAPACITY: usize = ix_tables::cells::MAX_FIXED_CAPACITY;
 
     pub use ix_tables::cells::Table;

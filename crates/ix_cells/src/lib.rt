@@ -1,6 +1,6 @@
 //! Storage with a capacity that is set when it is made: vectors, and the tables under queues and maps.
 //!
-//! Each lies in a crate of its own, [`ix_vector`] and [`ix_tables`], which this one passes on.
+//! Each is in its own crate, [`ix_vector`] and [`ix_tables`], which this crate re-exports.
 #![tactic(auto)]
 
 pub mod cells;

@@ -1,4 +1,4 @@
-//! Vectors, as [`ix_vector::vector`] has them.
+//! Vectors, re-exported from [`ix_vector::vector`].
 
 #[doc(hidden)]
 pub mod drain {

@@ -10,7 +10,7 @@ use Rattle.ix_commands.specs.declared.reply.ReplyError.{ReplyError}
 use Rattle.ix_commands.specs.declared.reply.ReplyError.TheVariants as error
 
 module _ {K X : Type 0} where
-  -- an optional item as a reply
+  -- an optional element as a reply
   abbrev pub option_reply : Option X → Reply K X
   option_reply None = reply.None
   option_reply (Some x) = reply.Value x
@@ -25,12 +25,12 @@ module _ {K X : Type 0} where
   entry_reply None = reply.None
   entry_reply (Some entry) = reply.Entry entry.0 entry.1
 
-  -- whether a change was made, or why it was refused
+  -- whether a change was made, or its error
   abbrev pub result_reply : {E : Type 0} → (E → ReplyError) → Result (Unit {0}) E → Reply K X
   result_reply named (Ok u) = reply.Done
   result_reply named (Err e) = reply.Error (named e)
 
--- the name of an error of a vector; without clones, memory is never lacking
+-- the name of an error of a vector; no allocation fails, because nothing is cloned
 abbrev pub vector_reply_error : VectorModificationError → ReplyError
 vector_reply_error vector_error.OutOfBounds = error.OutOfBounds
 vector_reply_error vector_error.InsertWouldExceedCapacity = error.InsertWouldExceedCapacity

@@ -16,19 +16,19 @@ module _ {X : Type 0} where
   abbrev pub slot_map_next : SlotMapState X → Option SlotKey
   slot_map_next s = option_map (key_at s) (slice_get s.slots.free 0)
 
-  -- the place is free
+  -- the slot is free
   abbrev pub is_free_place : SlotMapState X → ℕ → Bool
   is_free_place s place = nat_lt place (length s.slots.values) && not (is_some (value_at s.slots place))
 
-  -- the place holds a value, and its generation can be raised
+  -- the slot holds a value, and its generation can be raised
   abbrev pub is_replaceable : SlotMapState X → ℕ → Bool
   is_replaceable s place = is_some (place_value s place) && is_raisable s place
 
-  -- the value in the place: in a free one, or in place of another value if its generation can be raised
+  -- the value in the slot: in a free one, or in place of another value if its generation can be raised
   abbrev pub slot_map_insert_at : SlotMapState X → ℕ → X → SlotMapState X
   slot_map_insert_at s place x = if is_free_place s place then slot_map_fill s place x else if is_replaceable s place then slot_map_replace s place x else s
 
-  -- the key of the place then, if the value was inserted
+  -- the key of the slot then, if the value was inserted
   abbrev pub slot_map_insert_at_key : SlotMapState X → ℕ → X → Option SlotKey
   slot_map_insert_at_key s place x =
       if is_free_place s place then Some (key_at s place)

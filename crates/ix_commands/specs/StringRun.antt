@@ -23,11 +23,11 @@ string_reply_error string_error.InsertWouldExceedCapacity = error.InsertWouldExc
 abbrev pub match_indexes : List ℕ → List ℕ → List ℕ
 match_indexes text needle = filter (λ i. starts_with ◌==◌ (drop i text) needle) (range_with_len 0 (length text + 1))
 
--- the bytes removed from the start, if the text starts with them
+-- the bytes removed from the start, if the string starts with them
 abbrev pub string_strip_prefix : Bounded ℕ → List ℕ → Bounded ℕ
 string_strip_prefix text bytes = if starts_with ◌==◌ text.items bytes then text_remove_range text 0 (length bytes) else text
 
--- the bytes removed from the end, if the text ends with them
+-- the bytes removed from the end, if the string ends with them
 abbrev pub string_strip_suffix : Bounded ℕ → List ℕ → Bounded ℕ
 string_strip_suffix text bytes =
     if ends_with ◌==◌ text.items bytes then vec_truncate text (length text.items - length bytes) else text
@@ -42,7 +42,7 @@ string_insert_reply text i bytes =
     if nat_le i (length text.items) then result_reply string_reply_error (text_insert_result text bytes)
     else reply.Error error.IndexPastEnd
 
--- the text after an insertion at index i, which is refused past the end
+-- the string after an insertion at index i, which returns an error past the end
 abbrev pub string_insert_after : Bounded ℕ → ℕ → List ℕ → Bounded ℕ
 string_insert_after text i bytes = if nat_le i (length text.items) then text_insert text i bytes else text
 

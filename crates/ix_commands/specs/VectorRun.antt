@@ -10,7 +10,7 @@ use Rattle.ix_commands.specs.declared.reply.Reply.{Reply}
 use Rattle.ix_commands.specs.declared.reply.Reply.TheVariants as reply
 
 module _ {X : Type 0} where
-  -- n more items are refused if there is no room for all of them
+  -- n more elements are an error if there is no room for all of them
   abbrev pub vec_extend_result : Bounded X → ℕ → VecResult
   vec_extend_result vec n = if nat_le (length vec.items + n) vec.capacity then Ok tt else Err InsertWouldExceedCapacity
 

@@ -7,25 +7,25 @@ use std::alloc::AllocError;
 /// A command of a queue of `T`.
 #[derive(Copy, PartialEq, Eq, Debug)]
 pub enum QueueCommand<T> {
-    /// `push X`: appends the item, unless the queue is full.
+    /// `push X`: appends the element, unless the queue is full.
     Push(T),
-    /// `over X`: appends the item, after removing the oldest one if the queue is full; at capacity 0 it returns X.
+    /// `over X`: appends the element, after removing the oldest one if the queue is full; at capacity 0 it returns X.
     Over(T),
-    /// `pop`: removes the oldest item.
+    /// `pop`: removes the oldest element.
     Pop,
-    /// `peek`: reads the oldest item.
+    /// `peek`: reads the oldest element.
     Peek,
-    /// `set X`: overwrites the oldest item.
+    /// `set X`: overwrites the oldest element.
     Set(T),
-    /// `at I`: reads the item at index I, counted from the oldest.
+    /// `at I`: reads the element at index I, counted from the oldest.
     At(usize),
-    /// `clear`: removes all items.
+    /// `clear`: removes all elements.
     Clear,
-    /// `len`: the number of items.
+    /// `len`: the number of elements.
     Len,
-    /// `capacity`: the maximum number of items.
+    /// `capacity`: the maximum number of elements.
     Capacity,
-    /// `empty`: whether there is no item.
+    /// `empty`: whether there is no element.
     Empty,
     /// `full`: whether the length equals the capacity.
     Full,
@@ -44,31 +44,31 @@ impl<T: Copy> Clone for QueueCommand<T> {
 /// A command of a vector of `T`.
 #[derive(Clone, Copy, PartialEq, Eq, Debug)]
 pub enum VectorCommand<'a, T> {
-    /// `push X`: appends the item.
+    /// `push X`: appends the element.
     Push(T),
-    /// `insert I X`: inserts the item at index I.
+    /// `insert I X`: inserts the element at index I.
     Insert(usize, T),
-    /// `extend X..`: appends the items, if there is room for all.
+    /// `extend X..`: appends the elements, if there is room for all.
     Extend(&'a [T]),
-    /// `resize N X`: removes the items from index N on, or appends copies of X up to length N.
+    /// `resize N X`: removes the elements from index N on, or appends copies of X up to length N.
     Resize(usize, T),
-    /// `pop`: removes the last item.
+    /// `pop`: removes the last element.
     Pop,
-    /// `remove I`: removes the item at index I.
+    /// `remove I`: removes the element at index I.
     Remove(usize),
-    /// `at I`: reads the item at index I.
+    /// `at I`: reads the element at index I.
     At(usize),
-    /// `set I X`: overwrites the item at index I.
+    /// `set I X`: overwrites the element at index I.
     Set(usize, T),
-    /// `truncate N`: keeps the first N items.
+    /// `truncate N`: keeps the first N elements.
     Truncate(usize),
-    /// `clear`: removes all items.
+    /// `clear`: removes all elements.
     Clear,
-    /// `len`: the number of items.
+    /// `len`: the number of elements.
     Len,
-    /// `capacity`: the maximum number of items.
+    /// `capacity`: the maximum number of elements.
     Capacity,
-    /// `empty`: whether there is no item.
+    /// `empty`: whether there is no element.
     Empty,
     /// `full`: whether the length equals the capacity.
     Full,
@@ -116,11 +116,11 @@ impl<T: Copy> Clone for SlotTableCommand<T> {
 /// A command of a slot map of `T`.
 #[derive(Copy, PartialEq, Eq, Debug)]
 pub enum SlotMapCommand<T> {
-    /// `insert X`: inserts the value in the first free place.
+    /// `insert X`: inserts the value in the first free slot.
     Insert(T),
     /// `next`: the key that the next `insert` returns.
     Next,
-    /// `insert_at I X`: inserts the value in place I, or replaces the value there.
+    /// `insert_at I X`: inserts the value in slot I, or replaces the value there.
     InsertAt(usize, T),
     /// `remove I:G`: removes the key of index I and generation G, and its value.
     Remove(SlotMapKey),
@@ -132,15 +132,15 @@ pub enum SlotMapCommand<T> {
     Contains(SlotMapKey),
     /// `from I`: the held key of the least index that is not below I, and its value.
     From(usize),
-    /// `retired`: the number of retired places.
+    /// `retired`: the number of retired slots.
     Retired,
     /// `len`: the number of values.
     Len,
-    /// `capacity`: the number of places.
+    /// `capacity`: the number of slots.
     Capacity,
     /// `empty`: whether there is no value.
     Empty,
-    /// `full`: whether no place is free.
+    /// `full`: whether no slot is free.
     Full,
 }
 

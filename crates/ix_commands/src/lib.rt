@@ -1,7 +1,7 @@
 //! Commands of containers, the replies to them, and runs of commands.
 //!
-//! A command says which call of a container to make, a reply what the call returned. A list of commands runs on any kind of
-//! its container, and what is promised of it is the fold of the container's model.
+//! A command names a call of a container, and a reply is the result of the call. A list of commands runs on any kind of its
+//! container. The contract of a run is the fold of the container's model.
 #![tactic(auto)]
 
 mod command;

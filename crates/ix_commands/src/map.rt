@@ -47,7 +47,7 @@ impl<K: Eq + Copy, V: Copy, M: Storage<Pair<K, V>>, I: KeyIndex<K, V>> Runs<MapC
 /// Runs the commands on a map of any kind, in order, and returns the replies to them. Allocates the list of
 /// replies from `alloc` before the first command. O(`commands.len()`) beside the calls of the map.
 ///
-/// Returns `AllocError` if there is no memory for the list. Then no command was run.
+/// Returns `AllocError` if the allocation of the list fails. Then no command was run.
 pub fn run_map<K: Eq + Copy, V: Copy, M: Storage<Pair<K, V>>, I: KeyIndex<K, V>>(
     alloc: Global,
     map: &mut MetaMap<Pair<K, V>, M, I>,

@@ -49,7 +49,7 @@ impl<T: Copy, S: Table<T>> Runs<QueueCommand<T>> for MetaQueue<T, S> {
 /// Runs the commands on a queue of any kind, in order, and returns the replies to them. Allocates the list of replies from
 /// `alloc` before the first command. O(`commands.len()`) beside the calls of the queue.
 ///
-/// Returns `AllocError` if there is no memory for the list. Then no command was run.
+/// Returns `AllocError` if the allocation of the list fails. Then no command was run.
 pub fn run_queue<T: Copy, S: Table<T>>(
     alloc: Global,
     queue: &mut MetaQueue<T, S>,
@@ -64,7 +64,7 @@ pub fn run_queue<T: Copy, S: Table<T>>(
     run_all(alloc, queue, commands)
 }
 
-/// Overwrites the oldest item and returns `true`, or returns `false` if there is none.
+/// Overwrites the oldest element and returns `true`, or returns `false` if there is none.
 fn overwrite_front<T: Copy, S: Table<T>>(queue: &mut MetaQueue<T, S>, item: T) -> bool
     ensures value { result ≡ nat_lt 0 (length queue.old.items) }
     ensures queue { queue.new ≡ queue_set_front queue.old item }
@@ -78,7 +78,7 @@ fn overwrite_front<T: Copy, S: Table<T>>(queue: &mut MetaQueue<T, S>, item: T) -
     }
 }
 
-/// Returns the item at `index`, counted from the oldest.
+/// Returns the element at `index`, counted from the oldest.
 fn item_at<T: Copy, S: Table<T>>(queue: &MetaQueue<T, S>, index: usize) -> Option<T>
     ensures { result ≡ slice_get queue.now.items index }
 {

@@ -4,7 +4,7 @@ ghost use Rattle.ix_commands.specs.Replies.{option_reply, key_reply, entry_reply
 
 use std::alloc::AllocError;
 
-/// The reply to a command of a container with keys of type `K` and items of type `X`.
+/// The reply to a command of a container with keys of type `K` and elements of type `X`.
 #[derive(Copy, PartialEq, Eq, Debug)]
 pub enum Reply<K, X> {
     /// `ok`: the command was done.
@@ -17,11 +17,11 @@ pub enum Reply<K, X> {
     None,
     /// `some K`: a key, or an index.
     Key(K),
-    /// `some X`: an item.
+    /// `some X`: an element.
     Value(X),
     /// `some K X`: a key and its value.
     Entry(K, X),
-    /// `error` and the name: the command was refused.
+    /// `error` and the name: the command returned an error.
     Error(ReplyError),
 }
 
@@ -35,7 +35,7 @@ impl<K: Copy, X: Copy> Clone for Reply<K, X> {
     }
 }
 
-/// Why a command was refused.
+/// The error of a command.
 #[derive(Clone, Copy, PartialEq, Eq, Debug)]
 pub enum ReplyError {
     /// An index is out of bounds.
@@ -48,11 +48,11 @@ pub enum ReplyError {
     KeyAlreadyExists,
     /// The map has no room.
     IsFull,
-    /// The index is greater than the string's length. The string is not asked.
+    /// The index is greater than the string's length. No insertion is tried.
     IndexPastEnd,
 }
 
-/// Returns an optional item as a reply.
+/// Returns an optional element as a reply.
 #[inline]
 pub fn reply_of_option<K: Copy, T: Copy>(item: Option<T>) -> Reply<K, T>
     ensures { result ≡ option_reply item }

@@ -29,7 +29,7 @@ pub trait Runs<C> {
 
 /// Runs the commands in order, and returns the replies to them, in memory of `alloc`.
 ///
-/// Returns `AllocError` if there is no memory for the list. Then no command was run.
+/// Returns `AllocError` if the allocation of the list fails. Then no command was run.
 pub fn run_all<C: Copy, T: Runs<C>>(
     alloc: Global,
     container: &mut T,

@@ -51,9 +51,9 @@ impl<T: Copy, M: SlotMapStorage<MaybeMoved<T>>> Runs<SlotMapCommand<T>>
 /// `alloc` before the first command. O(`commands.len()`) beside the calls of the slot map; `SlotMapCommand::From` takes
 /// O(capacity).
 ///
-/// A key that is dead before is dead after any commands.
+/// A key that is dead before the commands is dead after them.
 ///
-/// Returns `AllocError` if there is no memory for the list. Then no command was run.
+/// Returns `AllocError` if the allocation of the list fails. Then no command was run.
 pub fn run_slot_map<T: Copy, M: SlotMapStorage<MaybeMoved<T>>>(
     alloc: Global,
     map: &mut MetaSlotMap<T, MaybeMoved<T>, M>,
@@ -70,8 +70,8 @@ pub fn run_slot_map<T: Copy, M: SlotMapStorage<MaybeMoved<T>>>(
     run_all(alloc, map, commands)
 }
 
-/// A key that is dead before any list of commands is dead after it, and has no value then. This function does nothing: its
-/// contract is the law.
+/// States that a key that is dead before any list of commands is dead after it, and has no value then. This function does nothing:
+/// its contract is the law.
 pub fn dead_law<T>()
     ensures { (map : SlotMapState T) (commands : List (SlotMapCommand T)) → IsSlotMapFormed map
         → DeadStaysDead map commands }

@@ -52,7 +52,7 @@ impl<T: Copy, M: Storage<T>> Runs<SlotTableCommand<T>> for MetaSlotTable<T, M> {
 /// replies from `alloc` before the first command. O(`commands.len()`) beside the calls of the slot table;
 /// `SlotTableCommand::From` takes O(capacity).
 ///
-/// Returns `AllocError` if there is no memory for the list. Then no command was run.
+/// Returns `AllocError` if the allocation of the list fails. Then no command was run.
 pub fn run_slot_table<T: Copy, M: Storage<T>>(
     alloc: Global,
     map: &mut MetaSlotTable<T, M>,

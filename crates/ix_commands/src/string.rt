@@ -62,7 +62,7 @@ impl<'a, S: String> Runs<StringCommand<'a>> for S {
 /// Runs the commands on a string of any kind, in order, and returns the replies to them. Allocates the list of replies
 /// from `alloc` before the first command. O(`commands.len()`) beside the calls of the string.
 ///
-/// Returns `AllocError` if there is no memory for the list. Then no command was run.
+/// Returns `AllocError` if the allocation of the list fails. Then no command was run.
 pub fn run_string<S: String>(
     alloc: Global,
     string: &mut S,

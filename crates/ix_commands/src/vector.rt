@@ -55,7 +55,7 @@ impl<'a, T: Copy, V: Vector<T>> Runs<VectorCommand<'a, T>> for V {
 /// Runs the commands on a vector of any kind, in order, and returns the replies to them. Allocates the list of replies
 /// from `alloc` before the first command. O(`commands.len()`) beside the calls of the vector.
 ///
-/// Returns `AllocError` if there is no memory for the list. Then no command was run.
+/// Returns `AllocError` if the allocation of the list fails. Then no command was run.
 pub fn run_vector<T: Copy, V: Vector<T>>(
     alloc: Global,
     vector: &mut V,
@@ -83,7 +83,7 @@ fn reply_of_result<T: Copy>(outcome: Result<(), VectorModificationError>) -> Rep
     }
 }
 
-/// Appends copies of the items, if there is room for all of them.
+/// Appends copies of the elements, if there is room for all of them.
 fn extend_by_copies<T: Copy, V: Vector<T>>(
     vector: &mut V,
     items: &[T],
@@ -102,7 +102,7 @@ fn extend_by_copies<T: Copy, V: Vector<T>>(
     Ok(())
 }
 
-/// Resizes the vector to `n` items: truncates it, or appends copies of `item`.
+/// Resizes the vector to `n` elements: truncates it, or appends copies of `item`.
 fn resize_by_copies<T: Copy, V: Vector<T>>(
     vector: &mut V,
     n: usize,
@@ -115,14 +115,14 @@ fn resize_by_copies<T: Copy, V: Vector<T>>(
     vector.resize_with(n, || item)
 }
 
-/// Returns the item at `index`.
+/// Returns the element at `index`.
 fn item_at<T: Copy, V: Vector<T>>(vector: &V, index: usize) -> Option<T>
     ensures { result ≡ slice_get (V.bounded vector.now).items index }
 {
     vector.as_slice().get(index).copied()
 }
 
-/// Overwrites the item at `index` and returns `true`, or returns `false` if `index` is out of bounds.
+/// Overwrites the element at `index` and returns `true`, or returns `false` if `index` is out of bounds.
 fn overwrite<T: Copy, V: Vector<T>>(vector: &mut V, index: usize, item: T) -> bool
     ensures value { result ≡ nat_lt index (length (V.bounded vector.old).items) }
     ensures vector { V.bounded vector.new

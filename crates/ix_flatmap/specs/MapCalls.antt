@@ -1,4 +1,4 @@
--- What a closure does that a flat map calls with a `&` to each key and a `&mut` to its value.
+-- The calls of a closure that a flat map calls with a `&` to each key and a `&mut` to its value.
 use Rattle.std.specs.Prelude.{◌≡◌}
 use Rattle.std.specs.Borrow.{Bor, MutBor}
 

@@ -1,4 +1,4 @@
--- What contracts see of an iterator that drains a map.
+-- The view that contracts have of an iterator that drains a map.
 use Rattle.std.specs.Prelude.{List, drop, map}
 use Rattle.ix_slottable.specs.SlotTableState.{SlotTableState, entries_from}
 use Rattle.ix_slottable.specs.SlotTableSteps.{slot_table_clear}

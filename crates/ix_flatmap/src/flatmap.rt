@@ -1,7 +1,7 @@
 //! Flat maps: bounded maps from keys of your own to values, for keys that can only be compared for equality.
 //!
-//! [`FixedSizeFlatMap`] is stored inline, [`FlatMap`] and [`RelocatableFlatMap`] allocate only when they are made. Their calls
-//! are those of [`MetaMap`](crate::map::MetaMap).
+//! [`FixedSizeFlatMap`] is stored inline. [`FlatMap`] and [`RelocatableFlatMap`] allocate only when they are made. They have the
+//! methods of [`MetaMap`](crate::map::MetaMap).
 
 mod bound;
 mod kinds;

@@ -1,7 +1,7 @@
 //! Bounded maps from keys of your own to values.
 //!
-//! [`map`] has the map over any index by which a key is found, and what an index has to promise. [`flatmap`] has the kinds of flat
-//! maps, whose keys need only be compared for equality. Those of hash maps are in `ix_hashmap`.
+//! [`map`] has the map over any index by which a key is found, and the traits that an index implements. [`flatmap`] has the kinds
+//! of flat maps, whose keys need only be compared for equality. The kinds of hash maps are in `ix_hashmap`.
 #![tactic(auto)]
 
 pub mod flatmap;

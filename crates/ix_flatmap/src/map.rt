@@ -1,6 +1,6 @@
-//! The map under flat maps and hash maps, with their calls: a bounded map from keys of your own to values.
+//! The map under flat maps and hash maps, with their methods: a bounded map from keys of your own to values.
 //!
-//! It finds keys by an index ([`KeyIndex`]): that of flat maps, that of hash maps, or one of your own.
+//! It finds keys by an index ([`KeyIndex`]): the index of flat maps, the index of hash maps, or one of your own.
 
 mod callback_progression;
 mod clone;

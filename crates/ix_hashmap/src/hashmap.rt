@@ -1,8 +1,8 @@
 //! Hash maps: bounded maps from keys of your own to values, for keys that implement `Hash`.
 //!
-//! [`FixedSizeHashMap`] is stored inline, [`HashMap`] and [`RelocatableHashMap`] allocate only when they are made. Their calls
-//! are those of [`MetaMap`](ix_flatmap::map::MetaMap), and those with a key take O(1) time on average. A program that writes
-//! `for (key, value) in &map` names `ix_flatmap` in `crates.txt` too.
+//! [`FixedSizeHashMap`] is stored inline. [`HashMap`] and [`RelocatableHashMap`] allocate only when they are made. They have the
+//! methods of [`MetaMap`](ix_flatmap::map::MetaMap), and the methods with a key take O(1) time on average. If your program writes
+//! `for (key, value) in &map`, list `ix_flatmap` in `crates.txt` too.
 
 mod buckets;
 mod chain_link;

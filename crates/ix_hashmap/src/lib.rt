@@ -1,4 +1,4 @@
-//! Hash maps: bounded maps from keys of your own that implement `Hash`. Their calls are those of
+//! Hash maps: bounded maps from keys of your own that implement `Hash`. They have the methods of
 //! [`MetaMap`](ix_flatmap::map::MetaMap).
 #![tactic(auto)]
 

@@ -1,6 +1,6 @@
 //! Conversions of values to JSON and back.
 //!
-//! A value is written and read as a whole. A container in memory of an allocator is made first, and then takes in the entries
+//! A value is written and read as a whole. A container in memory of an allocator is made first, and then filled with the entries
 //! that are read.
 
 mod allocated_vectors;

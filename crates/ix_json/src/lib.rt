@@ -1,4 +1,4 @@
-//! Conversions of containers and texts to and from JSON.
+//! Conversions of containers and strings to and from JSON.
 #![tactic(auto)]
 
 pub mod json;

@@ -1,7 +1,7 @@
 //! Containers over tables: queues, slot tables, slot maps, flat maps and hash maps.
 //!
-//! Each lies in a crate of its own, which this one passes on: [`ix_queue`], [`ix_slottable`], [`ix_slotmap`], [`ix_flatmap`]
-//! and [`ix_hashmap`].
+//! Each container has a crate of its own, which this crate re-exports: [`ix_queue`], [`ix_slottable`], [`ix_slotmap`],
+//! [`ix_flatmap`] and [`ix_hashmap`].
 #![tactic(auto)]
 
 pub mod flatmap;

@@ -1,4 +1,4 @@
-//! Conversions to and from JSON, as [`ix_json::json`] has them.
+//! Conversions to and from JSON, re-exported from [`ix_json::json`].
 
 #[doc(hidden)]
 pub mod json_fault {

@@ -1,8 +1,7 @@
 //! Types for names and messages: strings whose rules are checked at every change, an option, and conversions to and from
 //! JSON.
 //!
-//! Each lies in a crate of its own, which this one passes on: [`ix_semantic_string`], [`ix_relocatable_option`] and
-//! [`ix_json`].
+//! Each is in its own crate, which this crate re-exports: [`ix_semantic_string`], [`ix_relocatable_option`] and [`ix_json`].
 #![tactic(auto)]
 
 pub mod json;

@@ -1,4 +1,4 @@
-//! Semantic strings, as [`ix_semantic_string::semantic_string`] has them.
+//! Semantic strings, re-exported from [`ix_semantic_string::semantic_string`].
 
 #[doc(hidden)]
 pub mod default_text {

@@ -1,7 +1,7 @@
 //! Queues: first in, first out, with a capacity that is set when they are made.
 //!
-//! A queue is generic over the [`Table`](ix_tables::Table) that holds its items, and the kinds of storage are aliases of
-//! one type. Contracts see a bounded list.
+//! A queue is generic over the [`Table`](ix_tables::Table) that holds its elements, and the kinds of storage are aliases of one
+//! type. Contracts see a bounded list.
 #![tactic(auto)]
 
 pub mod queue;

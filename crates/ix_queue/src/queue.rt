@@ -1,4 +1,4 @@
-//! Queues: bounded lists, in which items are appended at the back and removed at the front.
+//! Queues: bounded lists whose elements are appended at the back and removed at the front.
 //!
 //! [`FixedSizeQueue`] is stored inline, [`Queue`] and [`RelocatableQueue`] allocate only when they are made.
 

@@ -1,4 +1,4 @@
--- The optional value that a relocatable option is, and what its calls do to it.
+-- The optional value of a relocatable option, and the effect of its methods on it.
 use Rattle.std.specs.Prelude.{◌≡◌, ◌⊎◌, Bool, true, false, Option, None, Some}
 use Rattle.std.specs.Fn.{Once, FnOnceReturnsAtMut}
 use Rattle.std.specs.Borrow.{Fml, RattleType, MutBor, LendsIf}

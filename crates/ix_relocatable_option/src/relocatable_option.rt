@@ -14,9 +14,9 @@ use std::ops::{AsDeref, DerefMut};
 
 /// An optional value: `Some` with a value, or `None`.
 ///
-/// It has the most used calls of [`Option`], and [`RelocatableOption::to_option`] leads to the others. It is made by its
-/// variants, or by [`From`] of an [`Option`]. Every call is O(1) and does not allocate, but for what closures and
-/// the value's own clone, comparison, hash, default and drop do.
+/// It has the most used methods of [`Option`]. [`RelocatableOption::to_option`] converts to an [`Option`], which has the others.
+/// Create it by its variants, or by [`From`] of an [`Option`]. Every method is O(1) and does not allocate, except in closures and
+/// in the value's own clone, comparison, hash, default and drop.
 ///
 /// Options are ordered by their values, and `None` is less than each `Some`.
 ///
@@ -39,7 +39,7 @@ impl<T> Default for RelocatableOption<T> {
 }
 
 impl<T> RelocatableOption<T> {
-    /// Converts to [`Option`]. [`RelocatableOption::from`] of that returns the same again.
+    /// Converts to [`Option`]. [`RelocatableOption::from`] converts back to the same option.
     #[inline]
     pub fn to_option(self) -> Option<T>
         ensures value { result ≡ option_of self }
@@ -71,7 +71,7 @@ impl<T> RelocatableOption<T> {
         }
     }
 
-    /// Returns an option of what the value dereferences to, as `&str` for std's `String`.
+    /// Returns an option of the dereferenced value, such as `&str` for std's `String`.
     #[inline]
     pub fn as_deref<'a>(&'a self) -> RelocatableOption<T::Shown>
     where
@@ -88,7 +88,7 @@ impl<T> RelocatableOption<T> {
         }
     }
 
-    /// Returns an option of a mutable reference to what the value dereferences to.
+    /// Returns an option of a mutable reference to the dereferenced value.
     #[inline]
     pub fn as_deref_mut(&mut self) -> RelocatableOption<&mut T::Target>
     where
@@ -178,7 +178,7 @@ impl<T> RelocatableOption<T> {
         }
     }
 
-    /// Puts `value` into the option, and returns what it was.
+    /// Puts `value` into the option, and returns the old option.
     #[inline]
     pub fn replace(&mut self, value: T) -> RelocatableOption<T>
         ensures value { result ≡ self.old }
@@ -187,7 +187,7 @@ impl<T> RelocatableOption<T> {
         mem::replace(self, RelocatableOption::Some(value))
     }
 
-    /// Takes the value out of the option, which is `None` then, and returns what it was.
+    /// Takes the value out of the option, leaving `None` in its place, and returns the old option.
     #[inline]
     pub fn take(&mut self) -> RelocatableOption<T>
         ensures value { result ≡ self.old }
@@ -230,7 +230,7 @@ impl<T> RelocatableOption<T> {
         }
     }
 
-    /// Returns the value, or `alternative` if there is none. What is not returned is dropped.
+    /// Returns the value, or `alternative` if there is none. The one that is not returned is dropped.
     #[inline]
     pub fn unwrap_or(self, alternative: T) -> T
     where

@@ -1,4 +1,4 @@
--- The commands of each container: what a line may spell.
+-- The commands of each container: the commands that a line may spell.
 use Rattle.std.specs.Prelude.{ℕ, List, [], ◌∷◌, Option, codes}
 use Rattle.std.specs.Option.{option_or}
 use Rattle.ix_run.specs.Words.{Form, KeyForm, command_of, key_command_of, takes_none, takes_one, takes_two, takes_any, one_byte, number_byte, many_bytes, number_many_bytes, slice_of}

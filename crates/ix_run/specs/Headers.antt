@@ -43,12 +43,12 @@ IsStorage (Fixed capacity) = ⊤
 IsStorage (Heap n) = n ≤ MAX_CAPACITY
 IsStorage (Arena n) = n ≤ MAX_CAPACITY
 
--- the generation of a slot map's places at first, if a header says it, is a generation
+-- the generation of a slot map's slots at first, if a header says it, is a generation
 abbrev pub IsStart : Container → Type 0
 IsStart (SlotMap (Some generation)) = generation ≤ greatest_generation
 IsStart other = ⊤
 
--- the generation of a slot map's places at first
+-- the generation of a slot map's slots at first
 abbrev pub first_generation : Option ℕ → ℕ
 first_generation start = unwrap_or start 0
 
@@ -84,7 +84,7 @@ up_to_max make other = None
 abbrev pub storage_forms : List (Form Storage)
 storage_forms = (codes "fixed", takes_fixed_capacity) ∷ (codes "heap", up_to_max Heap) ∷ (codes "arena", up_to_max Arena) ∷ []
 
--- one number, which is the generation of a slot map's places at first
+-- one number, which is the generation of a slot map's slots at first
 abbrev pub starting_at : List ℕ → Option Container
 starting_at (n ∷ []) = if fits_generation n then Some (SlotMap (Some n)) else None
 starting_at other = None

@@ -1,4 +1,4 @@
--- What the laws of scripts say.
+-- Definitions that the laws of scripts cite.
 use Rattle.std.specs.Prelude.{ℕ, ◌≡◌, ◌<◌, ◌≤◌, ◌^◌, List, [], ◌∷◌, length, Option, Some, map, codes, ⊤}
 use Rattle.ix_slotmap.specs.Generations.{SlotKey, greatest_generation}
 use Rattle.ix_commands.specs.Run.{run_replies}

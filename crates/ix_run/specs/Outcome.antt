@@ -1,4 +1,4 @@
--- What a script leaves of its reader and its writer, and what the program reports.
+-- The effect of a script on its reader and its writer, and the report of the program.
 use Rattle.std.specs.Prelude.{ℕ, ◌≡◌, List, ◌++◌, Option, Result, Ok, Err, codes}
 use Rattle.std.specs.Io.KnownBytes.{Appends, Consumes, IsAtEnd}
 use Rattle.ix_run.specs.Lines.{with_line_feed}

@@ -22,7 +22,7 @@ use Rattle.ix_run.specs.declared.run.grammar.header.Header.{Header}
 use Rattle.ix_run.specs.declared.run.grammar.header.Container.{Container}
 use Rattle.ix_run.specs.declared.run.grammar.header.Container.TheVariants.{Queue, Vector, SlotTable, SlotMap, FlatMap, String}
 
--- reply and after: the text of the reply to the command that a line spells, if any, and the model after it; shown: what
+-- reply and after: the text of the reply to the command that a line spells, if any, and the model after it; shown: the text that
 -- `show` prints
 module _ {M : Type 0} (reply : M → List ℕ → Option (List ℕ)) (after : M → List ℕ → M) (shown : M → List ℕ) where
   -- the reply to a line; a question mark to one that spells no command
@@ -69,7 +69,7 @@ slot_map_line_reply = read_reply slot_map_command_of slot_map_reply_text slot_ma
 abbrev pub slot_map_line_after : SlotMapState ℕ → List ℕ → SlotMapState ℕ
 slot_map_line_after = read_after slot_map_command_of slot_map_after
 
--- what `show` prints
+-- the text that `show` prints
 abbrev pub list_shown : Bounded ℕ → List ℕ
 list_shown list = items_text decimal list.items
 
@@ -107,7 +107,7 @@ abbrev pub replies_to_opening : Option Header → List LimitedLine → List ℕ 
 replies_to_opening None lines others = with_line_feed (codes "?") ++ others
 replies_to_opening (Some header) lines others = replies_from_header header lines
 
--- the replies to lines, of which the first that is a header makes a container
+-- the replies to lines; the first line that is a header makes a container
 abbrev pub script_replies : List LimitedLine → List ℕ
 script_replies [] = []
 script_replies (line ∷ lines) = replies_to_opening (option_and_then header_of line) lines (script_replies lines)

@@ -1,4 +1,4 @@
--- A line as words: a name, and numbers. A form is a name, with what the numbers after it make.
+-- A line as words: a name, and numbers. A form is a name, and a function that makes a command of the numbers after it.
 use Rattle.std.specs.Prelude.{ℕ, ◌≡◌, List, [], ◌∷◌, ◌++◌, length, Bool, true, not, ◌&&◌, nat_eq, nat_lt, nat_le, if◌then◌else◌, Option, None, Some, option_map, option_and_then, codes, decimal, bytes_eq, flat_map}
 use Rattle.std.specs.Borrow.{Bor}
 use Rattle.std.specs.List.{slice_split, IsDistinct, list_all, list_any}
@@ -73,11 +73,11 @@ key_words_of line = name_key_numbers (slice_split is_space line)
 abbrev pub key_words_text : List ℕ → SlotKey → List ℕ → List ℕ
 key_words_text name key numbers = name ++ (codes " " ++ words_text (key_text key) numbers)
 
--- a name, and what numbers make
+-- a name, and a function that makes a command of numbers
 abbrev pub Form : Type 0 → Type 0
 Form C = List ℕ × (List ℕ → Option C)
 
--- a name, and what a key and numbers make
+-- a name, and a function that makes a command of a key and numbers
 abbrev pub KeyForm : Type 0 → Type 0
 KeyForm C = List ℕ × (SlotKey → List ℕ → Option C)
 
@@ -94,7 +94,7 @@ abbrev pub HasNames : {V : Type 0} → List (List ℕ × V) → Type 0
 HasNames forms = (list_all is_name (keys_of forms) ≡ true) × IsDistinct bytes_eq (keys_of forms)
 
 module _ {C : Type 0} where
-  -- what the form with this name makes of numbers
+  -- the command that the form with this name makes of numbers
   abbrev pub make_named : List (Form C) → List ℕ → Option (List ℕ) → Option C
   make_named forms name numbers = option_and_then (λ make. option_and_then make numbers) (lookup (bytes_eq name) forms)
 
@@ -102,7 +102,7 @@ module _ {C : Type 0} where
   abbrev pub command_of : List (Form C) → List ℕ → Option C
   command_of forms line = option_and_then (λ words. make_named forms words.0 (Some words.1)) (line_words line)
 
-  -- what the form with this name makes of a key and numbers
+  -- the command that the form with this name makes of a key and numbers
   abbrev pub make_with_key : List (KeyForm C) → List ℕ → Option (SlotKey × List ℕ) → Option C
   make_with_key forms name taken = option_and_then (λ make. option_and_then (λ t. make t.0 t.1) taken) (lookup (bytes_eq name) forms)
 

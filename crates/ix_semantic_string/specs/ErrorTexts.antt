@@ -1,4 +1,5 @@
--- The errors of semantic strings: what `{}` prints of them, and which stands for which error of a string.
+-- The errors of semantic strings: the texts that `{}` prints of them, and the error of a semantic string for each error of a
+-- string.
 use Rattle.std.specs.Prelude.{ℕ, List, codes}
 use Rattle.ix_string.specs.declared.string.modification_error.StringModificationError.{StringModificationError}
 use Rattle.ix_string.specs.declared.string.modification_error.StringModificationError.TheVariants.{InvalidCharacter, InsertWouldExceedCapacity}

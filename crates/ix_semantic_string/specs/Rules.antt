@@ -4,7 +4,7 @@ use Rattle.std.specs.declared.cmp.Ordering.{Ordering}
 use Rattle.std.specs.Ordering.{on}
 use Rattle.ix_string.specs.Text.{IsText, text_eq, text_cmp}
 
--- what the functions of rules return: two tests for texts that are not accepted, and the normal form of those that are
+-- the results of the functions of rules: two tests for texts that are not accepted, and the normal form of those that are
 pub record TextRules : Type 0 where
   pub invalid_content : List ℕ → Bool
   pub invalid_characters : List ℕ → Bool

@@ -23,7 +23,7 @@ group_name_rules = record {
   normal_form = λ name. name;
 }
 
--- slashes at the end removed, but for the first byte
+-- slashes at the end removed, except the first byte
 abbrev pub without_trailing_slashes : List ℕ → List ℕ
 without_trailing_slashes text = take (max 1 (length text - suffix_len is_slash text)) text
 

@@ -1,4 +1,4 @@
-//! Semantic strings: texts that obey rules of your own, which are checked at every change.
+//! Semantic strings: strings that obey your own rules, which are checked at every change.
 #![tactic(auto)]
 
 pub mod semantic_string;

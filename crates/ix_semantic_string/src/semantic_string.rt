@@ -1,4 +1,4 @@
-//! Semantic strings: texts that obey rules, such as names of users, groups and paths.
+//! Semantic strings: strings that obey rules, such as names of users, groups and paths.
 
 mod default_text;
 mod group_name;

@@ -4,8 +4,7 @@ use Rattle.ix_slotmap.specs.Generations.{SlotMapState, place_value}
 use Rattle.ix_slottable.specs.SlotTableCopies.{IsCloneAt, SlotTableIsClone}
 
 module _ {T : Type 0} where
-  -- clones of the values in the same places, the same free and retired places, the former in the same order, and the same
-  -- generations
+  -- clones of the values in the same slots, the same free slots in the same order, the same retired slots, and the same generations
   pub record SlotMapIsClone (is_clone : T → T → Type 0) (s copy : SlotMapState T) : Type 0 where
     pub slots : SlotTableIsClone (IsCloneAt is_clone) s.slots copy.slots
     pub generations : copy.generations ≡ s.generations

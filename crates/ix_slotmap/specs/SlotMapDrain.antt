@@ -1,4 +1,4 @@
--- What contracts see of an iterator that drains a slot map.
+-- The view that contracts have of an iterator that drains a slot map.
 use Rattle.std.specs.Prelude.{List, drop}
 use Rattle.std.specs.Borrow.{GName}
 use Rattle.ix_slottable.specs.SlotTableState.{entries_from}

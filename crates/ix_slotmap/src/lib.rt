@@ -1,5 +1,5 @@
-//! Slot maps: bounded maps that choose the key of each value, by which it is found in constant time until it is removed.
-//! No key is given twice.
+//! Slot maps: bounded maps that choose the key of each value. A value is found by its key in constant time until it is removed. No
+//! key is assigned twice.
 #![tactic(auto)]
 
 pub mod slotmap;

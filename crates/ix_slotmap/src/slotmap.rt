@@ -1,7 +1,7 @@
-//! Slot maps: bounded maps that choose the key of each value, by which it is found in constant time until it is removed.
-//! A key has a generation, so that a key which was removed or replaced never finds the value of another one.
+//! Slot maps: bounded maps that choose the key of each value. A value is found by its key in constant time until it is removed. A
+//! key has a generation, so that a key which was removed or replaced never finds the value of another key.
 //!
-//! [`FixedSizeSlotMap`] is stored inline, [`SlotMap`] and [`RelocatableSlotMap`] allocate only when they are made.
+//! [`FixedSizeSlotMap`] is stored inline. [`SlotMap`] and [`RelocatableSlotMap`] allocate only when they are made.
 
 mod clone;
 mod content;

@@ -1,5 +1,5 @@
--- An iterator that drains a map: what stays while it goes on. It has the items that are still to come, the reference to the
--- map, and what is left of the map once the iterator is dropped.
+-- An iterator that drains a map, and the properties that its steps keep. It has the items that are still to come, the reference to
+-- the map, and the state of the map once the iterator is dropped.
 use Rattle.std.specs.Prelude.{◌≡◌, List, Option}
 use Rattle.std.specs.Borrow.{GName}
 use Rattle.std.specs.Iterator.{Yields, YieldsFirst}

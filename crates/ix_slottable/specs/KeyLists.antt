@@ -1,4 +1,4 @@
--- A container that finds values by keys, and a list of its keys in an order of their own: in step, each key is in both.
+-- A container that finds values by keys, and a list of its keys in an order of its own. They are in step if each key is in both.
 use Rattle.std.specs.Prelude.{◌≡◌, ◌<◌, ℕ, List, [], ◌∷◌, ◌++◌, length, not, count_by, filter, if◌then◌else◌, Bool, Option, Some, is_some}
 
 module _ {K : Type 0} (eq : K → K → Bool) where
@@ -11,7 +11,7 @@ module _ {K : Type 0} (eq : K → K → Bool) where
   abbrev pub ListsEach : {V : Type 0} → (V → Type 0) → (K → Option V) → List K → Type 0
   ListsEach {V} IsSuch find keys = (key : K) (value : V) → find key ≡ Some value → IsSuch value → 0 < count_by (eq key) keys
 
-  -- the keys but for this one
+  -- the keys except this one
   abbrev pub without : K → List K → List K
   without key keys = filter (λ other. not (eq other key)) keys
 

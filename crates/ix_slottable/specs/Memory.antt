@@ -1,4 +1,4 @@
--- How much memory maps take: that of their tables, by the sizes of what these hold.
+-- The memory that maps allocate: the memory of their tables, from the sizes of the values in them.
 use Rattle.std.specs.Prelude.{ℕ}
 pub use Rattle.ix_tables.specs.Memory.{no_memory, memory_plus, table_memory, items_memory}
 use Rattle.ix_tables.specs.declared.cells.MemorySize.{MemorySize}

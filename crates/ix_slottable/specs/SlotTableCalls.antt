@@ -1,4 +1,4 @@
--- What a closure does that a slot table or a slot map calls with each held key and a `&mut` to its value.
+-- The calls of a closure that a slot table or a slot map calls with each held key and a `&mut` to its value.
 use Rattle.std.specs.Prelude.{◌≡◌, Bool, List, ◌∷◌, ◌++◌, if◌then◌else◌, Option, Some, None}
 use Rattle.std.specs.Borrow.{MutBor}
 use Rattle.std.specs.List.{FoldsTo}
@@ -21,12 +21,12 @@ module _ {F K T R : Type 0} (step : F → K → MutBor T → R → MutBor T → 
     pub at : (before after : List (K × T)) (key : K) (shown : MutBor T) (later : F) → items ≡ before ++ (key, shown.now) ∷ after → FoldsTo SomeCallOn f before later → pre later key shown
 
 module _ {F K T : Type 0} where
-  -- each call of f returns what the test says of the key and its value, and changes neither the value nor f
+  -- each call of f returns the test's result for the key and its value, and changes neither the value nor f
   abbrev pub ComputesTest : (F → K → MutBor T → Bool → MutBor T → F → Type 0) → F → (K → T → Bool) → Type 0
   ComputesTest step f test =
       (key : K) (value : T) (passes : Bool) (left : T) (next : F) → CalledOn step f key value passes left next → (passes ≡ test key value) × (left ≡ value) × (next ≡ f)
 
-  -- each call of f leaves what `change` makes of the key and its value, and f as it was
+  -- each call of f leaves the result of `change` for the key and its value, and does not change f
   abbrev pub ComputesValue : (F → K → MutBor T → Unit {0} → MutBor T → F → Type 0) → F → (K → T → T) → Type 0
   ComputesValue step f change =
       (key : K) (value left : T) (next : F) → CalledOn step f key value tt left next → (left ≡ change key value) × (next ≡ f)

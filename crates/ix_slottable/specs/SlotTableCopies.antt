@@ -3,7 +3,7 @@ use Rattle.std.specs.Prelude.{◌≡◌, ℕ, length, Option, Some, None}
 use Rattle.ix_slottable.specs.SlotTableState.{SlotTableState, value_at}
 
 module _ {T : Type 0} where
-  -- a clone of what is at a place, and nothing where nothing is
+  -- the second value is a clone of the first, or neither exists
   abbrev pub IsCloneAt : (T → T → Type 0) → Option T → Option T → Type 0
   IsCloneAt is_clone None None = Unit {0}
   IsCloneAt is_clone None (Some copy) = ⊥

@@ -1,4 +1,4 @@
--- What contracts see of an iterator that drains a slot table.
+-- The view that contracts have of an iterator that drains a slot table.
 use Rattle.std.specs.Prelude.{ℕ, List, drop}
 use Rattle.ix_slottable.specs.SlotTableState.{SlotTableState, entries_from}
 use Rattle.ix_slottable.specs.SlotTableSteps.{slot_table_clear}

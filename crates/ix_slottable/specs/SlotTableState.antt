@@ -48,7 +48,7 @@ module _ {T : Type 0} where
   abbrev pub held_count : SlotTableState T → ℕ
   held_count s = count_by is_some s.values
 
-  -- the keys of these places that have a value, each with it; the first place's key is the number
+  -- the keys of these slots that have a value, each with its value; the number is the key of the first slot
   abbrev pub entries_from : ℕ → List (Option T) → List (ℕ × T)
   entries_from key [] = []
   entries_from key (None ∷ places) = entries_from (key + 1) places

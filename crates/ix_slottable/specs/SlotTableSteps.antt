@@ -1,11 +1,11 @@
--- The steps of a slot table: the slot state after each call, and what the calls that change a map promise.
+-- The steps of a slot table: the slot state after each call, and the contracts of the methods that change a table.
 use Rattle.std.specs.Prelude.{◌≡◌, ◌≢◌, ◌↔◌, ℕ, ◌+◌, List, [], ◌∷◌, length, nat_eq, nat_lt, if◌then◌else◌, Bool, Option, Some, None, IsTrue, IsNone, IsSome, IfSome, is_some, slice_get, slice_set}
 use Rattle.std.specs.Bool.{OnFalse}
 use Rattle.std.specs.Option.{option_map_or}
 use Rattle.std.specs.List.{fold, range_with_len}
 use Rattle.ix_slottable.specs.SlotTableState.{SlotTableState, value_at, IsHeld, IsKey, IsFree, held_count}
 
--- the keys but for the first one that equals this key
+-- the keys except the first one that equals this key
 abbrev pub keys_without : ℕ → List ℕ → List ℕ
 keys_without key [] = []
 keys_without key (other ∷ keys) = if nat_eq key other then keys else other ∷ keys_without key keys
@@ -39,7 +39,7 @@ module _ {T : Type 0} where
   abbrev pub slot_table_clear : SlotTableState T → SlotTableState T
   slot_table_clear s = fold slot_table_remove s (range_with_len 0 (length s.values))
 
-  -- what `insert` and `insert_counted` promise
+  -- the contract of `insert` and `insert_counted`
   pub record SlotTableInsert (old : SlotTableState T) (x : T) (new : SlotTableState T) (result : Option ℕ) : Type 0 where
     pub key : result ≡ slice_get old.free 0
     pub map : new ≡ slot_table_insert old x
@@ -51,7 +51,7 @@ module _ {T : Type 0} where
     pub count : IsSome result → held_count new ≡ held_count old + 1
     pub room : IsSome result → length new.free + 1 ≡ length old.free
 
-  -- what `insert_at` and `insert_at_counted` promise
+  -- the contract of `insert_at` and `insert_at_counted`
   pub record SlotTableInsertAt (old : SlotTableState T) (key : ℕ) (x : T) (new : SlotTableState T) (result : Bool) : Type 0 where
     pub value : IsTrue result ↔ IsKey old key
     pub map : new ≡ slot_table_insert_at old key x
@@ -63,7 +63,7 @@ module _ {T : Type 0} where
     pub same_count : IsHeld old key → held_count new ≡ held_count old
     pub same_free : IsHeld old key → new.free ≡ old.free
 
-  -- what `remove` and `remove_counted` promise
+  -- the contract of `remove` and `remove_counted`
   pub record SlotTableRemove (old : SlotTableState T) (key : ℕ) (new : SlotTableState T) (result : Option T) : Type 0 where
     pub value : result ≡ value_at old key
     pub map : new ≡ slot_table_remove old key

@@ -1,6 +1,6 @@
-//! Slot tables: bounded tables that choose the key of each value, by which it is found in constant time.
+//! Slot tables: bounded tables that choose the key of each value. A value is found by its key in constant time.
 //!
-//! A slot table is generic over its [`Storage`], inline or allocated, and the kinds of slot tables are aliases of one type.
+//! A slot table is generic over its [`Storage`], which is inline or allocated. The kinds of slot tables are aliases of one type.
 //! Contracts see a list of optional values and the list of free keys.
 #![tactic(auto)]
 

@@ -1,6 +1,6 @@
-//! Slot tables: bounded tables that choose the key of each value, by which it is found in constant time.
+//! Slot tables: bounded tables that choose the key of each value. A value is found by its key in constant time.
 //!
-//! [`FixedSizeSlotTable`] is stored inline, [`SlotTable`] and [`RelocatableSlotTable`] allocate only when they are made.
+//! [`FixedSizeSlotTable`] is stored inline. [`SlotTable`] and [`RelocatableSlotTable`] allocate only when they are made.
 
 mod clone;
 mod drain;

@@ -1,4 +1,4 @@
--- What `{:?}` prints of a string.
+-- The text that `{:?}` prints of a string.
 use Rattle.std.specs.Prelude.{ℕ, List, [], ◌∷◌, length, codes}
 use Rattle.std.specs.Fmt.{decimal}
 use Rattle.std.specs.List.{concat}

@@ -1,4 +1,4 @@
--- What `{}` prints of errors.
+-- The texts that `{}` prints of errors.
 use Rattle.std.specs.Prelude.{ℕ, List, codes}
 use Rattle.ix_string.specs.declared.string.creation_error.StringCreationError.{StringCreationError}
 use Rattle.ix_string.specs.declared.string.creation_error.StringCreationError.TheVariants as creation

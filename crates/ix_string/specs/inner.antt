@@ -1,2 +1,2 @@
--- What no public contract cites: what the code behind it means.
+-- Definitions that no public contract cites: the meaning of the code behind the contracts.
 pub mod Padding

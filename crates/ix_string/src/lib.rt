@@ -1,8 +1,8 @@
 //! Strings with a capacity that is set when they are made: bounded lists of bytes from 1 to 127.
 //!
-//! The calls of every kind of string are those of the trait [`String`]. [`StaticString`] is stored inline,
-//! [`PolymorphicString`] and [`RelocatableString`] allocate only when they are made, the latter often in two steps. Contracts
-//! see a string as a bounded list of its bytes, whatever its kind.
+//! Every kind of string has the methods of the trait [`String`]. [`StaticString`] is stored inline. [`PolymorphicString`] and
+//! [`RelocatableString`] allocate only when they are made. A relocatable string is often initialised in two phases. Contracts see a
+//! string as a bounded list of its bytes, whatever its kind.
 //!
 //! The string of std is `std::string::String` here.
 #![tactic(auto)]

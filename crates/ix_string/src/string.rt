@@ -1,7 +1,7 @@
 //! Strings: bytes from 1 to 127, with a capacity that is set when they are made.
 //!
-//! [`StaticString`] is stored inline, [`PolymorphicString`] and [`RelocatableString`] allocate only when they are made. Most of
-//! their calls are those of the trait [`String`], which a file imports; std's is `std::string::String` then.
+//! [`StaticString`] is stored inline. [`PolymorphicString`] and [`RelocatableString`] allocate only when they are made. Most of
+//! their methods belong to the trait [`String`], which a file imports. The string of std is `std::string::String` then.
 
 mod creation;
 mod creation_error;

@@ -18,6 +18,6 @@ IsCallableBelow {F} {X} step pre n f = CallableAtEachTurn (index_steps n) (λ g 
 abbrev pub IsCallableOnEach : {F T R : Type 0} → Mut F (Bor T × Unit {0}) R → List T → F → Type 0
 IsCallableOnEach calls = CallableOnAllAt (YieldsFirst (λ rest. rest)) calls
 
--- each call of f returns what `value` makes of its argument, and leaves f as it was
+-- each call of f returns `value` of its argument, and leaves f as it was
 abbrev pub Computes : {F X R : Type 0} → (F → X → R → F → Type 0) → F → (X → R) → Type 0
 Computes {F} {X} {R} step f value = (x : X) (r : R) (next : F) → step f x r next → (r ≡ value x) × (next ≡ f)

@@ -1,4 +1,4 @@
--- Words for calls that clone items.
+-- Words for functions that clone items.
 use Rattle.std.specs.Prelude.{◌≡◌, ℕ, ◌<◌, List, length, slice_index_or}
 
 module _ {T : Type 0} where

@@ -1,4 +1,4 @@
--- What a full `ArrayVec` is once a `&mut` to its first places ends.
+-- A full `ArrayVec` after a `&mut` to its first places ends.
 use Rattle.std.specs.Prelude.{List}
 use Rattle.std.specs.Borrow.{Fml, RattleType, MutBor, Lends, Array, unit}
 use Rattle.arrayvec.specs.ArrayVec.{ArrayVec, with_items}

@@ -1,4 +1,4 @@
--- What a held place is once a `&mut` to its item ends.
+-- A held place after a `&mut` to its item ends.
 use Rattle.std.specs.Prelude.{Option, Some}
 use Rattle.std.specs.Borrow.{Fml, RattleType, MutBor, Lends}
 use Rattle.ix_tables.specs.contracts.cells.maybe_moved.MaybeMoved as maybe_moved

@@ -1,4 +1,4 @@
--- What a table is once a `&mut` into it ends: as it was, with the last value behind the reference r.
+-- A table after a `&mut` into it ends: as it was, with the last value behind the reference r.
 use Rattle.std.specs.Prelude.{ℕ, List, Option, Some, slice_set}
 use Rattle.std.specs.Borrow.{Fml, RattleType, MutBor, Lends}
 use Rattle.std.specs.declared.alloc.Allocator.{Ghosts}

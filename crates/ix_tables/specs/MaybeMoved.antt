@@ -1,4 +1,4 @@
--- What an item that may have been moved out owns and lends.
+-- The ownership and sharing of an item that may have been moved out.
 use Rattle.std.specs.Prelude.{ℕ, List, Option, Some, None}
 use base.Fml.{Lft, Fml, ftrue}
 use mir.Syntax.{Ty}
@@ -6,7 +6,7 @@ use mir.Val.{Val}
 use denote.Memory.{part_of, raw_all}
 use denote.Sharing.{one}
 
--- what an item owns, and nothing once it is moved out
+-- the ownership of an item; nothing once the item is moved out
 abbrev pub owns_item : {T : Type 0} → (T → Fml) → Option T → Fml
 owns_item owns (Some item) = owns item
 owns_item owns None = ftrue

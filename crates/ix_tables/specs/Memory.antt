@@ -1,4 +1,4 @@
--- How much memory is taken: bytes, and the blocks in which they lie.
+-- The amount of memory that is allocated: the bytes, and the number of allocations.
 use Rattle.std.specs.Prelude.{ℕ, ◌+◌, ◌-◌, ◌*◌, ◌^◌, min, nat_eq, if◌then◌else◌}
 use Rattle.ix_tables.specs.declared.cells.memory_size.MemorySize.{MemorySize}
 
@@ -10,7 +10,7 @@ saturated n = min n (2 ^ 64 - 1)
 abbrev pub no_memory : MemorySize
 no_memory = record { bytes = 0; blocks = 0 }
 
--- n items of this size in one block, which may have no bytes; no block if n is 0
+-- n items of this size in one allocation, which may have no bytes; no allocation if n is 0
 abbrev pub items_memory : ℕ → ℕ → MemorySize
 items_memory size n = record { bytes = saturated (n * size); blocks = if nat_eq n 0 then 0 else 1 }
 

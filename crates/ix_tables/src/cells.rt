@@ -1,8 +1,8 @@
 //! Tables: fixed rows of places, each empty or holding one item.
 //!
 //! A [`Table`] is stored inline ([`InlineTable`], [`FilledInlineTable`]) or allocates only when it is made ([`HeapTable`],
-//! [`FilledHeapTable`]). An [`Array`] has an item in each place ([`InlineArray`], [`HeapArray`]). [`Counted`] counts the calls
-//! on one. Here are also the parts of containers that are made in two steps.
+//! [`FilledHeapTable`]). An [`Array`] has an item in each place ([`InlineArray`], [`HeapArray`]). [`Counted`] counts the calls on a
+//! table or an array. This module also has the parts of containers with two-phase initialisation.
 
 mod array;
 mod counted;

@@ -1,4 +1,4 @@
--- The iterators over a vector, and what a vector takes from an iterator or a closure.
+-- The iterators over a vector, and the items that a vector accepts from an iterator or a closure.
 use Rattle.std.specs.Prelude.{ℕ, ◌≡◌, ◌+◌, ◌^◌, ◌<◌, List, length, Option, Some}
 use Rattle.std.specs.Borrow.{Fml, RattleType, MutBor, follows, Array}
 use Rattle.std.specs.Iterator.{YieldsThen}
@@ -34,7 +34,7 @@ module _ {T : Type 0} (xs : List T) where
     pub order : YieldsMutRefsInOrder (iter_mut_steps {A = T}) iter_mut_rest
     pub reverse : YieldsMutRefsInReverse (iter_mut_steps_back {A = T}) iter_mut_rest
 
--- what a vector is once an iterator over mutable references ends: its items are overwritten by their last values
+-- a vector after an iterator over mutable references ends: its items are overwritten by their last values
 abbrev pub vec_lends_iter : (V T : RattleType) → (V.Denot → List T.Denot → V.Denot) → MutBor V.Denot → IterMut T.Denot → Fml
 vec_lends_iter V T with_slice v it = follows V (Array T 0) v.ghost_name (iter_mut_name it) (with_slice v.now)
 

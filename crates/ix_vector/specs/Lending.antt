@@ -1,4 +1,4 @@
--- What a vector is once a `&mut` into it ends: as it was, with the last value behind the reference r.
+-- A vector after a `&mut` into it ends: as it was, with the last value behind the reference r.
 use Rattle.std.specs.Prelude.{length, List}
 use Rattle.std.specs.Borrow.{Fml, RattleType, MutBor, Lends, Array}
 use Rattle.std.specs.List.{refill}

@@ -1,4 +1,4 @@
--- What contracts see of an iterator that drains a vector.
+-- The view that contracts have of an iterator that drains a vector.
 use Rattle.std.specs.Prelude.{◌≡◌, ℕ, List, reverse, Option}
 use Rattle.std.specs.Borrow.{GName}
 use Rattle.std.specs.Iterator.{Yields, YieldsFirst}

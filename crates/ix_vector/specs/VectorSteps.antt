@@ -1,4 +1,4 @@
--- The steps of a vector: the bounded list after each call, and the result of each call that may be refused.
+-- The steps of a vector: the bounded list after each call, and the result of each method that may return an error.
 use Rattle.std.specs.Prelude.{ℕ, ◌+◌, ◌-◌, ◌<◌, ◌≤◌, List, ◌++◌, length, take, insert, remove, replicate, nat_le, if◌then◌else◌, Result, Ok, Err}
 use Rattle.std.specs.List.{refill}
 use Rattle.ix_tables.specs.Bounded.{Bounded, has_room, with_items}
@@ -26,7 +26,7 @@ module _ {T : Type 0} where
   vec_insert vec i x =
       if has_room vec then (if nat_le i (length vec.items) then with_items vec (insert vec.items i x) else vec) else vec
 
-  -- a full vector is refused before an index out of bounds
+  -- the error of a full vector comes before that of an index out of bounds
   abbrev pub vec_insert_result : Bounded T → ℕ → VecResult
   vec_insert_result vec i =
       if has_room vec then (if nat_le i (length vec.items) then Ok tt else Err OutOfBounds) else Err InsertWouldExceedCapacity

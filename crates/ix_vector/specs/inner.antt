@@ -1,3 +1,3 @@
--- What no public contract cites: what the code behind it means.
+-- Definitions that no public contract cites: the meaning of the code behind the contracts.
 pub mod Fronts
 pub mod ItemLending

@@ -1,7 +1,7 @@
 //! Vectors with a capacity that is set when they are made.
 //!
-//! A [`Vector`] is a list of at most [`capacity`](Vector::capacity) items: [`StaticVec`] is stored inline,
-//! [`PolymorphicVec`] and [`RelocatableVec`] allocate once, when they are made. Contracts see a bounded list.
+//! A [`Vector`] is a list of at most [`capacity`](Vector::capacity) elements. [`StaticVec`] is stored inline. [`PolymorphicVec`]
+//! and [`RelocatableVec`] allocate once, when they are made. Contracts see a bounded list.
 #![tactic(auto)]
 
 pub mod vector;

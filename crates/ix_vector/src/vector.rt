@@ -1,7 +1,7 @@
 //! Vectors: contiguous lists with a capacity that is set when they are made.
 //!
-//! [`StaticVec`] is stored inline, [`PolymorphicVec`] and [`RelocatableVec`] allocate only when they are made. Most of their calls
-//! are those of the trait [`Vector`], which a file imports.
+//! [`StaticVec`] is stored inline. [`PolymorphicVec`] and [`RelocatableVec`] allocate only when they are made. Most of their
+//! methods belong to the trait [`Vector`], which a file imports.
 
 mod append;
 mod drain;

@@ -1,4 +1,4 @@
-//! Heaps with just as many free bytes as something of a known size takes.
+//! Heaps that have exactly as many free bytes as a container of known size allocates.
 use crate::Findings;
 use linked_list_allocator::LocalHeap;
 use std::alloc::Global;
@@ -6,10 +6,10 @@ use std::alloc::Global;
 /// The number of bytes of a block. Each allocation takes whole blocks of a heap.
 const BLOCK: usize = 16;
 
-/// Calls `make` with a heap that has just `bytes` free, which are whole blocks, and with one that has a block less. It makes
-/// something of this capacity and returns how many bytes of the heap are in use with it, or `None` if the making was refused.
+/// Calls `make` with a heap that has just `bytes` free, which are whole blocks, and with one that has a block less. `make` makes
+/// something of this capacity. It returns how many bytes of the heap are in use with it, or `None` if the allocation fails.
 ///
-/// Notes the capacity where the making is refused with room, succeeds without, or takes less, and where bytes stay in use after it.
+/// Notes the capacity if the allocation fails with room, succeeds without, or takes less, and if bytes stay in use after it.
 ///
 /// ```text
 /// check_room(&findings, alloc, 1600, 100, |heap: &LocalHeap| {
@@ -44,11 +44,11 @@ fn check_room<F: Fn(&LocalHeap) -> Option<usize>>(
     }
 }
 
-/// Numbers of items. Those that are divided by 16 fill whole blocks, whatever the size of one is.
+/// Numbers of elements. Those that are divided by 16 fill whole blocks, whatever the size of one is.
 const NUMBERS: &[usize] = &[0, 1, 7, 16, 64, 1000, 1008];
 
-/// Checks that a container takes `bytes` for each item, in so many `blocks`, or nothing if there is no item. `size_of` returns
-/// both for a number of items. `make` makes a container of so many, as for [`check_room`].
+/// Checks that a container allocates `bytes` for each element, in so many `blocks`, or nothing if there is no element. `size_of`
+/// returns both for a number of elements. `make` makes a container of so many, as for [`check_room`].
 pub fn check_memory_sizes<
     F: Fn(usize) -> (usize, usize),
     G: Fn(&LocalHeap, usize) -> Option<usize>,

@@ -16,13 +16,13 @@ pub fn order_of<T: Ord>(value: &T, other: &T) -> Ordering {
     value.cmp(other)
 }
 
-/// Checks the `Debug` text of a value, of which the first 80 bytes are compared.
+/// Checks the `Debug` text of a value. The first 80 bytes are compared.
 pub fn check_text<T: Debug>(findings: &Findings, value: &T, text: &str) {
     let found = InlineText::<80>::of(format_args!("{value:?}"));
     findings.expect_same(found.as_str(), text, "the text");
 }
 
-/// Checks the `Display` text of a value, of which the first 80 bytes are compared.
+/// Checks the `Display` text of a value. The first 80 bytes are compared.
 pub fn check_display<T: Display>(findings: &Findings, value: &T, text: &str) {
     let found = InlineText::<80>::of(format_args!("{value}"));
     findings.expect_same(found.as_str(), text, "the text");

@@ -1,4 +1,4 @@
-//! A table that counts the calls of it.
+//! A table that counts the calls of its methods.
 ghost use Rattle.std.specs.Prelude.{◌≡◌, ℕ};
 
 use ix_tables::{HeapTable, Table};
@@ -23,8 +23,8 @@ impl Tally for Rc<Cell<u64>> {
     }
 }
 
-/// A table that adds its calls to a tally: each but `len` and `end` as one, and `get_mut` as two, since its caller may read and
-/// write the item.
+/// A table that adds its calls to a tally. It counts each call as one, except `len` and `end`, which it does not count, and
+/// `get_mut`, which it counts as two: the caller may read and write the item.
 pub struct Counting<S, C> {
     table: S,
     calls: C,

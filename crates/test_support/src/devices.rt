@@ -1,10 +1,10 @@
-//! Readers and writers that behave like poor devices: a few bytes a call, interruptions, and faults.
+//! Readers and writers that behave like poor devices: a few bytes a call, interruptions, and errors.
 use std::alloc::Global;
 use std::cell::Cell;
 use std::cmp::min;
 use std::io::{Error, ErrorKind, Read, Write};
 
-/// Which calls of a device fail: after `calls` calls so many `faults`, each of that `kind`. The calls after them work again.
+/// The calls of a device that fail: after `calls` calls so many `faults`, each of that `kind`. The calls after them work again.
 #[derive(Drop)]
 pub struct Faults {
     pub calls: usize,
@@ -13,12 +13,12 @@ pub struct Faults {
 }
 
 impl Faults {
-    /// Returns what a device has that never fails.
+    /// Returns the `Faults` of a device that never fails.
     pub fn none() -> Faults {
         Faults::after(usize::MAX)
     }
 
-    /// Returns what a device has that works for `calls` calls, and then never again.
+    /// Returns the `Faults` of a device that works for `calls` calls, and then never again.
     pub fn after(calls: usize) -> Faults {
         Faults {
             calls,
@@ -27,7 +27,7 @@ impl Faults {
         }
     }
 
-    /// Returns what a device has of which just the call after `calls` calls fails.
+    /// Returns the `Faults` of a device that fails only at the call after `calls` calls.
     pub fn once_after(calls: usize, kind: ErrorKind) -> Faults {
         Faults {
             calls,
@@ -54,9 +54,9 @@ pub struct PoorReader<'a> {
     pub rest: &'a [u8],
     pub piece: usize,
     pub faults: Faults,
-    /// How many calls in a row are interrupted before each other call. They do not count as calls.
+    /// The number of calls in a row that are interrupted before each other call. They do not count as calls.
     pub interruptions: usize,
-    /// How many were interrupted since the last call that was not.
+    /// The number of calls that were interrupted since the last call that was not.
     pub interrupted: usize,
 }
 
@@ -139,7 +139,7 @@ impl Write for PoorWriter {
     }
 }
 
-/// What a person at a terminal sees: the lines that were typed and the replies to them.
+/// The lines that a person typed at a terminal, and the replies to them.
 #[derive(Drop)]
 pub struct Exchange {
     pub given: Cell<usize>,

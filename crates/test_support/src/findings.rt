@@ -1,4 +1,4 @@
-//! What a test finds and did not expect.
+//! The unexpected results of a test.
 use std::cell::Cell;
 use std::fmt::{Debug, InlineText};
 use std::test::Fail;
@@ -8,8 +8,8 @@ const ROOM: usize = 400;
 
 /// Notes the first thing that a test did not expect. The test goes on, and fails with that text at its end.
 ///
-/// Findings are not `Drop`, so a test can't forget to return their [`Findings::verdict`]. They are in a cell, of which no
-/// contract can speak.
+/// Findings are not `Drop`, so a test can't forget to return their [`Findings::verdict`]. They are in a cell, so no contract can
+/// mention them.
 ///
 /// ```text
 /// let findings = Findings::new();
@@ -21,7 +21,7 @@ pub struct Findings {
 }
 
 impl Findings {
-    /// Returns findings of which none is noted yet.
+    /// Returns findings without a note.
     pub fn new() -> Findings {
         Findings {
             first: Cell::new(None),

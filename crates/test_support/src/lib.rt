@@ -1,9 +1,16 @@
-//! What the crates of tests share: [`Findings`], which note what a test did not expect, [`check_rows`], which runs a table
-//! of commands and the replies to them, [`reply_of_option`] and [`reply_of_key`], which make such replies, items that note their
-//! drops, [`hash_of`], [`order_of`] and [`check_text`], which know a value by a trait alone, [`fed_by`], which tells what a value
-//! feeds to a hasher, [`check_memory_sizes`], which knows how many bytes a container takes, [`check_drawn_sizes`], which has ample
-//! memory, [`check_capacities`], which knows besides where none is enough,
-//! [`check_equality`] of maps of any kind, [`Counting`], a table that counts the calls of it, and [`devices`] that fail.
+//! The code that the crates of tests share:
+//!
+//! - [`Findings`] note the unexpected results of a test;
+//! - [`check_rows`] runs a table of commands and the replies to them, and [`reply_of_option`] and [`reply_of_key`] make such
+//!   replies;
+//! - items note their drops;
+//! - [`hash_of`], [`order_of`] and [`check_text`] know a value by a trait alone;
+//! - [`fed_by`] returns the digits that a value feeds to a hasher;
+//! - [`check_memory_sizes`] checks how many bytes a container allocates, [`check_drawn_sizes`] has ample memory, and
+//!   [`check_capacities`] also has sizes for which no memory is enough;
+//! - [`check_equality`] compares maps of any kind;
+//! - [`Counting`] is a table that counts the calls of its methods;
+//! - [`devices`] fail.
 //!
 //! ```text
 //! let notes = Notes::new(0);

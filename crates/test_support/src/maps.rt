@@ -3,7 +3,7 @@ use crate::Findings;
 use ix_flatmap::{KeyIndex, MetaMap, Pair};
 use ix_slottable::Storage;
 
-/// Checks which of two maps are equal, of which the first is empty and of capacity 2, and the second empty and of a greater one.
+/// Checks which of two maps are equal. The first is empty and of capacity 2, and the second empty and of a greater one.
 pub fn check_equality<M: Storage<Pair<u64, u64>>, I: KeyIndex<u64, u64>>(
     findings: &Findings,
     small: &mut MetaMap<Pair<u64, u64>, M, I>,

@@ -7,8 +7,7 @@ ghost use Rattle.std.specs.Prelude.{◌≡◌, nat_eq};
 use std::alloc::AllocError;
 use std::cell::Cell;
 
-/// Notes of the drops of some items, and how many clones of them succeed. They are in cells, of which no contract can
-/// speak.
+/// Notes of the drops of some items, and how many clones of them succeed. They are in cells, so no contract can mention them.
 #[derive(Drop)]
 pub struct Notes {
     /// The names of the dropped items, each as a further digit.
@@ -32,7 +31,7 @@ impl Notes {
         self.drops.get()
     }
 
-    /// As [`Notes::drops`], and forgets them.
+    /// Returns the same as [`Notes::drops`], and forgets the drops.
     pub fn take_drops(&self) -> u64 {
         self.drops.replace(0)
     }

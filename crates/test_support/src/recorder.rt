@@ -1,4 +1,4 @@
-//! A hasher that records what it was fed.
+//! A hasher that records the bytes that it was fed.
 use std::cell::Cell;
 use std::hash::{Hash, Hasher};
 
@@ -26,8 +26,8 @@ impl Hasher for Recorder<'_> {
     }
 }
 
-/// Returns what `value` feeds to a hasher: the bytes of each write and then 255, as digits to the base 256, of which the
-/// last eight are kept.
+/// Returns the digits that `value` feeds to a hasher: the bytes of each write and then 255, as digits to the base 256. The last
+/// eight are kept.
 ///
 /// ```text
 /// fed_by(&string);    // 0x6162ff, if the bytes "ab" are fed in one write

@@ -1,4 +1,4 @@
-//! What one thread reads from a cell is what it wrote, in each kind of cell and in each memory.
+//! One thread reads from a cell what it wrote, in each kind of cell and in each memory.
 ghost use Rattle.std.specs.Prelude.{◌≡◌, ◌≤◌};
 
 use crate::foo::Foo;
@@ -31,7 +31,7 @@ fn check_fixed<T: AtomicCopy + PartialEq + Debug, const SIZE: usize>(
     findings.expect_same(cell.read().assume_consistent(), Some(second), place);
 }
 
-/// As `check_fixed`, of a relocatable cell that was made.
+/// Does the same as `check_fixed`, for a relocatable cell that was made.
 fn check_made<T: AtomicCopy + PartialEq + Debug, const SIZE: usize, A: Allocator>(
     findings: &Findings,
     made: Result<RelocatableByteAtomic<T, SIZE, A>, InitError<UninitByteAtomic<T, SIZE>>>,
@@ -51,7 +51,7 @@ fn check_made<T: AtomicCopy + PartialEq + Debug, const SIZE: usize, A: Allocator
     }
 }
 
-/// As `check_fixed`, of a sequenced cell, which has so many words.
+/// Does the same as `check_fixed`, for a sequenced cell, which has so many words.
 fn check_sequenced<T: AtomicCopy + PartialEq + Debug, const SIZE: usize>(
     findings: &Findings,
     alloc: Global,

@@ -142,7 +142,7 @@ fn strings() -> Result<(), Fail> {
     let findings = Findings::new();
     check_string(&findings, "ab", [97, 98, 0]);
     check_string(&findings, "abc", [97, 98, 99]);
-    // The bytes of two texts may be those of a third.
+    // The bytes of two strings may be those of a third.
     check_string(&findings, "cb", [99, 98, 0]);
     check_string(&findings, "", [0, 0, 0]);
     check_string(&findings, "", []);

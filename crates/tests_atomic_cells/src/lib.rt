@@ -1,6 +1,6 @@
-//! Tests of byte-wise atomic cells and sequenced cells beside their contracts: the encoding of each type, bytes that are
-//! torn, each function once, and threads that share a cell. And a type with an encoding, as a user would write it. In
-//! unproved/, which no proof reads: further lists of steps, pairs and arrays, the printed errors, and sizes.
+//! Tests of byte-wise atomic cells and sequenced cells beside their contracts: the encoding of each type, bytes that are torn, each
+//! function once, and threads that share a cell. A type with an encoding is here too, as a user would write it. In unproved/, which
+//! no proof reads: further lists of steps, pairs and arrays, the printed errors, and sizes.
 #![tactic(auto)]
 
 #[cfg(test)]

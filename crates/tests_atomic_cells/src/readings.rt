@@ -1,10 +1,10 @@
-//! What a reader of a cell finds while others write it.
+//! The values that a reader of a cell finds while others write it.
 use ix_atomic::Interfered;
 
-/// How many writers a reader can tell apart.
+/// The number of writers that a reader can tell apart.
 const WRITERS: usize = 4;
 
-/// What a reader has found so far.
+/// The values and versions that a reader has found so far.
 #[derive(Drop)]
 pub struct Readings {
     /// Of each writer, the order of the latest value.
@@ -23,7 +23,7 @@ impl Readings {
         }
     }
 
-    /// Returns whether all that was noted was expected.
+    /// Returns whether everything that was noted was expected.
     pub fn are_expected(&self) -> bool {
         self.are_expected
     }

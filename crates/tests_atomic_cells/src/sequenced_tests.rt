@@ -1,4 +1,4 @@
-//! The calls of a sequenced cell in one thread: what each returns.
+//! The calls of a sequenced cell in one thread, and their results.
 ghost use Rattle.std.specs.Prelude.{◌≡◌};
 
 use crate::foo::Foo;

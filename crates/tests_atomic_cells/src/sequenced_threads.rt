@@ -11,7 +11,7 @@ use std::thread;
 use std::thread::Threads;
 use test_support::Findings;
 
-/// How many values are written beside a reader.
+/// The number of values that are written beside a reader.
 pub const WRITES: u32 = 1_000;
 
 /// How often a reader tries to read the texts that are written beside it.
@@ -90,7 +90,7 @@ fn meet(own: &Flag, writer: &mut WriterSeat<u8>, other: &Flag, reader: &mut Read
     false
 }
 
-/// Two threads that each wait for what the other has written: one after the other, the first would not find it.
+/// Two threads that each wait for the other's value. If they ran one after the other, the first would not find it.
 #[test]
 fn two_threads_meet(rt: HostRuntime) -> Result<(), Fail> {
     let (left, mut left_writer, mut left_reader) = Flag::new(rt.alloc(), 0)?;

@@ -11,7 +11,7 @@ use std::thread;
 use std::thread::Threads;
 use test_support::Findings;
 
-/// What a writer's tries returned.
+/// The results of a writer's tries.
 #[derive(Clone, Copy)]
 struct Tries {
     written: u32,
@@ -28,8 +28,8 @@ impl Tries {
         }
     }
 
-    /// Notes what a try returned. If the cell was busy, the loaded version is odd and the found one too, or it is even and a
-    /// greater one was found.
+    /// Notes the result of a try. If the cell was busy, either the loaded version is odd and the found one too, or the loaded one
+    /// is even and the found one is greater.
     fn note(&mut self, tried: Result<(), TryWriteError>) {
         match tried {
             Ok(()) => self.written = self.written.wrapping_add(1),

@@ -11,7 +11,7 @@ use ix_atomic::{Fields, ReaderSeat, WriterSeat};
 use std::thread;
 use std::thread::Threads;
 
-/// How many values each thread writes.
+/// The number of values that each thread writes.
 const VALUES: u64 = 100;
 
 /// The most tries of one write.
@@ -134,7 +134,7 @@ const FIRST_RANGE: Range = Range {
     high: 6_000,
 };
 
-/// Returns whether nothing was read, or the first range, or one that a thread sets: its bounds are the number of a round.
+/// Returns whether nothing was read, or the first range, or one that a thread sets: then its bounds are the number of a round.
 fn is_first_or_set(read: Option<Range>) -> bool {
     match read {
         Some(range) => range == FIRST_RANGE || (range.low == range.high && range.high < VALUES),

@@ -1,4 +1,5 @@
-//! Tests of the crate of examples. Those of threads are proved, the others in `unproved/` are only run: what they call is proved.
+//! Tests of the crate of examples. Those of threads are proved. The others in `unproved/` are only run, because the functions that
+//! they call are proved.
 #![tactic(auto)]
 
 #[cfg(test)]

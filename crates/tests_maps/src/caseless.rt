@@ -9,7 +9,7 @@ ghost use Rattle.std.proofs.Common.{rules};
 use ix_string::{StaticString, String};
 use std::fmt::{self, Debug, Display, Formatter, Write};
 
-/// A text of at most 8 bytes. Two are equal if they are once their ASCII letters are lower-case.
+/// A string of at most 8 bytes. Two are equal if they are once their ASCII letters are lower-case.
 #[derive(Clone, Copy)]
 pub struct Caseless {
     pub text: StaticString<8>,

@@ -1,4 +1,4 @@
-//! Checks of what the commands of maps can't say: clones, and listings of keys with a callback.
+//! Checks that the commands of maps can't express: clones, and listings of keys with a callback.
 ghost use Rattle.ix_tables.specs.Cloning.{AreEqualClones};
 
 use crate::rows::Row;
@@ -30,7 +30,7 @@ pub fn check_listing<K: Eq + Drop, V: Drop, M: Storage<Pair<K, V>>, I: KeyIndex<
     findings.expect_same(calls, wanted, "the number of calls");
 }
 
-/// Returns what `get` returns.
+/// Returns the result of `get`.
 fn clone_of<K: Eq + Copy, V: Copy, M: Storage<Pair<K, V>>, I: KeyIndex<K, V>>(
     map: &MetaMap<Pair<K, V>, M, I>,
     key: &K,

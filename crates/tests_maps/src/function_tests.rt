@@ -121,7 +121,7 @@ impl RandomSource for Sevens {
     }
 }
 
-/// Makes a container of 3 in two steps.
+/// Initialises a container of 3 in two phases.
 fn init_of_three<M, U: RelocatableContainer<M>>(memory: M) -> Result<U::Ready, InitError<U>> {
     U::new_uninit(3).init(memory)
 }
@@ -175,7 +175,7 @@ fn count_letter<M: Storage<Pair<u8, u64>>, I: KeyIndex<u8, u64>>(
     }
 }
 
-/// Counts the letters of a text.
+/// Counts the letters of a string.
 fn check_counts<M: Storage<Pair<u8, u64>>, I: KeyIndex<u8, u64>>(
     findings: &Findings,
     counts: &mut MetaMap<Pair<u8, u64>, M, I>,
@@ -209,7 +209,7 @@ struct Ports {
     open: HashMap<u16, bool>,
 }
 
-/// Returns what is passed.
+/// Returns its argument.
 fn pass<T>(value: T) -> T {
     value
 }

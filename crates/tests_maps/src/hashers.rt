@@ -1,7 +1,7 @@
 //! Hashers whose hashes are known.
 use std::hash::{BuildHasher, Hasher};
 
-/// A hasher that answers this number, whatever it is fed, and that makes hashers like itself: so all keys have one bucket, the
+/// A hasher that returns this number, whatever it is fed, and that makes hashers like itself. So all keys have one bucket: the
 /// first one for 0 and the last one for `u64::MAX`.
 #[derive(Clone, Copy)]
 pub struct OneHash {

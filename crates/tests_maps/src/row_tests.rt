@@ -83,7 +83,7 @@ fn check_hash<
     }
 }
 
-/// Does what `check_map` and `check_hash` do.
+/// Does the same as `check_map` and `check_hash`.
 fn check_kinds<
     K: Eq + Hash + Copy + Debug,
     V: Copy + PartialEq + Debug,
@@ -190,7 +190,7 @@ fn check_fixed(findings: &Findings) {
     }
 }
 
-/// Does what `check_examples` does. All of the memory is deallocated.
+/// Does the same as `check_examples`. All of the memory is deallocated.
 fn check_heap(findings: &Findings, heap: &LocalHeap) {
     check_examples(findings, heap, "a heap");
     findings.expect_same(heap.used(), 0, "bytes of the heap in use");

@@ -14,7 +14,7 @@ pub type Row<K, V> = (MapCommand<K, V>, Reply<K, V>);
 /// An example with numbers as keys and as values.
 pub type Example = &'static [Row<u64, u64>];
 
-/// On a map of 1. The full map refuses a key that it has as such.
+/// On a map of 1. The full map returns an error for a key that it has, and not the error of a full map.
 pub const HELD_BEFORE_FULL: Example = &[
     (Insert(1, 2), Done),
     (Insert(1, 3), Error(KeyAlreadyExists)),
@@ -33,7 +33,7 @@ pub const HELD_BEFORE_FULL: Example = &[
     (Get(2), Value(4)),
 ];
 
-/// On a map of 3. A key that is inserted after a removal takes the place of the removed one.
+/// On a map of 3. A key that is inserted after a removal gets the slot of the removed one.
 pub const SLOT_ORDER: Example = &[
     (Insert(5, 50), Done),
     (Insert(6, 60), Done),
@@ -74,7 +74,7 @@ pub const LISTINGS: Example = &[
     (KeyAt(0), Key(8)),
 ];
 
-/// On a map of 3. The place that was vacated last is filled first.
+/// On a map of 3. The slot that was vacated last is filled first.
 pub const LAST_REMOVED_FIRST: Example = &[
     (Insert(1, 10), Done),
     (Insert(2, 20), Done),
@@ -148,7 +148,7 @@ pub const NO_PLACE: Example = &[
     (Full, Bool(true)),
 ];
 
-/// On a map of 4, of which all keys can have one bucket: the last, the first and a middle one of a chain are removed.
+/// On a map of 4, whose keys can all have one bucket: the last, the first and a middle one of a chain are removed.
 pub const CHAIN: Example = &[
     (Insert(1, 10), Done),
     (Insert(2, 20), Done),
@@ -222,7 +222,7 @@ pub fn case_ignored() -> [Row<Caseless, u64>; 16] {
     ]
 }
 
-/// On a map of 2, with texts as keys: a text is not equal to its beginning, nor to one in other case.
+/// On a map of 2, with strings as keys: a string is not equal to its beginning, nor to one in other case.
 pub fn texts() -> [Row<StaticString<16>, char>; 11] {
     [
         (Insert(text("ab"), 'x'), Done),

@@ -1,4 +1,4 @@
-//! How semantic strings are made, what is refused, what is not judged, and what the sample rules say of bytes.
+//! The making of semantic strings: errors, bytes that are not judged, and the results of the sample rules for bytes.
 ghost use Rattle.std.specs.Prelude.{◌<◌};
 
 use crate::own_rules::{EvenLengthRules, NonEmptyRules};
@@ -12,10 +12,10 @@ use std::str::{FromStr, from_utf8};
 use std::test::Fail;
 use test_support::Findings;
 
-/// Bytes, and the text that is made of them or the error.
+/// Bytes, and the string that is made of them or the error.
 type Made = (&'static [u8], Result<&'static str, SemanticStringError>);
 
-/// Compares what a conversion returns: the text, or the error. Checks what else the string returns, and what is made of it
+/// Compares the result of a conversion: the string, or the error. Checks other results of the string, and the string that is made
 /// unchecked.
 fn check_made<R: Rules<CAPACITY>, const CAPACITY: usize>(
     findings: &Findings,
@@ -46,7 +46,7 @@ fn check_made<R: Rules<CAPACITY>, const CAPACITY: usize>(
     }
 }
 
-/// Makes strings of the bytes, and of the texts that they are.
+/// Makes strings of the bytes, and of the `&str`s that they are.
 fn check_new<R: Rules<CAPACITY>, const CAPACITY: usize>(findings: &Findings, rows: &[Made])
     requires { CAPACITY < 256 }
 {
@@ -64,7 +64,7 @@ fn check_new<R: Rules<CAPACITY>, const CAPACITY: usize>(findings: &Findings, row
     }
 }
 
-/// As `check_new`, of bytes before a zero.
+/// Does the same as `check_new`, for bytes before a zero.
 fn check_ended<R: Rules<CAPACITY>, const CAPACITY: usize>(findings: &Findings, rows: &[Made])
     requires { CAPACITY < 256 }
 {
@@ -74,7 +74,7 @@ fn check_ended<R: Rules<CAPACITY>, const CAPACITY: usize>(findings: &Findings, r
     }
 }
 
-/// Bytes without a zero, and what group names of them are.
+/// Bytes without a zero, and the results of making group names of them.
 const NAMES: &[Made] = &[
     (b"", Err(InvalidContent)),
     (b"1a", Err(InvalidContent)),
@@ -97,7 +97,7 @@ const NAMES: &[Made] = &[
     ),
 ];
 
-/// Bytes, and what group names of those before the first zero are. No group name is made of all of them.
+/// Bytes, and the results of making group names of those before the first zero. No group name is made of all of them.
 const C_STRINGS: &[Made] = &[
     (b"ab\0", Ok("ab")),
     (b"ab\0C\xff", Ok("ab")),
@@ -109,7 +109,7 @@ const C_STRINGS: &[Made] = &[
     ),
 ];
 
-/// Each text with slashes is accepted, but for its length and bytes that no text holds.
+/// Each string with slashes is accepted, except if its length or a byte is that of no string.
 const TEXTS: &[Made] = &[
     (b"", Ok("")),
     (b"/", Ok("/")),
@@ -196,7 +196,7 @@ fn bytes_that_are_not_judged() -> Result<(), Fail> {
     findings.verdict()
 }
 
-/// Bytes, and what `invalid_content` and `invalid_characters` of group names return.
+/// Bytes, and the results of `invalid_content` and `invalid_characters` of group names.
 const JUDGED: &[(&[u8], bool, bool)] = &[
     (b"", true, false),
     (b"-", true, false),
@@ -213,7 +213,7 @@ const JUDGED: &[(&[u8], bool, bool)] = &[
     (b"a\0", false, true),
 ];
 
-/// Returns what both predicates return.
+/// Returns the results of both predicates.
 fn judged<R: Rules<CAPACITY>, const CAPACITY: usize>(bytes: &[u8]) -> (bool, bool) {
     (R::invalid_content(bytes), R::invalid_characters(bytes))
 }

@@ -14,7 +14,7 @@ use std::hash::{DefaultHasher, Hash, Hasher};
 use std::test::Fail;
 use test_support::{Findings, fed_by};
 
-/// Returns what `{}` prints.
+/// Returns the text that `{}` prints.
 fn displayed<R: Rules<CAPACITY>, const CAPACITY: usize>(
     alloc: Global,
     string: &Semantic<R, CAPACITY>,
@@ -59,8 +59,8 @@ fn hash_of<R: Rules<CAPACITY>, const CAPACITY: usize>(string: &Semantic<R, CAPAC
     state.finish()
 }
 
-/// A text, its place in the order of the normal forms, and what one write of its normal form feeds to a hasher: the last
-/// eight bytes.
+/// A string, its place in the order of the normal forms, and the last eight bytes that one write of its normal form feeds to a
+/// hasher.
 type PlacedText = (&'static str, usize, u64);
 
 const PATHS: &[PlacedText] = &[
@@ -111,7 +111,7 @@ fn check_pair<R: Rules<CAPACITY>, const CAPACITY: usize>(
     findings.expect_same_at(hash_of(left) == hash_of(right), same, row, "hashes");
 }
 
-/// Compares the text of the row with each.
+/// Compares the string of the row with each.
 fn check_text<R: Rules<CAPACITY>, const CAPACITY: usize>(
     findings: &Findings,
     left: &Semantic<R, CAPACITY>,

@@ -4,7 +4,7 @@ ghost use Rattle.std.specs.Prelude.{◌%◌, ◌==◌, length, false, refl};
 use ix_semantic_string::Rules;
 use ix_string::StaticString;
 
-/// Refuses the empty text alone.
+/// Accepts all strings except the empty one.
 pub struct NonEmptyRules;
 
 impl<const CAPACITY: usize> Rules<CAPACITY> for NonEmptyRules {
@@ -31,7 +31,7 @@ impl<const CAPACITY: usize> Rules<CAPACITY> for NonEmptyRules {
     ghost normal_twice = { λ _ _. refl };
 }
 
-/// Refuses texts of an odd number of bytes, and so each change of a text by one byte.
+/// Accepts the strings of an even number of bytes, so each change of a string by one byte is an error.
 pub struct EvenLengthRules;
 
 impl<const CAPACITY: usize> Rules<CAPACITY> for EvenLengthRules {

@@ -1,4 +1,4 @@
-//! The rows of commands, a long text that may not be empty, copies, and normal forms.
+//! The rows of commands, a long string that may not be empty, copies, and normal forms.
 ghost use Rattle.std.specs.Prelude.{◌<◌};
 
 use crate::own_rules::{EvenLengthRules, NonEmptyRules};
@@ -48,10 +48,10 @@ fn a_long_text_stays() -> Result<(), Fail> {
     findings.verdict()
 }
 
-/// A text, its normal form, another text, and whether both mean the same.
+/// A string, its normal form, another string, and whether both mean the same.
 type FormRow = (&'static str, &'static str, &'static str, bool);
 
-/// Under rules by which each text is its own normal form.
+/// Under rules by which each string is its own normal form.
 const OWN_FORMS: &[FormRow] = &[
     ("abab", "abab", "abab", true),
     ("abab", "abab", "aba", false),
@@ -111,8 +111,8 @@ fn normal_forms() -> Result<(), Fail> {
     findings.verdict()
 }
 
-/// Texts, and whether they are known to be their own normal forms: by the rules of trailing slashes, and by rules that do
-/// not say which are.
+/// Strings, and whether they are known to be their own normal forms: by the rules of trailing slashes, and by rules that do not say
+/// which are.
 const KNOWN: &[(&[u8], bool, bool)] = &[
     (b"/", true, false),
     (b"//", false, false),
@@ -124,7 +124,7 @@ const KNOWN: &[(&[u8], bool, bool)] = &[
     (b"a/b", true, false),
 ];
 
-/// Returns what `is_normal_form` of the rules returns, or `None` if they refuse the text.
+/// Returns the result of `is_normal_form` of the rules, or `None` if they do not accept the string.
 fn is_known<R: Rules<CAPACITY>, const CAPACITY: usize>(bytes: &[u8]) -> Option<bool>
     requires { CAPACITY < 256 }
 {
@@ -146,7 +146,7 @@ fn texts_known_to_be_normal_forms() -> Result<(), Fail> {
     findings.verdict()
 }
 
-/// Copies `text` into `n` of four bytes that are 9. Returns what `copy_with_nul` returns, and the bytes.
+/// Copies `text` into `n` of four bytes that are 9. Returns the result of `copy_with_nul`, and the bytes.
 fn copied<R: Rules<CAPACITY>, const CAPACITY: usize>(
     text: &str,
     n: usize,

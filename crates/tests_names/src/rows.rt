@@ -10,10 +10,10 @@ use ix_semantic_string::SemanticStringError::{self, ExceedsMaximumLength, Invali
 use ix_semantic_string::{Rules, Semantic};
 use test_support::{Findings, reply_of_key, reply_of_option};
 
-/// What the call that a command names returns.
+/// The result of the method that a command names.
 type Outcome = Result<Reply<usize, u8>, SemanticStringError>;
 
-/// A text, a command, the outcome, and the text that is left.
+/// A string, a command, the outcome, and the string that is left.
 type Row<'a> = (&'a str, StringCommand<'a>, Outcome, &'a str);
 
 const DONE: Outcome = Ok(Done);
@@ -88,7 +88,7 @@ pub const NAMES: &[Row] = &[
     ("a-b", StripSuffix(b"a-b"), INVALID, "a-b"),
 ];
 
-/// Of texts of an even length and at most six bytes: each change by an odd number of bytes is refused.
+/// Of strings of an even length and at most six bytes: each change by an odd number of bytes is an error.
 pub const EVEN_LENGTHS: &[Row] = &[
     ("abcd", Push(b'e'), INVALID, "abcd"),
     ("abcd", Append(b"e"), INVALID, "abcd"),
@@ -128,7 +128,7 @@ pub const EVEN_LENGTHS: &[Row] = &[
     ("", Full, Ok(Bool(false)), ""),
 ];
 
-/// Of a text that has no room, and that may be empty.
+/// Of a string that has no room, and that may be empty.
 pub const NO_ROOM: &[Row] = &[
     ("", Empty, Ok(Bool(true)), ""),
     ("", Full, Ok(Bool(true)), ""),
@@ -157,7 +157,7 @@ pub const NO_ROOM: &[Row] = &[
     ("", Rfind(b"a"), NONE, ""),
 ];
 
-/// Of texts of an even length and at most one byte: of no bytes.
+/// Of strings of an even length and at most one byte: of no bytes.
 pub const NO_SINGLE_BYTE: &[Row] = &[
     ("", Empty, Ok(Bool(true)), ""),
     ("", Full, Ok(Bool(false)), ""),
@@ -167,7 +167,7 @@ pub const NO_SINGLE_BYTE: &[Row] = &[
     ("", Pop, NONE, ""),
 ];
 
-/// Of texts of one byte, none of which is empty.
+/// Of strings of one byte: none is empty.
 pub const SINGLE_BYTES: &[Row] = &[
     ("a", Empty, Ok(Bool(false)), "a"),
     ("a", Full, Ok(Bool(true)), "a"),
@@ -194,7 +194,7 @@ pub const SINGLE_BYTES: &[Row] = &[
     ("a", Rfind(b""), Ok(Key(1)), "a"),
 ];
 
-/// Makes the call that the command names.
+/// Calls the method that the command names.
 fn run<R: Rules<CAPACITY>, const CAPACITY: usize>(
     string: &mut Semantic<R, CAPACITY>,
     command: StringCommand,
@@ -220,7 +220,7 @@ fn run<R: Rules<CAPACITY>, const CAPACITY: usize>(
     DONE
 }
 
-/// Runs each row on a string of its text.
+/// Runs each row on its string.
 pub fn check_rows<R: Rules<CAPACITY>, const CAPACITY: usize>(
     findings: &Findings,
     rows: &[Row],

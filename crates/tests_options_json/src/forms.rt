@@ -1,4 +1,4 @@
-//! An item type of size zero.
+//! A type of size zero with a JSON form.
 ghost use Rattle.std.specs.Result.{result_map_both};
 ghost use Rattle.ix_json.specs.JsonTree.{bool_read};
 

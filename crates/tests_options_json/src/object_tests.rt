@@ -1,4 +1,4 @@
-//! A struct of a program's own as an object: each field is a member, by the calls of the field's type.
+//! A struct of a program as an object: each field is a member, by the methods of the field's type.
 use ix_json::JsonFault::{BadByte, OutOfMemory, TooLong, WrongKind};
 use ix_json::{JsonFault, JsonForm};
 use ix_relocatable_option::RelocatableOption;
@@ -146,7 +146,7 @@ fn services(rt: HostRuntime) -> Result<(), Fail> {
     findings.verdict()
 }
 
-/// Objects with members that are no fields, and the fault of the first field that has one.
+/// Objects with members that are no fields, and the error of the first field that has one.
 const FAULTS: &[(&str, JsonFault)] = &[
     ("{\"name\":\"webweb\"}", TooLong),
     ("{\"name\":\"webw\u{e9}\"}", TooLong),

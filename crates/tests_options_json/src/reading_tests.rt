@@ -1,4 +1,4 @@
-//! How JSON is read: rows of a text, and the value or the fault.
+//! Reading JSON: rows of a text, and the value or the error.
 use crate::forms::Empty;
 use ix_json::JsonFault::{BadByte, InvalidContent, TooLong, WrongKind};
 use ix_json::{JsonFault, JsonForm};
@@ -12,10 +12,10 @@ use std::fmt::Debug;
 use std::test::Fail;
 use test_support::Findings;
 
-/// A text, and what is read.
+/// A text, and the result of reading it.
 pub type Row<W> = (&'static str, Result<W, JsonFault>);
 
-/// Returns what a text is read as. One that is no JSON is read as `OutOfMemory`, which no row has.
+/// Returns the result of reading a text. One that is no JSON is read as `OutOfMemory`, which no row has.
 fn read<T: JsonForm>(alloc: Global, text: &str) -> Result<T, JsonFault> {
     match Value::from_str(alloc, text) {
         Ok(value) => T::from_value(&value),
@@ -23,7 +23,7 @@ fn read<T: JsonForm>(alloc: Global, text: &str) -> Result<T, JsonFault> {
     }
 }
 
-/// Checks what each text is read as.
+/// Checks the result of reading each text.
 pub fn check_rows<T: JsonForm + PartialEq + Debug + Copy>(
     findings: &Findings,
     alloc: Global,
@@ -34,7 +34,7 @@ pub fn check_rows<T: JsonForm + PartialEq + Debug + Copy>(
     }
 }
 
-/// Checks the fault of each text.
+/// Checks the error of each text.
 fn check_faults<T: JsonForm + Drop>(
     findings: &Findings,
     alloc: Global,
@@ -90,7 +90,7 @@ fn numbers(rt: HostRuntime) -> Result<(), Fail> {
     findings.verdict()
 }
 
-/// Of strings of capacity 3. A text is measured in bytes, and its length is tested before its bytes.
+/// Of strings of capacity 3. A string is measured in bytes, and its length is tested before its bytes.
 const TEXTS: &[Row<&str>] = &[
     ("\"abc\"", Ok("abc")),
     ("\"\"", Ok("")),
@@ -165,7 +165,7 @@ const LISTS: &[Row<&[u64]>] = &[
     ("{}", Err(WrongKind)),
 ];
 
-/// Of vectors of capacity 3, of strings of capacity 2. The first fault of an entry is returned.
+/// Of vectors of capacity 3, of strings of capacity 2. The first error of an entry is returned.
 const LISTS_OF_TEXTS: &[(&str, JsonFault)] = &[
     ("[\"abc\", 5]", TooLong),
     ("[5, \"abc\"]", WrongKind),
@@ -247,8 +247,7 @@ fn options(rt: HostRuntime) -> Result<(), Fail> {
     findings.verdict()
 }
 
-/// Of group names, which have at most 31 bytes, none of which is empty, begins with a digit, or has a byte other than a
-/// lowercase letter, a digit or `-`.
+/// Rows of group names. A group name has 1 to 31 bytes, each a lowercase letter, a digit or `-`, and does not begin with a digit.
 const GROUP_NAMES: &[Row<&str>] = &[
     ("\"ab\"", Ok("ab")),
     ("\"ab-1\"", Ok("ab-1")),

@@ -19,7 +19,7 @@ fn check_value(findings: &Findings, alloc: Global, value: &Value, text: &str) {
     }
 }
 
-/// Checks the JSON text of a value, and what is read back from it.
+/// Checks the JSON text of a value, and the result of reading it back.
 fn check_back<T: JsonForm + PartialEq + Debug + Drop>(
     findings: &Findings,
     alloc: Global,
@@ -60,7 +60,7 @@ fn numbers(rt: HostRuntime) -> Result<(), Fail> {
     findings.verdict()
 }
 
-/// Texts, and how JSON spells them.
+/// Strings, and how JSON spells them.
 const TEXTS: &[(&str, &str)] = &[
     ("abc", "\"abc\""),
     ("", "\"\""),
@@ -116,7 +116,7 @@ fn check_vector<V: JsonForm + Vector<u64> + Drop, E: Drop>(
     }
 }
 
-/// Returns a vector of the items.
+/// Returns a vector of the elements.
 fn vector_of(items: &[u64]) -> Result<StaticVec<u64, 3>, VectorModificationError> {
     StaticVec::try_from(items)
 }

@@ -78,7 +78,7 @@ const NONE: &[Row<u64>] = &[
     (Capacity, Number(0)),
 ];
 
-/// Checks the texts of a queue of capacity 2 that is empty, and whose items lie round the end of the ring then.
+/// Checks the texts of a queue of capacity 2 that is empty, and whose elements then lie round the end of the ring.
 fn check_texts<S: Table<u64>>(findings: &Findings, queue: &mut MetaQueue<u64, S>) {
     check_text(findings, &*queue, "[]");
     for n in 1..4 {
@@ -105,7 +105,7 @@ fn check_examples<A: Allocator + Copy>(findings: &Findings, alloc: A, memory: &s
     check_kinds::<A, 0>(findings, alloc, &[NONE], memory);
 }
 
-/// Does what `check_examples` does. All of the memory is deallocated.
+/// Does the same as `check_examples`. All of the memory is deallocated.
 fn check_heap(findings: &Findings, heap: &LocalHeap) {
     check_examples(findings, heap, "a heap");
     findings.expect_same(heap.used(), 0, "bytes of the heap in use");

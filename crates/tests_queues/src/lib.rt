@@ -1,6 +1,6 @@
-//! Tests of queues beside their contracts: worked examples, each function once, the turns of the ring, and a queue over a
-//! user's own table. In unproved/, which no proof reads: what each call answers, in which order iterators go, how often
-//! closures and `==` are called, copies, and how much memory is taken.
+//! Tests of queues beside their contracts: worked examples, each function once, the turns of the ring, and a queue over a user's
+//! own table. In unproved/, which no proof reads: the results of each method, the order of iterators, how often closures and `==`
+//! are called, copies, and how much memory is allocated.
 #![tactic(auto)]
 
 #[cfg(test)]

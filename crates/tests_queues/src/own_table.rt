@@ -1,4 +1,4 @@
-//! A table as a user would write it, for queues of one's own kind.
+//! A table as a user would write it, for queues of the user's own kind.
 ghost use Rattle.std.specs.Prelude.{◌≡◌, ℕ};
 
 use ix_tables::Table;

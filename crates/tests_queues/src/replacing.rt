@@ -8,7 +8,7 @@ use ix_queue::MetaQueue;
 use ix_tables::Table;
 use std::mem;
 
-/// Replaces the front item by `item` and returns the old one; or drops `item` and returns `None` if the queue is empty.
+/// Replaces the front element by `item` and returns the old one, or drops `item` and returns `None` if the queue is empty.
 pub fn replace_front<T: Drop, S: Table<T>>(queue: &mut MetaQueue<T, S>, item: T) -> Option<T>
     ensures value { result ≡ queue_front queue.old }
     ensures queue { queue.new ≡ queue_set_front queue.old item }
@@ -19,7 +19,7 @@ pub fn replace_front<T: Drop, S: Table<T>>(queue: &mut MetaQueue<T, S>, item: T)
     }
 }
 
-/// Does what [`replace_front`] does, with the back item.
+/// Does the same as [`replace_front`], with the back element.
 pub fn replace_back<T: Drop, S: Table<T>>(queue: &mut MetaQueue<T, S>, item: T) -> Option<T>
     ensures value { result ≡ vec_last queue.old }
     ensures queue { queue.new ≡ queue_set_back queue.old item }
@@ -30,7 +30,7 @@ pub fn replace_back<T: Drop, S: Table<T>>(queue: &mut MetaQueue<T, S>, item: T) 
     }
 }
 
-/// Does what [`replace_front`] does, with the item at `index`.
+/// Does the same as [`replace_front`], with the element at `index`.
 pub fn replace_at<T: Drop, S: Table<T>>(
     queue: &mut MetaQueue<T, S>,
     index: usize,
@@ -53,7 +53,7 @@ pub fn drop_below<S: Table<u64>>(queue: &mut MetaQueue<u64, S>, least: u64)
     queue.retain(|n| *n >= least);
 }
 
-/// Keeps the items that pass a test of the caller's own.
+/// Keeps the elements that pass a test of the caller.
 pub fn keep_passing<T: Drop, S: Table<T>, F: FnMut(&T) -> bool>(
     queue: &mut MetaQueue<T, S>,
     test: F,
@@ -64,7 +64,7 @@ pub fn keep_passing<T: Drop, S: Table<T>, F: FnMut(&T) -> bool>(
     queue.retain(test);
 }
 
-/// Changes each item in a way of the caller's own.
+/// Changes each element in a way of the caller.
 pub fn change_each<T, S: Table<T>, F: FnMut(&mut T)>(queue: &mut MetaQueue<T, S>, change: F)
     requires { F.IsAlwaysCallable change }
     ensures { queue.new.capacity ≡ queue.old.capacity }
@@ -80,7 +80,7 @@ pub fn set_to_zero<S: Table<u64>>(queue: &mut MetaQueue<u64, S>)
     queue.for_each_mut(|n| *n = 0);
 }
 
-/// Removes all items, and returns how many there were.
+/// Removes all elements, and returns how many there were.
 pub fn drain_all<T: Drop, S: Table<T>>(queue: &mut MetaQueue<T, S>) -> usize
     ensures { queue.new ≡ bounded_new queue.old.capacity }
 {
@@ -92,7 +92,7 @@ pub fn drain_all<T: Drop, S: Table<T>>(queue: &mut MetaQueue<T, S>) -> usize
     count
 }
 
-/// Removes the front item through a drain, and all others with it.
+/// Removes the front element through a drain, and all others with it.
 pub fn drain_one<T: Drop, S: Table<T>>(queue: &mut MetaQueue<T, S>) -> Option<T>
     ensures value { result ≡ queue_front queue.old }
     ensures queue { queue.new ≡ bounded_new queue.old.capacity }

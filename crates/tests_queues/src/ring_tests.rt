@@ -1,4 +1,4 @@
-//! Turns of the ring: the first place follows the last, wherever the front item lies.
+//! Turns of the ring: the first slot follows the last, wherever the front element lies.
 use crate::rows::{Row, check_kinds};
 use crate::turning::TURNS;
 use ix_commands::QueueCommand::{At, Clear, Len, Over, Peek, Pop, Push, Set};

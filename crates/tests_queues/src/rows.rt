@@ -11,7 +11,7 @@ use test_support::{Findings, check_tables, made};
 /// A command of a queue and the reply to it.
 pub type Row<T> = (QueueCommand<T>, Reply<usize, T>);
 
-/// Runs the rows of each table in turn on one queue of each kind, of which one is allocated from `alloc`.
+/// Runs the rows of each table in turn on one queue of each kind. One of them is allocated from `alloc`.
 pub fn check_kinds<A: Allocator + Copy, const CAPACITY: usize>(
     findings: &Findings,
     alloc: A,

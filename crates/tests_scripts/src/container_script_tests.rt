@@ -26,7 +26,7 @@ fn containers(rt: HostRuntime) -> Result<(), Fail> {
     findings.verdict()
 }
 
-/// As above, with `*` in place of the storage.
+/// The same as above, with `*` in place of the storage.
 const STORED: &[&str] = &[
     "table * 3\ninsert 10\ninsert 20\nremove 0\nnext\ninsert 30\ninsert_at 2 40\ninsert 50\nshow=>ready\nsome 0\nsome 1\nsome 10\nsome 0\nsome 0\ntrue\nnone\n0=30 1=20 2=40\n",
     "queue * 0\npush 1\nover 2\nshow\nfull\nempty=>ready\nfalse\nsome 2\n-\ntrue\ntrue\n",
@@ -52,7 +52,7 @@ const STORED: &[&str] = &[
     "slot * 3\nget 0\nget 0:\nget :0\nget 0:00\nget 0:4294967296\nget 0: 0\ninsert_at 0:0 1\nget\nget \nget 0:0 1\nget 00:0\nget 0:0:0\nget 0::0\nget :\nget 0:0 \nget  0:0\nget +0:0\nset 0:0\nset 0:0 01\nset 0 0 1\nremove 0 0\ninsert 0:0\nfrom 0:0\nnext 0:0\ngets 0:0\nGet 0:0\n get 0:0\nslot fixed 3\nretired 0\nlen\n=>ready\n?\n?\n?\n?\n?\n?\n?\n?\n?\n?\n?\n?\n?\n?\n?\n?\n?\n?\n?\n?\n?\n?\n?\n?\n?\n?\n?\n?\n?\n0\n",
 ];
 
-/// As above, of capacities that no fixed container has.
+/// The same as above, of capacities that no fixed container has.
 const ALLOCATED: &[&str] = &[
     "slot * 2 at 4294967295\ninsert 7\nremove 0:4294967295\ninsert 8\ninsert 9\nretired\nfull\nshow=>ready\nsome 0:4294967295\nsome 7\nsome 1:4294967295\nnone\n1\ntrue\n1:4294967295=8\n",
     "queue * 1001\nqueue * 1000\ncapacity=>?\nready\n1000\n",

@@ -1,4 +1,4 @@
-//! Lists of commands, run on containers of every kind: which replies come, and in which order.
+//! Lists of commands, run on containers of every kind: the replies, and their order.
 use ix_flatmap::{FixedSizeFlatMap, FlatMap};
 use ix_queue::{FixedSizeQueue, Queue};
 use ix_run::run::ReplyError::{InsertWouldExceedCapacity, IsFull, KeyAlreadyExists, OutOfBounds};

@@ -103,7 +103,7 @@ fn with_run(
     Ok(bytes)
 }
 
-/// As `check_output`. There was memory for the script and its output.
+/// Does the same as `check_output`. There was memory for the script and its output.
 pub fn check_both(
     findings: &Findings,
     alloc: Global,
@@ -205,7 +205,7 @@ fn check_piece(
     findings.expect_same((case, text), (case, output), "in pieces");
 }
 
-/// As [`check_piece`], with each of [`INTERRUPTIONS`].
+/// Does the same as [`check_piece`], with each of [`INTERRUPTIONS`].
 fn check_pieces(findings: &Findings, alloc: Global, input: &[u8], piece: usize, output: &[u8]) {
     for (reads, writes) in INTERRUPTIONS {
         check_piece(findings, alloc, input, (piece, *reads, *writes), output);

@@ -5,7 +5,7 @@ use ix_slotmap::{FixedSizeSlotMap, SlotMap, SlotMapKey};
 use std::test::Fail;
 use test_support::Findings;
 
-/// Keys of a map of capacity 3 die, and their place is used again.
+/// Keys of a map of capacity 3 die, and their slot is used again.
 #[test]
 fn generations(rt: HostRuntime) -> Result<(), Fail> {
     let findings = Findings::new();
@@ -36,7 +36,7 @@ fn generations(rt: HostRuntime) -> Result<(), Fail> {
     findings.verdict()
 }
 
-/// The places of a map of capacity 2 have the greatest generation: each is used once.
+/// The slots of a map of capacity 2 have the greatest generation: each is used once.
 #[test]
 fn retirement(rt: HostRuntime) -> Result<(), Fail> {
     let findings = Findings::new();

@@ -15,7 +15,7 @@ use test_support::{Findings, made};
 /// A command, and the reply to it.
 type Row<'a> = (StringCommand<'a>, Reply<usize, u8>);
 
-/// What a string without room replies.
+/// The replies of a string without room.
 const OF_ZERO: &[Row] = &[
     (Push(97), Reply::Error(InsertWouldExceedCapacity)),
     (Append(&[]), Reply::Done),
@@ -24,7 +24,7 @@ const OF_ZERO: &[Row] = &[
     (Empty, Reply::Bool(true)),
 ];
 
-/// What a string with room for three bytes, at first empty, replies.
+/// The replies of a string with room for three bytes, at first empty.
 const OF_THREE: &[Row] = &[
     (Append(&[97, 98]), Reply::Done),
     (Push(200), Reply::Error(InvalidCharacter)),
@@ -33,7 +33,7 @@ const OF_THREE: &[Row] = &[
     (Rfind(&[]), Reply::Key(3)),
 ];
 
-/// What a string with room for five bytes, at first empty, replies.
+/// The replies of a string with room for five bytes, at first empty.
 const OF_FIVE: &[Row] = &[
     (Insert(1, 97), Reply::Error(IndexPastEnd)),
     (Append(&[]), Reply::Done),
@@ -80,7 +80,7 @@ const EACH: &[Row] = &[
     (Truncate(1), Reply::Done),
 ];
 
-/// Runs the rows for strings of that capacity, if there is memory for the string, and compares the text that is left.
+/// Runs the rows for strings of that capacity, if there is memory for the string, and compares the string that is left.
 fn check_made<S: String + Drop, E: Drop>(
     findings: &Findings,
     alloc: Global,

@@ -1,4 +1,4 @@
-//! What the tests of slot tables and of slot maps share.
+//! The code that the tests of slot tables and of slot maps share.
 use ix_slotmap::SlotMapKey;
 
 /// The greatest generation.

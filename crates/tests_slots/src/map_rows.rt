@@ -13,7 +13,7 @@ pub type Row<T> = (SlotMapCommand<T>, Reply<SlotMapKey, T>);
 /// The greatest index.
 const GREATEST: usize = 18_446_744_073_709_551_615;
 
-/// On a map with two places that start at the greatest generation.
+/// On a map with two slots that start at the greatest generation.
 pub fn place_retired() -> [Row<u64>; 18] {
     [
         (Insert(7), Key(key(0, LAST))),
@@ -37,7 +37,7 @@ pub fn place_retired() -> [Row<u64>; 18] {
     ]
 }
 
-/// On a map with three places that start at generation 0.
+/// On a map with three slots that start at generation 0.
 pub fn dead_keys() -> [Row<u64>; 13] {
     [
         (Insert(10), Key(key(0, 0))),
@@ -56,7 +56,7 @@ pub fn dead_keys() -> [Row<u64>; 13] {
     ]
 }
 
-/// On a map with no place.
+/// On a map with no slot.
 pub fn no_place() -> [Row<u64>; 13] {
     [
         (Next, Reply::None),
@@ -75,7 +75,7 @@ pub fn no_place() -> [Row<u64>; 13] {
     ]
 }
 
-/// On a map with two places that start at generation 0.
+/// On a map with two slots that start at generation 0.
 pub fn no_such_keys() -> [Row<u64>; 21] {
     [
         (InsertAt(0, 1), Key(key(0, 0))),
@@ -102,7 +102,7 @@ pub fn no_such_keys() -> [Row<u64>; 21] {
     ]
 }
 
-/// On a map with three places that start at generation 0.
+/// On a map with three slots that start at generation 0.
 pub fn each_place() -> [Row<u64>; 14] {
     [
         (Full, Bool(false)),
@@ -122,7 +122,7 @@ pub fn each_place() -> [Row<u64>; 14] {
     ]
 }
 
-/// On a map with one place that starts at generation 0.
+/// On a map with one slot that starts at generation 0.
 pub fn one_place() -> [Row<u64>; 10] {
     [
         (Next, Key(key(0, 0))),
@@ -138,7 +138,7 @@ pub fn one_place() -> [Row<u64>; 10] {
     ]
 }
 
-/// On a map with three places that start one below the greatest generation, whose values have size zero.
+/// On a map with three slots that start one below the greatest generation, whose values have size zero.
 pub fn size_zero() -> [Row<()>; 12] {
     [
         (Insert(()), Key(key(0, 4_294_967_294))),

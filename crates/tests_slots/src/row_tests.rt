@@ -46,7 +46,7 @@ fn check_fixed_tables<const CAPACITY: usize>(findings: &Findings)
     }
 }
 
-/// Checks the example on inline maps whose places start at `generation`.
+/// Checks the example on inline maps whose slots start at `generation`.
 fn check_fixed_map<const CAPACITY: usize>(
     findings: &Findings,
     generation: u32,
@@ -97,7 +97,7 @@ fn check_table<T: Copy + PartialEq + Debug, A: Allocator + Copy>(
     check_tables(findings, relocatable, &[rows], memory);
 }
 
-/// Checks the example on maps with `capacity` places, allocated from `alloc`, whose places start at `generation`.
+/// Checks the example on maps with `capacity` slots, allocated from `alloc`, whose slots start at `generation`.
 fn check_started<T: Copy + PartialEq + Debug, A: Allocator + Copy>(
     findings: &Findings,
     alloc: A,
@@ -111,7 +111,7 @@ fn check_started<T: Copy + PartialEq + Debug, A: Allocator + Copy>(
     check_tables(findings, relocatable, &[rows], memory);
 }
 
-/// Does what `check_started` does, with generation 0 and with the functions that start at it too.
+/// Does the same as `check_started`, with generation 0 and with the functions that start at it too.
 fn check_new<T: Copy + PartialEq + Debug, A: Allocator + Copy>(
     findings: &Findings,
     alloc: A,
@@ -142,7 +142,7 @@ fn check_examples<A: Allocator + Copy>(findings: &Findings, alloc: A, memory: &s
     check_started(findings, alloc, (3, LAST - 1), &size_zero(), memory);
 }
 
-/// Does what `check_examples` does. All of the memory is deallocated.
+/// Does the same as `check_examples`. All of the memory is deallocated.
 fn check_heap(findings: &Findings, heap: &LocalHeap) {
     check_examples(findings, heap, "a heap");
     findings.expect_same(heap.used(), 0, "bytes of the heap in use");

@@ -109,7 +109,7 @@ fn unchecked_calls(rt: HostRuntime) -> Result<(), Fail> {
     findings.verdict()
 }
 
-/// Inserts `value` and returns what the map then has at its key, or `None` if the map is full.
+/// Inserts `value` and returns the value that the map then has at its key, or `None` if the map is full.
 fn insert_and_get<T: Copy, M: Storage<T>>(map: &mut MetaSlotTable<T, M>, value: T) -> Option<T>
     ensures value { IfSome result (λ found. found ≡ value) }
     ensures full { IsNone result ↔ (map.old.free ≡ []) }

@@ -1,4 +1,4 @@
-//! Conversions into fixed strings, and the length of a text that ends with a zero.
+//! Conversions into fixed strings, and the length of a string that ends with a zero.
 ghost use Rattle.std.specs.Prelude.{◌≤◌};
 
 use crate::kinds::holding;
@@ -8,10 +8,10 @@ use std::str::{FromStr, from_utf8};
 use std::test::Fail;
 use test_support::Findings;
 
-/// Bytes, and the text that is made of them or the error.
+/// Bytes, and the string that is made of them or the error.
 type Made = (&'static [u8], Result<&'static str, StringModificationError>);
 
-/// Compares what a conversion returns: the text, or the error.
+/// Compares the result of a conversion: the string, or the error.
 fn check_made<const CAPACITY: usize>(
     findings: &Findings,
     made: Result<StaticString<CAPACITY>, StringModificationError>,
@@ -49,7 +49,7 @@ const WHOLE_OF_NONE: &[Made] = &[
     (&[97], Err(InsertWouldExceedCapacity)),
 ];
 
-/// Converts the bytes, and the texts that they are.
+/// Converts the bytes, and the `&str`s that they are.
 fn check_whole<const CAPACITY: usize>(findings: &Findings, rows: &[Made])
     requires { CAPACITY ≤ 2 }
 {

@@ -15,7 +15,7 @@ use std::hash::{DefaultHasher, Hash, Hasher};
 use std::test::Fail;
 use test_support::{Findings, fed_by, made};
 
-/// Returns what `{}` prints.
+/// Returns the text that `{}` prints.
 fn displayed<S: String>(alloc: Global, string: &S) -> Result<std::string::String, AllocError>
     ensures { IfOk result (λ text. string_bytes text ≡ escaped_text (S.bounded string.now).items) }
 {
@@ -49,7 +49,7 @@ fn hash_of<S: String>(string: &S) -> u64
     state.finish()
 }
 
-/// Texts from the least to the greatest, and what one write of each feeds to the recorder.
+/// Strings from the least to the greatest, and the bytes that one write of each feeds to the recorder.
 const RISING: &[(&str, u64)] = &[
     ("", 0xff),
     ("\u{1}", 0x01ff),
@@ -79,7 +79,7 @@ fn check_pair<S: String>(findings: &Findings, left: &S, right: &S, order: Orderi
     findings.expect_same(equal, (same, same), kind);
 }
 
-/// Compares each text with each, in two strings, and what each feeds to a hasher.
+/// Compares each string with each, in two strings, and the bytes that each feeds to a hasher.
 fn check_texts<S: String>(findings: &Findings, left: &mut S, right: &mut S, kind: &str) {
     for (i, (text, fed)) in RISING.iter().enumerate() {
         refill(left, text);

@@ -7,7 +7,7 @@ use std::cell::Cell;
 use std::test::Fail;
 use test_support::{Findings, check_display, check_text, made};
 
-/// A length, the result of resizing to it, how often the closure is called, and the items after it.
+/// A length, the result of resizing to it, how often the closure is called, and the elements after it.
 type ResizeRow = (
     usize,
     Result<(), VectorModificationError>,

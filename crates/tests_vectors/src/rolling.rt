@@ -6,8 +6,7 @@ ghost use Rattle.ix_vector.specs.VectorSteps.{vec_remove};
 use ix_vector::Vector;
 use std::mem;
 
-/// Appends `item`. If the vector is full, removes the first item before and returns it. A vector of capacity 0 drops
-/// `item`.
+/// Appends `item`. If the vector is full, removes the first element before and returns it. A vector of capacity 0 drops `item`.
 pub fn push_over<T: Drop, V: Vector<T>>(vector: &mut V, item: T) -> Option<T>
     ensures value { result ≡ (if has_room (V.bounded vector.old) then None else slice_get
         (V.bounded vector.old).items 0) }
@@ -24,7 +23,7 @@ pub fn push_over<T: Drop, V: Vector<T>>(vector: &mut V, item: T) -> Option<T>
     oldest
 }
 
-/// Replaces the item at `index` and returns the old one, or returns `item` as the error if `index` is out of bounds.
+/// Replaces the element at `index` and returns the old one, or returns `item` as the error if `index` is out of bounds.
 pub fn replace_at<T: Drop, V: Vector<T>>(vector: &mut V, index: usize, item: T) -> Result<T, T>
     ensures found { IsOk result ↔ (index < length (V.bounded vector.old).items) }
     ensures value { IfOk result (λ held. slice_get (V.bounded vector.old).items index ≡ Some held) }

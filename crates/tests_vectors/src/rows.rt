@@ -1,4 +1,4 @@
-//! Rows of commands of vectors, run by each call that does what a command says, on a vector of each kind.
+//! Rows of commands of vectors, run by each method that does what a command says, on a vector of each kind.
 ghost use Rattle.ix_tables.specs.Cloning.{AreEqualClones};
 
 use crate::rows::Way::{Clones, Closures, Commands, Unchecked};
@@ -10,7 +10,7 @@ use std::cell::Cell;
 use std::fmt::Debug;
 use test_support::Findings;
 
-/// The calls that do what a command says.
+/// The methods that do what a command says.
 #[derive(Clone, Copy)]
 pub enum Way {
     /// Those that run commands.
@@ -25,10 +25,10 @@ pub enum Way {
 
 const WAYS: &[Way] = &[Commands, Clones, Closures, Unchecked];
 
-/// A command, the reply to it, and the items after it.
+/// A command, the reply to it, and the elements after it.
 pub type Row<'a, T> = (VectorCommand<'a, T>, Reply<usize, T>, &'a [T]);
 
-/// Why a full vector refuses an item.
+/// The error of a full vector.
 pub const FULL: ReplyError = ReplyError::InsertWouldExceedCapacity;
 
 fn reply_of<T: Copy>(outcome: Result<(), VectorModificationError>) -> Reply<usize, T> {
@@ -39,7 +39,7 @@ fn reply_of<T: Copy>(outcome: Result<(), VectorModificationError>) -> Reply<usiz
     }
 }
 
-/// Returns `Reply::None`, which no row expects, unless the closure is called once for each item that is appended.
+/// Returns `Reply::None`, which no row expects, unless the closure is called once for each element that is appended.
 fn resize_with<T: Copy, V: Vector<T>>(vector: &mut V, n: usize, item: T) -> Reply<usize, T> {
     let (len, calls) = (vector.len(), Cell::new(0usize));
     let resized = vector.resize_with(n, || {
@@ -52,7 +52,7 @@ fn resize_with<T: Copy, V: Vector<T>>(vector: &mut V, n: usize, item: T) -> Repl
     reply_of(resized)
 }
 
-/// Returns a copy, of a type of which the borrow checker sees no part.
+/// Returns a copy, whose type hides its parts from the borrow checker.
 fn copy_of<C: Copy>(command: &C) -> C {
     *command
 }

@@ -24,7 +24,7 @@ fn check_table<S: Table<u64>>(findings: &Findings, mut table: S, kind: &str)
     table.end();
 }
 
-/// As `check_table`, of raw places.
+/// Does the same as `check_table`, for raw places.
 fn check_slots<A: Allocator>(findings: &Findings, mut slots: RawSlots<u64, A>, memory: &str)
     requires { slots ≡ replicate 3 None }
 {

@@ -1,7 +1,7 @@
 -- Decoding: a value of values.
 use Rattle.std.specs.Prelude.{Option, Some, None}
 
--- all three values, if there are all
+-- the three values, if there are all three
 abbrev pub triple_of : {A B C : Type 0} → Option A → Option (B × C) → Option (A × B × C)
 triple_of None rest = None
 triple_of (Some first) None = None

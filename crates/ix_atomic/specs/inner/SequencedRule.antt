@@ -1,4 +1,4 @@
--- The rule of a sequenced cell: what its words and its seats are between any two steps. Word 0 is the version, each other word eight bytes.
+-- The rule of a sequenced cell: its words and its seats between any two steps. Word 0 is the version, each other word eight bytes.
 use Rattle.std.specs.Prelude.{◌≡◌, ℕ, ◌+◌, ◌/◌, ◌<◌, ◌≤◌, ◌^◌, List, [], ◌∷◌, ◌++◌, All, length, take, drop, slice_index}
 use Rattle.std.specs.List.{Contains}
 use mathlib.Core.Option.{some}
@@ -55,11 +55,11 @@ pub record Knows {T : Type 0} (version : ℕ) (content : Content T) (seat : ℕ)
   pub writes : parity view.stage ≡ 1 → 0 < length view.share
   pub stage : Holds version content seat view.known view.stage
 
--- no place is of two seats
+-- no place belongs to two seats
 abbrev pub ApartSeats : {T : Type 0} → List (SeatView T) → Type 0
 ApartSeats {T} views = (seat other : ℕ) (view view' : SeatView T) (place : ℕ) → get_elem? views seat ≡ some view → get_elem? views other ≡ some view' → Contains view.places place → Contains view'.places place → seat ≡ other
 
--- each of so many places but the first is of a seat
+-- each of so many places, except the first, belongs to a seat
 abbrev pub HaveOwners : {T : Type 0} → ℕ → List (SeatView T) → Type 0
 HaveOwners {T} count views = (place : ℕ) → 0 < place → place < count → (seat : ℕ) × (view : SeatView T) × (get_elem? views seat ≡ some view) × Contains view.places place
 

@@ -1,4 +1,4 @@
--- What each step of a sequenced cell, a load or store of one word, does to the seat that takes it.
+-- The effect of each step of a sequenced cell on the seat that takes it. A step is a load or store of one word.
 use Rattle.std.specs.Prelude.{◌≡◌, ◌≢◌, ℕ, ◌+◌, ◌-◌, ◌*◌, ◌/◌, ◌<◌, ◌≤◌, min, List, [], ◌∷◌, ◌++◌, All, length, take, Some}
 use Rattle.std.specs.List.{fold}
 use Rattle.atomic_table.specs.Table.{Me, Step}
@@ -38,7 +38,7 @@ module _ {T : Type 0} where
   abbrev pub view_stage : List ℕ → Stage → SeatView T → SeatView T
   view_stage words stage view = record view { stage = stage; touched = view.touched ++ words }
 
-  -- the word is touched, of which these bytes are loaded or stored
+  -- the word is touched, and these bytes of it are loaded or stored
   abbrev pub view_bytes : ℕ → List ℕ → SeatView T → SeatView T
   view_bytes word bytes view = view_stage (word ∷ []) (stage_bytes bytes view.stage) view
 
@@ -49,11 +49,11 @@ module _ {T : Type 0} where
   abbrev pub view_further : List ℕ → SeatView T → SeatView T
   view_further share view = record { known = view.known; joined = []; seen = []; places = []; share = share; stage = Idle; touched = [] }
 
-  -- a seat of which a further one was made, by a load of the version; this share is left to it
+  -- a seat from which a further one was made, by a load of the version; this share is left to it
   abbrev pub view_split : List ℕ → SeatView T → SeatView T
   view_split share view = record view { share = share; touched = view.touched ++ 0 ∷ [] }
 
-  -- a seat that takes in another one by a load of the version, but for what the other knows
+  -- a seat that takes in another one by a load of the version, except what the other knows
   abbrev pub view_merged : SeatView T → SeatView T → SeatView T
   view_merged view other = record view { joined = other.known; seen = view.seen ++ other.seen; places = places_merge view.places other.places; share = view.share ++ other.share; touched = (view.touched ++ other.touched) ++ 0 ∷ [] }
 

@@ -1,4 +1,4 @@
--- What the tests of steps compute, one step after the other.
+-- The results of the tests of steps, one step after the other.
 use Rattle.std.specs.Prelude.{ℕ, ◌+◌, Bool, true, false, not, ◌&&◌, ◌||◌, List, [], ◌∷◌, if◌then◌else◌, nat_eq, nat_lt, Option, Some, None, is_none, unwrap_or}
 use Rattle.ix_atomic.specs.declared.byte_atomic.steps.plain.Act.{Act}
 use Rattle.ix_atomic.specs.declared.byte_atomic.steps.plain.Act.TheVariants as act

@@ -48,7 +48,7 @@ nul_position-padded_text capacity text is =
     (λ k below. let here = is k 0 below in grind (arith, common_steps))
     (λ below. grind (arith, common_steps))
 
--- a text is what stands before the zeros
+-- a string is the part before the zeros
 pub before_nul-padded_text : (capacity : ℕ) (text : List ℕ) → IsText text → before_nul (padded_text capacity text) ≡ text
 before_nul-padded_text capacity text is =
     ap (λ n. take n (padded_text capacity text)) (nul_position-padded_text capacity text is)
@@ -64,7 +64,7 @@ append-both xs ys us vs long same =
     let front = sym (take-append_seam xs ys) ∙ (λ i. take (long i) (same i)) ∙ take-append_seam us vs in
     let back = sym (drop-append_seam xs ys) ∙ (λ i. drop (long i) (same i)) ∙ drop-append_seam us vs in (front, back)
 
--- Where the fields of a value are decoded, so is the value. `to` makes it of its fields, and `from` has them.
+-- If the fields of a value are decoded, the value is decoded too. `to` makes it from its fields, and `from` returns them.
 pub decodes_by : {Fields V : Type 0} (to : Fields → V) (from : V → Fields) → ((fields : Fields) → from (to fields) ≡ fields) → ((value : V) → to (from value) ≡ value)
     → (Encodes : Fields → Type 0) (fields : Option Fields) (decoded : Option V) → decoded ≡ option_map to fields → ((f : Fields) → (fields ≡ Some f) ↔ Encodes f)
     → (value : V) → (decoded ≡ Some value) ↔ Encodes (from value)

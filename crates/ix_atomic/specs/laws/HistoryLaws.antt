@@ -25,7 +25,7 @@ module _ {T : Type 0} where
   pub slice_get-begins : (known later : List T) (place : ℕ) (value : T) → Begins known later → slice_get known place ≡ Some value → slice_get later place ≡ Some value
   slice_get-begins known later place value begins at = subst (λ (list : List T). slice_get list place ≡ Some value) (sym begins.1) (slice_get-append known begins.0 place value at)
 
-  -- a version has the value that it had
+  -- a version keeps its value
   pub history_value-begins : (known later : List T) (version : ℕ) (value : T) → Begins known later → history_value known version ≡ Some value → history_value later version ≡ Some value
   history_value-begins known later version = slice_get-begins known later (version / 2)
 

@@ -1,4 +1,4 @@
--- Laws of numbers of any width and their bytes, the least of which comes first: each is found from the other.
+-- Laws of numbers of any width and their bytes, the least byte first: each is found from the other.
 use Rattle.std.specs.Prelude.{◌≡◌, ℕ, zero, suc, ◌+◌, ◌*◌, ◌/◌, ◌%◌, ◌^◌, ◌<◌, ◌≤◌, List, [], ◌∷◌, length, slice_index, refl}
 use Rattle.std.proofs.Common.{sym, ◌∙◌, ap, arith, Fits}
 use Rattle.std.specs.Int.{Width, w8, w16, w32, w64, w128, byte_len, byte_at, byte_worth, bytes_low_first, sum_through, from_le_bytes, to_le_bytes}

@@ -1,9 +1,10 @@
 //! The trait of values that are stored byte by byte.
 ghost use Rattle.std.specs.Prelude.{◌≡◌, ◌↔◌, ℕ, List, length, Some};
 
-/// A value with an encoding of [`AtomicCopy::SIZE`] bytes, each byte of which can be read and written by itself.
+/// A value with an encoding of [`AtomicCopy::SIZE`] bytes.
 ///
-/// Each value has one encoding, and no two values have the same. The bytes of an encoding do not depend on the machine.
+/// Each byte of the encoding can be read and written by itself. Each value has one encoding, and no two values have the same. The
+/// bytes of an encoding do not depend on the machine.
 ///
 /// A struct is stored as its fields are, by [`AtomicFields`](crate::AtomicFields).
 ///
@@ -14,7 +15,7 @@ pub trait AtomicCopy: Copy {
 
     ghost SIZE: { ℕ };
 
-    /// Holds of the values of the type: contracts see an integer as any number, and a text as any list.
+    /// Holds of the values of the type: contracts see an integer as any number, and a string as any list.
     ghost is_value: { Self → Type 0 };
 
     /// The bytes of a value.

@@ -6,13 +6,13 @@ use std::ops::Deref;
 
 /// A struct that is stored as its fields are, in a cell of [`Fields<Self>`](Fields).
 ///
-/// An impl names the fields as a tuple or an array, and makes them of a value and back: of `Settings { low, high, mode }`
-/// they are `(u8, u8, u16)`, `ghost fields` is `λ settings. (settings.low, settings.high, settings.mode)`, and the law
-/// `one_value` is `Prim.search rules`. More than three are tuples in a tuple, or an array. A field that is such a struct
-/// itself is a `Fields` of it.
+/// An impl names the fields as a tuple or an array. It makes the fields from a value, and a value from the fields. For
+/// `Settings { low, high, mode }` the fields are `(u8, u8, u16)`. Then `ghost fields` is
+/// `λ settings. (settings.low, settings.high, settings.mode)`, and the law `one_value` is `Prim.search rules`. If there are more
+/// than three fields, use tuples in a tuple, or an array. A field that is such a struct itself is a `Fields` of it.
 ///
-/// If the struct has a ghost field, `from_fields` tests what that says, and each value that is read from a cell has it.
-/// docs/PROVING.md goes through both.
+/// If the struct has a ghost field, `from_fields` tests its statement, so the statement holds of each value that is read from a
+/// cell. docs/PROVING.md explains both.
 pub trait AtomicFields: Copy {
     /// The fields, as a tuple or an array.
     type Fields: AtomicCopy;
@@ -37,9 +37,9 @@ pub trait AtomicFields: Copy {
 
 /// A struct in a cell. It derefs to the struct.
 ///
-/// Its `SIZE` is the sum of the fields' sizes. The compiler takes `u32::SIZE` for the number of bytes of a cell, and no
-/// `Fields::<Pose>::SIZE` yet. So a constant beside the struct is the sum, as `u32::SIZE + u32::SIZE + u64::SIZE`, and is the
-/// `SIZE` of the cell's type.
+/// Its `SIZE` is the sum of the fields' sizes. The compiler accepts `u32::SIZE` as the number of bytes of a cell, but not yet
+/// `Fields::<Pose>::SIZE`. So declare a constant beside the struct that is the sum, as `u32::SIZE + u32::SIZE + u64::SIZE`. Use it
+/// as the `SIZE` of the cell's type.
 #[derive(Clone, Copy, PartialEq, Eq, Debug)]
 pub struct Fields<T>(pub T);
 
@@ -80,7 +80,7 @@ impl<T: AtomicFields> AtomicCopy for Fields<T> {
 impl<T> From<T> for Fields<T> {
     ghost from_gives = { λ value result. result.0 ≡ value };
 
-    /// Converts a struct to what a cell of it holds.
+    /// Converts a struct to the value that its cell holds.
     #[inline]
     fn from(value: T) -> Fields<T> {
         Fields(value)

@@ -65,7 +65,7 @@ pub fn decode_triple<A: AtomicCopy, B: AtomicCopy, C: AtomicCopy>(bytes: &[u8]) 
     with_first(A::decode(front), decode_pair::<B, C>(back))
 }
 
-/// Returns all three values, if there are all.
+/// Returns the three values, or `None` if one is missing.
 #[inline]
 fn with_first<A: Copy, B: Copy, C: Copy>(
     first: Option<A>,

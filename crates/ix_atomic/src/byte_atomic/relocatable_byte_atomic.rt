@@ -1,4 +1,4 @@
-//! The cell that is made in two steps.
+//! The cell that is initialised in two phases.
 ghost use Rattle.std.specs.Prelude.{◌≡◌, ◌≤◌, length, IfErr};
 ghost use Rattle.ix_atomic.specs.declared.byte_atomic.relocatable_byte_atomic.TheConstants.{MAX_SIZE};
 
@@ -12,7 +12,9 @@ use std::sync::atomic::AtomicU8;
 /// The maximum number of atomic bytes of an allocation, which has at most `isize::MAX` bytes.
 const MAX_SIZE: usize = isize::MAX as usize / size_of::<AtomicU8>();
 
-/// A [`FixedSizeByteAtomic`] in memory of an allocator `A`. It is made in two steps, the second of which allocates.
+/// A [`FixedSizeByteAtomic`] in memory of an allocator `A`.
+///
+/// It is initialised in two phases: `new_uninit` does not allocate, and [`UninitByteAtomic::init`] does.
 ///
 /// This is `RelocatableByteAtomic` of iceoryx2-bb-container.
 #[derive(Drop)]

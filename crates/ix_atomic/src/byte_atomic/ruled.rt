@@ -1,4 +1,4 @@
-//! Values that obey a rule which their type knows nothing of.
+//! Values that obey a rule which their type does not state.
 ghost use Rattle.std.specs.Prelude.{◌≡◌, ◌↔◌, None, IfSome, IsTrue};
 
 use crate::byte_atomic::AtomicFields;
@@ -41,7 +41,7 @@ impl<T: Copy, R: ValueRule<T>> Ruled<T, R> {
         }
     }
 
-    /// Returns the value with the rule, or `None` if it does not obey it. Tests it once.
+    /// Returns the value with the rule, or `None` if the value does not obey the rule. Tests the value once.
     #[must_use]
     #[inline]
     pub fn try_new(value: T) -> Option<Ruled<T, R>>

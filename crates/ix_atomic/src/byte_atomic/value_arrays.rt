@@ -45,7 +45,7 @@ pub fn decode_array<T: AtomicCopy, const N: usize>(bytes: &[u8]) -> Option<[T; N
     Some(values)
 }
 
-/// The encodings of the values, one behind the other. Of an array of `u8` these are the bytes themselves.
+/// The encodings of the values, one behind the other. The encoding of an array of `u8` is the bytes themselves.
 ///
 /// Their size is `usize::MAX` if it is more than that: no slice has as many bytes.
 impl<T: AtomicCopy, const N: usize> AtomicCopy for [T; N] {

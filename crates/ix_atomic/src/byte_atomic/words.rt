@@ -19,7 +19,7 @@ pub fn pack_word(bytes: &[u8]) -> u64
     u64::from_le_bytes(all)
 }
 
-/// Writes to all of `out` the bytes of `word`, from the least one on. `out` has at most eight bytes. O(1).
+/// Fills `out` with the bytes of `word`, from the least one on. `out` has at most eight bytes. O(1).
 #[inline]
 pub fn unpack_word(word: u64, out: &mut [u8])
     requires { length out.old ≤ 8 }

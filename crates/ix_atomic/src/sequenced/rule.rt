@@ -4,7 +4,7 @@ use atomic_table::{Join, Play, Split, TableRule};
 use std::collections::LinkedList;
 use std::marker::PhantomData;
 
-/// How far a seat is with a read or a write.
+/// The progress of a seat in a read or a write.
 pub(crate) enum Stage {
     Idle,
     /// The version that was loaded last, and the bytes that were loaded since.
@@ -13,11 +13,11 @@ pub(crate) enum Stage {
     Writing(LinkedList<u64>),
 }
 
-/// What the holder of a seat knows. Only contracts speak of it: no value of it is made.
+/// The knowledge of the holder of a seat. Only contracts speak of it: no value of it is made.
 pub(crate) struct SeatView<T> {
     /// A beginning of the history.
     known: LinkedList<T>,
-    /// What the seat knew that was merged into this one last.
+    /// The knowledge of the seat that was merged into this one last.
     joined: LinkedList<T>,
     /// The versions that were loaded, in order.
     seen: LinkedList<u64>,

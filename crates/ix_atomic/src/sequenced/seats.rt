@@ -4,7 +4,7 @@ use atomic_table::Seat;
 use std::fmt;
 use std::marker::Model;
 
-/// Lets its holder read from one cell. It borrows nothing, and can be dropped.
+/// A handle for one reader, which lets its holder read from one cell. It borrows nothing, and can be dropped.
 ///
 /// Contracts see the cell, the beginning of the history that the holder knows, and the versions and the words that it has
 /// loaded.
@@ -27,14 +27,21 @@ impl<T> Model for ReaderSeat<T> {
         × (reader.seat.me.0.places ≡ []) × (reader.seat.me.0.share ≡ []) };
 }
 
-/// Lets its holder write to one cell, and read from it. A cell may have any number of them, made by
-/// [`SequencedByteAtomic::writer`](crate::SequencedByteAtomic::writer). It can't be dropped, so a thread's closure borrows one and
-/// does not own it. It is consumed by [`SequencedByteAtomic::merge`](crate::SequencedByteAtomic::merge) or
+/// A handle for one writer, which lets its holder write to one cell, and read from it.
+///
+/// A cell may have any number of them, made by [`SequencedByteAtomic::writer`](crate::SequencedByteAtomic::writer). It can't be
+/// dropped, so a thread's closure borrows one and does not own it. It is consumed by
+/// [`SequencedByteAtomic::merge`](crate::SequencedByteAtomic::merge) or
 /// [`SequencedByteAtomic::close`](crate::SequencedByteAtomic::close).
 ///
-/// Contracts see the cell, the beginning of the history that the holder knows, the versions that it has loaded, the places in the
-/// history of the values that it has written, its share of the right to write, and the words that it has loaded or stored. The
-/// seat that `new` returns has the whole right; each further one takes half of its maker's share.
+/// Contracts see these parts of a seat:
+///
+/// - the cell, and the beginning of the history that the holder knows;
+/// - the versions that it has loaded, and the words that it has loaded or stored;
+/// - the places in the history of the values that it has written;
+/// - its share of the right to write.
+///
+/// The seat that `new` returns has the whole right. Each further one takes half of its maker's share.
 pub struct WriterSeat<T> {
     pub(crate) seat: Seat<(), SeatView<T>>,
 }

@@ -52,8 +52,8 @@ impl<T: AtomicCopy, const SIZE: usize> Model for SequencedByteAtomic<T, SIZE> {
 impl<T: AtomicCopy, const SIZE: usize> SequencedByteAtomic<T, SIZE> {
     /// Creates a cell at version 0 whose last value is `value`, a writer's seat, and a reader's.
     ///
-    /// O(`SIZE`). Allocates from `alloc`. Returns `AllocError` if there is not enough memory, and for any `SIZE` whose words,
-    /// 8 bytes each, would fill more than `isize::MAX` bytes.
+    /// O(`SIZE`). Allocates from `alloc`. Returns `AllocError` if the allocation fails, and for any `SIZE` whose words, 8 bytes
+    /// each, would fill more than `isize::MAX` bytes.
     ///
     /// An unproved run stops here if `SIZE` is not `T::SIZE`.
     pub fn new(alloc: Global, value: T) -> Result<(Self, WriterSeat<T>, ReaderSeat<T>), AllocError>
@@ -86,11 +86,11 @@ impl<T: AtomicCopy, const SIZE: usize> SequencedByteAtomic<T, SIZE> {
     /// Encodes `value`, loads the version, exchanges it for the next odd one, stores the bytes, and then the next even version. So
     /// the cell is not busy while `encode` runs. Does not try again.
     ///
-    /// Returns [`TryWriteError::Busy`] if the version is odd, or is no longer the loaded one when it would be exchanged, and
-    /// [`TryWriteError::VersionsUsedUp`] at version 18,446,744,073,709,551,614, the greatest even number of a `u64`. Then the cell
-    /// is left unchanged.
+    /// Returns [`TryWriteError::Busy`] if the version is odd, or is no longer the loaded one when it would be exchanged. Returns
+    /// [`TryWriteError::VersionsUsedUp`] at version 18,446,744,073,709,551,614, the greatest even number of a `u64`. In both cases
+    /// the cell is left unchanged.
     ///
-    /// In a loop, an invariant says that the seat is still one of this cell, as `l.seat.cell ≡ l.cell`.
+    /// In a loop, state in an invariant that the seat is still one of this cell, as `l.seat.cell ≡ l.cell`.
     pub fn try_write(&self, seat: &mut WriterSeat<T>, value: T) -> Result<(), TryWriteError>
         requires { seat.old.cell ≡ self.now }
         ensures cell { seat.new.cell ≡ seat.old.cell }
@@ -140,8 +140,8 @@ impl<T: AtomicCopy, const SIZE: usize> SequencedByteAtomic<T, SIZE> {
         self.read(&mut seat.seat)
     }
 
-    /// Returns the number of the cell's words, of 8 bytes each: one for the version, and one for each eight bytes of a value
-    /// or for what is left of them. O(1).
+    /// Returns the number of the cell's words, of 8 bytes each. One is the version. Each other has eight bytes of a value, or the
+    /// rest of them. O(1).
     #[must_use]
     #[inline]
     pub fn words(&self) -> usize
@@ -184,7 +184,7 @@ impl<T: AtomicCopy, const SIZE: usize> SequencedByteAtomic<T, SIZE> {
         self.read(&mut seat.seat)
     }
 
-    /// Returns a new reader's seat, whose holder knows what the holder of `seat` knows. Takes no memory, and loads the version
+    /// Returns a new reader's seat, whose holder knows what the holder of `seat` knows. Does not allocate, and loads the version
     /// once, by `seat`. Never fails. O(1).
     #[inline]
     pub fn reader(
@@ -204,8 +204,7 @@ impl<T: AtomicCopy, const SIZE: usize> SequencedByteAtomic<T, SIZE> {
     }
 
     /// Returns a new writer's seat, whose holder knows what the holder of `seat` knows, and has written nothing. It takes half of
-    /// that seat's share of the right to write. Takes no memory, and loads the version once, by `seat`. Never
-    /// fails. O(1).
+    /// that seat's share of the right to write. Does not allocate, and loads the version once, by `seat`. Never fails. O(1).
     #[inline]
     pub fn writer(
         &self,
@@ -227,8 +226,8 @@ impl<T: AtomicCopy, const SIZE: usize> SequencedByteAtomic<T, SIZE> {
         Ok(WriterSeat { seat: writer })
     }
 
-    /// Consumes `other`: the holder of `seat` then knows what both knew, and all that was written with either is its own, as is the
-    /// share of both of the right to write. Takes no memory, and loads the version twice. O(1).
+    /// Consumes `other`, so that the holder of `seat` knows what both knew. All values that were written with either seat are then
+    /// its own, and so are both shares of the right to write. Does not allocate, and loads the version twice. O(1).
     pub fn merge(&self, seat: &mut WriterSeat<T>, other: WriterSeat<T>)
         requires seat { seat.old.cell ≡ self.now }
         requires other { other.cell ≡ self.now }
@@ -250,7 +249,7 @@ impl<T: AtomicCopy, const SIZE: usize> SequencedByteAtomic<T, SIZE> {
         self.take_in(&mut seat.seat, other);
     }
 
-    /// Consumes `reader`: the holder of `seat` then knows what both knew. Takes no memory, and loads the version twice. O(1).
+    /// Consumes `reader`: the holder of `seat` then knows what both knew. Does not allocate, and loads the version twice. O(1).
     pub fn merge_reader(&self, seat: &mut WriterSeat<T>, reader: ReaderSeat<T>)
         requires seat { seat.old.cell ≡ self.now }
         requires reader { reader.cell ≡ self.now }
@@ -384,7 +383,7 @@ fn interfered<T>(first: u64, last: u64) -> Result<T, Interfered>
     interfered_out_of_line(first, last)
 }
 
-/// Does what [`interfered`] does.
+/// Does the same as [`interfered`].
 // Out of line, so that a value is copied as a whole: where LLVM sees the error's numbers stored, it cuts the value where they
 // begin, and a load of the whole then waits for the stores of the parts.
 #[cold]

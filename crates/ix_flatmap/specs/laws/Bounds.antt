@@ -1,4 +1,4 @@
--- A bound of pairs is one of others that lie at the same places.
+-- A bound of pairs is also a bound of other pairs in the same slots.
 use Rattle.std.specs.Prelude.{◌≡◌, ℕ, ◌≤◌, Option, Some, None, refl}
 use Rattle.std.proofs.Common.{sym, subst}
 use Rattle.ix_slottable.specs.SlotTableState.{SlotTableState, value_at}

@@ -16,15 +16,15 @@ use std::alloc::{AllocError, Allocator};
 use std::convert::AsSlice;
 use std::mem::size_of_val;
 
-/// The index of a flat map: below which place each pair lies. Keys are compared one by one.
+/// The index of a flat map: a bound, below which each pair lies. Keys are compared one by one.
 ///
-/// A call that looks for a key compares it with the keys of the map in slot order, up to the equal one. If no place below
-/// the bound is free and keys take at most eight bytes, it compares eight at a time, and so up to seven after that one, or 32
-/// at a time if there are 128 keys or more; in any case it compares no key twice. A key that is looked up by its bytes is
-/// compared with one at a time.
+/// A method that looks for a key compares it with the keys of the map in slot order, up to the equal key. It compares eight keys at
+/// a time if no slot below the bound is free and keys take at most eight bytes. So it compares up to seven keys after the equal
+/// key. Under the same condition it compares 32 keys at a time if there are 128 keys or more. In any case it compares no key twice.
+/// A key that is looked up by its bytes is compared with one key at a time.
 #[derive(Debug, Drop)]
 pub struct Bound {
-    /// Each place with a pair is below this one.
+    /// Each slot with a pair is below this one.
     place: usize,
 }
 
@@ -60,7 +60,7 @@ impl<K: Eq + Drop, V: Drop> KeyIndex<K, V> for Bound {
         _seat: (),
         key: &K,
     ) -> Option<(SlotTableKey, &'a Pair<K, V>)> {
-        // If there are as many keys as places below the bound, each of those has one.
+        // If there are as many keys as slots below the bound, each of these slots has a key.
         if size_of_val(key) <= MAX_KEY_SIZE && pairs.len() == self.place {
             find_in_front(pairs, self.place, key)
         } else {
@@ -125,7 +125,7 @@ impl<K: Eq + Drop, V: Drop> KeyIndex<K, V> for Bound {
         ensures count { held_count pairs.new ≡ 0 }
         ensures room { length pairs.new.free ≡ length pairs.old.values }
         ensures fits { IsBound pairs.new self.new.place }
-        // So that a look-up after this visits no place that was used before.
+        // So that a look-up after this visits no slot that was used before.
         ensures bound { self.new.place ≡ 0 }
     {
         pairs.clear();
@@ -175,7 +175,7 @@ impl<K: Eq + Drop, V: Drop, A: Allocator + Copy> HeapIndex<K, V, A> for Bound {
     }
 }
 
-/// Returns what is above each place with a pair, and above this place too.
+/// Returns a bound that is above each slot with a pair, and above this slot too.
 #[inline]
 fn bound_with(bound: usize, place: usize) -> usize
     requires { place + 1 ≤ 18446744073709551615 }
@@ -184,7 +184,7 @@ fn bound_with(bound: usize, place: usize) -> usize
     if place < bound { bound } else { place + 1 }
 }
 
-/// Returns what is above each place with a pair but for this one, which was below `bound`.
+/// Returns a bound that is above each slot with a pair, except this one, which was below `bound`.
 #[inline]
 fn bound_without(bound: usize, place: usize) -> usize
     requires { place < bound }

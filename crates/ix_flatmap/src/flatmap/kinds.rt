@@ -1,4 +1,4 @@
-//! The kinds of flat maps: stored inline, in memory of an allocator, and made in two steps.
+//! The kinds of flat maps: stored inline, in memory of an allocator, and initialised in two phases.
 ghost use Rattle.std.specs.Prelude.{◌≡◌};
 ghost use Rattle.ix_slottable.specs.SlotTableState.{slot_table_new};
 
@@ -11,7 +11,7 @@ use std::marker::PhantomData;
 
 /// A flat map with its memory in a storage `M`.
 ///
-/// Each call that looks for a key takes O(capacity) time; [`Bound`] says how many keys it compares. The other calls are as
+/// Each method that looks for a key takes O(capacity) time. [`Bound`] says how many keys it compares. The other methods are as
 /// [`MetaMap`] says.
 ///
 /// This is `MetaFlatMap` of iceoryx2-bb-container.
@@ -27,8 +27,8 @@ pub type FixedSizeFlatMap<K, V, const CAPACITY: usize> = MetaFlatMap<Pair<K, V>,
 /// This is `FlatMap` of iceoryx2-bb-container.
 pub type FlatMap<K, V, A = Global> = MetaFlatMap<Pair<K, V>, Heap<A>>;
 
-/// A flat map that is made in two steps: first its capacity, as an [`UninitFlatMap`], and later its memory, allocated
-/// from `A`.
+/// A flat map that is initialised in two phases: first its capacity, as an [`UninitFlatMap`], and later its memory, which `init`
+/// allocates from `A`.
 ///
 /// This is `RelocatableFlatMap` of iceoryx2-bb-container.
 pub type RelocatableFlatMap<K, V, A = Global> = FlatMap<K, V, A>;

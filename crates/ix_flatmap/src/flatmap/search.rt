@@ -9,16 +9,16 @@ use crate::map::Pair;
 use ix_slottable::slottable::{MetaSlotTable, SlotTableKey, Storage};
 use std::convert::AsSlice;
 
-/// A map without a free place before its last key compares so many keys at a time, with no branch between them.
+/// A map without a free slot before its last key compares so many keys at a time, with no branch between them.
 const BLOCK_LEN: usize = 8;
 
-/// And so many, which are four blocks, if it has at least [`MANY`] keys.
+/// It compares so many keys at a time, which are four blocks, if it has at least [`MANY`] keys.
 const ROW_LEN: usize = 32;
 
-/// From so many keys on, it takes less time to compare a row of them than what its last comparisons cost in vain.
+/// From so many keys on, comparing a row at a time saves more time than the last row's needless comparisons cost.
 const MANY: usize = 128;
 
-/// Returns the place of the key that equals `key`, and the pair there. Each place before `end` has a pair, and
+/// Returns the slot of the key that equals `key`, and the pair there. Each slot before `end` has a pair, and
 /// no other does.
 #[inline(always)]
 pub(crate) fn find_in_front<'a, K: Eq, V, M: Storage<Pair<K, V>>>(
@@ -64,7 +64,7 @@ fn find_by_rows<'a, K: Eq, V, M: Storage<Pair<K, V>>>(
     find_by_blocks(pairs, rows * ROW_LEN, end, key)
 }
 
-/// Does what [`find_in_front`] does, a block at a time. No place before `start` has the key.
+/// Does what [`find_in_front`] does, a block at a time. No slot before `start` has the key.
 #[inline(always)]
 fn find_by_blocks<'a, K: Eq, V, M: Storage<Pair<K, V>>>(
     pairs: &'a MetaSlotTable<Pair<K, V>, M>,
@@ -92,7 +92,7 @@ fn find_by_blocks<'a, K: Eq, V, M: Storage<Pair<K, V>>>(
     find_from(pairs, blocks * BLOCK_LEN, end, key)
 }
 
-/// Returns which of the [`ROW_LEN`] places from `start` on has a key that equals `key`. Each of these places has a pair.
+/// Returns which of the [`ROW_LEN`] slots from `start` on has a key that equals `key`. Each of these slots has a pair.
 #[inline]
 fn index_in_row<K: Eq, V, M: Storage<Pair<K, V>>>(
     pairs: &MetaSlotTable<Pair<K, V>, M>,
@@ -117,8 +117,8 @@ fn index_in_row<K: Eq, V, M: Storage<Pair<K, V>>>(
     Some(index_in_either(left, right, 2 * BLOCK_LEN))
 }
 
-/// Returns what [`index_in_block`] returns for the block at `start`, and for the one after it. Side by side
-/// they take less time, since a number that is moved to a register serves both.
+/// Returns the results of [`index_in_block`] for the block at `start` and for the block after it. Side by side they take less time,
+/// because a number that is moved to a register serves both.
 #[inline]
 fn indexes_in_blocks<K: Eq, V, M: Storage<Pair<K, V>>>(
     pairs: &MetaSlotTable<Pair<K, V>, M>,
@@ -146,8 +146,8 @@ fn indexes_in_blocks<K: Eq, V, M: Storage<Pair<K, V>>>(
     (first, second)
 }
 
-/// Returns which of the [`BLOCK_LEN`] places from `start` on has a key that equals `key`, or [`BLOCK_LEN`]. Each of these
-/// places has a pair.
+/// Returns which of the [`BLOCK_LEN`] slots from `start` on has a key that equals `key`, or [`BLOCK_LEN`]. Each of these
+/// slots has a pair.
 // Compares all of these keys, with no branch: which of them is equal can't be predicted.
 #[inline]
 fn index_in_block<K: Eq, V, M: Storage<Pair<K, V>>>(
@@ -169,7 +169,7 @@ fn index_in_block<K: Eq, V, M: Storage<Pair<K, V>>>(
     found
 }
 
-/// Returns `true` if the key of a place that has a pair equals `key`.
+/// Returns `true` if the key of a slot that has a pair equals `key`.
 #[inline]
 fn has_key_at<K: Eq, V, M: Storage<Pair<K, V>>>(
     pairs: &MetaSlotTable<Pair<K, V>, M>,
@@ -182,7 +182,7 @@ fn has_key_at<K: Eq, V, M: Storage<Pair<K, V>>>(
     pairs.get_unchecked(SlotTableKey::new(place)).key == *key
 }
 
-/// Returns the place of the key that equals `key`, which no place before `start` has, and the pair there. No place from `end` on
+/// Returns the slot of the key that equals `key`, and the pair there. No slot before `start` has the key, and no slot from `end` on
 /// has a pair.
 #[inline]
 pub(crate) fn find_from<'a, K: Eq, V, M: Storage<Pair<K, V>>>(
@@ -208,7 +208,7 @@ pub(crate) fn find_from<'a, K: Eq, V, M: Storage<Pair<K, V>>>(
     None
 }
 
-/// Returns the place of the key that equals `key`, and the pair there. No place from `end` on has a pair.
+/// Returns the slot of the key that equals `key`, and the pair there. No slot from `end` on has a pair.
 #[doc(hidden)]
 #[inline]
 pub fn find_in_order<'a, K: Eq, V, M: Storage<Pair<K, V>>>(
@@ -224,7 +224,7 @@ pub fn find_in_order<'a, K: Eq, V, M: Storage<Pair<K, V>>>(
     find_from(pairs, 0, end, key)
 }
 
-/// Returns the place of the key with these bytes, and the pair there. No place from `end` on has a pair.
+/// Returns the slot of the key with these bytes, and the pair there. No slot from `end` on has a pair.
 #[doc(hidden)]
 #[inline]
 pub fn find_bytes<'a, K: AsSlice<u8>, V, M: Storage<Pair<K, V>>>(
@@ -247,8 +247,7 @@ pub fn find_bytes<'a, K: AsSlice<u8>, V, M: Storage<Pair<K, V>>>(
     None
 }
 
-/// Returns the index of what two rows of `len` places have, one after the other: that in the first, or `len` and that in the
-/// second.
+/// Returns the index in two adjacent rows of `len` slots: `first` if it is in the first row, and else `len + second`.
 #[inline]
 fn index_in_either(first: usize, second: usize, len: usize) -> usize
     requires { len + second ≤ 18446744073709551615 }

@@ -1,7 +1,6 @@
-//! What a callback returns.
+//! The result of a callback.
 
-/// Whether a callback is to be called again, as the closure of
-/// [`MetaMap::list_keys`](crate::map::MetaMap::list_keys) returns it.
+/// Says whether a callback is to be called again. The closure of [`MetaMap::list_keys`](crate::map::MetaMap::list_keys) returns it.
 ///
 /// This is `CallbackProgression` of iceoryx2-bb-elementary, which iceoryx2-bb-container uses.
 #[derive(Clone, Copy, PartialEq, Eq, Debug)]

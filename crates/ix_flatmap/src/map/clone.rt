@@ -14,7 +14,8 @@ impl<K: Eq + Clone, V: Clone> Clone for Pair<K, V> {
 
     /// Creates a pair of clones of the key and of the value.
     ///
-    /// Returns `AllocError` if a clone fails, and if the clone of the key is not equal to the key, as it has to be in a map.
+    /// Returns `AllocError` if a clone fails, or if the clone of the key is not equal to the key. In a map the two have to be
+    /// equal.
     fn clone(&self) -> Result<Self, AllocError> {
         let key = self.key.clone()?;
         if key != self.key {
@@ -35,11 +36,11 @@ where
     ghost is_infallible = { SlotTableIsInfallible
         (PairIsInfallible K.eq K.is_clone K.is_infallible V.is_infallible) };
 
-    /// Creates a map that holds clones of the keys and values in the same places, has the same free places in the same order,
-    /// and finds keys as this one does. O(`CAPACITY`).
+    /// Creates a map that holds clones of the keys and values in the same slots. It has the same free slots in the same order, and
+    /// finds keys as this map does. O(`CAPACITY`).
     ///
-    /// Returns `AllocError` if a clone fails, and if the clone of a key is not equal to the key; the clones already made are
-    /// dropped.
+    /// Returns `AllocError` if a clone fails, or if the clone of a key is not equal to the key. The clones already made are dropped
+    /// then.
     fn clone(&self) -> Result<Self, AllocError> {
         match self.pairs.clone() {
             Ok(pairs) => Ok(MetaMap {
@@ -52,13 +53,13 @@ where
 }
 
 impl<K: Eq + Clone, V: Clone, A: Allocator + Copy, I: PairIndex<Pair<K, V>>> HeapMap<K, V, A, I> {
-    /// Creates a map of the same capacity that holds clones of the keys and values in the same places, has the same free
-    /// places in the same order, and finds keys as this one does, in memory of `alloc`.
+    /// Creates a map of the same capacity in memory of `alloc`, which holds clones of the keys and values in the same slots. It has
+    /// the same free slots in the same order, and finds keys as this map does.
     ///
-    /// O(`capacity`), with as many allocations at most as it took to make the map, and `len` clones of keys and of values. Returns
-    /// `AllocError` if an allocation or a clone fails; nothing stays allocated then.
+    /// O(`capacity`), with at most as many allocations as it took to make the map, and `len` clones of keys and of values. Returns
+    /// `AllocError` if an allocation or a clone fails. Nothing stays allocated then.
     ///
-    /// What makes the hashers of a hash map has to be `Copy`.
+    /// The hash builder of a hash map has to be `Copy`.
     pub fn try_clone_in<D: Allocator + Copy>(
         &self,
         alloc: D,

@@ -13,11 +13,10 @@ use std::iter::FusedIterator;
 
 /// An iterator that removes the keys of a map, each with its value, in slot order, as [`MetaMap::drain`] returns it.
 ///
-/// The keys and values that are still to come when it is dropped are dropped with it, the next ones first, and the map is empty
-/// then.
+/// Dropping it drops the keys and values that are still to come, the next ones first. The map is empty then.
 pub struct Drain<'a, K: Eq + Drop, V: Drop, M: Storage<Pair<K, V>>, I: KeyIndex<K, V>> {
     map: &'a mut MetaMap<Pair<K, V>, M, I>,
-    /// No place before this one has a pair.
+    /// No slot before this one has a pair.
     place: usize,
     ghost counted: { held_count map.now ≡ length (entries_from place (drop place map.now.values)) },
 }
@@ -26,22 +25,22 @@ impl<K: Eq + Drop, V: Drop, M: Storage<Pair<K, V>>, I: KeyIndex<K, V>> MetaMap<P
     ghost use Rattle.ix_slottable.specs.Draining.{DrainingKeepsAlong};
     ghost use Rattle.ix_flatmap.specs.MapDrain.{drain_items, drain_left, drain_lender};
 
-    /// Returns an iterator that removes all keys, each with its value, in slot order. Those that are not taken are dropped with it,
-    /// and the map is as [`MetaMap::clear`] leaves it then. O(1), and O(capacity) for all of its items together, on average in a
-    /// hash map.
+    /// Returns an iterator that removes all keys, each with its value, in slot order. Dropping the iterator drops the keys and
+    /// values that are still to come. The map is then as [`MetaMap::clear`] leaves it. O(1), and O(capacity) for all of its items
+    /// together, on average in a hash map.
     #[inline]
     pub fn drain(&mut self) -> Drain<'_, K, V, M, I>
         ensures items { drain_items result ≡ map_items self.old }
         ensures left { drain_left result ≡ slot_table_clear self.old }
-        // What is left has no key, and every place is free.
+        // The map that is left has no key, and every slot is free.
         ensures count { held_count (slot_table_clear self.old) ≡ 0 }
         ensures room { length (slot_table_clear self.old).free ≡ length self.old.values }
-        // With these two a caller knows what the map is once the iterator is dropped.
+        // With these two clauses a caller knows the state of the map once the iterator is dropped.
         ensures same_reference { drain_lender result ≡ self.entry.ghost_name }
         ensures stays { DrainingKeepsAlong drain_items drain_lender drain_left result }
         ensures known { M.Items.Table.IsLen (length self.old.values) }
     {
-        // Names the number of keys, by which the check knows how many places are free.
+        // Names the number of keys, so that the check knows how many slots are free.
         let _len = self.len();
         Drain {
             map: self,
@@ -74,7 +73,7 @@ impl<K: Eq + Drop, V: Drop, M: Storage<Pair<K, V>>, I: KeyIndex<K, V>> Iterator
 
     ghost remaining = { item_count drain_items };
 
-    /// Removes the next key and returns it with its value, or `None` after the last one. O(the number of free places before
+    /// Removes the next key and returns it with its value, or `None` after the last one. O(the number of free slots before
     /// it), on average in a hash map.
     #[inline]
     fn next(&mut self) -> Option<(K, V)> {
@@ -111,7 +110,7 @@ impl<K: Eq + Drop, V: Drop, M: Storage<Pair<K, V>>, I: KeyIndex<K, V>> ExactSize
 impl<K: Eq + Drop, V: Drop, M: Storage<Pair<K, V>>, I: KeyIndex<K, V>> FusedIterator
     for Drain<'_, K, V, M, I> {}
 
-/// Prints a list of the items that are still to come, each a key and its value. O(capacity).
+/// Prints a list of the items that are still to come, each as a key and its value. O(capacity).
 impl<K: Eq + Debug + Drop, V: Debug + Drop, M: Storage<Pair<K, V>>, I: KeyIndex<K, V>> Debug
     for Drain<'_, K, V, M, I> {
     fn fmt<W: Write>(&self, f: &mut Formatter<W>) -> fmt::Result {

@@ -8,7 +8,7 @@ ghost use Rattle.ix_flatmap.specs.laws.MapCompared.{same_items_per, same_items_e
 use crate::map::{Iter, KeyIndex, MetaMap, Pair};
 use ix_slottable::slottable::Storage;
 
-/// Maps are equal if each has the keys of the other, with equal values. Places, capacities and indexes do not matter.
+/// Maps are equal if each has the keys of the other, with equal values. Slots, capacities and indexes do not matter.
 impl<K: Eq + Drop, V: PartialEq + Drop, M: Storage<Pair<K, V>>, I: KeyIndex<K, V>> PartialEq
     for MetaMap<Pair<K, V>, M, I> {
     ghost eq = { λ map other. has_same (is_same_item K.eq V.eq) (map_items map) (map_items other) };

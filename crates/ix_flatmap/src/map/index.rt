@@ -6,7 +6,7 @@ use crate::map::{KeyIndex, MetaMap, Pair};
 use ix_slottable::slottable::Storage;
 use std::ops::Index;
 
-/// `map[&key]` is the value of `key`, which the map has to have; [`MetaMap::get_ref`] takes any key.
+/// `map[&key]` is the value of `key`, which the map has to have. [`MetaMap::get_ref`] accepts any key.
 impl<'q, K: Eq + Drop, V: Drop, M: Storage<Pair<K, V>>, I: KeyIndex<K, V>> Index<&'q K>
     for MetaMap<Pair<K, V>, M, I> {
     type Output = V;

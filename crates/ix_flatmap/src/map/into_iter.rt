@@ -1,4 +1,4 @@
-//! The iterator that takes a map apart.
+//! The iterator that removes the pairs of a map.
 ghost use Rattle.std.specs.Prelude.{◌≡◌, length, map, Some, IfSome};
 ghost use Rattle.std.specs.Iterator.{YieldsFirst, YieldsLast, UpTo, at_most, item_count};
 ghost use Rattle.std.specs.Iterator.SizeHint.{IsWithinCount};
@@ -13,8 +13,8 @@ use std::marker::Model;
 /// An iterator that removes the keys of a map, each with its value, in slot order, as `into_iter` returns it. Contracts see the
 /// items that are still to come.
 ///
-/// It has the map's memory, but for that of the index. The keys and values that are still to come when it is dropped are dropped
-/// with it, the next ones first, in O(capacity) time.
+/// It owns the map's memory, except the memory of the index. Dropping it drops the keys and values that are still to come, the next
+/// ones first, in O(capacity) time.
 #[derive(Drop)]
 pub struct IntoIter<P: IntoItem, M: Storage<P>> {
     pairs: slottable::IntoIter<P, M>,
@@ -35,7 +35,7 @@ impl<P: IntoItem + Drop, M: Storage<P>> Iterator for IntoIter<P, M> {
 
     ghost remaining = { item_count (λ rest. rest) };
 
-    /// Removes the next key and returns it with its value, or `None` after the last one. O(the number of free places before
+    /// Removes the next key and returns it with its value, or `None` after the last one. O(the number of free slots before
     /// it).
     #[inline]
     fn next(&mut self) -> Option<(P::Key, P::Value)> {
@@ -60,7 +60,7 @@ impl<P: IntoItem + Drop, M: Storage<P>> DoubleEndedIterator for IntoIter<P, M> {
     ghost next_back_gives = { YieldsLast (λ rest. rest) };
 
     /// Removes the last key that is still to come and returns it with its value, or `None` if there is none. O(the number of
-    /// free places after it).
+    /// free slots after it).
     #[inline]
     fn next_back(&mut self) -> Option<(P::Key, P::Value)> {
         match self.pairs.next_back() {
@@ -80,14 +80,14 @@ impl<P: IntoItem + Drop, M: Storage<P>> ExactSizeIterator for IntoIter<P, M> {
 
 impl<P: IntoItem + Drop, M: Storage<P>> FusedIterator for IntoIter<P, M> {}
 
-/// Prints a list of the places that are still to come, each its number and its pair. O(capacity).
+/// Prints a list of the slots that are still to come, each as its number and its pair. O(capacity).
 impl<P: IntoItem + Debug, M: Storage<P>> Debug for IntoIter<P, M> {
     fn fmt<W: Write>(&self, f: &mut Formatter<W>) -> fmt::Result {
         self.pairs.fmt(f)
     }
 }
 
-// Over any `P`: the checker covers no caller of a function that takes by value what needs `Pair<K, V>: Keyed`.
+// Over any `P`: the checker covers no caller of a function that takes by value a type which needs `Pair<K, V>: Keyed`.
 impl<P: IntoItem + Drop, M: Storage<P>, I: PairIndex<P> + Drop> IntoIterator for MetaMap<P, M, I> {
     type Item = (P::Key, P::Value);
 

@@ -45,7 +45,7 @@ impl<'a, K, V, M: Storage<Pair<K, V>>> Iterator for Iter<'a, K, V, M> {
 
     ghost remaining = { item_count (λ rest. rest) };
 
-    /// Returns the next key with its value, or `None` after the last one. O(the number of free places before it).
+    /// Returns the next key with its value, or `None` after the last one. O(the number of free slots before it).
     #[inline]
     fn next(&mut self) -> Option<(&'a K, &'a V)> {
         match self.pairs.next() {
@@ -68,7 +68,7 @@ impl<'a, K, V, M: Storage<Pair<K, V>>> Iterator for Iter<'a, K, V, M> {
 impl<'a, K, V, M: Storage<Pair<K, V>>> DoubleEndedIterator for Iter<'a, K, V, M> {
     ghost next_back_gives = { YieldsLastBy (λ item. (item.0.now, item.1.now)) (λ rest. rest) };
 
-    /// Returns the last key that is still to come with its value, or `None` if there is none. O(the number of free places after
+    /// Returns the last key that is still to come with its value, or `None` if there is none. O(the number of free slots after
     /// it).
     #[inline]
     fn next_back(&mut self) -> Option<(&'a K, &'a V)> {
@@ -103,7 +103,7 @@ impl<'a, K, V, M: Storage<Pair<K, V>>> Clone for Iter<'a, K, V, M> {
     }
 }
 
-/// Prints a list of the items that are still to come, each a key and its value. O(capacity).
+/// Prints a list of the items that are still to come, each as a key and its value. O(capacity).
 impl<'a, K: Debug, V: Debug, M: Storage<Pair<K, V>>> Debug for Iter<'a, K, V, M> {
     fn fmt<W: Write>(&self, f: &mut Formatter<W>) -> fmt::Result {
         let Ok(pairs) = self.pairs.clone() else {

@@ -1,4 +1,4 @@
-//! What a map finds its keys by.
+//! The indexes by which a map finds its keys.
 ghost use Rattle.std.specs.Prelude.{◌≡◌, ℕ, ◌≤◌, List, length, replicate, Some, None, IsOk, IfOk, IfSome, option_map, true};
 ghost use Rattle.std.specs.Result.{IfErr, result_ok};
 ghost use Rattle.ix_tables.specs.Memory.{no_memory};
@@ -21,23 +21,24 @@ pub trait PairIndex<P>: Sized {
     ghost Fits: { Self → SlotTableState P → Type 0 };
 }
 
-/// An index by which the place of a key is found. [`MetaMap`](crate::map::MetaMap) has the calls of a map over any.
+/// An index that finds the slot of a key. [`MetaMap`](crate::map::MetaMap) has the methods of a map over any index.
 ///
-/// A key has a seat, whether the map has it or not: what the index knows of where it belongs. A call asks for it once.
+/// A key has a seat, whether the map has the key or not: the index's knowledge of where the key belongs. A method asks for the seat
+/// once.
 pub trait KeyIndex<K: Eq + Drop, V: Drop>: PairIndex<Pair<K, V>> {
     /// Where a key belongs.
     type Seat: Copy;
 
-    /// What an index is made of, beside memory: of a hash map what makes its hashers, of a flat map nothing.
+    /// The value that an index is made of, beside memory: for a hash map its hash builder, for a flat map nothing.
     type Setup;
 
     /// A key belongs there.
     ghost IsSeat: { Self → SlotTableState (Pair K V) → K → Self.Seat → Type 0 };
 
-    /// What the index was made of.
+    /// The setup that the index was made of.
     ghost setup_of: { Self → Self.Setup };
 
-    /// Returns what the index was made of.
+    /// Returns the setup that the index was made of.
     fn setup(&self) -> &Self::Setup
         ensures { result.now ≡ setup_of self.now };
 
@@ -53,7 +54,7 @@ pub trait KeyIndex<K: Eq + Drop, V: Drop>: PairIndex<Pair<K, V>> {
         ensures equal { IfSome (map_entry K.eq pairs.now key.now) (λ entry.
             IsSeat self.now pairs.now entry.1.key result) };
 
-    /// Returns the place of the key that equals `key`, which belongs at `seat`, and the pair there, or `None` if there is none.
+    /// Returns the slot of the key that equals `key`, and the pair there, or `None` if there is none. `key` belongs at `seat`.
     fn find<'a, M: Storage<Pair<K, V>>>(
         &self,
         pairs: &'a MetaSlotTable<Pair<K, V>, M>,
@@ -66,10 +67,11 @@ pub trait KeyIndex<K: Eq + Drop, V: Drop>: PairIndex<Pair<K, V>> {
         ensures { option_map (λ entry. (entry.0, entry.1.now)) result
             ≡ map_entry K.eq pairs.now key.now };
 
-    /// What is asked of keys that are found by these bytes of theirs, beside that keys are equal exactly if their bytes are.
+    /// The condition on keys that are found by these bytes of theirs, beside the condition that keys are equal exactly if their
+    /// bytes are.
     ghost AreFoundBy: { (K → List ℕ) → Type 0 };
 
-    /// Returns the place of the key with these bytes, and the pair there, or `None` if there is none.
+    /// Returns the slot of the key with these bytes, and the pair there, or `None` if there is none.
     fn find_bytes<'a, M: Storage<Pair<K, V>>>(
         &self,
         pairs: &'a MetaSlotTable<Pair<K, V>, M>,
@@ -84,8 +86,8 @@ pub trait KeyIndex<K: Eq + Drop, V: Drop>: PairIndex<Pair<K, V>> {
         ensures { option_map (λ entry. (entry.0, entry.1.now)) result
             ≡ map_entry (has_bytes K.items) pairs.now bytes.now };
 
-    /// Inserts `pair`, whose key belongs at `seat` and none of the pairs has, at the first free place. Returns `pair` as the error
-    /// if no place is free.
+    /// Inserts `pair` in the first free slot. Its key belongs at `seat`, and none of the pairs has it. Returns `pair` as the error
+    /// if no slot is free.
     fn insert<M: Storage<Pair<K, V>>>(
         &mut self,
         pairs: &mut MetaSlotTable<Pair<K, V>, M>,
@@ -99,7 +101,7 @@ pub trait KeyIndex<K: Eq + Drop, V: Drop>: PairIndex<Pair<K, V>> {
         ensures returned { IfErr result (λ refused. refused ≡ pair) }
         ensures fits { Self.PairIndex.Fits self.new pairs.new };
 
-    /// Removes the pair at a place that has one, whose key belongs at `seat`, and returns it.
+    /// Removes the pair in a slot that has one, and returns it. Its key belongs at `seat`.
     fn remove<M: Storage<Pair<K, V>>>(
         &mut self,
         pairs: &mut MetaSlotTable<Pair<K, V>, M>,
@@ -122,12 +124,12 @@ pub trait KeyIndex<K: Eq + Drop, V: Drop>: PairIndex<Pair<K, V>> {
         ensures room { length pairs.new.free ≡ length pairs.old.values }
         ensures fits { Self.PairIndex.Fits self.new pairs.new };
 
-    /// Returns the place from which on none has a pair.
+    /// Returns a bound: no slot from there on has a pair.
     fn bound<M: Storage<Pair<K, V>>>(&self, pairs: &MetaSlotTable<Pair<K, V>, M>) -> usize
         requires { Self.PairIndex.Fits self.now pairs.now }
         ensures { IsBound pairs.now result };
 
-    /// Returns the place of the key that equals `key`, which belongs at `seat`, or `None` if there is none.
+    /// Returns the slot of the key that equals `key`, or `None` if there is none. `key` belongs at `seat`.
     #[inline]
     final fn place<M: Storage<Pair<K, V>>>(
         &self,
@@ -146,7 +148,7 @@ pub trait KeyIndex<K: Eq + Drop, V: Drop>: PairIndex<Pair<K, V>> {
         }
     }
 
-    /// An index of pairs is one of others whose keys are equal to theirs, at the same places.
+    /// An index of pairs is also an index of other pairs whose keys are equal to theirs, in the same slots.
     ghost Fits_equal_keys: { (index : Self) (pairs others : SlotTableState (Pair K V))
         → SlotTableIsClone (λ pair other. K.eq other.key pair.key ≡ true) pairs others
         → Self.PairIndex.Fits index pairs → Self.PairIndex.Fits index others };
@@ -158,7 +160,7 @@ pub trait InlineIndex<K: Eq + Drop, V: Drop, const CAPACITY: usize>: KeyIndex<K,
     fn new_inline(setup: Self::Setup) -> Self
         ensures { Self.PairIndex.Fits result (slot_table_new CAPACITY) };
 
-    /// Creates an index of the same pairs, from a copy of what this one was made of. O(`CAPACITY`).
+    /// Creates an index of the same pairs, from a copy of the setup that this index was made of. O(`CAPACITY`).
     fn copy_inline(&self, setup: Self::Setup) -> Self
         requires { setup ≡ Self.KeyIndex.setup_of self.now }
         ensures { (pairs : SlotTableState (Pair K V))
@@ -170,13 +172,13 @@ pub trait HeapIndex<K: Eq + Drop, V: Drop, A: Allocator + Copy>: KeyIndex<K, V> 
     /// The index in memory of `A`.
     type In: PairIndex<Pair<K, V>>;
 
-    /// The maps that are made in two steps, one type for each allocator.
+    /// The maps that are initialised in two phases, one type for each allocator.
     type Family;
 
-    /// The memory of a map whose pairs take so much, by its capacity.
+    /// The memory of a map, from the memory of its pairs and its capacity.
     ghost memory: { MemorySize → ℕ → MemorySize };
 
-    /// Returns how much memory a map of this capacity takes, whose pairs take `pairs`.
+    /// Returns the memory that a map of this capacity allocates, if its pairs take `pairs`.
     fn memory_size(pairs: MemorySize, capacity: usize) -> MemorySize
         ensures value { result ≡ memory pairs capacity }
         ensures monotone { (greater : MemorySize) (more : ℕ) → pairs.bytes ≤ greater.bytes
@@ -185,14 +187,15 @@ pub trait HeapIndex<K: Eq + Drop, V: Drop, A: Allocator + Copy>: KeyIndex<K, V> 
 
     /// Creates an index of no pairs, for this capacity. O(`capacity`).
     ///
-    /// Returns `AllocError` if an allocation fails; nothing stays allocated then, and `setup` is dropped.
+    /// Returns `AllocError` if an allocation fails. Nothing stays allocated then, and `setup` is dropped.
     fn new_in(alloc: A, capacity: usize, setup: Self::Setup) -> Result<Self::In, AllocError>
         ensures value { IfOk result (λ index. Self.In.PairIndex.Fits index (slot_table_new capacity)) }
         ensures memory { capacity ≡ 0 → IsOk result };
 
-    /// Creates an index of the same pairs in memory of `alloc`, from a copy of what this one was made of. O(its capacity).
+    /// Creates an index of the same pairs in memory of `alloc`, from a copy of the setup that this index was made of. O(its
+    /// capacity).
     ///
-    /// Returns `AllocError` if an allocation fails; nothing stays allocated then.
+    /// Returns `AllocError` if an allocation fails. Nothing stays allocated then.
     fn copy_in(&self, alloc: A, setup: Self::Setup) -> Result<Self::In, AllocError>
         requires { setup ≡ Self.KeyIndex.setup_of self.now }
         ensures value { IfOk result (λ made. (pairs : SlotTableState (Pair K V))

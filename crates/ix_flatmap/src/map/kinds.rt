@@ -1,4 +1,4 @@
-//! How maps are made: stored inline, in memory of an allocator, and in two steps.
+//! How maps are made: stored inline, in memory of an allocator, and in two phases.
 ghost use Rattle.std.specs.Prelude.{◌≡◌, ℕ, ◌≤◌, None, length, IfOk, IsOk};
 ghost use Rattle.std.specs.Mem.{type_size};
 ghost use Rattle.ix_tables.specs.Memory.{no_memory};
@@ -24,8 +24,8 @@ impl<K: Eq + Drop, V: Drop, const CAPACITY: usize, I: InlineIndex<K, V, CAPACITY
     CAPACITY,
     I,
 > {
-    /// Creates an empty map. The keys of a hash map are hashed by hashers that `B::default()` makes. Where strangers choose the
-    /// keys, take `with_hasher` and std's `RandomState`.
+    /// Creates an empty map. The keys of a hash map are hashed by hashers that `B::default()` makes. If strangers choose the keys,
+    /// use `with_hasher` and std's `RandomState`.
     ///
     /// O(`CAPACITY`). `CAPACITY` is at most [`MAX_FIXED_CAPACITY`].
     pub fn new() -> Self
@@ -99,10 +99,10 @@ impl<K: Eq + Drop, V: Drop, A: Allocator + Copy, I: HeapIndex<K, V, A, In = I>> 
     ghost use Rattle.ix_flatmap.specs.contracts.map.pair.Pair as pair;
     ghost use Rattle.ix_slottable.specs.contracts.slottable.link.Link as link;
 
-    /// Returns how much memory a map of this capacity takes from its allocator when it is made.
+    /// Returns the memory that a map of this capacity allocates from its allocator when it is made.
     ///
-    /// This is the memory of a table of pairs, of a table of links, and of its index. A map of capacity 0 takes no block. Does not
-    /// allocate. O(1).
+    /// This is the memory of a table of pairs, of a table of links, and of its index. A map of capacity 0 needs no allocation. This
+    /// function does not allocate. O(1).
     #[inline]
     pub fn memory_size(capacity: usize) -> MemorySize
         ensures value { result ≡ I.HeapIndex.memory (slot_table_memory (type_size (pair.the_row K.row V.row)) (type_size link.the_row) capacity) capacity }
@@ -113,12 +113,12 @@ impl<K: Eq + Drop, V: Drop, A: Allocator + Copy, I: HeapIndex<K, V, A, In = I>> 
         I::memory_size(SlotTable::<Pair<K, V>, A>::memory_size(capacity), capacity)
     }
 
-    /// Creates an empty map with room for `capacity` keys. Those of a hash map are hashed by hashers that `B::default()` makes.
-    /// Where strangers choose the keys, take `with_hasher` and std's `RandomState`.
+    /// Creates an empty map with room for `capacity` keys. The keys of a hash map are hashed by hashers that `B::default()` makes.
+    /// If strangers choose the keys, use `with_hasher` and std's `RandomState`.
     ///
-    /// O(`capacity`), with at most three allocations, and one more for a hash map. Returns `AllocError` if one fails, if the pairs
-    /// would take more than `isize::MAX` bytes, and if a hash map would have more than [`MAX_FIXED_CAPACITY`] places; nothing stays
-    /// allocated then. A capacity of 0 needs no memory.
+    /// O(`capacity`), with at most three allocations, and one more for a hash map. Returns `AllocError` if an allocation fails, or
+    /// if the pairs would take more than `isize::MAX` bytes. Returns it too if a hash map would have more than
+    /// [`MAX_FIXED_CAPACITY`] slots. Nothing stays allocated then. A capacity of 0 needs no memory.
     pub fn new(alloc: A, capacity: usize) -> Result<Self, AllocError>
     where
         I::Setup: Default + Drop,
@@ -147,7 +147,7 @@ impl<K: Eq + Drop, V: Drop, A: Allocator + Copy, I: HeapIndex<K, V, A, In = I>> 
     }
 
     /// Creates an uninitialised map with room for `capacity` keys. Does not allocate. O(1).
-    /// The allocator is the one that `init` is given, whatever `A` is here.
+    /// The allocator is the one that is passed to `init`, whatever `A` is here.
     #[inline]
     pub fn new_uninit(capacity: usize) -> Uninit<I::Family>
         ensures { result ≡ capacity }
@@ -162,8 +162,8 @@ where
 {
     /// Creates an empty hash map with room for `capacity` keys, which are hashed by hashers that `hasher` makes.
     ///
-    /// O(`capacity`), with at most four allocations. Returns `AllocError` if one fails, if the pairs would take more than
-    /// `isize::MAX` bytes, and if `capacity` is more than [`MAX_FIXED_CAPACITY`]; nothing stays allocated then, and `hasher` is
+    /// O(`capacity`), with at most four allocations. Returns `AllocError` if an allocation fails, if the pairs would take more than
+    /// `isize::MAX` bytes, or if `capacity` is more than [`MAX_FIXED_CAPACITY`]. Nothing stays allocated then, and `hasher` is
     /// dropped. A capacity of 0 needs no memory.
     pub fn with_hasher(alloc: A, capacity: usize, hasher: I::Setup) -> Result<Self, AllocError>
         ensures value { IfOk result (λ map. map ≡ slot_table_new capacity) }

@@ -4,7 +4,7 @@ ghost use Rattle.std.specs.Prelude.{Some};
 use std::error::Error;
 use std::fmt;
 
-/// The error of inserting into a map. The map is unchanged when it is returned.
+/// The error of inserting into a map. The map is unchanged when the error is returned.
 ///
 /// This is `FlatMapError` of iceoryx2-bb-container, and has that name too.
 #[derive(Clone, Copy, PartialEq, Eq, Hash, Debug)]

@@ -22,15 +22,15 @@ use std::marker::Model;
 /// A map from keys to values, with its memory in a storage `M` and an index `I`, by which it finds keys. Keys are
 /// compared by their `Eq`. Contracts see a slot table of pairs, in which no two keys are equal.
 ///
-/// A pair stays at its place until it is removed, and a new one takes the first free place: the one vacated last, or else
-/// the least that was never used. Slot order is that of the places.
+/// A pair stays in its slot until it is removed. A new pair takes the first free slot: the slot vacated last, or else the least
+/// slot that was never used. Slot order is the rising order of the slots' numbers.
 ///
-/// A call that looks for a key takes the time of the index. Any other takes O(1) time unless its docs say otherwise. No call
-/// allocates but those that make a map, and clones of a value. A map that is dropped drops its pairs in slot order, in
-/// O(capacity) time.
+/// A method that looks for a key takes the time of the index. Any other method takes O(1) time unless its docs say otherwise. Only
+/// the functions that make a map, and clones of a value, allocate. Dropping a map drops its pairs in slot order, in O(capacity)
+/// time.
 ///
-/// A user makes a map by the names of its kinds: `FlatMap` and its like, whose index is [`Bound`](crate::flatmap::Bound), or
-/// `HashMap` and its like of `ix_hashmap`.
+/// Make a map by the name of its kind: `FlatMap` and its like, whose index is [`Bound`](crate::flatmap::Bound), or `HashMap` and
+/// its like of `ix_hashmap`.
 #[derive(Drop)]
 pub struct MetaMap<P: Keyed, M: Storage<P>, I: PairIndex<P>> {
     pub(crate) pairs: MetaSlotTable<P, M>,
@@ -100,7 +100,7 @@ impl<K: Eq + Drop, V: Drop, M: Storage<Pair<K, V>>, I: KeyIndex<K, V>> MetaMap<P
     #[inline]
     pub fn get_ref(&self, key: &K) -> Option<&V>
         ensures value { option_copied result ≡ map_value K.eq self.now key.now }
-        // The key's value is that of the one pair whose key equals it.
+        // The key's value is the value of the one pair whose key equals it.
         ensures found { (place : ℕ) (pair : Pair K V) → value_at self.now place ≡ Some pair
             → K.eq pair.key key.now ≡ true → option_copied result ≡ Some pair.value }
         ensures absent { IsNone result ↔ ((place : ℕ) (pair : Pair K V)
@@ -115,7 +115,8 @@ impl<K: Eq + Drop, V: Drop, M: Storage<Pair<K, V>>, I: KeyIndex<K, V>> MetaMap<P
 
     /// Returns a reference to the value of the key with these bytes, or `None` if the map has none. The bytes are not copied.
     ///
-    /// Keys are equal exactly if their bytes are, and those of a hash map feed a hasher their bytes in one write, as strings do.
+    /// Keys must be equal exactly if their bytes are. The keys of a hash map must feed a hasher their bytes in one write, as
+    /// strings do.
     #[must_use]
     #[inline]
     pub fn get_bytes(&self, bytes: &[u8]) -> Option<&V>
@@ -129,7 +130,7 @@ impl<K: Eq + Drop, V: Drop, M: Storage<Pair<K, V>>, I: KeyIndex<K, V>> MetaMap<P
             → option_copied result ≡ map_value K.eq self.now key }
         ensures known { M.Items.Table.IsLen (length self.now.values) }
     {
-        // Names the number of keys, by which the check knows that no two keys are equal.
+        // Names the number of keys, so that the check knows that no two keys are equal.
         let _len = self.len();
         let Some((_, pair)) = self.index.find_bytes(&self.pairs, bytes) else {
             return None;
@@ -190,7 +191,7 @@ impl<K: Eq + Drop, V: Drop, M: Storage<Pair<K, V>>, I: KeyIndex<K, V>> MetaMap<P
         }
     }
 
-    /// Removes `key` and returns its value, or `None` if the map has no equal key. The next new key takes its place.
+    /// Removes `key` and returns its value, or `None` if the map has no equal key. The next new key takes its slot.
     pub fn remove(&mut self, key: &K) -> Option<V>
         ensures value { result ≡ map_value K.eq self.old key.now }
         ensures map { self.new ≡ map_remove K.eq self.old key.now }
@@ -208,7 +209,7 @@ impl<K: Eq + Drop, V: Drop, M: Storage<Pair<K, V>>, I: KeyIndex<K, V>> MetaMap<P
     }
 
     /// Removes `key` and returns the equal key of the map with its value, or `None` if the map has none. The next new key takes
-    /// its place.
+    /// its slot.
     pub fn remove_entry(&mut self, key: &K) -> Option<(K, V)>
         ensures value { result ≡ option_map (λ entry. map_item entry) (map_entry K.eq self.old key.now) }
         ensures map { self.new ≡ map_remove K.eq self.old key.now }
@@ -229,8 +230,8 @@ impl<K: Eq + Drop, V: Drop, M: Storage<Pair<K, V>>, I: KeyIndex<K, V>> MetaMap<P
 
     /// Removes all keys and drops them with their values, in slot order. O(capacity).
     ///
-    /// The free places are in the order that [`MetaMap::remove`] of each key in slot order leaves, so that the next new key
-    /// takes the place of the last one.
+    /// The free slots are in the same order as if [`MetaMap::remove`] was called with each key in slot order. So the next new key
+    /// takes the slot of the last key.
     pub fn clear(&mut self)
         ensures map { self.new ≡ slot_table_clear self.old }
         ensures values { self.new.values ≡ replicate (length self.old.values) None }
@@ -246,7 +247,7 @@ impl<K: Eq + Drop, V: Drop, M: Storage<Pair<K, V>>, I: KeyIndex<K, V>> MetaMap<P
     #[inline]
     pub fn capacity(&self) -> usize
         ensures value { result ≡ length self.now.values }
-        // The capacity of an inline map is that of its type: every method says so.
+        // The type of an inline map fixes its capacity: every method says so.
         ensures known { M.Items.Table.IsLen (length self.now.values) }
     {
         self.pairs.capacity()
@@ -300,7 +301,7 @@ impl<K: Eq + Drop, V: Drop, M: Storage<Pair<K, V>>, I: KeyIndex<K, V>> MetaMap<P
     pub fn len(&self) -> usize
         ensures value { result ≡ held_count self.now }
         ensures rest { held_count self.now + length self.now.free ≡ length self.now.values }
-        // These hold of every map, whatever calls were made.
+        // These hold of every map, whatever methods were called.
         ensures formed { IsWellFormed self.now }
         ensures distinct { HasDistinctKeys K.eq self.now }
         ensures known { M.Items.Table.IsLen (length self.now.values) }
@@ -319,7 +320,7 @@ impl<K: Eq + Drop, V: Drop, M: Storage<Pair<K, V>>, I: KeyIndex<K, V>> MetaMap<P
 
     /// Does what [`MetaMap::list_keys`] does, and leaves `callback` as its last call left it. O(capacity).
     ///
-    /// A caller knows then what the calls have changed, and that none came after [`CallbackProgression::Stop`].
+    /// A caller then knows the changes that the calls made, and that no call came after [`CallbackProgression::Stop`].
     #[inline]
     pub fn list_with<F: FnMut(&K) -> CallbackProgression>(&self, callback: &mut F)
         requires { F.IsAlwaysCallable callback.old }
@@ -362,7 +363,7 @@ impl<K: Eq + Drop, V: Drop, M: Storage<Pair<K, V>>, I: KeyIndex<K, V>> MetaMap<P
         ensures items { result ≡ map_items self.now }
         ensures keys { keys_of result ≡ map_keys self.now }
         ensures distinct { HasDistinctKeys K.eq self.now }
-        // A key comes with its value exactly if the map has an equal one.
+        // A key comes with its value exactly if the map has an equal key.
         ensures exactly { (key : K)
             → lookup (λ other. K.eq other key) result ≡ map_value K.eq self.now key }
         ensures known { M.Items.Table.IsLen (length self.now.values) }
@@ -379,7 +380,7 @@ impl<K: Eq + Drop, V: Drop, M: Storage<Pair<K, V>>, I: KeyIndex<K, V>> MetaMap<P
         self.keys().nth(n)
     }
 
-    /// Returns the place of the key that equals `key`, and the pair there.
+    /// Returns the slot of the key that equals `key`, and the pair there.
     #[inline(always)]
     fn find(&self, key: &K) -> Option<(SlotTableKey, &Pair<K, V>)>
         ensures value { option_map (λ entry. (entry.0, entry.1.now)) result
@@ -391,7 +392,7 @@ impl<K: Eq + Drop, V: Drop, M: Storage<Pair<K, V>>, I: KeyIndex<K, V>> MetaMap<P
         self.index.find(&self.pairs, seat, key)
     }
 
-    /// Returns a mutable reference to the value at a place that has a pair.
+    /// Returns a mutable reference to the value in a slot that has a pair.
     #[inline]
     pub(crate) fn value_mut(&mut self, place: SlotTableKey) -> &mut V
         requires { IsHeld self.old place }
@@ -418,7 +419,7 @@ pub(crate) fn seat<K: Eq + Drop, V: Drop, M: Storage<Pair<K, V>>, I: KeyIndex<K,
         I.IsSeat index.now pairs.now entry.1.key result) }
     ensures known { M.Items.Table.IsLen (length pairs.now.values) }
 {
-    // Names the capacity, for what is known of it.
+    // Names the capacity, so that the check knows its contract.
     let _capacity = pairs.capacity();
     index.seat(pairs, key)
 }

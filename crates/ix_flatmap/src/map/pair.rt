@@ -1,13 +1,14 @@
-//! What a map has at a place.
+//! The content of the slots of a map.
 ghost use Rattle.std.specs.Prelude.{◌≡◌, Bool};
 
-/// What a [`MetaMap`](crate::map::MetaMap) can hold at a place: something with a key. A map has calls for a [`Pair`] alone.
+/// The content that a slot of a [`MetaMap`](crate::map::MetaMap) can have: something with a key. A map has methods for a [`Pair`]
+/// alone.
 pub trait Keyed {
     /// The two have equal keys.
     ghost has_key_of: { Self → Self → Bool };
 }
 
-/// What comes apart into a key and its value, as every [`Pair`] does.
+/// A type that comes apart into a key and its value, as every [`Pair`] does.
 pub trait IntoItem: Keyed {
     /// The type of the key.
     type Key;

@@ -1,4 +1,4 @@
-//! The calls of a map that go through all of its pairs.
+//! The methods of a map that iterate over all of its pairs.
 ghost use Rattle.std.specs.Prelude.{◌≡◌, ◌↔◌, ◌+◌, ◌<◌, ◌≤◌, Bool, filter, length, map, option_map, drop, IsTrue, IsSome, Some};
 ghost use Rattle.std.specs.Borrow.{MutBor};
 ghost use Rattle.std.specs.List.{FoldsTo};
@@ -19,13 +19,13 @@ impl<K: Eq + Drop, V: Drop, M: Storage<Pair<K, V>>, I: KeyIndex<K, V>> MetaMap<P
         requires { IsCallableOnEach (CallAtKey F.step) (TakesKey F.pre) f (map_items self.old) }
         ensures calls { (last : F) × FoldsTo (ChangesItem (map_set K.eq) (CallAtKey F.step))
             (f, self.old) (map_items self.old) (last, self.new) }
-        // A closure that computes a new value, and stays as it was, computes each.
+        // If the closure computes a new value and does not change itself, each key has its new value.
         ensures mapped { (change : K × V → K × V)
             → ((key : K) (value left : V) (next : F)
             → CalledOn (CallAtKey F.step) f key value tt left next
             → ((key, left) ≡ change (key, value)) × (next ≡ f))
             → map_items self.new ≡ map change (map_items self.old) }
-        // If it computes that of the old value alone, each key has the new one.
+        // If it computes the new value from the old one alone, a look-up of a key finds its new value.
         ensures values { (change : V → V) → ComputesValue (CallAtKey F.step) f (λ key. change)
             → (key : K) → map_value K.eq self.new key ≡ option_map change (map_value K.eq self.old key) }
         ensures keys { map_keys self.new ≡ map_keys self.old }
@@ -43,7 +43,7 @@ impl<K: Eq + Drop, V: Drop, M: Storage<Pair<K, V>>, I: KeyIndex<K, V>> MetaMap<P
         }
     }
 
-    /// Keeps the keys for which `f` returns `true`, and removes the others, as [`MetaMap::remove`] does, and drops them with their
+    /// Keeps the keys for which `f` returns `true`. Removes the other keys, as [`MetaMap::remove`] does, and drops them with their
     /// values. O(capacity), on average in a hash map, with one call for each key.
     ///
     /// Calls `f` with each key in slot order and a mutable reference to its value. A key for which it returns `false` is removed
@@ -52,11 +52,11 @@ impl<K: Eq + Drop, V: Drop, M: Storage<Pair<K, V>>, I: KeyIndex<K, V>> MetaMap<P
         requires { IsCallableOnEach (CallAtKey F.step) (TakesKey F.pre) f (map_items self.old) }
         ensures calls { (last : F) × FoldsTo (RetainsItem (map_set K.eq) (map_remove K.eq) (CallAtKey F.step))
             (f, self.old) (map_items self.old) (last, self.new) }
-        // A closure that computes a test, and stays as it was, keeps the pairs that pass it.
+        // If the closure computes a test and changes neither the value nor itself, the pairs that pass the test are kept.
         ensures filtered { (test : K × V → Bool)
             → ComputesTest (CallAtKey F.step) f (λ key value. test (key, value))
             → map_items self.new ≡ filter test (map_items self.old) }
-        // If it tests the value alone, each key has its value if that passes.
+        // If it tests the value alone, each key has its value if that value passes the test.
         ensures values { (test : V → Bool) → ComputesTest (CallAtKey F.step) f (λ key. test)
             → (key : K) → map_value K.eq self.new key ≡ option_filter test (map_value K.eq self.old key) }
         // A key that the map has was there before.
@@ -65,7 +65,7 @@ impl<K: Eq + Drop, V: Drop, M: Storage<Pair<K, V>>, I: KeyIndex<K, V>> MetaMap<P
         ensures distinct { HasDistinctKeys K.eq self.new }
         ensures capacity { length self.new.values ≡ length self.old.values }
         ensures count { held_count self.new ≤ held_count self.old }
-        // As many places are free as were, and those whose keys are gone.
+        // The number of free slots grows by the number of keys that are gone.
         ensures room { held_count self.new + length self.new.free ≡ held_count self.old + length self.old.free }
         ensures known { M.Items.Table.IsLen (length self.old.values) }
     {
@@ -80,7 +80,7 @@ impl<K: Eq + Drop, V: Drop, M: Storage<Pair<K, V>>, I: KeyIndex<K, V>> MetaMap<P
         }
     }
 
-    /// Returns the place from which on none has a pair.
+    /// Returns a bound: no slot from there on has a pair.
     #[inline]
     fn bound(&self) -> usize
         ensures bound { IsBound self.now result }
@@ -92,7 +92,7 @@ impl<K: Eq + Drop, V: Drop, M: Storage<Pair<K, V>>, I: KeyIndex<K, V>> MetaMap<P
         bound
     }
 
-    /// Returns `true` if a place has a pair.
+    /// Returns `true` if a slot has a pair.
     #[inline]
     fn has_pair(&self, place: SlotTableKey) -> bool
         ensures value { IsTrue result ↔ IsHeld self.now place }
@@ -101,7 +101,7 @@ impl<K: Eq + Drop, V: Drop, M: Storage<Pair<K, V>>, I: KeyIndex<K, V>> MetaMap<P
         self.pairs.contains(place)
     }
 
-    /// Returns the least place from `start` on that has a pair; there is one.
+    /// Returns the least slot from `start` on that has a pair. There must be one.
     #[inline]
     pub(crate) fn held_from(&self, start: usize) -> usize
         requires { 0 < length (entries_from start (drop start self.now.values)) }
@@ -113,7 +113,7 @@ impl<K: Eq + Drop, V: Drop, M: Storage<Pair<K, V>>, I: KeyIndex<K, V>> MetaMap<P
         self.pairs.held_from(start)
     }
 
-    /// Calls `f` with the key at a place that has a pair, and a mutable reference to its value.
+    /// Calls `f` with the key in a slot that has a pair, and a mutable reference to its value.
     #[inline]
     fn call_at<R, F: FnMut(&K, &mut V) -> R>(&mut self, place: SlotTableKey, f: &mut F) -> R
         requires held { IsHeld self.old place }
@@ -129,7 +129,7 @@ impl<K: Eq + Drop, V: Drop, M: Storage<Pair<K, V>>, I: KeyIndex<K, V>> MetaMap<P
         f(&pair.key, &mut pair.value)
     }
 
-    /// Removes the pair at a place that has one, and returns it.
+    /// Removes the pair in a slot that has one, and returns it.
     #[inline]
     pub(crate) fn remove_at(&mut self, place: SlotTableKey) -> Pair<K, V>
         requires { IsHeld self.old place }

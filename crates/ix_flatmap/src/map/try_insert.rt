@@ -1,4 +1,4 @@
-//! The calls of a map that insert a key unless it has an equal one.
+//! The methods of a map that insert a key unless it has an equal one.
 ghost use Rattle.std.specs.Prelude.{◌≡◌, ◌≢◌, ◌+◌, ◌↔◌, [], length, Some, None, IsSome, IsOk, IsErr, IfOk, OnErr, false, unwrap_or};
 ghost use Rattle.std.specs.Borrow.{sem, LendsIfOk};
 ghost use Rattle.std.specs.Option.{UnwrapsOrElse};
@@ -17,10 +17,10 @@ impl<K: Eq + Drop, V: Drop, M: Storage<Pair<K, V>>, I: KeyIndex<K, V>> MetaMap<P
     ghost use Rattle.ix_flatmap.specs.contracts.map.meta_map.MetaMap.{the_row};
     ghost use Rattle.ix_flatmap.specs.contracts.map.pair.Pair as pair;
 
-    /// Inserts `key` with `value`, or hands both back.
+    /// Inserts `key` with `value`, or returns both with an error.
     ///
-    /// Returns [`MapError::KeyAlreadyExists`] if the map has an equal key, and otherwise [`MapError::IsFull`] if
-    /// it is full, with `key` and `value`.
+    /// The error is [`MapError::KeyAlreadyExists`] if the map has an equal key, and otherwise [`MapError::IsFull`] if the map is
+    /// full.
     #[inline]
     pub fn try_insert(&mut self, key: K, value: V) -> Result<(), (MapError, K, V)>
         ensures inserted { IsOk result ↔ IsOk (map_insert_result K.eq self.old key) }
@@ -51,8 +51,8 @@ impl<K: Eq + Drop, V: Drop, M: Storage<Pair<K, V>>, I: KeyIndex<K, V>> MetaMap<P
         }
     }
 
-    /// Inserts `key` with `value`; or, if the map has an equal key, gives that one `value` and returns its old value. `key` is
-    /// dropped then.
+    /// Inserts `key` with `value`. If the map has an equal key, gives that key `value` instead, returns its old value, and drops
+    /// `key`.
     ///
     /// Returns `key` and `value` as the error if the map is full and has no equal key.
     pub fn replace(&mut self, key: K, value: V) -> Result<Option<V>, (K, V)>
@@ -86,8 +86,8 @@ impl<K: Eq + Drop, V: Drop, M: Storage<Pair<K, V>>, I: KeyIndex<K, V>> MetaMap<P
         }
     }
 
-    /// Returns a mutable reference to the value of `key`, inserting `key` with the value that `f` returns if the map has no equal
-    /// key. If it has one, `key` is dropped, and `f` is not called.
+    /// Returns a mutable reference to the value of `key`. If the map has no equal key, inserts `key` with the value that `f`
+    /// returns. If the map has one, drops `key` and does not call `f`.
     ///
     /// Returns `key` as the error if the map is full and has no equal key. `f` is not called then.
     pub fn get_or_insert_with<F: FnOnce() -> V>(&mut self, key: K, f: F) -> Result<&mut V, K>
@@ -96,7 +96,7 @@ impl<K: Eq + Drop, V: Drop, M: Storage<Pair<K, V>>, I: KeyIndex<K, V>> MetaMap<P
             (LendsIfOk (the_row (pair.the_row K.row V.row) M.row I.row M.Items.row M.Links.row ⟦<Pair<K, V> as Keyed>⟧ M.Items.Table M.Links.Table I.PairIndex)
             V.row self.entry result (map_replace K.eq self.old key) self.old) }
         ensures value { IfOk result (λ value. UnwrapsOrElse (map_value K.eq self.old key) (F.post f) value.now) }
-        // A closure that computes a value gives that one.
+        // If the closure computes a value, a new key has that value.
         ensures computed { (new : V) → ((returned : V) → F.post f returned → returned ≡ new)
             → IfOk result (λ value. value.now ≡ unwrap_or (map_value K.eq self.old key) new) }
         ensures full { IsErr result ↔ ((map_value K.eq self.old key ≡ None) × (self.old.free ≡ [])) }
@@ -107,7 +107,7 @@ impl<K: Eq + Drop, V: Drop, M: Storage<Pair<K, V>>, I: KeyIndex<K, V>> MetaMap<P
         ensures kept { (written : V) (other : K) → K.eq other key ≡ false
             → map_value K.eq (map_replace K.eq self.old key written) other
             ≡ map_value K.eq self.old other }
-        // So many keys are there then.
+        // A new key raises the number of keys by one. A key that the map has leaves it unchanged.
         ensures count { (written : V) → IsOk result → map_value K.eq self.old key ≡ None
             → held_count (map_replace K.eq self.old key written) ≡ held_count self.old + 1 }
         ensures room { (written : V) → IsOk result → map_value K.eq self.old key ≡ None

@@ -21,11 +21,11 @@ use std::alloc::{AllocError, Allocator};
 use std::convert::AsSlice;
 use std::hash::{BuildHasher, Hash};
 
-/// The index of a hash map: for each of its buckets a chain of the places whose keys have it, in a storage `S`. Keys are found by
-/// their `Hash`, which `B` makes hashers for.
+/// The index of a hash map: for each of its buckets a chain of the slots whose keys have that bucket, in a storage `S`. Keys are
+/// found by their `Hash`, with hashers that `B` makes.
 ///
-/// A call that looks for a key compares it with the keys of its bucket, up to the equal one. A map has four buckets for each place,
-/// and where hashes are spread evenly over the numbers below 2<sup>64</sup>, a bucket of a full map has a quarter of a key on
+/// A method that looks for a key compares it with the keys of its bucket, up to the equal key. A map has four buckets for each
+/// slot. If hashes are spread evenly over the numbers below 2<sup>64</sup>, a bucket of a full map has a quarter of a key on
 /// average.
 #[derive(Drop)]
 pub struct Buckets<S: HashMapStorage, B: BuildHasher> {
@@ -33,7 +33,7 @@ pub struct Buckets<S: HashMapStorage, B: BuildHasher> {
     hasher: B,
 }
 
-/// The bucket that a key has, and the first place in its chain.
+/// The bucket that a key has, and the first slot in its chain.
 #[derive(Clone, Copy)]
 pub struct Bucket {
     number: u128,
@@ -68,7 +68,7 @@ impl<K: Eq + Hash + Drop, V: Drop, S: HashMapStorage, B: BuildHasher> KeyIndex<K
         key: &K,
     ) -> Bucket {
         let places = self.links.len();
-        // A map without places has no bucket.
+        // A map without slots has no bucket.
         if places == 0 {
             return Bucket {
                 number: 0,
@@ -219,7 +219,7 @@ impl<
     }
 
     fn new_in(alloc: D, capacity: usize, setup: B) -> Result<Buckets<Heap<D>, B>, AllocError> {
-        // Links number no more places.
+        // Links can number no more slots.
         if capacity > MAX_FIXED_CAPACITY {
             return Err(AllocError);
         }

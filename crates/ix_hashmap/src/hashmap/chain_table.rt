@@ -1,4 +1,4 @@
-//! An array of links, which are chains of places.
+//! An array of links, which are chains of slots.
 ghost use Rattle.std.specs.Prelude.{◌≡◌, ◌≢◌, ◌*◌, ◌<◌, ◌≤◌, length, replicate};
 ghost use Rattle.ix_hashmap.specs.inner.HashChains.{no_place, no_link, head_at, next_at, links_set_head, links_set_next, links_insert_first, IsChainFrom, IsOnChain, IsBefore, IsUnlinked};
 
@@ -7,7 +7,7 @@ use crate::hashmap::chain_link::NO_LINK;
 use ix_tables::Array;
 use std::marker::Model;
 
-/// A link for each place of a map. Contracts see the list of them.
+/// A link for each slot of a map. Contracts see the list of links.
 #[derive(Drop)]
 pub(crate) struct ChainTable<C: Array<ChainLink>> {
     links: C,
@@ -31,7 +31,7 @@ impl<C: Array<ChainLink>> ChainTable<C> {
         ChainTable { links }
     }
 
-    /// Overwrites an array of as many places with the links of `other`, and wraps it. O(the number of places).
+    /// Overwrites an array of as many slots with the links of `other`, and wraps it. O(the number of slots).
     pub(crate) fn copy_of<D: Array<ChainLink>>(mut array: C, other: &ChainTable<D>) -> Self
         requires { length (C.items array) ≡ length other.now }
         ensures { result ≡ other.now }
@@ -42,7 +42,7 @@ impl<C: Array<ChainLink>> ChainTable<C> {
         ChainTable::new(array)
     }
 
-    /// Returns the number of places, which is a quarter of that of buckets.
+    /// Returns the number of slots, which is a quarter of the number of buckets.
     #[inline]
     pub(crate) fn len(&self) -> usize
         ensures value { result ≡ length self.now }
@@ -51,7 +51,7 @@ impl<C: Array<ChainLink>> ChainTable<C> {
         self.links.len()
     }
 
-    /// Returns the first place in the chain of a bucket, or the number for no place.
+    /// Returns the first slot in the chain of a bucket, or the number for no slot.
     #[inline]
     pub(crate) fn head(&self, bucket: u128) -> u32
         requires bucket { bucket < 4 * length self.now }
@@ -61,7 +61,7 @@ impl<C: Array<ChainLink>> ChainTable<C> {
         self.links.get((bucket / 4) as usize).head(bucket)
     }
 
-    /// Returns the next place of a place in its chain, or the number for no place.
+    /// Returns the next slot of a slot in its chain, or the number for no slot.
     #[inline]
     pub(crate) fn next(&self, place: usize) -> u32
         requires { place < length self.now }
@@ -70,7 +70,7 @@ impl<C: Array<ChainLink>> ChainTable<C> {
         self.links.get(place).next
     }
 
-    /// Makes `place` the first in the chain of a bucket, before those that are in it, the first of which is `first`.
+    /// Makes `place` the first slot in the chain of a bucket, before the slots that are in it. The first of these is `first`.
     #[inline]
     pub(crate) fn insert_first(&mut self, bucket: u128, first: u32, place: usize)
         requires bucket { bucket < 4 * length self.old }
@@ -84,7 +84,7 @@ impl<C: Array<ChainLink>> ChainTable<C> {
         self.set_head(bucket, place as u32);
     }
 
-    /// Takes a place out of the chain of a bucket, which begins at `first`. O(the number of places before it).
+    /// Removes a slot from the chain of a bucket, which begins at `first`. O(the number of slots before it).
     #[inline]
     pub(crate) fn remove(&mut self, bucket: u128, first: u32, place: usize)
         requires bucket { bucket < 4 * length self.old }
@@ -102,7 +102,7 @@ impl<C: Array<ChainLink>> ChainTable<C> {
         self.set_next(previous, next);
     }
 
-    /// Makes all chains empty. O(the number of places).
+    /// Makes all chains empty. O(the number of slots).
     pub(crate) fn clear(&mut self)
         ensures { self.new ≡ replicate (length self.old) no_link }
     {
@@ -111,7 +111,7 @@ impl<C: Array<ChainLink>> ChainTable<C> {
         }
     }
 
-    /// Returns the place before another one, on the chain that begins at `first`.
+    /// Returns the slot before another one, on the chain that begins at `first`.
     #[inline]
     fn before(&self, first: usize, place: usize) -> usize
         requires chain { IsChainFrom self.now first }

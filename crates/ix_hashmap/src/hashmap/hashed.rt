@@ -1,14 +1,14 @@
-//! What a hash map has at a place, and which bucket a key has.
+//! The content of the slots of a hash map, and the bucket of a key.
 ghost use Rattle.std.specs.Prelude.{◌≡◌, ◌*◌, ◌<◌, ℕ, List, [], ◌∷◌};
 ghost use Rattle.ix_hashmap.specs.inner.HashChains.{bucket_of, hash_of};
 
 use ix_flatmap::map::Pair;
 use std::hash::{BuildHasher, Hash, Hasher};
 
-/// What a [`MetaHashMap`](crate::hashmap::MetaHashMap) can hold at a place: something with a key that can be hashed. A map has
-/// calls for a [`Pair`](ix_flatmap::map::Pair) alone, whose key implements `Hash`.
+/// The content that a slot of a [`MetaHashMap`](crate::hashmap::MetaHashMap) can have: something with a key that can be hashed. A
+/// map has methods for a [`Pair`](ix_flatmap::map::Pair) alone, whose key implements `Hash`.
 pub trait Hashed {
-    /// What the key feeds a hasher.
+    /// The bytes that the key feeds a hasher.
     ghost key_input: { Self → List (List ℕ) };
 }
 
@@ -16,7 +16,7 @@ impl<K: Eq + Hash, V> Hashed for Pair<K, V> {
     ghost key_input = { λ pair. K.hash_input pair.key };
 }
 
-/// Returns the bucket of a key in a map of so many places, of which there is at least one. There are four buckets for each.
+/// Returns the bucket of a key in a map of so many slots. There must be at least one slot. There are four buckets for each slot.
 #[inline]
 pub(crate) fn bucket_of<K: Eq + Hash, B: BuildHasher>(hasher: &B, key: &K, places: usize) -> u128
     requires { 0 < places }
@@ -40,11 +40,11 @@ pub(crate) fn bucket_of_bytes<B: BuildHasher>(hasher: &B, bytes: &[u8], places: 
     bucket_of_hash(state.finish(), places)
 }
 
-/// A factor of hashes. The upper bits of the product choose the bucket, and depend on most bits of the hash. Those of the
-/// hash alone are alike for keys of some steps, as `FoldHasher` makes them.
+/// A factor of hashes. The upper bits of the product choose the bucket, and depend on most bits of the hash. The upper bits of the
+/// hash alone are alike for keys that are some steps apart, as `FoldHasher` makes them.
 const FACTOR: u64 = 1_647_494_261;
 
-/// Returns the bucket of a hash in a map of so many places, of which there is at least one.
+/// Returns the bucket of a hash in a map of so many slots. There must be at least one slot.
 #[inline]
 fn bucket_of_hash(hash: u64, places: usize) -> u128
     requires { 0 < places }

@@ -1,4 +1,4 @@
-//! The kinds of hash maps: stored inline, in memory of an allocator, and made in two steps.
+//! The kinds of hash maps: stored inline, in memory of an allocator, and initialised in two phases.
 ghost use Rattle.std.specs.Prelude.{◌≡◌};
 ghost use Rattle.std.specs.Mem.{type_size};
 ghost use Rattle.ix_slottable.specs.Memory.{hash_map_memory};
@@ -15,20 +15,20 @@ use std::alloc::{AllocError, Allocator, Global};
 use std::hash::{BuildHasher, BuildHasherDefault, FoldHasher, Hash};
 use std::marker::PhantomData;
 
-/// The default of what makes the hashers of a hash map. The hasher is fast and has a fixed seed, so that whoever chooses the keys
-/// can give many of them one bucket.
+/// The default hash builder of a hash map. Its hasher is fast and has a fixed seed. So whoever chooses the keys can give many of
+/// them one bucket.
 pub type DefaultHashBuilder = BuildHasherDefault<FoldHasher>;
 
 /// A hash map with its memory in a storage `M`, whose keys are hashed by the hashers that `B` makes.
 ///
-/// Each call that looks for a key takes O(1) time on average, and O(capacity) if all keys have one bucket; [`Buckets`] says
-/// how many keys it compares. The other calls are as [`MetaMap`] says.
+/// Each method that looks for a key takes O(1) time on average, and O(capacity) if all keys have one bucket. [`Buckets`] says how
+/// many keys it compares. The other methods are as [`MetaMap`] says.
 pub type MetaHashMap<P, M, B> = MetaMap<P, M, Buckets<M, B>>;
 
 /// A hash map with room for `CAPACITY` keys that is stored inline and does not allocate.
 ///
-/// One of more than [`MAX_FIXED_CAPACITY`](ix_tables::MAX_FIXED_CAPACITY) keys, which `default` alone makes, has no chains: a call
-/// compares a key with all others.
+/// A map of more than [`MAX_FIXED_CAPACITY`](ix_tables::MAX_FIXED_CAPACITY) keys, which only `default` makes, has no chains: a
+/// method compares a key with all others.
 pub type FixedSizeHashMap<K, V, const CAPACITY: usize, B = DefaultHashBuilder> = MetaHashMap<
     Pair<K, V>,
     Inline<CAPACITY>,
@@ -36,11 +36,11 @@ pub type FixedSizeHashMap<K, V, const CAPACITY: usize, B = DefaultHashBuilder> =
 >;
 
 /// A hash map whose memory is allocated from `A` when it is made, and deallocated when it is dropped. Its capacity is at most
-/// [`MAX_FIXED_CAPACITY`](ix_tables::MAX_FIXED_CAPACITY), since links number places by 32 bits.
+/// [`MAX_FIXED_CAPACITY`](ix_tables::MAX_FIXED_CAPACITY), because links number slots by 32 bits.
 pub type HashMap<K, V, A = Global, B = DefaultHashBuilder> = MetaHashMap<Pair<K, V>, Heap<A>, B>;
 
-/// Returns what [`HeapMap::memory_size`](ix_flatmap::map::HeapMap::memory_size) of a hash map returns: what a table of pairs, one of links and an array of links of chains
-/// take.
+/// Returns the result of [`HeapMap::memory_size`](ix_flatmap::map::HeapMap::memory_size) for a hash map. This is the memory of a
+/// table of pairs, of a table of links, and of an array of links of chains.
 ///
 /// Does not allocate. O(1).
 pub fn hash_map_memory_law<
@@ -54,13 +54,13 @@ pub fn hash_map_memory_law<
     HashMap::<K, V, A, B>::memory_size(capacity)
 }
 
-/// A hash map that is made in two steps: first its capacity, as an [`UninitHashMap`], and later its memory, allocated
-/// from `A`.
+/// A hash map that is initialised in two phases: first its capacity, as an [`UninitHashMap`], and later its memory, which `init`
+/// allocates from `A`.
 pub type RelocatableHashMap<K, V, A = Global, B = DefaultHashBuilder> = HashMap<K, V, A, B>;
 
-/// An uninitialised hash map: a capacity without memory.
-/// [`RelocatableContainer::init`](ix_tables::RelocatableContainer::init) makes it a [`RelocatableHashMap`]: from an allocator one
-/// whose hashers `B::default()` makes, and from [`WithHasher`] one whose hashers are made by what came with the allocator.
+/// An uninitialised hash map: a capacity without memory. [`RelocatableContainer::init`](ix_tables::RelocatableContainer::init)
+/// makes it a [`RelocatableHashMap`]. If `init` is passed an allocator, `B::default()` makes the hashers of the map. If `init` is
+/// passed a [`WithHasher`], the hash builder that came with the allocator makes them.
 pub type UninitHashMap<K, V, B = DefaultHashBuilder> = Uninit<HashMapFamily<K, V, B>>;
 
 /// The relocatable hash maps from `K` to `V`, one type for each allocator. Hashers are made by a `B`.
@@ -90,8 +90,8 @@ impl<
     }
 }
 
-/// An allocator, and what makes the hashers of the map that an [`UninitHashMap`] becomes in its memory. Where strangers choose the
-/// keys, that is std's `RandomState`, which has no default: it draws its seed.
+/// An allocator, and the hash builder of the map that an [`UninitHashMap`] becomes in the allocator's memory. If strangers choose
+/// the keys, use std's `RandomState`. It has no default, because it draws its seed.
 #[derive(Clone, Copy, Drop)]
 pub struct WithHasher<A, B> {
     /// The memory is allocated from this.
@@ -107,8 +107,8 @@ impl<K: Eq + Hash + Drop, V: Drop, A: Allocator + Copy, B: BuildHasher + Drop> C
 
     ghost is_empty_with = { λ capacity map. map ≡ slot_table_new capacity };
 
-    /// Creates an empty map with room for `capacity` keys. O(`capacity`), with at most four allocations. Returns `AllocError`
-    /// as `HashMap::new` does; then what makes the hashers is dropped.
+    /// Creates an empty map with room for `capacity` keys. O(`capacity`), with at most four allocations. Returns `AllocError` as
+    /// `HashMap::new` does, and drops the hash builder in that case.
     #[inline]
     fn with_capacity(
         with_hasher: WithHasher<A, B>,

@@ -10,7 +10,7 @@ use ix_slottable::slottable::{MetaSlotTable, SlotTableKey, Storage};
 use ix_tables::Array;
 use std::convert::AsSlice;
 
-/// Returns the place of the key that equals `key`, and the pair there. If the map has one, it is in the chain that begins at
+/// Returns the slot of the key that equals `key`, and the pair there. If the map has one, it is in the chain that begins at
 /// `first`.
 #[inline]
 pub(crate) fn find_from<'a, K: Eq, V, M: Storage<Pair<K, V>>, C: Array<ChainLink>>(
@@ -25,7 +25,7 @@ pub(crate) fn find_from<'a, K: Eq, V, M: Storage<Pair<K, V>>, C: Array<ChainLink
         ≡ map_entry K.eq pairs.now key.now }
 {
     let first = first as usize;
-    // Most chains have one place at most, so that the first is looked at before the loop.
+    // Most chains have one slot at most, so that the first is looked at before the loop.
     if first >= chains.len() {
         return None;
     }
@@ -37,7 +37,7 @@ pub(crate) fn find_from<'a, K: Eq, V, M: Storage<Pair<K, V>>, C: Array<ChainLink
     find_later(pairs, chains, chains.next(first), key)
 }
 
-/// Returns what [`find_from`] returns, for a chain whose first place was looked at.
+/// Returns what [`find_from`] returns, for a chain whose first slot was looked at.
 #[inline]
 fn find_later<'a, K: Eq, V, M: Storage<Pair<K, V>>, C: Array<ChainLink>>(
     pairs: &'a MetaSlotTable<Pair<K, V>, M>,
@@ -63,7 +63,7 @@ fn find_later<'a, K: Eq, V, M: Storage<Pair<K, V>>, C: Array<ChainLink>>(
     None
 }
 
-/// Returns the place of the key with these bytes, and the pair there. If the map has one, it is in the chain that begins at
+/// Returns the slot of the key with these bytes, and the pair there. If the map has one, it is in the chain that begins at
 /// `first`.
 #[inline]
 pub(crate) fn find_bytes<'a, K: Eq + AsSlice<u8>, V, M: Storage<Pair<K, V>>, C: Array<ChainLink>>(

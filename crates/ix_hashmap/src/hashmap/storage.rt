@@ -7,9 +7,9 @@ use ix_slottable::{Heap, Inline};
 use ix_tables::{Array, HeapArray, InlineArray, MAX_FIXED_CAPACITY};
 use std::alloc::Allocator;
 
-/// Where a hash map has the chains of its buckets: [`Inline`] or a [`Heap`], as its keys and values.
+/// Where a hash map has the chains of its buckets: [`Inline`] or a [`Heap`], as for its keys and values.
 ///
-/// Links number places by 32 bits. A map whose type gives it more places than [`MAX_FIXED_CAPACITY`] has no chains, and compares
+/// Links number slots by 32 bits. A map whose type gives it more slots than [`MAX_FIXED_CAPACITY`] has no chains, and compares
 /// its keys one by one.
 pub trait HashMapStorage {
     /// The array of the links of the chains.

@@ -1,4 +1,4 @@
--- What the items of a map have to be for a map to be read back. No clause of a public call cites this.
+-- The condition on the keys and values of a map under which the map is read back. No clause of a public method cites it.
 use Rattle.std.specs.Prelude.{◌≡◌, ℕ, List, Result, Ok}
 use Rattle.serde_json.specs.Data.{Data}
 use Rattle.ix_json.specs.JsonTree.{bytes_read}

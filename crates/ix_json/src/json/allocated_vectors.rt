@@ -6,11 +6,11 @@ use ix_vector::PolymorphicVec;
 use serde_json::Value;
 use std::alloc::{Allocator, Global};
 
-/// A list of the forms of the items, in order.
+/// A JSON array of the forms of the elements, in order.
 ///
-/// Reading appends the items. It returns [`JsonFault::WrongKind`] if the value is not a list, otherwise
-/// [`JsonFault::TooLong`] if it has more entries than there is room for, and otherwise the fault of the first entry that has
-/// one. Entries after that one are not read. O(`len`) of what is read, with as many calls of the items' conversion.
+/// Reading appends the elements. It returns [`JsonFault::WrongKind`] if the value is not an array, and otherwise
+/// [`JsonFault::TooLong`] if it has more entries than there is room for. Otherwise it returns the error of the first entry that has
+/// one. Entries after that one are not read. O(`len`) of what is read, with as many calls of the elements' conversion.
 impl<T: JsonItem + Drop, A: Allocator> JsonFill for PolymorphicVec<T, A> {
     ghost use Rattle.std.specs.Prelude.{◌≡◌, []};
     ghost use Rattle.ix_tables.specs.Bounded.{with_items};

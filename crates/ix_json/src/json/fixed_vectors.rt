@@ -6,11 +6,11 @@ use ix_vector::StaticVec;
 use serde_json::Value;
 use std::alloc::Global;
 
-/// A list of the forms of the items, in order.
+/// A JSON array of the forms of the elements, in order.
 ///
-/// Reading returns [`JsonFault::WrongKind`] if the value is not a list, otherwise [`JsonFault::TooLong`] if it has more
-/// than `CAPACITY` entries, and otherwise the fault of the first entry that has one. Entries after that one are not read.
-/// O(`CAPACITY`), with as many calls of the items' conversion as there are items.
+/// Reading returns [`JsonFault::WrongKind`] if the value is not an array, and otherwise [`JsonFault::TooLong`] if it has more than
+/// `CAPACITY` entries. Otherwise it returns the error of the first entry that has one. Entries after that one are not read.
+/// O(`CAPACITY`), with as many calls of the elements' conversion as there are elements.
 impl<T: JsonItem + Default + Drop, const CAPACITY: usize> JsonForm for StaticVec<T, CAPACITY> {
     ghost use Rattle.std.specs.Prelude.{◌≡◌, []};
     ghost use Rattle.ix_json.specs.JsonTree.{list_tree, list_read};

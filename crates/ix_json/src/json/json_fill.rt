@@ -11,18 +11,18 @@ use std::alloc::Global;
 
 /// A container in memory of an allocator that has a JSON form.
 ///
-/// Reading does not allocate, so a container that was made before takes in the entries that are read.
+/// Reading does not allocate. So a container that was made before is filled with the entries that are read.
 pub trait JsonFill {
     /// The JSON tree of a container.
     ghost tree: { Self → Data };
 
-    /// The container with the entries of a JSON tree too, or the fault.
+    /// The container with the entries of a JSON tree too, or the error.
     ghost filled: { Self → Data → Result Self JsonFault };
 
     /// The container without its entries.
     ghost emptied: { Self → Self };
 
-    /// What holds of a container and of what others become that are filled with its tree.
+    /// Holds of a container and the function that fills another one with its tree.
     ghost keeps: { Self → (Self → Result Self JsonFault) → Type 0 } = { λ _ _. Unit {0} };
 
     /// Holds of containers whose conversion to JSON does not allocate.
@@ -30,7 +30,7 @@ pub trait JsonFill {
 
     /// Converts to JSON. Allocates from `alloc`.
     ///
-    /// Returns [`JsonFault::OutOfMemory`] if there is not enough memory.
+    /// Returns [`JsonFault::OutOfMemory`] if an allocation fails.
     fn to_value(&self, alloc: Global) -> Result<Value, JsonFault>
         ensures value { IfOk result (λ value. view value ≡ tree self.now) }
         ensures read_back { IfOk result (λ value.
@@ -39,11 +39,11 @@ pub trait JsonFill {
         ensures fault { IfErr result (λ fault. fault ≡ OutOfMemory) }
         ensures memory { is_infallible self.now → IsOk result };
 
-    /// Takes in all entries of `value`, in their order: a vector or a queue behind its items, a map in its free places. Does not
-    /// allocate.
+    /// Inserts all entries of `value`, in their order. A vector or a queue appends them, a map inserts them in its free slots. Does
+    /// not allocate.
     ///
-    /// Returns the first reason why `value` does not have such entries or there is no room for them, and never
-    /// [`JsonFault::OutOfMemory`]. The container is unchanged then, and what was read is dropped.
+    /// Returns the first error if `value` does not have such entries or there is no room for them, and never
+    /// [`JsonFault::OutOfMemory`]. The container is then unchanged, and the values that were read are dropped.
     fn fill_from_value(&mut self, value: &Value) -> Result<(), JsonFault>
         ensures filled { OnOk result (filled self.old (view value.now) ≡ Ok self.new) }
         ensures fault { IfErr result (λ fault. filled self.old (view value.now) ≡ Err fault) }

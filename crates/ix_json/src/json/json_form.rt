@@ -14,13 +14,13 @@ pub trait JsonForm: Sized {
     /// The JSON tree of a value.
     ghost tree: { Self → Data };
 
-    /// The value that a JSON tree is read as, or the fault.
+    /// The value that a JSON tree is read as, or the error.
     ghost read: { Data → Result Self JsonFault };
 
     /// Holds of values that are read back from their trees.
     ghost is_read_back: { Self → Type 0 } = { λ _. Unit {0} };
 
-    /// What holds of a value and of what its tree is read as.
+    /// Holds of a value and the result of reading its tree.
     ghost keeps: { Self → Result Self JsonFault → Type 0 } = { λ _ _. Unit {0} };
 
     /// Holds of values whose conversion to JSON does not allocate.
@@ -28,7 +28,7 @@ pub trait JsonForm: Sized {
 
     /// Converts to JSON. Allocates from `alloc`.
     ///
-    /// Returns [`JsonFault::OutOfMemory`] if there is not enough memory.
+    /// Returns [`JsonFault::OutOfMemory`] if an allocation fails.
     fn to_value(&self, alloc: Global) -> Result<Value, JsonFault>
         ensures value { IfOk result (λ value. view value ≡ tree self.now) }
         ensures read_back { is_read_back self.now
@@ -39,16 +39,16 @@ pub trait JsonForm: Sized {
 
     /// Converts from JSON. Does not allocate.
     ///
-    /// Returns the first reason why `value` is not of this type, and never [`JsonFault::OutOfMemory`].
+    /// Returns the first error if `value` is not of this type, and never [`JsonFault::OutOfMemory`].
     fn from_value(value: &Value) -> Result<Self, JsonFault>
         ensures value { result ≡ read (view value.now) }
         ensures memory { result ≢ Err OutOfMemory };
 }
 
-/// A value that is always read back from its JSON form, which is never null. Vectors of such items have a form.
+/// A value that is always read back from its JSON form, which is never null. Vectors of such values have a form.
 ///
-/// The integers of at most 64 bits, `bool`, [`StaticString`](ix_string::StaticString) and fixed vectors of items are items.
-/// Queues, maps, options and semantic strings have the form alone.
+/// The integers of at most 64 bits, `bool`, [`StaticString`](ix_string::StaticString) and fixed vectors of items are items. Queues,
+/// maps, options and semantic strings only have a form.
 pub trait JsonItem: JsonForm {
     /// Each value is read back from its tree.
     ghost always_read_back: { (item : Self) → Self.is_read_back item };

@@ -1,4 +1,4 @@
-//! What all lists in JSON share: their forms, and how a vector takes in the entries of one.
+//! The code that all arrays in JSON share: their forms, and appending the entries of an array to a vector.
 ghost use Rattle.std.specs.Prelude.{◌≡◌, ◌≢◌, [], Ok, Err, IfOk, IfErr, IsOk, OnOk, OnErr};
 ghost use Rattle.serde_json.specs.View.{view};
 ghost use Rattle.ix_json.specs.JsonTree.{list_tree, list_read, list_filled};
@@ -9,7 +9,7 @@ use ix_vector::Vector;
 use serde_json::Value;
 use std::alloc::Global;
 
-/// Returns the list of the forms of a vector's items, in order.
+/// Returns the array of the forms of a vector's elements, in order.
 pub(super) fn vector_to_value<T: JsonItem + Drop, V: Vector<T>>(
     vector: &V,
     alloc: Global,
@@ -34,7 +34,7 @@ pub(super) fn vector_to_value<T: JsonItem + Drop, V: Vector<T>>(
     Ok(Value::Array(entries))
 }
 
-/// Appends the items that the entries of a list are read as, or leaves the vector unchanged.
+/// Appends the elements that the entries of an array are read as, or leaves the vector unchanged.
 pub(super) fn append_items<T: JsonForm + Drop, V: Vector<T>>(
     vector: &mut V,
     value: &Value,

@@ -43,7 +43,7 @@ fn map_to_value<
     Ok(Value::Object(members))
 }
 
-/// Returns the fault of the first member that has one. A key that the map has is a fault too.
+/// Returns the error of the first member that has one. A key that the map already has is an error too.
 fn check_members<
     V: JsonForm + Drop,
     M: Storage<Pair<StaticString<N>, V>>,
@@ -68,7 +68,7 @@ fn check_members<
     Ok(())
 }
 
-/// Inserts the items that the members are read as, up to the first member that has a fault.
+/// Inserts the keys and values that the members are read as, up to the first member that has an error.
 fn insert_members<
     V: JsonForm + Drop,
     M: Storage<Pair<StaticString<N>, V>>,
@@ -92,15 +92,14 @@ fn insert_members<
     Ok(())
 }
 
-/// An object with a member for each key: the key's text, and the form of the value. Members are in the order of their keys.
+/// An object with a member for each key: the key as a string, and the form of the value. Members are in the order of their keys.
 ///
-/// Reading inserts the members in that order. It returns [`JsonFault::WrongKind`] if the value is not an object, otherwise
-/// [`JsonFault::TooLong`] if it has more than `CAPACITY` members, and otherwise the fault of the first member that has one: that
-/// of its key, as of a [`StaticString`], or else that of its value. Members after that one are not read.
+/// Reading inserts the members in that order. It returns [`JsonFault::WrongKind`] if the value is not an object, and otherwise
+/// [`JsonFault::TooLong`] if it has more than `CAPACITY` members. Otherwise it returns the error of the first member that has one:
+/// that of its key, as of a [`StaticString`], or else that of its value. Members after that one are not read.
 ///
-/// The slot order of the map that is read is that of the keys. So a map is read back as it was if it is the one that inserting its
-/// keys in their order makes of a new map. Any other is read back with the same keys and values, maybe at other
-/// places.
+/// The slot order of the map that is read is the order of its keys. So a map is read back as it was if inserting its keys in their
+/// order into a new map makes the same map. Any other map is read back with the same keys and values, maybe in other slots.
 ///
 /// O(`CAPACITY`), and as much again for each member, with as many calls of the values' conversion as there are keys.
 impl<
@@ -142,15 +141,15 @@ where
     }
 }
 
-/// An object with a member for each key: the key's text, and the form of the value. Members are in the order of their keys.
+/// An object with a member for each key: the key as a string, and the form of the value. Members are in the order of their keys.
 ///
-/// Reading inserts the members in that order. It returns [`JsonFault::WrongKind`] if the value is not an object, otherwise
-/// [`JsonFault::TooLong`] if it has more members than there is room for, and otherwise the fault of the first member that has one:
-/// that of its key, as of a [`StaticString`], or [`JsonFault::InvalidContent`] if the map has the key, or else that of its value.
-/// Members after that one are not read.
+/// Reading inserts the members in that order. It returns [`JsonFault::WrongKind`] if the value is not an object, and otherwise
+/// [`JsonFault::TooLong`] if it has more members than there is room for. Otherwise it returns the error of the first member that
+/// has one: that of its key, as of a [`StaticString`], or [`JsonFault::InvalidContent`] if the map has the key, or else that of its
+/// value. Members after that one are not read.
 ///
-/// A map that is written and emptied takes the same keys and values in again. Each is at the place that it had if the keys were
-/// removed in the opposite of their order.
+/// A map that is written and emptied can be filled with the same keys and values again. Each is in the slot that it had if the keys
+/// were removed in the reverse of their order.
 ///
 /// O(capacity) for each member. Writing calls the values' conversion once for each key, and reading twice for each member, since
 /// all are tried before the first is inserted.

@@ -11,7 +11,7 @@ use ix_tables::{InlineTable, Table};
 use serde_json::Value;
 use std::alloc::{Allocator, Global};
 
-/// Returns the list of the forms of the items, the front item first.
+/// Returns the array of the forms of the elements, the front element first.
 fn queue_to_value<T: JsonItem, S: Table<T>>(
     queue: &MetaQueue<T, S>,
     alloc: Global,
@@ -34,7 +34,7 @@ fn queue_to_value<T: JsonItem, S: Table<T>>(
     Ok(Value::Array(entries))
 }
 
-/// Appends the items that the entries of a list are read as, or leaves the queue unchanged.
+/// Appends the elements that the entries of an array are read as, or leaves the queue unchanged.
 fn push_items<T: JsonForm + Drop, S: Table<T>>(
     queue: &mut MetaQueue<T, S>,
     value: &Value,
@@ -64,11 +64,11 @@ fn push_items<T: JsonForm + Drop, S: Table<T>>(
     Ok(())
 }
 
-/// A list of the forms of the items, the front item first.
+/// A JSON array of the forms of the elements, the front element first.
 ///
-/// Reading returns [`JsonFault::WrongKind`] if the value is not a list, otherwise [`JsonFault::TooLong`] if it has more
-/// than `CAPACITY` entries, and otherwise the fault of the first entry that has one. Entries after that one are not read.
-/// O(`CAPACITY`), with as many calls of the items' conversion as there are items.
+/// Reading returns [`JsonFault::WrongKind`] if the value is not an array, and otherwise [`JsonFault::TooLong`] if it has more than
+/// `CAPACITY` entries. Otherwise it returns the error of the first entry that has one. Entries after that one are not read.
+/// O(`CAPACITY`), with as many calls of the elements' conversion as there are elements.
 impl<T: JsonItem + Drop, const CAPACITY: usize> JsonForm for FixedSizeQueue<T, CAPACITY> {
     ghost tree = { λ queue. list_tree T.tree queue.items };
 
@@ -89,11 +89,11 @@ impl<T: JsonItem + Drop, const CAPACITY: usize> JsonForm for FixedSizeQueue<T, C
     }
 }
 
-/// A list of the forms of the items, the front item first.
+/// A JSON array of the forms of the elements, the front element first.
 ///
-/// Reading appends the items at the back. It returns [`JsonFault::WrongKind`] if the value is not a list, otherwise
-/// [`JsonFault::TooLong`] if it has more entries than there is room for, and otherwise the fault of the first entry that has
-/// one. Entries after that one are not read. O(`len`) of what is read, with as many calls of the items' conversion.
+/// Reading appends the elements at the back. It returns [`JsonFault::WrongKind`] if the value is not an array, and otherwise
+/// [`JsonFault::TooLong`] if it has more entries than there is room for. Otherwise it returns the error of the first entry that has
+/// one. Entries after that one are not read. O(`len`) of what is read, with as many calls of the elements' conversion.
 impl<T: JsonItem + Drop, A: Allocator> JsonFill for Queue<T, A> {
     ghost tree = { λ queue. list_tree T.tree queue.items };
 

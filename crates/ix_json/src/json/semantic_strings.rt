@@ -6,10 +6,10 @@ use ix_string::{StaticString, String};
 use serde_json::Value;
 use std::alloc::Global;
 
-/// A text of the bytes as they are, not of the normal form.
+/// A JSON string of the bytes as they are, not of the normal form.
 ///
-/// Reading returns the faults of [`StaticString`], and otherwise [`JsonFault::InvalidContent`] if the rules do not
-/// accept the text. O(`CAPACITY`) beside the rules.
+/// Reading returns the errors of [`StaticString`], and otherwise [`JsonFault::InvalidContent`] if the rules do not accept the
+/// string. O(`CAPACITY`) beside the rules.
 impl<R: Rules<CAPACITY>, const CAPACITY: usize> JsonForm for Semantic<R, CAPACITY> {
     ghost use Rattle.std.specs.Prelude.{◌≡◌, []};
     ghost use Rattle.serde_json.specs.Data.{string};

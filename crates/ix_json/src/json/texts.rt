@@ -8,7 +8,7 @@ use ix_string::{StaticString, String, StringModificationError};
 use serde_json::Value;
 use std::alloc::Global;
 
-/// Returns the string that a text is read as, or the fault.
+/// Returns the string that a JSON string is read as, or the error.
 pub(super) fn string_from_text<const CAPACITY: usize>(
     text: &str,
 ) -> Result<StaticString<CAPACITY>, JsonFault>
@@ -21,7 +21,7 @@ pub(super) fn string_from_text<const CAPACITY: usize>(
     }
 }
 
-/// Returns the text of a string. Allocates from `alloc`.
+/// Returns the JSON string of a string. Allocates from `alloc`.
 pub(super) fn text_from_string<const CAPACITY: usize>(
     string: &StaticString<CAPACITY>,
     alloc: Global,
@@ -41,10 +41,10 @@ pub(super) fn text_from_string<const CAPACITY: usize>(
     Ok(unsafe { std::string::String::from_utf8_unchecked(bytes) })
 }
 
-/// A text.
+/// A JSON string.
 ///
-/// Reading returns [`JsonFault::WrongKind`] if the value is not a text, otherwise [`JsonFault::TooLong`] if it has more
-/// than `CAPACITY` bytes, and otherwise [`JsonFault::BadByte`] if one of them is 0 or above 127. O(`CAPACITY`).
+/// Reading returns [`JsonFault::WrongKind`] if the value is not a JSON string, and otherwise [`JsonFault::TooLong`] if it has more
+/// than `CAPACITY` bytes. Otherwise it returns [`JsonFault::BadByte`] if one of them is 0 or above 127. O(`CAPACITY`).
 impl<const CAPACITY: usize> JsonForm for StaticString<CAPACITY> {
     ghost use Rattle.serde_json.specs.Data.{string};
     ghost use Rattle.ix_json.specs.JsonTree.{text_read};

@@ -10,8 +10,8 @@ use ix_tables::Table;
 use std::alloc::{AllocError, Allocator};
 
 impl<T: Clone, S: Table<T>> MetaQueue<T, S> {
-    /// Appends clones of the items of `other` to an empty queue whose capacity is not less. Returns the error of the first
-    /// clone that fails, and keeps those already made.
+    /// Appends clones of the elements of `other` to an empty queue whose capacity is not less. Returns the error of the first clone
+    /// that fails, and keeps the clones already made.
     fn fill_with_clones<R: Table<T>>(&mut self, other: &MetaQueue<T, R>) -> Result<(), AllocError>
         requires empty { self.old.items ≡ [] }
         requires room { other.now.capacity ≤ self.old.capacity }
@@ -34,9 +34,9 @@ impl<T: Clone, const CAPACITY: usize> Clone for FixedSizeQueue<T, CAPACITY> {
 
     ghost is_infallible = { λ queue. AreInfallible T.is_infallible queue.items };
 
-    /// Creates a queue that holds clones of the items. O(`CAPACITY`).
+    /// Creates a queue that holds clones of the elements. O(`CAPACITY`).
     ///
-    /// Returns the error of the first clone that fails, and drops those already made.
+    /// Returns the error of the first clone that fails, and drops the clones already made.
     fn clone(&self) -> Result<Self, AllocError> {
         prove!(self.capacity() == CAPACITY);
         let mut copy = FixedSizeQueue::<T, CAPACITY>::default();
@@ -46,10 +46,10 @@ impl<T: Clone, const CAPACITY: usize> Clone for FixedSizeQueue<T, CAPACITY> {
 }
 
 impl<T: Clone, A: Allocator> Queue<T, A> {
-    /// Creates a queue of the same capacity that holds clones of the items, in memory of `alloc`.
+    /// Creates a queue of the same capacity that holds clones of the elements, in memory of `alloc`.
     ///
-    /// O(`capacity`), with at most two allocations and `len` clones. Returns `AllocError` if an allocation or a clone fails;
-    /// nothing stays allocated then.
+    /// O(`capacity`), with at most two allocations and `len` clones. Returns `AllocError` if an allocation or a clone fails.
+    /// Nothing stays allocated then.
     pub fn try_clone_in<B: Allocator>(&self, alloc: B) -> Result<Queue<T, B>, AllocError>
         requires { AreEqualClones T.is_clone }
         ensures value { IfOk result (λ queue. queue ≡ self.now) }

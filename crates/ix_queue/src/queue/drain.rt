@@ -9,10 +9,9 @@ use ix_tables::Table;
 use std::fmt::{self, Debug, Formatter, Write};
 use std::iter::FusedIterator;
 
-/// An iterator that removes the items of a queue, the front item first, as [`MetaQueue::drain`] returns it.
+/// An iterator that removes the elements of a queue, the front element first, as [`MetaQueue::drain`] returns it.
 ///
-/// The items that are still to come when it is dropped are dropped with it, the next one first, and the queue is empty
-/// then.
+/// Dropping it drops the elements that are still to come, the next one first. The queue is empty then.
 pub struct Drain<'a, T, S: Table<T>> {
     queue: &'a mut MetaQueue<T, S>,
 }
@@ -20,8 +19,8 @@ pub struct Drain<'a, T, S: Table<T>> {
 impl<T, S: Table<T>> MetaQueue<T, S> {
     ghost use Rattle.ix_queue.specs.QueueDrain.{drain_items, drain_capacity, drain_lender, DrainKeepsAlong};
 
-    /// Returns an iterator that removes all items, the front item first. The items that are not taken are dropped with it, and
-    /// the queue is empty then. O(1), and O(`len`) for all of its items together.
+    /// Returns an iterator that removes all elements, the front element first. Dropping it drops the elements that are still to
+    /// come, and the queue is empty then. O(1), and O(`len`) for all of its elements together.
     #[inline]
     pub fn drain(&mut self) -> Drain<'_, T, S>
     where
@@ -29,17 +28,17 @@ impl<T, S: Table<T>> MetaQueue<T, S> {
         ensures items { drain_items result ≡ self.old.items }
         ensures capacity { drain_capacity result ≡ self.old.capacity }
         ensures known { S.IsLen self.old.capacity }
-        // With these two a caller knows that the queue is empty once the iterator is dropped.
+        // With these two clauses a caller knows that the queue is empty once the iterator is dropped.
         ensures same_reference { drain_lender result ≡ self.entry.ghost_name }
         ensures stays { DrainKeepsAlong result }
     {
-        // Names the capacity, for what is known of it.
+        // The contract of `capacity` tells the checker the facts about the capacity.
         let _capacity = self.capacity();
         Drain { queue: self }
     }
 }
 
-/// Drops the items that are still to come, the next one first. The queue is empty then. O(the number of items).
+/// Drops the elements that are still to come, the next one first. The queue is empty then. O(the number of elements).
 impl<T: Drop, S: Table<T>> Drop for Drain<'_, T, S> {
     ghost use Rattle.ix_queue.specs.QueueDrain.{drain_capacity};
 
@@ -60,13 +59,13 @@ impl<T: Drop, S: Table<T>> Iterator for Drain<'_, T, S> {
 
     ghost remaining = { item_count drain_items };
 
-    /// Removes the front item and returns it, or `None` if there is none. O(1).
+    /// Removes the front element and returns it, or `None` if there is none. O(1).
     #[inline]
     fn next(&mut self) -> Option<T> {
         self.queue.pop()
     }
 
-    /// Returns the number of items that are still to come, as both bounds. O(1).
+    /// Returns the number of elements that are still to come, as both bounds. O(1).
     #[inline]
     fn size_hint(&self) -> (usize, Option<usize>)
         ensures value { result ≡ (length (drain_items self.now), Some (length (drain_items self.now))) }
@@ -83,7 +82,7 @@ impl<T: Drop, S: Table<T>> DoubleEndedIterator for Drain<'_, T, S> {
 
     ghost next_back_gives = { DrainStepsBack };
 
-    /// Removes the back item and returns it, or `None` if there is none. O(1).
+    /// Removes the back element and returns it, or `None` if there is none. O(1).
     #[inline]
     fn next_back(&mut self) -> Option<T> {
         self.queue.pop_back()
@@ -91,7 +90,7 @@ impl<T: Drop, S: Table<T>> DoubleEndedIterator for Drain<'_, T, S> {
 }
 
 impl<T: Drop, S: Table<T>> ExactSizeIterator for Drain<'_, T, S> {
-    /// Returns the number of items that are still to come. O(1).
+    /// Returns the number of elements that are still to come. O(1).
     #[inline]
     fn len(&self) -> usize {
         self.queue.len()
@@ -100,7 +99,7 @@ impl<T: Drop, S: Table<T>> ExactSizeIterator for Drain<'_, T, S> {
 
 impl<T: Drop, S: Table<T>> FusedIterator for Drain<'_, T, S> {}
 
-/// Prints a list of the items that are still to come. O(the number of items).
+/// Prints a list of the elements that are still to come. O(the number of elements).
 impl<T: Debug, S: Table<T>> Debug for Drain<'_, T, S> {
     fn fmt<W: Write>(&self, f: &mut Formatter<W>) -> fmt::Result {
         self.queue.fmt(f)

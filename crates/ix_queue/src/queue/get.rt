@@ -1,4 +1,4 @@
-//! The items of a queue by reference.
+//! References to the elements of a queue.
 ghost use Rattle.std.specs.Prelude.{◌≡◌, ◌<◌, ◌↔◌, [], IsSome, IsNone, length, option_copied, slice_get};
 ghost use Rattle.std.specs.Borrow.{sem, LendsIf};
 ghost use Rattle.std.specs.List.{list_any};
@@ -12,7 +12,7 @@ use ix_tables::Table;
 impl<T, S: Table<T>> MetaQueue<T, S> {
     ghost use Rattle.ix_queue.specs.contracts.queue.meta_queue.MetaQueue.{the_row};
 
-    /// Returns a reference to the back item, which is the newest, or `None` if the queue is empty.
+    /// Returns a reference to the back element, which is the newest, or `None` if the queue is empty.
     #[must_use]
     #[inline]
     pub fn back(&self) -> Option<&T>
@@ -27,7 +27,7 @@ impl<T, S: Table<T>> MetaQueue<T, S> {
         Some(self.item_at(len - 1))
     }
 
-    /// Returns a mutable reference to the back item, or `None` if the queue is empty.
+    /// Returns a mutable reference to the back element, or `None` if the queue is empty.
     #[inline]
     pub fn back_mut(&mut self) -> Option<&mut T>
         ensures* writes_back { sem 𝓛 (LendsIf (the_row T.row S.row S.Table)
@@ -44,7 +44,7 @@ impl<T, S: Table<T>> MetaQueue<T, S> {
         }
     }
 
-    /// Returns a reference to the item at `index`, where 0 is the front, or `None` if `index` is out of bounds.
+    /// Returns a reference to the element at `index`, where 0 is the front, or `None` if `index` is out of bounds.
     #[must_use]
     #[inline]
     pub fn get_ref(&self, index: usize) -> Option<&T>
@@ -59,7 +59,7 @@ impl<T, S: Table<T>> MetaQueue<T, S> {
         }
     }
 
-    /// Returns a mutable reference to the item at `index`, where 0 is the front, or `None` if `index` is out of bounds.
+    /// Returns a mutable reference to the element at `index`, where 0 is the front, or `None` if `index` is out of bounds.
     #[inline]
     pub fn get_mut_ref(&mut self, index: usize) -> Option<&mut T>
         ensures* writes_back { sem 𝓛 (LendsIf (the_row T.row S.row S.Table)
@@ -75,7 +75,7 @@ impl<T, S: Table<T>> MetaQueue<T, S> {
         }
     }
 
-    /// Returns `true` if the queue has an item that equals `item`. O(`len`).
+    /// Returns `true` if the queue has an element that equals `item`. O(`len`).
     #[must_use]
     pub fn contains(&self, item: &T) -> bool
     where

@@ -1,12 +1,12 @@
-//! Items of a queue by their index.
+//! Elements of a queue by their index.
 ghost use Rattle.std.specs.Prelude.{◌≡◌, ◌<◌, length, slice_get, Some};
 
 use crate::queue::MetaQueue;
 use ix_tables::Table;
 use std::ops::Index;
 
-/// `queue[i]` is the item at index `i`, where 0 is the front. `i` has to be less than the number of items;
-/// [`MetaQueue::get_ref`] takes any index. O(1).
+/// `queue[i]` is the element at index `i`, where 0 is the front. `i` must be less than the number of elements.
+/// [`MetaQueue::get_ref`] accepts any index. O(1).
 impl<T, S: Table<T>> Index<usize> for MetaQueue<T, S> {
     type Output = T;
 

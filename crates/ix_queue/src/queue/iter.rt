@@ -10,12 +10,12 @@ use std::fmt::{self, Debug, Formatter, Write};
 use std::iter::FusedIterator;
 use std::marker::Model;
 
-/// An iterator over the items of a queue, the front item first, as [`MetaQueue::iter`] returns it. Contracts see the items
+/// An iterator over the elements of a queue, the front element first, as [`MetaQueue::iter`] returns it. Contracts see the elements
 /// that are still to come.
 #[derive(Drop)]
 pub struct Iter<'a, T, S: Table<T>> {
     queue: &'a MetaQueue<T, S>,
-    /// The index of the first item that is still to come.
+    /// The index of the first element that is still to come.
     index: usize,
     /// The index after the last one.
     end: usize,
@@ -33,7 +33,7 @@ impl<'a, T, S: Table<T>> Model for Iter<'a, T, S> {
 }
 
 impl<'a, T, S: Table<T>> Iter<'a, T, S> {
-    /// Returns an iterator over all items. O(1).
+    /// Returns an iterator over all elements. O(1).
     #[inline]
     pub(crate) fn new(queue: &'a MetaQueue<T, S>) -> Self
         ensures items { result ≡ queue.now.items }
@@ -54,7 +54,7 @@ impl<'a, T, S: Table<T>> Iterator for Iter<'a, T, S> {
 
     ghost remaining = { item_count (λ rest. rest) };
 
-    /// Returns the next item, or `None` after the back one. O(1).
+    /// Returns the next element, or `None` after the back one. O(1).
     #[inline]
     fn next(&mut self) -> Option<&'a T> {
         let index = self.index;
@@ -65,7 +65,7 @@ impl<'a, T, S: Table<T>> Iterator for Iter<'a, T, S> {
         Some(self.queue.item_at(index))
     }
 
-    /// Returns the number of items that are still to come, as both bounds. O(1).
+    /// Returns the number of elements that are still to come, as both bounds. O(1).
     #[inline]
     fn size_hint(&self) -> (usize, Option<usize>)
         ensures value { result ≡ (length self.now, Some (length self.now)) }
@@ -80,7 +80,7 @@ impl<'a, T, S: Table<T>> Iterator for Iter<'a, T, S> {
 impl<'a, T, S: Table<T>> DoubleEndedIterator for Iter<'a, T, S> {
     ghost next_back_gives = { YieldsLastRef (λ rest. rest) };
 
-    /// Returns the last item that is still to come, or `None` if there is none. O(1).
+    /// Returns the last element that is still to come, or `None` if there is none. O(1).
     #[inline]
     fn next_back(&mut self) -> Option<&'a T> {
         if self.index == self.end {
@@ -93,7 +93,7 @@ impl<'a, T, S: Table<T>> DoubleEndedIterator for Iter<'a, T, S> {
 }
 
 impl<'a, T, S: Table<T>> ExactSizeIterator for Iter<'a, T, S> {
-    /// Returns the number of items that are still to come. O(1).
+    /// Returns the number of elements that are still to come. O(1).
     #[inline]
     fn len(&self) -> usize {
         self.end - self.index
@@ -107,7 +107,7 @@ impl<'a, T, S: Table<T>> Clone for Iter<'a, T, S> {
 
     ghost is_infallible = { λ _. ⊤ };
 
-    /// Returns an iterator over the items that are still to come. O(1). Never fails.
+    /// Returns an iterator over the elements that are still to come. O(1). Never fails.
     #[inline]
     fn clone(&self) -> Result<Self, AllocError> {
         Ok(Iter {
@@ -118,7 +118,7 @@ impl<'a, T, S: Table<T>> Clone for Iter<'a, T, S> {
     }
 }
 
-/// Prints a list of the items that are still to come. O(the number of items).
+/// Prints a list of the elements that are still to come. O(the number of elements).
 impl<'a, T: Debug, S: Table<T>> Debug for Iter<'a, T, S> {
     fn fmt<W: Write>(&self, f: &mut Formatter<W>) -> fmt::Result {
         let mut list = f.debug_list();
@@ -129,11 +129,10 @@ impl<'a, T: Debug, S: Table<T>> Debug for Iter<'a, T, S> {
     }
 }
 
-/// An iterator that removes the items of a queue, the front item first, as `into_iter` returns it. Contracts see the items
+/// An iterator that removes the elements of a queue, the front element first, as `into_iter` returns it. Contracts see the elements
 /// that are still to come.
 ///
-/// It has the queue's memory. The items that are still to come when it is dropped are dropped with it, the next one first,
-/// in O(capacity) time.
+/// It owns the queue's memory. Dropping it drops the elements that are still to come, the next one first, in O(capacity) time.
 #[derive(Drop)]
 pub struct IntoIter<T, S: Table<T>> {
     queue: MetaQueue<T, S>,
@@ -154,13 +153,13 @@ impl<T: Drop, S: Table<T>> Iterator for IntoIter<T, S> {
 
     ghost remaining = { item_count (λ rest. rest) };
 
-    /// Removes the next item and returns it, or `None` after the back one. O(1).
+    /// Removes the next element and returns it, or `None` after the back one. O(1).
     #[inline]
     fn next(&mut self) -> Option<T> {
         self.queue.pop()
     }
 
-    /// Returns the number of items that are still to come, as both bounds. O(1).
+    /// Returns the number of elements that are still to come, as both bounds. O(1).
     #[inline]
     fn size_hint(&self) -> (usize, Option<usize>)
         ensures value { result ≡ (length self.now, Some (length self.now)) }
@@ -175,7 +174,7 @@ impl<T: Drop, S: Table<T>> Iterator for IntoIter<T, S> {
 impl<T: Drop, S: Table<T>> DoubleEndedIterator for IntoIter<T, S> {
     ghost next_back_gives = { YieldsLast (λ rest. rest) };
 
-    /// Removes the last item that is still to come and returns it, or `None` if there is none. O(1).
+    /// Removes the last element that is still to come and returns it, or `None` if there is none. O(1).
     #[inline]
     fn next_back(&mut self) -> Option<T> {
         self.queue.pop_back()
@@ -183,7 +182,7 @@ impl<T: Drop, S: Table<T>> DoubleEndedIterator for IntoIter<T, S> {
 }
 
 impl<T: Drop, S: Table<T>> ExactSizeIterator for IntoIter<T, S> {
-    /// Returns the number of items that are still to come. O(1).
+    /// Returns the number of elements that are still to come. O(1).
     #[inline]
     fn len(&self) -> usize {
         self.queue.len()
@@ -192,7 +191,7 @@ impl<T: Drop, S: Table<T>> ExactSizeIterator for IntoIter<T, S> {
 
 impl<T: Drop, S: Table<T>> FusedIterator for IntoIter<T, S> {}
 
-/// Prints a list of the items that are still to come. O(the number of items).
+/// Prints a list of the elements that are still to come. O(the number of elements).
 impl<T: Debug, S: Table<T>> Debug for IntoIter<T, S> {
     fn fmt<W: Write>(&self, f: &mut Formatter<W>) -> fmt::Result {
         self.queue.fmt(f)
@@ -206,7 +205,7 @@ impl<'a, T, S: Table<T>> IntoIterator for &'a MetaQueue<T, S> {
 
     ghost into_iter_gives = { λ queue iter. iter ≡ queue.now.items };
 
-    /// Returns an iterator over the items, the front item first. O(1).
+    /// Returns an iterator over the elements, the front element first. O(1).
     #[inline]
     fn into_iter(self) -> Iter<'a, T, S> {
         self.iter()
@@ -220,7 +219,7 @@ impl<T: Drop, S: Table<T>> IntoIterator for MetaQueue<T, S> {
 
     ghost into_iter_gives = { λ queue iter. iter ≡ queue.items };
 
-    /// Returns an iterator that removes the items, the front item first. O(1).
+    /// Returns an iterator that removes the elements, the front element first. O(1).
     #[inline]
     fn into_iter(self) -> IntoIter<T, S> {
         IntoIter { queue: self }

@@ -1,4 +1,4 @@
-//! The kinds of queues: stored inline, in memory of an allocator, and made in two steps.
+//! The kinds of queues: stored inline, in memory of an allocator, and with two-phase initialisation.
 ghost use Rattle.std.specs.Prelude.{◌≡◌, ℕ, ◌≤◌, IsOk, IfOk};
 ghost use Rattle.std.specs.Mem.{type_size};
 ghost use Rattle.ix_tables.specs.Memory.{no_memory, table_memory};
@@ -11,7 +11,7 @@ use ix_tables::{
 use std::alloc::{AllocError, Allocator, Global};
 use std::marker::PhantomData;
 
-/// A queue of at most `CAPACITY` items that is stored inline and does not allocate.
+/// A queue of at most `CAPACITY` elements that is stored inline and does not allocate.
 ///
 /// This is `FixedSizeQueue` of iceoryx2-bb-container.
 pub type FixedSizeQueue<T, const CAPACITY: usize> = MetaQueue<T, InlineTable<T, CAPACITY>>;
@@ -42,16 +42,15 @@ impl<T: Drop, const CAPACITY: usize> Default for FixedSizeQueue<T, CAPACITY> {
 /// This is `Queue` of iceoryx2-bb-container.
 pub type Queue<T, A = Global> = MetaQueue<T, HeapTable<T, A>>;
 
-/// A queue that is made in two steps: first its capacity, as an [`UninitQueue`], and later its memory, allocated from
-/// `A`.
+/// A queue with two-phase initialisation: an [`UninitQueue`] has the capacity, and its `init` allocates the memory from `A`.
 ///
 /// This is `RelocatableQueue` of iceoryx2-bb-container.
 pub type RelocatableQueue<T, A = Global> = MetaQueue<T, HeapTable<T, A>>;
 
 impl<T: Drop, A: Allocator> Queue<T, A> {
-    /// Returns how much memory a queue of this capacity takes from its allocator when it is made.
+    /// Returns the amount of memory that a queue of this capacity allocates when it is made.
     ///
-    /// This is the memory of a table. A queue of capacity 0 takes no block. Does not allocate. O(1).
+    /// This is the memory of its table. A queue of capacity 0 allocates nothing. This function does not allocate. O(1).
     #[inline]
     pub fn memory_size(capacity: usize) -> MemorySize
         ensures value { result ≡ table_memory (type_size T.row) capacity }
@@ -62,10 +61,10 @@ impl<T: Drop, A: Allocator> Queue<T, A> {
         HeapTable::<T, A>::memory_size(capacity)
     }
 
-    /// Creates an empty queue with room for `capacity` items.
+    /// Creates an empty queue with room for `capacity` elements.
     ///
-    /// O(`capacity`), with at most two allocations. Returns `AllocError` if one fails, and if the items would take more
-    /// than `isize::MAX` bytes; nothing stays allocated then. A capacity of 0 needs no memory.
+    /// O(`capacity`), with at most two allocations. A capacity of 0 allocates nothing. Returns `AllocError` if an allocation fails,
+    /// or if the elements would take more than `isize::MAX` bytes. Nothing stays allocated then.
     pub fn new(alloc: A, capacity: usize) -> Result<Self, AllocError>
         ensures value { IfOk result (λ queue. queue ≡ bounded_new capacity) }
         ensures memory { capacity ≡ 0 → IsOk result }
@@ -75,8 +74,8 @@ impl<T: Drop, A: Allocator> Queue<T, A> {
 }
 
 impl<T: Drop, A: Allocator> RelocatableQueue<T, A> {
-    /// Creates an uninitialised queue for `capacity` items. Does not allocate. O(1).
-    /// The allocator is the one that `init` is given, whatever `A` is here.
+    /// Creates an uninitialised queue for `capacity` elements. Does not allocate. O(1).
+    /// The allocator is the one that is passed to `init`, whatever `A` is here.
     #[inline]
     pub fn new_uninit(capacity: usize) -> UninitQueue<T>
         ensures { result ≡ capacity }
@@ -96,7 +95,7 @@ impl<T: Drop, A: Allocator> ContainerFamily<A> for QueueFamily<T> {
 
     ghost is_empty_with = { λ capacity queue. queue ≡ bounded_new capacity };
 
-    /// Creates an empty queue with room for `capacity` items. O(`capacity`), with at most two allocations.
+    /// Creates an empty queue with room for `capacity` elements. O(`capacity`), with at most two allocations.
     #[inline]
     fn with_capacity(alloc: A, capacity: usize) -> Result<RelocatableQueue<T, A>, AllocError> {
         Queue::new(alloc, capacity)

@@ -16,11 +16,11 @@ use ix_tables::Table;
 use std::fmt::{self, Debug, Formatter, Write};
 use std::marker::{Model, PhantomData};
 
-/// A queue whose items lie in a table `S`. Contracts see it as a bounded list, with the front item, which is the
+/// A queue whose elements lie in a table `S`. Contracts see it as a bounded list, with the front element, which is the
 /// oldest, first.
 ///
-/// The items lie in a ring of the table's places. Each call takes O(1) time unless its docs say otherwise. No call allocates
-/// but those that make a queue. A queue that is dropped drops its items, the front item first, in O(capacity) time.
+/// The elements lie in a ring of the table's places. Each method takes O(1) time unless its docs say otherwise. Only functions that
+/// make a queue allocate. Dropping a queue drops its elements, the front element first, in O(capacity) time.
 ///
 /// This is `MetaQueue` of iceoryx2-bb-container.
 pub struct MetaQueue<T, S: Table<T>> {
@@ -76,7 +76,7 @@ impl<T, S: Table<T>> MetaQueue<T, S> {
 
     /// Creates an empty queue over `table`, whose length is the capacity.
     ///
-    /// Every place of `table` is empty. A table of any kind will do, one of your own too.
+    /// Every place of `table` must be empty. A table of any kind will do, including your own.
     #[inline]
     pub fn from_table(table: S) -> Self
         requires { IsVacant (S.places table) }
@@ -90,18 +90,18 @@ impl<T, S: Table<T>> MetaQueue<T, S> {
         }
     }
 
-    /// Returns the maximum number of items.
+    /// Returns the maximum number of elements.
     #[must_use]
     #[inline]
     pub fn capacity(&self) -> usize
         ensures value { result ≡ self.now.capacity }
-        // The capacity of an inline queue is that of its type: every method says so.
+        // The capacity of an inline queue is the one in its type: every method's contract says so.
         ensures known { S.IsLen self.now.capacity }
     {
         self.table.len()
     }
 
-    /// Returns the number of items, which is at most the capacity.
+    /// Returns the number of elements, which is at most the capacity.
     #[must_use]
     #[inline]
     pub fn len(&self) -> usize
@@ -109,12 +109,12 @@ impl<T, S: Table<T>> MetaQueue<T, S> {
         ensures within { IsWithin self.now }
         ensures known { S.IsLen self.now.capacity }
     {
-        // Names the capacity, for what is known of it.
+        // The contract of `len` tells the checker the facts about the capacity.
         let _capacity = self.table.len();
         self.len
     }
 
-    /// Returns `true` if the queue has no items.
+    /// Returns `true` if the queue has no elements.
     #[must_use]
     #[inline]
     pub fn is_empty(&self) -> bool
@@ -124,7 +124,7 @@ impl<T, S: Table<T>> MetaQueue<T, S> {
         self.len() == 0
     }
 
-    /// Returns `true` if the number of items is the capacity. A queue of capacity 0 is both empty and full.
+    /// Returns `true` if the number of elements is the capacity. A queue of capacity 0 is both empty and full.
     #[must_use]
     #[inline]
     pub fn is_full(&self) -> bool
@@ -135,7 +135,7 @@ impl<T, S: Table<T>> MetaQueue<T, S> {
         self.len == self.table.len()
     }
 
-    /// Returns how many more items there is room for.
+    /// Returns how many more elements fit.
     #[must_use]
     #[inline]
     pub fn remaining_capacity(&self) -> usize
@@ -167,7 +167,7 @@ impl<T, S: Table<T>> MetaQueue<T, S> {
         has_room
     }
 
-    /// Appends `value` at the back, or hands it back.
+    /// Appends `value` at the back, or returns it if the queue is full.
     ///
     /// Returns `Err` with `value`, and leaves the queue unchanged, if the queue is full.
     #[inline]
@@ -188,8 +188,8 @@ impl<T, S: Table<T>> MetaQueue<T, S> {
         Ok(())
     }
 
-    /// Appends `value` at the back, removing the front item first if the queue is full. Returns the item that was removed, or
-    /// `None` if there was room; at capacity 0 returns `value` itself.
+    /// Appends `value` at the back, removing the front element first if the queue is full. Returns the removed element, or `None`
+    /// if there was room. At capacity 0, returns `value` itself.
     #[inline]
     pub fn push_with_overflow(&mut self, value: T) -> Option<T>
         ensures value { result ≡ queue_overflow_item self.old value }
@@ -213,7 +213,7 @@ impl<T, S: Table<T>> MetaQueue<T, S> {
         Some(front)
     }
 
-    /// Removes the front item and returns it, or `None` if the queue is empty.
+    /// Removes the front element and returns it, or `None` if the queue is empty.
     #[inline]
     pub fn pop(&mut self) -> Option<T>
         ensures value { result ≡ queue_front self.old }
@@ -234,7 +234,7 @@ impl<T, S: Table<T>> MetaQueue<T, S> {
         Some(item)
     }
 
-    /// Removes the back item, which is the newest, and returns it, or `None` if the queue is empty.
+    /// Removes the back element, which is the newest, and returns it, or `None` if the queue is empty.
     #[inline]
     pub fn pop_back(&mut self) -> Option<T>
         ensures value { result ≡ vec_last self.old }
@@ -255,7 +255,7 @@ impl<T, S: Table<T>> MetaQueue<T, S> {
         Some(item)
     }
 
-    /// Removes all items and drops them, the front item first. O(`len`).
+    /// Removes all elements and drops them, the front element first. O(`len`).
     pub fn clear(&mut self)
     where
         T: Drop,
@@ -267,7 +267,7 @@ impl<T, S: Table<T>> MetaQueue<T, S> {
         }
     }
 
-    /// Returns a reference to the front item, or `None` if the queue is empty.
+    /// Returns a reference to the front element, or `None` if the queue is empty.
     #[must_use]
     #[inline]
     pub fn peek(&self) -> Option<&T>
@@ -281,7 +281,7 @@ impl<T, S: Table<T>> MetaQueue<T, S> {
         Some(self.table.get(self.start))
     }
 
-    /// Returns a mutable reference to the front item, or `None` if the queue is empty.
+    /// Returns a mutable reference to the front element, or `None` if the queue is empty.
     #[inline]
     pub fn peek_mut(&mut self) -> Option<&mut T>
         ensures* writes_back { sem 𝓛 (LendsIf (the_row T.row S.row S.Table)
@@ -297,7 +297,7 @@ impl<T, S: Table<T>> MetaQueue<T, S> {
         }
     }
 
-    /// Returns a copy of the item at `index`, where 0 is the front. `index` is less than the number of items.
+    /// Returns a copy of the element at `index`, where 0 is the front. `index` must be less than the number of elements.
     #[must_use]
     #[inline]
     pub fn get(&self, index: usize) -> T
@@ -310,7 +310,7 @@ impl<T, S: Table<T>> MetaQueue<T, S> {
         *self.item_at(index)
     }
 
-    /// Returns a copy of the item at `index`, as [`MetaQueue::get`] does.
+    /// Returns a copy of the element at `index`, as [`MetaQueue::get`] does.
     #[must_use]
     #[inline]
     pub fn get_unchecked(&self, index: usize) -> T
@@ -323,7 +323,7 @@ impl<T, S: Table<T>> MetaQueue<T, S> {
         self.get(index)
     }
 
-    /// Returns an iterator over the items, the front item first. O(1), and O(`len`) for all of its items together.
+    /// Returns an iterator over the elements, the front element first. O(1), and O(`len`) for all of its elements together.
     #[must_use]
     #[inline]
     pub fn iter(&self) -> Iter<'_, T, S>
@@ -333,7 +333,7 @@ impl<T, S: Table<T>> MetaQueue<T, S> {
         Iter::new(self)
     }
 
-    /// Returns a reference to the item at `index`, where 0 is the front.
+    /// Returns a reference to the element at `index`, where 0 is the front.
     #[inline]
     pub(crate) fn item_at(&self, index: usize) -> &T
         requires { index < length self.now.items }
@@ -344,7 +344,7 @@ impl<T, S: Table<T>> MetaQueue<T, S> {
             .get(place_after(self.start, index, self.table.len()))
     }
 
-    /// Returns a mutable reference to the item at `index`, where 0 is the front.
+    /// Returns a mutable reference to the element at `index`, where 0 is the front.
     #[inline]
     pub(crate) fn item_at_mut(&mut self, index: usize) -> &mut T
         requires { index < length self.old.items }
@@ -356,7 +356,7 @@ impl<T, S: Table<T>> MetaQueue<T, S> {
         self.table.get_mut(place)
     }
 
-    /// Returns a mutable reference to the front item of a queue that has one.
+    /// Returns a mutable reference to the front element of a queue that has one.
     #[inline]
     fn front_mut(&mut self) -> &mut T
         requires { 0 < length self.old.items }
@@ -378,7 +378,7 @@ impl<T, S: Table<T>> MetaQueue<T, S> {
         let len = self.len;
         let place = place_after(start, len, capacity);
         self.table.put(place, value);
-        // Written again, since LLVM takes a place of an inline table for any field, and would load it again.
+        // Written again: LLVM assumes that a place of an inline table may be any field, and would load `start` again.
         self.start = start;
         self.len = len + 1;
     }
@@ -397,7 +397,7 @@ impl<T, S: Table<T>> MetaQueue<T, S> {
         table.end();
     }
 
-    /// Consumes a queue and drops its items, the front item first.
+    /// Consumes a queue and drops its elements, the front element first.
     fn drop_items(mut self)
     where
         T: Drop,
@@ -407,10 +407,10 @@ impl<T, S: Table<T>> MetaQueue<T, S> {
     }
 }
 
-/// Drops the items, the front item first.
+/// Drops the elements, the front element first.
 impl<T: Drop, S: Table<T>> Drop for MetaQueue<T, S> {
     fn drop(self) {
-        // A queue whose items are taken out is moved first, with all of its places, so an empty one ends without that.
+        // `drop_items` moves the queue with all of its places, so an empty queue ends without it.
         if self.is_empty() {
             self.end();
         } else {
@@ -419,7 +419,7 @@ impl<T: Drop, S: Table<T>> Drop for MetaQueue<T, S> {
     }
 }
 
-/// Queues are equal if their items are, in order. Their capacities and the places of the items do not matter.
+/// Queues are equal if their elements are, in order. Their capacities and the places of the elements do not matter.
 impl<T: PartialEq, S: Table<T>> PartialEq for MetaQueue<T, S> {
     ghost eq = { λ queue other. pointwise T.eq queue.items other.items };
 
@@ -443,7 +443,7 @@ impl<T: Eq, S: Table<T>> Eq for MetaQueue<T, S> {
     ghost laws = { on_equiv (λ queue. queue.items) (lists_equiv T.Eq.laws) };
 }
 
-/// Prints a list of the items, the front item first. O(`len`).
+/// Prints a list of the elements, the front element first. O(`len`).
 impl<T: Debug, S: Table<T>> Debug for MetaQueue<T, S> {
     fn fmt<W: Write>(&self, f: &mut Formatter<W>) -> fmt::Result {
         self.iter().fmt(f)

@@ -1,4 +1,4 @@
-//! The order of queues, and what they feed to a hasher.
+//! The order of queues, and their hash.
 ghost use Rattle.std.specs.Cmp.{on_po, on_total};
 ghost use Rattle.std.specs.Cmp.Lexicographic.{slice_cmp, slice_partial_cmp, lists_po, lists_total, lists_agrees, lists_ties};
 ghost use Rattle.std.specs.Hash as fed;
@@ -9,7 +9,7 @@ use ix_tables::Table;
 use std::cmp::Ordering;
 use std::hash::{Hash, Hasher};
 
-/// Queues are compared by the first items that are not equal, from the front on, and otherwise the shorter one is less.
+/// Queues are compared by the first elements that are not equal, from the front on, and otherwise the shorter one is less.
 /// Their capacities do not matter.
 impl<T: PartialOrd, S: Table<T>> PartialOrd for MetaQueue<T, S> {
     ghost partial_cmp = { λ queue other.
@@ -23,7 +23,7 @@ impl<T: PartialOrd, S: Table<T>> PartialOrd for MetaQueue<T, S> {
     }
 }
 
-/// Queues are compared by the first items that are not equal, from the front on, and otherwise the shorter one is less.
+/// Queues are compared by the first elements that are not equal, from the front on, and otherwise the shorter one is less.
 /// Their capacities do not matter.
 impl<T: Ord, S: Table<T>> Ord for MetaQueue<T, S> {
     ghost cmp = { λ queue other. slice_cmp T.cmp queue.items other.items };
@@ -41,7 +41,7 @@ impl<T: Ord, S: Table<T>> Ord for MetaQueue<T, S> {
     }
 }
 
-/// Feeds the number of items, and then each item, the front item first. Equal queues feed the same.
+/// Feeds the hasher the number of elements, and then each element, the front element first. Equal queues feed the same.
 impl<T: Hash, S: Table<T>> Hash for MetaQueue<T, S> {
     ghost hash_input = { λ queue. fed.slice T.hash_input queue.items };
 

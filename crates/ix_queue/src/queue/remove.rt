@@ -1,4 +1,4 @@
-//! The call that removes an item by its index.
+//! The method that removes an element by its index.
 ghost use Rattle.std.specs.Prelude.{◌≡◌, ◌-◌, ◌<◌, ◌≤◌, Some, length, slice_get};
 ghost use Rattle.ix_queue.specs.QueueSteps.{queue_remove};
 
@@ -7,7 +7,7 @@ use ix_tables::Table;
 use std::mem;
 
 impl<T, S: Table<T>> MetaQueue<T, S> {
-    /// Removes the item at `index`, where 0 is the front, and returns it; the other items keep their order. Returns `None` if
+    /// Removes the element at `index`, where 0 is the front, and returns it. The other elements keep their order. Returns `None` if
     /// `index` is out of bounds. O(min(`index`, `len - index`)).
     pub fn remove(&mut self, index: usize) -> Option<T>
         ensures value { result ≡ slice_get self.old.items index }
@@ -27,7 +27,7 @@ impl<T, S: Table<T>> MetaQueue<T, S> {
         }
     }
 
-    /// Removes the item that has `index` items before it. These move by one towards the back.
+    /// Removes the element that has `index` elements before it. These move by one towards the back.
     fn remove_by_front(&mut self, index: usize) -> Option<T>
         requires { index < length self.old.items }
         ensures value { result ≡ slice_get self.old.items index }
@@ -40,7 +40,7 @@ impl<T, S: Table<T>> MetaQueue<T, S> {
         Some(moved)
     }
 
-    /// Removes the item that has `later` items after it. These move by one towards the front.
+    /// Removes the element that has `later` elements after it. These move by one towards the front.
     fn remove_by_back(&mut self, later: usize) -> Option<T>
         requires { later < length self.old.items }
         ensures value { result ≡ slice_get self.old.items (length self.old.items - 1 - later) }

@@ -1,4 +1,4 @@
-//! Calls that go through a queue and change, keep or drop its items.
+//! Methods that iterate over a queue and change, keep or drop its elements.
 ghost use Rattle.std.specs.Prelude.{◌≡◌, ◌≤◌, length, Bool, filter, map};
 ghost use Rattle.std.specs.Fn.{CalledAt, CalledAtMut};
 ghost use Rattle.std.specs.List.Retain.{IsFiltered};
@@ -10,8 +10,8 @@ use crate::queue::MetaQueue;
 use ix_tables::Table;
 
 impl<T, S: Table<T>> MetaQueue<T, S> {
-    /// Keeps the first `len` items, and drops the others, the back item first. Does nothing if there are at most `len`
-    /// items. O(the number of dropped items).
+    /// Keeps the first `len` elements, and drops the others, the back element first. Does nothing if there are at most `len`
+    /// elements. O(the number of dropped elements).
     pub fn truncate(&mut self, len: usize)
     where
         T: Drop,
@@ -23,13 +23,13 @@ impl<T, S: Table<T>> MetaQueue<T, S> {
         }
     }
 
-    /// Calls `f` with a mutable reference to each item, the front item first. O(`len`).
+    /// Calls `f` with a mutable reference to each element, the front element first. O(`len`).
     ///
-    /// There is no `iter_mut`, since a table can lend one item at a time.
+    /// There is no `iter_mut`, since a table can lend only one element at a time.
     pub fn for_each_mut<F: FnMut(&mut T)>(&mut self, mut f: F)
         requires { IsCallableOnEachMut F.FnMut self.old.items f }
         ensures items { (last : F) × ChangesInTurn F.FnMut f self.old.items self.new.items last }
-        // A closure that computes a new item, and stays as it was, computes each.
+        // If `f` changes each element to `change` of it, and stays as it was, the new elements are `change` of the old ones.
         ensures mapped { (change : T → T)
             → Computes (λ g item left next. CalledAtMut F.FnMut g item tt next left) f change
             → self.new.items ≡ map change self.old.items }
@@ -41,25 +41,26 @@ impl<T, S: Table<T>> MetaQueue<T, S> {
         }
     }
 
-    /// Keeps the items for which `f` returns `true`, in their order, and drops the others. O(`len`).
+    /// Keeps the elements for which `f` returns `true`, in their order, and drops the others. O(`len`).
     ///
-    /// Calls `f` with each item, the front item first. An item for which it returns `false` is dropped right after that call.
+    /// Calls `f` with each element, the front element first. An element for which it returns `false` is dropped right after that
+    /// call.
     pub fn retain<F: FnMut(&T) -> bool>(&mut self, mut f: F)
     where
         T: Drop,
         requires { IsCallableOnEach F.FnMut self.old.items f }
         ensures items { IsFiltered (CalledAt F.FnMut) f self.old.items self.new.items }
         ensures count { length self.new.items ≤ length self.old.items }
-        // A closure that computes a test, and stays as it was, keeps the items that pass it.
+        // If `f` computes `test` and stays as it was, the elements that pass `test` are kept.
         ensures filtered { (test : T → Bool) → Computes (CalledAt F.FnMut) f test
             → self.new.items ≡ filter test self.old.items }
         ensures capacity { self.new.capacity ≡ self.old.capacity }
-        // So there is room for as many items as were dropped.
+        // So there is room for as many elements as were dropped.
         ensures within { IsWithin self.old }
         ensures known { S.IsLen self.old.capacity }
     {
         let capacity = self.capacity();
-        // The ring turns once: what is kept goes from the front to the back.
+        // The ring turns once: the kept elements go from the front to the back.
         for i in 0..self.len() {
             if let Some(item) = self.pop() {
                 if f(&item) {

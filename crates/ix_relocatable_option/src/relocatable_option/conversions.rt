@@ -7,7 +7,7 @@ use crate::relocatable_option::RelocatableOption;
 impl<T> From<Option<T>> for RelocatableOption<T> {
     ghost from_gives = { λ option result. result ≡ relocatable_of option };
 
-    /// Converts an [`Option`]. [`RelocatableOption::to_option`] returns the same again.
+    /// Converts an [`Option`]. [`RelocatableOption::to_option`] converts back to the same option.
     fn from(value: Option<T>) -> Self
         ensures value { result ≡ relocatable_of value }
         ensures back { option_of result ≡ value }
@@ -22,7 +22,7 @@ impl<T> From<Option<T>> for RelocatableOption<T> {
 impl<T> From<RelocatableOption<T>> for Option<T> {
     ghost from_gives = { λ option result. result ≡ option_of option };
 
-    /// Converts to [`Option`]. [`RelocatableOption::from`] of that returns the same again.
+    /// Converts to [`Option`]. [`RelocatableOption::from`] converts back to the same option.
     fn from(value: RelocatableOption<T>) -> Self
         ensures value { result ≡ option_of value }
         ensures back { relocatable_of result ≡ value }

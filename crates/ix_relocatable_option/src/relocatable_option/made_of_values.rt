@@ -44,7 +44,7 @@ impl<T> RelocatableOption<T> {
         }
     }
 
-    /// Returns what `f` returns for the value, or `false` if there is none. Does not call `f` then.
+    /// Returns the result of `f` for the value, or `false` if there is none. Does not call `f` then.
     #[inline]
     pub fn is_some_and<F: FnOnce(T) -> bool>(self, f: F) -> bool
         requires { ForSome (option_of self) (F.pre f) }
@@ -53,8 +53,8 @@ impl<T> RelocatableOption<T> {
         self.map_or(false, f)
     }
 
-    /// Returns what `f` returns for the value, or `default` if there is none. Does not call `f` then. `default` is dropped if
-    /// it is not returned.
+    /// Returns the result of `f` for the value, or `default` if there is none. Does not call `f` then. `default` is dropped if it
+    /// is not returned.
     #[inline]
     pub fn map_or<U: Drop, F: FnOnce(T) -> U>(self, default: U, f: F) -> U
         requires { ForSome (option_of self) (F.pre f) }

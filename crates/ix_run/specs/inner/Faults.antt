@@ -1,4 +1,4 @@
--- What a fault tells of the reader, the writer and the replies that were not written.
+-- The meaning of an error for the reader, the writer and the replies that were not written.
 use Rattle.std.specs.Prelude.{ℕ, List}
 use Rattle.ix_run.specs.Outcome.{BeginsWithReady}
 use Rattle.ix_run.specs.declared.run.devices.fault.ScriptFault.{ScriptFault}
@@ -10,7 +10,7 @@ IsDeviceFault Read = Unit {0}
 IsDeviceFault Write = Unit {0}
 IsDeviceFault OutOfMemory = ⊥
 
--- the replies that were not written: if there was no memory, `ready` and what follows it
+-- the replies that were not written: if the allocation failed, `ready` and the replies after it
 abbrev pub LeftUnwritten : ScriptFault → List ℕ → Type 0
 LeftUnwritten Read replies = Unit {0}
 LeftUnwritten Write replies = Unit {0}

@@ -23,7 +23,7 @@ ReadsOnce input input' (Ok (Some count)) buffer =
 ReadsOnce input input' (Ok None) buffer = Keeps input input'
 ReadsOnce input input' (Err e) buffer = (e ≡ fault.Read) × Keeps input input'
 
--- joined and in_place: the current line, of which one of them has the bytes; rest: what was read after it; fuel: a bound on the
+-- joined and in_place: one of them has the bytes of the current line; rest: the bytes that were read after it; fuel: a bound on the
 -- lines that may still come
 pub record Unread : Type 0 where
   pub joined : LimitedLine

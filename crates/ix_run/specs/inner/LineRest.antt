@@ -1,15 +1,15 @@
--- What stands after a space of a line: its words, and how long it is.
+-- The rest of a line after a space: its words, and its length.
 use Rattle.std.specs.Prelude.{ℕ, ◌+◌, List, [], length, if◌then◌else◌, Option, None, Some, option_and_then}
 use Rattle.std.specs.List.{slice_split}
 use Rattle.ix_run.specs.Reading.{number_of}
 use Rattle.ix_run.specs.Words.{is_space, fits_byte}
 
--- the words of what stands after a space, if a space was there
+-- the words of the rest after a space, if a space was there
 abbrev pub words_after : Option (List ℕ) → List (List ℕ)
 words_after None = []
 words_after (Some bytes) = slice_split is_space bytes
 
--- the number of bytes of a space and of what stands after it, or 0 if there is none
+-- the number of bytes of a space and of the rest after it, or 0 if there is none
 abbrev pub len_after : Option (List ℕ) → ℕ
 len_after None = 0
 len_after (Some bytes) = length bytes + 1

@@ -43,7 +43,7 @@ abbrev pub first_word : List ℕ → List ℕ
 first_word [] = []
 first_word (byte ∷ bytes) = if is_space byte then [] else byte ∷ first_word bytes
 
--- the name is the first word of a line, and this stands behind the space after it
+-- the name is the first word of a line, and this is the rest behind the space after it
 pub record IsAfterName (line name : List ℕ) (rest : Option (List ℕ)) : Type 0 where
   pub named : bytes_eq (first_word line) name ≡ true
   pub words : slice_split is_space line ≡ first_word line ∷ words_after rest
@@ -54,26 +54,26 @@ module _ {V : Type 0} where
   abbrev pub HasWords : List (List ℕ × V) → Type 0
   HasWords table = list_all (λ row. not (list_any is_space row.0)) table ≡ true
 
-  -- the value beside the first word of a line, and what stands behind the space after it
+  -- the value beside the first word of a line, and the rest behind the space after it
   pub record IsNamed (table : List (List ℕ × V)) (line : List ℕ) (value : V) (rest : Option (List ℕ)) : Type 0 where
     pub found : lookup (bytes_eq (first_word line)) table ≡ Some value
     pub words : slice_split is_space line ≡ first_word line ∷ words_after rest
     pub len : len_after rest ≤ length line
 
 module _ {C : Type 0} where
-  -- what at most two numbers make, with zeros for those that are missing
+  -- the command that at most two numbers make, with zeros for those that are missing
   abbrev pub numbers_taken : Takes → (ℕ → ℕ → C) → List ℕ → Option C
   numbers_taken Nothing make = takes_none (make 0 0)
   numbers_taken Number make = takes_one (λ n. make n 0)
   numbers_taken TwoNumbers make = takes_two make
   numbers_taken other make = λ numbers. None
 
-  -- the same, or what zero or more numbers make
+  -- the same, or the command that zero or more numbers make
   abbrev pub items_taken : Takes → (ℕ → ℕ → List ℕ → C) → List ℕ → Option C
   items_taken Numbers make = takes_any (make 0 0)
   items_taken other make = numbers_taken other (λ n m. make n m [])
 
-  -- the same, or what a byte or zero or more bytes make, after a number or none
+  -- the same, or the command that a byte or zero or more bytes make, after a number or none
   abbrev pub bytes_taken : Takes → (ℕ → ℕ → ℕ → List ℕ → C) → List ℕ → Option C
   bytes_taken Byte make = one_byte (λ byte. make 0 0 byte [])
   bytes_taken NumberAndByte make = number_byte (λ n byte. make n 0 byte [])

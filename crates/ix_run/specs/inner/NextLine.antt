@@ -9,7 +9,7 @@ use Rattle.ix_run.specs.declared.run.devices.fault.ScriptFault.{ScriptFault}
 use Rattle.ix_run.specs.declared.run.devices.line_reader.LineReader.{LineReader}
 use Rattle.ix_run.specs.declared.run.devices.reply_writer.ReplyWriter.{ReplyWriter}
 
--- remaining: what a reader has left
+-- remaining: the bytes that a reader has left
 module _ {R : Type 0} (remaining : R → Option (List ℕ)) where
   -- these bytes were read; nothing after the end
   abbrev pub ReadsFrom : Bool → MutBor R → MutBor R → Bool → List ℕ → Type 0
@@ -22,7 +22,7 @@ module _ {R : Type 0} (remaining : R → Option (List ℕ)) where
   abbrev pub Reads : LineReader R → LineReader R → List ℕ → Type 0
   Reads old new read = ReadsFrom old.is_at_end old.reader new.reader new.is_at_end read
 
--- what may still be read: nothing after the end
+-- the bytes that may still be read: nothing after the end
 abbrev pub Coming : {R : Type 0} → LineReader R → Type 0
 Coming input = (more : List ℕ) × (input.is_at_end ≡ true → more ≡ [])
 

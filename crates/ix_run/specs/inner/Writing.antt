@@ -9,7 +9,7 @@ use Rattle.ix_run.specs.declared.run.devices.reply_writer.ReplyWriter.{ReplyWrit
 abbrev pub AppendsPart : Option (List ℕ) → Option (List ℕ) → List ℕ → Type 0
 AppendsPart contents contents' bytes = (written rest : List ℕ) × Appends contents contents' written × (bytes ≡ written ++ rest)
 
--- contents: what a writer holds
+-- contents: the bytes that a writer holds
 module _ {W : Type 0} (contents : W → Option (List ℕ)) where
   -- bytes were appended to the pending ones; a first part of all these was written, and the rest is pending
   abbrev pub WriterAppends : ReplyWriter W → List ℕ → ReplyWriter W → Type 0

@@ -1,4 +1,4 @@
-//! The containers of scripts: how each is made, and how lines are served on it.
+//! The containers of scripts: making each of them, and serving lines on it.
 
 mod flatmap;
 mod making;

@@ -1,4 +1,4 @@
-//! What the definitions of scripts mean, in their users' words. These functions do nothing: their contracts are the laws.
+//! The meaning of the definitions of scripts, in their users' words. These functions do nothing: their contracts are the laws.
 ghost use Rattle.std.specs.Prelude.{ℕ, ◌≡◌, ◌≢◌, ◌<◌, ◌^◌, ◌++◌, ◌∷◌, ◌⊎◌, List, [], Option, Some, None, All, Contains, decimal, nat_eq};
 ghost use Rattle.ix_tables.specs.Bounded.{Bounded, bounded_new};
 ghost use Rattle.ix_slottable.specs.SlotTableState.{slot_table_new};
@@ -20,8 +20,8 @@ ghost use Rattle.ix_run.specs.Words.{Form, KeyForm, HasNames, words_text, comman
 ghost use Rattle.ix_run.specs.declared.run.grammar.header.Container.TheVariants as container;
 ghost use Rattle.ix_run.specs.declared.run.grammar.header.Storage.{Storage};
 
-/// How an input is cut into lines: at each line feed. A last line without a line feed is a line too, unless it is empty,
-/// and the lines together are the whole input.
+/// States that an input is cut into lines at each line feed. A last line without a line feed is a line too, unless it is empty. The
+/// lines together are the whole input.
 pub fn line_law()
     ensures lines { (lines : List (List ℕ)) → All IsOneLine lines
         → lines_of (text_of_lines lines) ≡ lines }
@@ -33,7 +33,8 @@ pub fn line_law()
         ⊎ (with_line_feed input ≡ text_of_lines (lines_of input)) }
 {}
 
-/// Each reply is one line: its text has no line feed, and neither has what `show` prints, whatever bytes a string holds.
+/// States that each reply is one line: its text has no line feed. The text that `show` prints has none either, whatever bytes a
+/// string holds.
 pub fn reply_law()
     ensures reply { (reply : Reply ℕ ℕ) → HasU64s reply → IsOneLine (reply_text reply) }
     ensures items { (items : List ℕ) → All IsU64 items → IsOneLine (items_text decimal items) }
@@ -48,8 +49,8 @@ pub fn reply_law()
         → IsOneLine (items_text key_entry_text entries) }
 {}
 
-/// A script is the run of its commands: the replies to a header and to lines that spell commands are `ready` and the texts
-/// of the replies that a container of that capacity gives to the commands, one after the other.
+/// States that a script is the run of its commands. The replies to a header and to lines that spell commands are `ready` and the
+/// texts of the replies to the commands, one after the other. A container of that capacity gives these replies.
 pub fn script_law()
     ensures queue { (storage : Storage)
         → IsRun queue_forms queue_reply queue_after container.Queue storage
@@ -72,9 +73,11 @@ pub fn script_law()
         (slot_map_new (capacity_of storage) (first_generation start)) }
 {}
 
-/// A line spells at most one command. By any table of forms, the lines that are commands are texts of a name and numbers; and if
-/// the names are distinct words, what is made of the text of a name and numbers is what that form makes of the numbers. The same
-/// is true of tables of forms with a key, and no line is a command by two tables, one of each sort.
+/// States that a line spells at most one command.
+///
+/// By any table of forms, the lines that are commands are texts of a name and numbers. If the names are distinct words, the line of
+/// a name and numbers is the command that the name's form makes of the numbers. The same is true of tables of forms with a key. No
+/// line is a command by two tables, one of each sort.
 pub fn spelling_law<C>()
     ensures text { (forms : List (Form C)) (line : List ℕ) (command : C)
         → command_of forms line ≡ Some command

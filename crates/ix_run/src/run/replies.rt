@@ -1,4 +1,4 @@
-//! The texts of replies, and of what `show` prints.
+//! The texts of replies, and of the contents that `show` prints.
 
 mod listing;
 mod texts;

@@ -33,22 +33,28 @@ fn run_script<R: Read, W: Write>(
 
 /// Runs a script: reads commands, one a line, and writes one line of reply to each.
 ///
-/// The first command is a header, which makes a container; the reply is `ready`. It is `C fixed S`, `C heap N` or
-/// `C arena N`, where C is `queue`, `vec`, `table`, `slot`, `flat` or `text`, S is 0, 1, 3 or 8, and N a number up to 1,000:
-/// a container of the fixed kind, an allocated one, or a relocatable one in an arena. A header of `slot` may end by ` at G`,
-/// the generation of the places at first, up to 4,294,967,295. After it the commands are those of the
-/// container, as docs/SCRIPTS.md lists them, and `show`. The reply to any other line, and to one of more than 200 bytes, is
-/// `?`, and the line changes nothing. A line ends with a line feed, which the last one may lack.
+/// The first command is a header, which makes a container; the reply is `ready`. It is `C fixed S`, `C heap N` or `C arena N`. C is
+/// `queue`, `vec`, `table`, `slot`, `flat` or `text`. S is 0, 1, 3 or 8, and N is a number up to 1,000. The three forms make a
+/// container of the fixed kind, an allocated one, and a relocatable one in an arena. A header of `slot` may end by ` at G`, the
+/// generation of the slots at first, up to 4,294,967,295.
 ///
-/// O(length of the input and of the replies) beside the calls of the container. Allocates the container of an allocated or
-/// a relocatable kind from `alloc`, and nothing else: the input is read in pieces of at most 32,768 bytes, and the replies
-/// wait in a buffer of that size. All of them are written before the next read. Without a fault the writer is flushed once, at the
-/// end. Interrupted reads and writes are tried again.
+/// After the header, the commands are those of the container, as docs/SCRIPTS.md lists them, and `show`. The reply to any other
+/// line, and to one of more than 200 bytes, is `?`, and the line changes nothing. A line ends with a line feed, which the last one
+/// may lack.
 ///
-/// Returns [`ScriptFault::Read`] if a read fails or the input has no end after 18,446,744,073,709,551,615 reads,
-/// [`ScriptFault::Write`] if a write or the flush fails or a write takes no byte, and [`ScriptFault::OutOfMemory`] if there
-/// is no memory for the container. The replies to a first part of the input, or a first part of these, are written then;
-/// without memory they are all those before `ready`.
+/// O(length of the input and of the replies) beside the calls of the container. Allocates the container of an allocated or a
+/// relocatable kind from `alloc`, and nothing else. The input is read in pieces of at most 32,768 bytes, and the replies wait in a
+/// buffer of that size. All of them are written before the next read. Without an error the writer is flushed once, at the end.
+/// Interrupted reads and writes are tried again.
+///
+/// Returns an error in these cases:
+///
+/// - [`ScriptFault::Read`] if a read fails or the input has no end after 18,446,744,073,709,551,615 reads;
+/// - [`ScriptFault::Write`] if a write or the flush fails or a write accepts no byte;
+/// - [`ScriptFault::OutOfMemory`] if the allocation of the container fails.
+///
+/// The replies to a first part of the input, or a first part of these, are written then. If the allocation fails, they are all
+/// those before `ready`.
 pub fn script<R: Read, W: Write>(
     alloc: Global,
     reader: &mut R,

@@ -16,7 +16,7 @@ without_trailing_slashes-fits text capacity fits = grind (arith, common_steps)
 pub IsText-without_trailing_slashes : (text : List ℕ) → IsText text → IsText (without_trailing_slashes text)
 IsText-without_trailing_slashes text is = All-take (λ b. IsTextByte b) (max 1 (length text - suffix_len is_slash text)) text is
 
--- what is left ends with no slash, or is one byte
+-- the rest ends with no slash, or is one byte
 no_slash_at_end : (text : List ℕ) (n : ℕ) → n ≡ length text - suffix_len is_slash text → 0 < n → suffix_len is_slash (take n text) ≡ 0
 no_slash_at_end text n is some =
     let long = length-reverse text in

@@ -1,24 +1,24 @@
-//! Rules that name a text which they accept.
+//! Rules that have a default string.
 ghost use Rattle.std.specs.Prelude.{◌≡◌, ℕ, List, [], refl};
 ghost use Rattle.ix_semantic_string.specs.Rules.{IsAccepted};
 
 use crate::semantic_string::{Rules, Semantic, TrailingSlashRules};
 
-/// Rules that name a text which they accept: [`Semantic`] strings of such rules have a default, and can be the items of a
-/// fixed vector.
+/// Rules that have a default string, which they accept. [`Semantic`] strings of such rules have a default, and can be the elements
+/// of a fixed vector.
 pub trait DefaultText<const CAPACITY: usize>: Rules<CAPACITY> {
-    /// The default text.
+    /// The default string.
     ghost default_text: { List ℕ };
 
-    /// Returns the default text. O(1).
+    /// Returns the default string. O(1).
     fn default_text() -> &'static str
         ensures { result.now ≡ default_text };
 
-    /// It is accepted.
+    /// The rules accept the default string.
     ghost default_accepted: { IsAccepted CAPACITY Self.rules default_text };
 }
 
-/// The text that the rules name. O(`CAPACITY`).
+/// Creates the default string of the rules. O(`CAPACITY`).
 impl<R: DefaultText<CAPACITY>, const CAPACITY: usize> Default for Semantic<R, CAPACITY> {
     ghost is_default = { λ string. string ≡ R.default_text };
 
@@ -27,7 +27,7 @@ impl<R: DefaultText<CAPACITY>, const CAPACITY: usize> Default for Semantic<R, CA
     }
 }
 
-/// The empty text.
+/// The default string is empty.
 impl DefaultText<255> for TrailingSlashRules {
     ghost use Rattle.std.proofs.Common.{rules};
 

@@ -12,8 +12,7 @@ use ix_string::StaticString;
 #[derive(Clone, Copy, Debug)]
 pub struct GroupNameRules;
 
-/// A name of a group: 1 to 31 lower-case letters, digits and dashes, of which the first is a letter. Each name is its own
-/// normal form.
+/// A name of a group: 1 to 31 lower-case letters, digits and dashes. The first byte is a letter. Each name is its own normal form.
 pub type GroupName = Semantic<GroupNameRules, 31>;
 
 impl Rules<31> for GroupNameRules {
@@ -27,7 +26,7 @@ impl Rules<31> for GroupNameRules {
         }
     }
 
-    /// Returns `true` if a byte is no lower-case letter, digit or dash.
+    /// Returns `true` if a byte is not a lower-case letter, digit or dash.
     fn invalid_characters(bytes: &[u8]) -> bool {
         let (eights, rest) = bytes.as_chunks::<8>();
         for eight in eights {
@@ -38,7 +37,7 @@ impl Rules<31> for GroupNameRules {
         has_invalid_byte(rest)
     }
 
-    /// Returns the text itself.
+    /// Returns the string itself.
     #[inline]
     fn normalize(text: &StaticString<31>) -> StaticString<31> {
         *text
@@ -55,7 +54,7 @@ impl Rules<31> for GroupNameRules {
     ghost normal_twice = { λ _ _. refl };
 }
 
-/// Returns `true` if one of the bytes may not stand in a name.
+/// Returns `true` if one of the bytes is not allowed in a name.
 #[inline]
 fn has_invalid_byte(bytes: &[u8]) -> bool
     ensures { result ≡ group_name_rules.invalid_characters bytes.now }
@@ -63,7 +62,7 @@ fn has_invalid_byte(bytes: &[u8]) -> bool
     bytes.iter().any(|byte| !may_stand_in_name(*byte))
 }
 
-/// As [`has_invalid_byte`], of eight bytes in one step.
+/// Does the same as [`has_invalid_byte`] for eight bytes in one step.
 #[inline]
 fn is_invalid_eight(eight: &[u8; 8]) -> bool
     ensures { result ≡ group_name_rules.invalid_characters eight.now }

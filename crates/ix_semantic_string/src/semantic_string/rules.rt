@@ -4,34 +4,34 @@ ghost use Rattle.ix_semantic_string.specs.Rules.{TextRules, IsAccepted};
 
 use ix_string::StaticString;
 
-/// Rules that say which texts a [`Semantic`](crate::Semantic) string of at most `CAPACITY` bytes may hold, and which texts
-/// mean the same.
+/// Rules that say which strings of at most `CAPACITY` bytes a [`Semantic`](crate::Semantic) string may hold, and which strings mean
+/// the same.
 ///
-/// Bytes are *accepted* if there are at most `CAPACITY` of them, each is from 1 to 127, and both predicates return
-/// `false`. Two texts mean the same if their normal forms are equal. The predicates are called with the bytes of a whole
-/// text, and may assume nothing else of it.
+/// Bytes are *accepted* if there are at most `CAPACITY` of them, each is from 1 to 127, and both predicates return `false`. Two
+/// strings mean the same if their normal forms are equal. The predicates are called with the bytes of a whole string, and may
+/// assume nothing else of it.
 ///
-/// It takes the place of the macro `semantic_string!` of iceoryx2-bb-container.
+/// This trait replaces the macro `semantic_string!` of iceoryx2-bb-container.
 pub trait Rules<const CAPACITY: usize> {
-    /// What the functions return.
+    /// The results of the functions.
     ghost rules: { TextRules };
 
-    /// Returns `true` if the whole text is not allowed.
+    /// Returns `true` if the whole string is not allowed.
     fn invalid_content(bytes: &[u8]) -> bool
         ensures { result ≡ rules.invalid_content bytes.now };
 
-    /// Returns `true` if the text has a byte that no text may have.
+    /// Returns `true` if the string has a byte that no string may have.
     fn invalid_characters(bytes: &[u8]) -> bool
         ensures { result ≡ rules.invalid_characters bytes.now };
 
-    /// Returns the normal form of an accepted text.
+    /// Returns the normal form of an accepted string.
     fn normalize(text: &StaticString<CAPACITY>) -> StaticString<CAPACITY>
         requires { IsAccepted CAPACITY rules text.now }
         ensures { result ≡ rules.normal_form text.now };
 
-    /// Returns `true` if the accepted text is known to be its own normal form, so that comparing and hashing need not make one.
+    /// Returns `true` if the accepted string is known to be its own normal form, so that comparing and hashing need not make one.
     ///
-    /// `false` says nothing. Rules that leave this function out return it.
+    /// `false` says nothing. It is the result if the rules leave this function out.
     #[inline]
     fn is_normal_form(_text: &StaticString<CAPACITY>) -> bool
         requires { IsAccepted CAPACITY rules _text.now }

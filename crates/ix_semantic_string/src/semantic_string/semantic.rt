@@ -13,13 +13,12 @@ use ix_string::{StaticString, String, strnlen};
 use std::alloc::{AllocError, Global};
 use std::marker::{Model, PhantomData};
 
-/// A string of at most `CAPACITY` bytes that the rules `R` accept, always. It is stored inline and can be copied;
-/// [`Semantic::to_text`] alone allocates. Contracts see it as the list of its bytes.
+/// A string of at most `CAPACITY` bytes that the rules `R` always accept. It is stored inline and can be copied. Only
+/// [`Semantic::to_text`] allocates. Contracts see it as the list of its bytes.
 ///
-/// Each change is judged by the whole text that it would lead to, and a call that is refused leaves the string unchanged.
-/// Strings are compared and hashed by their normal forms, and `Display` prints the bytes escaped, as
-/// [`as_escaped_string`](ix_string::as_escaped_string) does. Lengths and indexes are counted in bytes, and indexes start
-/// at 0.
+/// Each change is judged by the whole string that would result, and a method that returns an error leaves the string unchanged.
+/// Strings are compared and hashed by their normal forms. `Display` prints the bytes escaped, as
+/// [`as_escaped_string`](ix_string::as_escaped_string) does. Lengths and indexes are counted in bytes, and indexes start at 0.
 ///
 /// This is `SemanticString` of iceoryx2-bb-container.
 pub struct Semantic<R: Rules<CAPACITY>, const CAPACITY: usize> {
@@ -40,7 +39,7 @@ impl<R: Rules<CAPACITY>, const CAPACITY: usize> Model for Semantic<R, CAPACITY> 
     ghost inverse = { λ text. record { text = text; rules = record {} } };
 }
 
-/// A semantic string is `Copy` whatever its rules are. A derive would ask them to be `Copy` too.
+/// A semantic string is `Copy` whatever its rules are. A derive would require the rules to be `Copy` too.
 impl<R: Rules<CAPACITY>, const CAPACITY: usize> Clone for Semantic<R, CAPACITY> {
     ghost is_clone = { λ string clone. clone ≡ string };
 
@@ -66,9 +65,9 @@ impl<R: Rules<CAPACITY>, const CAPACITY: usize> Semantic<R, CAPACITY> {
         &self.text
     }
 
-    /// Creates a string that holds the bytes. O(`CAPACITY`) beside the rules.
+    /// Creates a string that holds the bytes. O(`CAPACITY`) plus the time of the rules.
     ///
-    /// Returns [`SemanticStringError::ExceedsMaximumLength`] if there are more than `CAPACITY` bytes, and otherwise
+    /// Returns [`SemanticStringError::ExceedsMaximumLength`] if there are more than `CAPACITY` bytes. Otherwise, returns
     /// [`SemanticStringError::InvalidContent`] if one of them is 0 or above 127, or if the rules do not accept them.
     pub fn new(bytes: &[u8]) -> Result<Self, SemanticStringError>
         ensures { SemanticResult CAPACITY R.rules bytes.now bytes.now result }
@@ -104,8 +103,8 @@ impl<R: Rules<CAPACITY>, const CAPACITY: usize> Semantic<R, CAPACITY> {
         Semantic::new_unchecked(bytes)
     }
 
-    /// Creates a string that holds the bytes before the first zero, or all bytes if there is no zero.
-    /// O(`bytes.len() + CAPACITY`) beside the rules.
+    /// Creates a string that holds the bytes before the first zero, or all bytes if there is no zero. O(`bytes.len() + CAPACITY`)
+    /// plus the time of the rules.
     ///
     /// Returns the errors of [`Semantic::new`].
     pub fn from_c_str(bytes: &[u8]) -> Result<Self, SemanticStringError>
@@ -139,7 +138,7 @@ impl<R: Rules<CAPACITY>, const CAPACITY: usize> Semantic<R, CAPACITY> {
         self.as_bytes()
     }
 
-    /// Returns the bytes as a text. O(1).
+    /// Returns the bytes as a string slice. O(1).
     #[inline]
     #[must_use]
     pub fn as_str(&self) -> &str
@@ -186,7 +185,7 @@ impl<R: Rules<CAPACITY>, const CAPACITY: usize> Semantic<R, CAPACITY> {
         self.text.rfind(bytes)
     }
 
-    /// Returns how many more bytes fit, `capacity - len`. The rules may refuse them all the same. O(1).
+    /// Returns how many more bytes fit, `capacity - len`. The rules may still reject them. O(1).
     #[inline]
     #[must_use]
     pub fn remaining_capacity(&self) -> usize
@@ -224,7 +223,7 @@ impl<R: Rules<CAPACITY>, const CAPACITY: usize> Semantic<R, CAPACITY> {
         self.text.len()
     }
 
-    /// Returns the normal form, to which the string is equal. O(`CAPACITY`) beside the rules.
+    /// Returns the normal form, to which the string is equal. O(`CAPACITY`) plus the time of the rules.
     #[inline]
     #[must_use]
     pub fn normalize(&self) -> Self
@@ -234,8 +233,8 @@ impl<R: Rules<CAPACITY>, const CAPACITY: usize> Semantic<R, CAPACITY> {
         Semantic::of(R::normalize(&self.text))
     }
 
-    /// Copies the bytes and then a zero to the start of `out`, and returns how many bytes that is, `len + 1`. Returns
-    /// `None`, and leaves `out` unchanged, if `out` is shorter. The rest of `out` is left unchanged. O(`len`).
+    /// Copies the bytes and then a zero to the start of `out`, and returns the number of copied bytes, `len + 1`. Returns `None`,
+    /// and leaves `out` unchanged, if `out` is shorter. The rest of `out` is left unchanged. O(`len`).
     #[must_use]
     pub fn copy_with_nul(&self, out: &mut [u8]) -> Option<usize>
         ensures variant { IsSome result ↔ (length self.now < length out.old) }
@@ -247,16 +246,16 @@ impl<R: Rules<CAPACITY>, const CAPACITY: usize> Semantic<R, CAPACITY> {
         self.text.copy_with_nul(out)
     }
 
-    /// Returns the bytes as a text in memory of `alloc`. O(`len`).
+    /// Returns the bytes as a string of std in memory of `alloc`. O(`len`).
     ///
-    /// Returns `AllocError` if there is no memory for the text.
+    /// Returns `AllocError` if the allocation fails.
     pub fn to_text(&self, alloc: Global) -> Result<std::string::String, AllocError>
         ensures { IfOk result (λ text. string_bytes text ≡ self.now) }
     {
         std::string::String::from_str(alloc, self.as_str())
     }
 
-    /// Returns `true` if `other` is accepted and means the same. O(`CAPACITY`) beside the rules.
+    /// Returns `true` if `other` is accepted and means the same. O(`CAPACITY`) plus the time of the rules.
     #[must_use]
     pub fn eq_bytes(&self, other: &[u8]) -> bool
         ensures { IsTrue result ↔ IsAccepted CAPACITY R.rules other.now
@@ -268,7 +267,7 @@ impl<R: Rules<CAPACITY>, const CAPACITY: usize> Semantic<R, CAPACITY> {
         }
     }
 
-    /// Returns `true` if the bytes of `other` are accepted and mean the same. O(`CAPACITY`) beside the rules.
+    /// Returns `true` if the bytes of `other` are accepted and mean the same. O(`CAPACITY`) plus the time of the rules.
     #[must_use]
     pub fn eq_str(&self, other: &str) -> bool
         ensures { IsTrue result ↔ IsAccepted CAPACITY R.rules other.now

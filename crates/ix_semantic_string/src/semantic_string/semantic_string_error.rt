@@ -6,12 +6,12 @@ use ix_string::StringModificationError;
 use std::error::Error;
 use std::fmt;
 
-/// The error of a text or of a change that a semantic string refuses. The string is left unchanged.
+/// The error of creating or changing a semantic string. A change that returns it leaves the string unchanged.
 ///
 /// This is `SemanticStringError` of iceoryx2-bb-container.
 #[derive(Clone, Copy, PartialEq, Eq, Debug)]
 pub enum SemanticStringError {
-    /// A byte of the text is 0 or above 127, or the rules do not accept the text.
+    /// A byte of the string is 0 or above 127, or the rules do not accept the string.
     InvalidContent,
     /// The length would exceed the capacity.
     ExceedsMaximumLength,

@@ -1,4 +1,4 @@
-//! Texts whose trailing slashes mean nothing.
+//! Strings whose trailing slashes mean nothing.
 ghost use Rattle.std.specs.Prelude.{◌≡◌, ◌≤◌, length, take, refl};
 ghost use Rattle.ix_semantic_string.specs.SampleRules.{trailing_slash_rules, without_trailing_slashes};
 ghost use Rattle.ix_semantic_string.specs.laws.SampleRulesLaws.{IsText-without_trailing_slashes, without_trailing_slashes-fits, without_trailing_slashes-twice};
@@ -6,8 +6,8 @@ ghost use Rattle.ix_semantic_string.specs.laws.SampleRulesLaws.{IsText-without_t
 use crate::semantic_string::Rules;
 use ix_string::{StaticString, String};
 
-/// Rules that accept every text of at most 255 bytes, and under which slashes at the end of a text mean nothing: `/tmp` and
-/// `/tmp/` are equal. A text of slashes alone means `/`.
+/// Rules that accept every string of at most 255 bytes, and under which slashes at its end mean nothing: `/tmp` and `/tmp/` are
+/// equal. A string of slashes alone means `/`.
 #[derive(Clone, Copy, Debug)]
 pub struct TrailingSlashRules;
 
@@ -26,14 +26,14 @@ impl Rules<255> for TrailingSlashRules {
         false
     }
 
-    /// Returns the text without the slashes at its end, or `/` if it is one or more slashes.
+    /// Returns the string without the slashes at its end, or `/` if it is one or more slashes.
     fn normalize(text: &StaticString<255>) -> StaticString<255> {
         let mut normal = *text;
         normal.truncate(meaning_len(text.as_bytes()));
         normal
     }
 
-    /// Returns `true` if the text does not end with a slash, or is one byte.
+    /// Returns `true` if the string does not end with a slash, or is one byte.
     #[inline]
     fn is_normal_form(text: &StaticString<255>) -> bool {
         meaning_len(text.as_bytes()) == text.len()
@@ -49,7 +49,7 @@ impl Rules<255> for TrailingSlashRules {
     ghost normal_twice = { λ text _. without_trailing_slashes-twice text };
 }
 
-/// Returns how many bytes are left without the slashes at the end, but at least one of a text that is not empty.
+/// Returns the number of bytes without the slashes at the end, but at least 1 if `bytes` is not empty.
 fn meaning_len(bytes: &[u8]) -> usize
     ensures within { result ≤ length bytes.now }
     ensures value { take result bytes.now ≡ without_trailing_slashes bytes.now }

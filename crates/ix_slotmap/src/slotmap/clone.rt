@@ -16,8 +16,8 @@ use std::alloc::{AllocError, Allocator};
 use std::marker::PhantomData;
 
 impl<T: Clone, M: SlotMapStorage<MaybeMoved<T>>> MetaSlotMap<T, MaybeMoved<T>, M> {
-    /// Puts clones of the values in the same places of an empty table of the same capacity. A retired place is held there too,
-    /// and the free places are in the same order. Returns the error of the first clone that fails, and drops those already made.
+    /// Inserts clones of the values in the same slots of an empty table of the same capacity. A retired slot is held there too, and
+    /// the free slots are in the same order. Returns the error of the first clone that fails, and drops the clones already made.
     fn clone_contents<N: Storage<MaybeMoved<T>>>(
         &self,
         slots: &mut MetaSlotTable<MaybeMoved<T>, N>,
@@ -31,7 +31,7 @@ impl<T: Clone, M: SlotMapStorage<MaybeMoved<T>>> MetaSlotMap<T, MaybeMoved<T>, M
         Ok(())
     }
 
-    /// Does what [`MetaSlotMap::clone_contents`] does, but for the order of the free places.
+    /// Does what [`MetaSlotMap::clone_contents`] does, except for the order of the free slots.
     fn put_contents<N: Storage<MaybeMoved<T>>>(
         &self,
         slots: &mut MetaSlotTable<MaybeMoved<T>, N>,
@@ -57,7 +57,7 @@ impl<T: Clone, M: SlotMapStorage<MaybeMoved<T>>> MetaSlotMap<T, MaybeMoved<T>, M
         Ok(())
     }
 
-    /// Returns a clone of the value in a place, the bytes of a retired one, or `None` if the place is free.
+    /// Returns a clone of the value in a slot, the bytes of a retired slot, or `None` if the slot is free.
     fn clone_content(&self, index: usize) -> Result<Option<MaybeMoved<T>>, AllocError>
         requires { index < length self.now.slots.values }
         ensures value { IfOk result (IsCloneAt (IsCloneAt T.is_clone) (value_at self.now.slots index)) }
@@ -80,10 +80,10 @@ impl<T: Clone, const CAPACITY: usize> Clone for FixedSizeSlotMap<T, CAPACITY> {
 
     ghost is_infallible = { SlotMapIsInfallible T.is_infallible };
 
-    /// Creates a map that holds clones of the values in the same places, with the same keys, generations and free places.
+    /// Creates a map that holds clones of the values in the same slots, with the same keys, generations and free slots.
     /// O(`CAPACITY`).
     ///
-    /// Returns the error of the first clone that fails, and drops those already made.
+    /// Returns the error of the first clone that fails, and drops the clones already made.
     fn clone(&self) -> Result<Self, AllocError> {
         prove!(self.slots.capacity() == CAPACITY);
         let words = WordTable::copy_of(InlineArray::new(0), &self.words);
@@ -99,11 +99,11 @@ impl<T: Clone, const CAPACITY: usize> Clone for FixedSizeSlotMap<T, CAPACITY> {
 }
 
 impl<T: Clone, A: Allocator + Copy> SlotMap<T, A> {
-    /// Creates a map of the same capacity that holds clones of the values in the same places, with the same keys, generations
-    /// and free places, in memory of `alloc`.
+    /// Creates a map of the same capacity in memory of `alloc`, which holds clones of the values in the same slots. It has the same
+    /// keys, generations and free slots.
     ///
-    /// O(`capacity`), with at most four allocations and `len` clones. Returns `AllocError` if an allocation or a clone fails;
-    /// nothing stays allocated then.
+    /// O(`capacity`), with at most four allocations and `len` clones. Returns `AllocError` if an allocation or a clone fails.
+    /// Nothing stays allocated then.
     pub fn try_clone_in<B: Allocator + Copy>(&self, alloc: B) -> Result<SlotMap<T, B>, AllocError>
         requires { AreEqualClones T.is_clone }
         ensures value { IfOk result (λ map. map ≡ self.now) }

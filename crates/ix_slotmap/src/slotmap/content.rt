@@ -1,12 +1,12 @@
-//! What a slot map has at a place that is not free.
+//! The content of the slots of a slot map.
 ghost use Rattle.std.specs.Prelude.{◌≡◌, Option, Some, Bool, true, false};
 
 use ix_tables::MaybeMoved;
 
-/// What a [`MetaSlotMap`](crate::slotmap::MetaSlotMap) of values `T` can hold at a place that is not free: a value, or what is left
-/// of one if the place is retired. A map has calls for [`MaybeMoved`] alone.
+/// The content that a slot of a [`MetaSlotMap`](crate::slotmap::MetaSlotMap) of values `T` can have if the slot is not free. It is
+/// a value, or the rest of a value if the slot is retired. A map has methods for [`MaybeMoved`] alone.
 pub trait Content<T> {
-    /// The place is not free, and has no value.
+    /// The slot is not free, and has no value.
     ghost is_retired: { Option Self → Bool };
 
     /// The value, if there is one.

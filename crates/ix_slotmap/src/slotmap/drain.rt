@@ -11,14 +11,13 @@ use ix_tables::{MaybeMoved, Touches};
 use std::fmt::{self, Debug, Formatter, Write};
 use std::iter::FusedIterator;
 
-/// An iterator that removes the held keys of a slot map, each with its value, in rising order of the indexes, as
+/// An iterator that removes the held keys of a slot map, each with its value, in rising order of the indexes.
 /// [`MetaSlotMap::drain`] returns it.
 ///
-/// The values that are still to come when it is dropped are dropped with it, that of the least index first, and no key is held
-/// then.
+/// Dropping it drops the values that are still to come, the value of the least index first. No key is held then.
 pub struct Drain<'a, T, M: SlotMapStorage<MaybeMoved<T>>> {
     map: &'a mut MetaSlotMap<T, MaybeMoved<T>, M>,
-    /// No place before this one has a value.
+    /// No slot before this one has a value.
     index: usize,
     ghost counted: { slot_map_len map.now ≡ length (held_entries map.now (entries_from index (drop index map.now.slots.values))) },
 }
@@ -27,27 +26,27 @@ impl<T, M: SlotMapStorage<MaybeMoved<T>>> MetaSlotMap<T, MaybeMoved<T>, M> {
     ghost use Rattle.ix_slottable.specs.Draining.{DrainingKeepsAlong};
     ghost use Rattle.ix_slotmap.specs.SlotMapDrain.{drain_items, drain_left, drain_lender};
 
-    /// Returns an iterator that removes all held keys, each with its value, in rising order of the indexes. The values that are
-    /// not taken are dropped with it, and the map is as [`MetaSlotMap::clear`] leaves it then. O(1), and O(capacity) for all of
-    /// its items together.
+    /// Returns an iterator that removes all held keys, each with its value, in rising order of the indexes. Dropping the iterator
+    /// drops the values that are still to come. The map is then as [`MetaSlotMap::clear`] leaves it. O(1), and O(capacity) for all
+    /// of its items together.
     #[inline]
     pub fn drain(&mut self) -> Drain<'_, T, M>
     where
         T: Drop,
         ensures items { drain_items result ≡ slot_map_entries self.old }
         ensures left { drain_left result ≡ slot_map_clear self.old }
-        // What is left holds no key: each that was held is dead, and no fewer places are free.
+        // The map that is left holds no key: each key that was held is dead, and no fewer slots are free.
         ensures count { slot_map_len (slot_map_clear self.old) ≡ 0 }
         ensures killed { (key : SlotKey) → IsSome (slot_map_value self.old key)
             → IsDead (slot_map_clear self.old) key }
         ensures dead { (key : SlotKey) → IsDead self.old key → IsDead (slot_map_clear self.old) key }
         ensures grows { length self.old.slots.free ≤ length (slot_map_clear self.old).slots.free }
-        // With these two a caller knows what the map is once the iterator is dropped.
+        // With these two clauses a caller knows the state of the map once the iterator is dropped.
         ensures same_reference { drain_lender result ≡ self.entry.ghost_name }
         ensures stays { DrainingKeepsAlong drain_items drain_lender drain_left result }
         ensures known { M.Slots.Items.Table.IsLen (length self.old.slots.values) }
     {
-        // Names the number of values, by which the check knows that all are still to come.
+        // Names the number of values, so that the check knows that all are still to come.
         let _len = self.len();
         Drain {
             map: self,
@@ -56,7 +55,7 @@ impl<T, M: SlotMapStorage<MaybeMoved<T>>> MetaSlotMap<T, MaybeMoved<T>, M> {
     }
 }
 
-/// Drops the values that are still to come, that of the least index first. No key is held then. O(capacity).
+/// Drops the values that are still to come, the value of the least index first. No key is held then. O(capacity).
 impl<T: Drop, M: SlotMapStorage<MaybeMoved<T>>> Drop for Drain<'_, T, M> {
     ghost use Rattle.ix_slotmap.specs.SlotMapDrain.{drain_left};
 
@@ -78,7 +77,7 @@ impl<T: Drop, M: SlotMapStorage<MaybeMoved<T>>> Iterator for Drain<'_, T, M> {
 
     ghost remaining = { item_count drain_items };
 
-    /// Removes the next held key and returns it with its value, or `None` after the last one. O(the number of places without a
+    /// Removes the next held key and returns it with its value, or `None` after the last one. O(the number of slots without a
     /// value before it).
     #[inline]
     fn next(&mut self) -> Option<(SlotMapKey, T)> {
@@ -114,8 +113,7 @@ impl<T: Drop, M: SlotMapStorage<MaybeMoved<T>>> ExactSizeIterator for Drain<'_, 
 
 impl<T: Drop, M: SlotMapStorage<MaybeMoved<T>>> FusedIterator for Drain<'_, T, M> {}
 
-/// Prints a list of the items that are still to come, each the index and the generation of its key, and its value.
-/// O(capacity).
+/// Prints a list of the items that are still to come, each as the index and the generation of its key, and its value. O(capacity).
 impl<T: Debug, M: SlotMapStorage<MaybeMoved<T>>> Debug for Drain<'_, T, M> {
     fn fmt<W: Write>(&self, f: &mut Formatter<W>) -> fmt::Result {
         self.map.iter().fmt(f)

@@ -8,8 +8,8 @@ ghost use Rattle.ix_slotmap.specs.Generations.{slot_map_entries};
 use crate::slotmap::{MetaSlotMap, SlotMapStorage};
 use ix_tables::MaybeMoved;
 
-/// Maps are equal if they have the same held keys, with their generations, with equal values. Their capacities, and the
-/// generations and the order of their free places do not matter.
+/// Maps are equal if they have the same held keys, including their generations, with equal values. Their capacities do not matter,
+/// nor do the generations and the order of their free slots.
 impl<T: PartialEq, M: SlotMapStorage<MaybeMoved<T>>> PartialEq
     for MetaSlotMap<T, MaybeMoved<T>, M> {
     ghost eq = { λ map other. pointwise

@@ -6,7 +6,7 @@ use crate::slotmap::{MetaSlotMap, SlotMapKey, SlotMapStorage};
 use ix_tables::MaybeMoved;
 use std::ops::Index;
 
-/// `map[key]` is the value of `key`, which has to be held; [`MetaSlotMap::get`] takes any key. O(1).
+/// `map[key]` is the value of `key`, which has to be held. [`MetaSlotMap::get`] accepts any key. O(1).
 impl<T, M: SlotMapStorage<MaybeMoved<T>>> Index<SlotMapKey> for MetaSlotMap<T, MaybeMoved<T>, M> {
     type Output = T;
 

@@ -78,8 +78,7 @@ impl<'a, T, M: SlotMapStorage<MaybeMoved<T>>> Iterator for Iter<'a, T, M> {
 
     ghost remaining = { item_count (λ rest. rest) };
 
-    /// Returns the next held key with its value, or `None` after the last one. O(the number of places before it that are not
-    /// held).
+    /// Returns the next held key with its value, or `None` after the last one. O(the number of slots without a value before it).
     #[inline]
     fn next(&mut self) -> Option<(SlotMapKey, &'a T)> {
         if self.left == 0 {
@@ -106,8 +105,8 @@ impl<'a, T, M: SlotMapStorage<MaybeMoved<T>>> Iterator for Iter<'a, T, M> {
 impl<'a, T, M: SlotMapStorage<MaybeMoved<T>>> DoubleEndedIterator for Iter<'a, T, M> {
     ghost next_back_gives = { YieldsLastBy (λ item. (item.0, item.1.now)) (λ rest. rest) };
 
-    /// Returns the last held key that is still to come with its value, or `None` if there is none. O(the number of places after
-    /// it that are not held).
+    /// Returns the last held key that is still to come with its value, or `None` if there is none. O(the number of slots without a
+    /// value after it).
     #[inline]
     fn next_back(&mut self) -> Option<(SlotMapKey, &'a T)> {
         if self.left == 0 {
@@ -143,8 +142,7 @@ impl<'a, T, M: SlotMapStorage<MaybeMoved<T>>> Clone for Iter<'a, T, M> {
     }
 }
 
-/// Prints a list of the items that are still to come, each the index and the generation of its key, and its value.
-/// O(capacity).
+/// Prints a list of the items that are still to come, each as the index and the generation of its key, and its value. O(capacity).
 impl<'a, T: Debug, M: SlotMapStorage<MaybeMoved<T>>> Debug for Iter<'a, T, M> {
     fn fmt<W: Write>(&self, f: &mut Formatter<W>) -> fmt::Result {
         let mut list = f.debug_list();

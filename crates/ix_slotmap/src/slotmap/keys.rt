@@ -45,7 +45,7 @@ impl<'a, T, M: SlotMapStorage<MaybeMoved<T>>> Iterator for Keys<'a, T, M> {
 
     ghost remaining = { item_count (λ rest. rest) };
 
-    /// Returns the next held key, or `None` after the last one. O(the number of places without a value before it).
+    /// Returns the next held key, or `None` after the last one. O(the number of slots without a value before it).
     #[inline]
     fn next(&mut self) -> Option<SlotMapKey> {
         match self.items.next() {
@@ -68,7 +68,7 @@ impl<'a, T, M: SlotMapStorage<MaybeMoved<T>>> Iterator for Keys<'a, T, M> {
 impl<'a, T, M: SlotMapStorage<MaybeMoved<T>>> DoubleEndedIterator for Keys<'a, T, M> {
     ghost next_back_gives = { YieldsLastBy (λ key. key) (λ rest. rest) };
 
-    /// Returns the last held key that is still to come, or `None` if there is none. O(the number of places without a value after
+    /// Returns the last held key that is still to come, or `None` if there is none. O(the number of slots without a value after
     /// it).
     #[inline]
     fn next_back(&mut self) -> Option<SlotMapKey> {

@@ -1,4 +1,4 @@
-//! The kinds of slot maps: stored inline, in memory of an allocator, and made in two steps.
+//! The kinds of slot maps: stored inline, in memory of an allocator, and initialised in two phases.
 ghost use Rattle.std.specs.Prelude.{◌≡◌, ℕ, ◌≤◌, None, length, IfOk, IsOk, IfErr};
 ghost use Rattle.std.specs.Borrow.{u64};
 ghost use Rattle.std.specs.Mem.{type_size};
@@ -17,7 +17,7 @@ use std::alloc::{AllocError, Allocator, Global};
 use std::fmt;
 use std::marker::{Model, PhantomData};
 
-/// A slot map with `CAPACITY` places that is stored inline and does not allocate.
+/// A slot map with `CAPACITY` slots that is stored inline and does not allocate.
 ///
 /// This is `FixedSizeSlotMap` of iceoryx2-bb-container.
 pub type FixedSizeSlotMap<T, const CAPACITY: usize> = MetaSlotMap<
@@ -27,7 +27,7 @@ pub type FixedSizeSlotMap<T, const CAPACITY: usize> = MetaSlotMap<
 >;
 
 impl<T: Drop, const CAPACITY: usize> FixedSizeSlotMap<T, CAPACITY> {
-    /// Creates an empty map, whose places have generation 0.
+    /// Creates an empty map, whose slots have generation 0.
     ///
     /// O(`CAPACITY`). `CAPACITY` is at most [`MAX_FIXED_CAPACITY`].
     pub fn new() -> Self
@@ -40,7 +40,7 @@ impl<T: Drop, const CAPACITY: usize> FixedSizeSlotMap<T, CAPACITY> {
         Self::starting_at(0)
     }
 
-    /// Creates an empty map, whose places have this generation.
+    /// Creates an empty map, whose slots have this generation.
     ///
     /// O(`CAPACITY`). `CAPACITY` is at most [`MAX_FIXED_CAPACITY`].
     pub fn starting_at(generation: u32) -> Self
@@ -59,7 +59,7 @@ impl<T: Drop, const CAPACITY: usize> FixedSizeSlotMap<T, CAPACITY> {
     }
 }
 
-/// Creates an empty map, whose places have generation 0. O(`CAPACITY`).
+/// Creates an empty map, whose slots have generation 0. O(`CAPACITY`).
 impl<T: Drop, const CAPACITY: usize> Default for FixedSizeSlotMap<T, CAPACITY> {
     ghost is_default = { λ map. map ≡ slot_map_new CAPACITY 0 };
 
@@ -81,10 +81,10 @@ pub type SlotMap<T, A = Global> = MetaSlotMap<T, MaybeMoved<T>, Heap<A>>;
 impl<T: Drop, A: Allocator + Copy> SlotMap<T, A> {
     ghost use Rattle.ix_slottable.specs.contracts.slottable.link.Link as link;
 
-    /// Returns how much memory a map of this capacity takes from its allocator when it is made.
+    /// Returns the memory that a map of this capacity allocates from its allocator when it is made.
     ///
-    /// This is the memory of a table of what the places hold, each the bytes of a `T`, of a table of links and of an array of
-    /// words. A map of capacity 0 takes no block. Does not allocate. O(1).
+    /// This is the memory of a table of the slots' contents, of a table of links, and of an array of words. Each content takes the
+    /// bytes of a `T`. A map of capacity 0 needs no allocation. This function does not allocate. O(1).
     #[inline]
     pub fn memory_size(capacity: usize) -> MemorySize
         ensures value { result ≡ slot_map_memory (type_size T.row) (type_size link.the_row) (type_size u64) capacity }
@@ -97,10 +97,10 @@ impl<T: Drop, A: Allocator + Copy> SlotMap<T, A> {
         slots.saturating_add(words)
     }
 
-    /// Creates an empty map with `capacity` places, which have generation 0.
+    /// Creates an empty map with `capacity` slots, which have generation 0.
     ///
-    /// O(`capacity`), with at most four allocations. Returns `AllocError` if one fails, and if the values would take more
-    /// than `isize::MAX` bytes; nothing stays allocated then. A capacity of 0 needs no memory.
+    /// O(`capacity`), with at most four allocations. Returns `AllocError` if an allocation fails, or if the values would take more
+    /// than `isize::MAX` bytes. Nothing stays allocated then. A capacity of 0 needs no memory.
     pub fn new(alloc: A, capacity: usize) -> Result<Self, AllocError>
         ensures value { IfOk result (λ map. map ≡ slot_map_new capacity 0) }
         ensures empty { IfOk result (λ map. (key : SlotKey) → slot_map_value map key ≡ None) }
@@ -111,10 +111,10 @@ impl<T: Drop, A: Allocator + Copy> SlotMap<T, A> {
         Self::starting_at(alloc, capacity, 0)
     }
 
-    /// Creates an empty map with `capacity` places, which have this generation.
+    /// Creates an empty map with `capacity` slots, which have this generation.
     ///
-    /// O(`capacity`), with at most four allocations. Returns `AllocError` if one fails, and if the values would take more
-    /// than `isize::MAX` bytes; nothing stays allocated then. A capacity of 0 needs no memory.
+    /// O(`capacity`), with at most four allocations. Returns `AllocError` if an allocation fails, or if the values would take more
+    /// than `isize::MAX` bytes. Nothing stays allocated then. A capacity of 0 needs no memory.
     pub fn starting_at(alloc: A, capacity: usize, generation: u32) -> Result<Self, AllocError>
         ensures value { IfOk result (λ map. map ≡ slot_map_new capacity generation) }
         ensures empty { IfOk result (λ map. (key : SlotKey) → slot_map_value map key ≡ None) }
@@ -133,15 +133,15 @@ impl<T: Drop, A: Allocator + Copy> SlotMap<T, A> {
     }
 }
 
-/// A slot map that is made in two steps: first its capacity, as an [`UninitSlotMap`], and later its memory, allocated
-/// from `A`.
+/// A slot map that is initialised in two phases: first its capacity, as an [`UninitSlotMap`], and later its memory, which `init`
+/// allocates from `A`.
 ///
 /// This is `RelocatableSlotMap` of iceoryx2-bb-container.
 pub type RelocatableSlotMap<T, A = Global> = SlotMap<T, A>;
 
 impl<T: Drop, A: Allocator + Copy> RelocatableSlotMap<T, A> {
-    /// Creates an uninitialised map with `capacity` places, which will have generation 0. Does not allocate. O(1).
-    /// The allocator is the one that `init` is given, whatever `A` is here.
+    /// Creates an uninitialised map with `capacity` slots, which will have generation 0. Does not allocate. O(1).
+    /// The allocator is the one that is passed to `init`, whatever `A` is here.
     #[inline]
     pub fn new_uninit(capacity: usize) -> UninitSlotMap<T>
         ensures { result ≡ record { capacity = capacity; generation = 0 } }
@@ -152,7 +152,7 @@ impl<T: Drop, A: Allocator + Copy> RelocatableSlotMap<T, A> {
 
 /// An uninitialised slot map: a capacity and a generation, and no memory yet. Contracts see these two numbers.
 ///
-/// It offers [`RelocatableContainer::init`] alone, which makes it a [`RelocatableSlotMap`].
+/// Its only method is [`RelocatableContainer::init`], which makes it a [`RelocatableSlotMap`].
 #[derive(Drop)]
 pub struct UninitSlotMap<T> {
     capacity: usize,
@@ -174,7 +174,7 @@ impl<T> Model for UninitSlotMap<T> {
 }
 
 impl<T> UninitSlotMap<T> {
-    /// Creates an uninitialised map with `capacity` places, which will have generation 0. Does not allocate. O(1).
+    /// Creates an uninitialised map with `capacity` slots, which will have generation 0. Does not allocate. O(1).
     #[inline]
     pub fn new_uninit(capacity: usize) -> Self
         ensures { result ≡ record { capacity = capacity; generation = 0 } }
@@ -182,7 +182,7 @@ impl<T> UninitSlotMap<T> {
         Self::starting_at(capacity, 0)
     }
 
-    /// Creates an uninitialised map with `capacity` places, which will have this generation. Does not allocate. O(1).
+    /// Creates an uninitialised map with `capacity` slots, which will have this generation. Does not allocate. O(1).
     #[inline]
     pub fn starting_at(capacity: usize, generation: u32) -> Self
         ensures { result ≡ record { capacity = capacity; generation = generation } }
@@ -211,8 +211,8 @@ impl<T: Drop, A: Allocator + Copy> RelocatableContainer<A> for UninitSlotMap<T> 
 
     /// Allocates from `alloc` and returns the empty map.
     ///
-    /// O(capacity), with at most four allocations. Returns `self` in an [`InitError`] if one fails, and if the values would
-    /// take more than `isize::MAX` bytes; nothing stays allocated then. A capacity of 0 needs no memory.
+    /// O(capacity), with at most four allocations. Returns `self` in an [`InitError`] if an allocation fails, or if the values
+    /// would take more than `isize::MAX` bytes. Nothing stays allocated then. A capacity of 0 needs no memory.
     fn init(self, alloc: A) -> Result<RelocatableSlotMap<T, A>, InitError<Self>>
         ensures value { IfOk result (λ map. map ≡ slot_map_new self.capacity self.generation) }
         ensures refused { IfErr result (λ error. error ≡ self) }

@@ -13,24 +13,24 @@ use ix_slottable::slottable::MetaSlotTable;
 use ix_tables::{MaybeMoved, Table, Touches};
 use std::marker::{Model, PhantomData};
 
-/// A map from keys that it chooses itself to values `T`, with its memory in a storage `M`. Contracts see what each place holds,
-/// the free places in their order, and the generations.
+/// A map from keys that it chooses itself to values `T`, with its memory in a storage `M`. Contracts see the content of each slot,
+/// the free slots in their order, and the generations.
 ///
-/// A map has as many places as its capacity, with indexes from 0. A place is free, holds a value, or is retired, and it has
-/// a generation. A key is the index of a place and a generation; it is held while a value is in its place and the place has
-/// its generation. When a key is removed, or its value replaced by [`MetaSlotMap::insert_at`], its place gets the next
-/// generation, so that the key is dead: it is never held again, whatever is called later. A place whose key has the
-/// generation `u32::MAX` is retired when that key is removed: it is not used again.
+/// A map has as many slots as its capacity, with indexes from 0. A slot is free, holds a value, or is retired, and it has a
+/// generation. A key is the index of a slot and a generation. The key is held while a value is in its slot and the slot has its
+/// generation. When a key is removed, or its value replaced by [`MetaSlotMap::insert_at`], its slot gets the next generation. The
+/// key is dead then: it is never held again, whatever is called later. A slot whose key has the generation `u32::MAX` is retired
+/// when that key is removed: it is not used again.
 ///
-/// The free places are a list, in rising order at first: [`MetaSlotMap::insert`] takes the first place of the list, and
-/// [`MetaSlotMap::remove`] makes a place the first. A key or an index out of range, up to the greatest numbers, is an
-/// ordinary case, for which calls return `false` or `None`.
+/// The free slots are a list, in rising order at first. [`MetaSlotMap::insert`] takes the first slot of the list, and
+/// [`MetaSlotMap::remove`] makes a slot the first. A key or an index out of range, up to the greatest numbers, is an ordinary case:
+/// methods return `false`, `None` or `Err` for it.
 ///
-/// A place takes the bytes of a value, as a [`MaybeMoved`] (`C`), of its mark or tag, of a link and of a word, in which its
-/// generation is. The word says whether a value is there; what a retired place has is the bytes of its last value.
+/// A slot takes the bytes of a value, as a [`MaybeMoved`] (`C`), of its mark or tag, of a link and of a word. The word has the
+/// generation, and says whether a value is in the slot. A retired slot has the bytes of its last value.
 ///
-/// Each call takes O(1) time unless its docs say otherwise; dropping a map takes O(capacity). No call allocates but those
-/// that make one.
+/// Each method takes O(1) time unless its docs say otherwise. Dropping a map takes O(capacity) time. Only the functions that make a
+/// map allocate.
 ///
 /// This is `MetaSlotMap` of iceoryx2-bb-container, whose keys have no generation: that map is [`MetaSlotTable`] here.
 pub struct MetaSlotMap<T, C: Content<T>, M: SlotMapStorage<C>> {
@@ -56,18 +56,18 @@ impl<T, C: Content<T>, M: SlotMapStorage<C>> Model for MetaSlotMap<T, C, M> {
 impl<T, M: SlotMapStorage<MaybeMoved<T>>> MetaSlotMap<T, MaybeMoved<T>, M> {
     ghost use Rattle.ix_slotmap.specs.contracts.slotmap.meta_slot_map.MetaSlotMap.{the_row};
 
-    /// Returns the number of places, free, held and retired.
+    /// Returns the number of slots, free, held and retired.
     #[must_use]
     #[inline]
     pub fn capacity(&self) -> usize
         ensures value { result ≡ length self.now.slots.values }
-        // The capacity of an inline map is that of its type: every method says so.
+        // The type of an inline map fixes its capacity: every method says so.
         ensures known { M.Slots.Items.Table.IsLen (length self.now.slots.values) }
     {
         self.slots.capacity()
     }
 
-    /// Returns the number of retired places.
+    /// Returns the number of retired slots.
     #[must_use]
     #[inline]
     pub fn retired(&self) -> usize
@@ -76,14 +76,14 @@ impl<T, M: SlotMapStorage<MaybeMoved<T>>> MetaSlotMap<T, MaybeMoved<T>, M> {
         self.retired
     }
 
-    /// Returns the number of values, which is that of the held keys.
+    /// Returns the number of values, which is the number of held keys.
     #[must_use]
     #[inline]
     pub fn len(&self) -> usize
         ensures value { result ≡ slot_map_len self.now }
         ensures rest { slot_map_len self.now + retired_count self.now + length self.now.slots.free
             ≡ length self.now.slots.values }
-        // These hold of every map, whatever calls were made.
+        // These hold of every map, whatever methods were called.
         ensures formed { IsSlotMapFormed self.now }
         ensures known { M.Slots.Items.Table.IsLen (length self.now.slots.values) }
     {
@@ -100,7 +100,7 @@ impl<T, M: SlotMapStorage<MaybeMoved<T>>> MetaSlotMap<T, MaybeMoved<T>, M> {
         self.len() == 0
     }
 
-    /// Returns `true` if no place is free. A map of capacity 0, and one whose places are all retired, is both empty and full.
+    /// Returns `true` if no slot is free. A map of capacity 0, and one whose slots are all retired, is both empty and full.
     #[must_use]
     #[inline]
     pub fn is_full(&self) -> bool
@@ -110,7 +110,7 @@ impl<T, M: SlotMapStorage<MaybeMoved<T>>> MetaSlotMap<T, MaybeMoved<T>, M> {
         self.slots.is_full()
     }
 
-    /// Returns the number of free places, which is how many more values there is room for.
+    /// Returns the number of free slots, which is how many more values there is room for.
     #[must_use]
     #[inline]
     pub fn remaining_capacity(&self) -> usize
@@ -121,7 +121,7 @@ impl<T, M: SlotMapStorage<MaybeMoved<T>>> MetaSlotMap<T, MaybeMoved<T>, M> {
         self.slots.remaining_capacity()
     }
 
-    /// Returns the key that the next [`MetaSlotMap::insert`] will return, or `None` if no place is free.
+    /// Returns the key that the next [`MetaSlotMap::insert`] will return, or `None` if no slot is free.
     #[must_use]
     #[inline]
     pub fn next_free_key(&self) -> Option<SlotMapKey>
@@ -198,8 +198,8 @@ impl<T, M: SlotMapStorage<MaybeMoved<T>>> MetaSlotMap<T, MaybeMoved<T>, M> {
         Iter::new(self)
     }
 
-    /// Inserts `value` in the first free place and returns the key of that place; or drops `value` and returns `None` if no
-    /// place is free.
+    /// Inserts `value` in the first free slot and returns the key of that slot. Drops `value` and returns `None` if no slot is
+    /// free.
     #[must_use]
     #[inline]
     pub fn insert(&mut self, value: T) -> Option<SlotMapKey>
@@ -211,10 +211,10 @@ impl<T, M: SlotMapStorage<MaybeMoved<T>>> MetaSlotMap<T, MaybeMoved<T>, M> {
         self.insert_counted(value, &mut Touches::new())
     }
 
-    /// Inserts `value` in the place `index` and returns its key.
+    /// Inserts `value` in the slot `index` and returns its key.
     ///
-    /// A value that is there already is dropped, its key is dead, and the new key has the next generation. Drops `value` and
-    /// returns `None` if `index` is out of range, if the place is retired, and if a value is there with the generation
+    /// If the slot holds a value already, that value is dropped, its key is dead, and the new key has the next generation. Drops
+    /// `value` and returns `None` if `index` is out of range, the slot is retired, or it holds a value with the generation
     /// `u32::MAX`.
     #[must_use]
     #[inline]
@@ -229,8 +229,8 @@ impl<T, M: SlotMapStorage<MaybeMoved<T>>> MetaSlotMap<T, MaybeMoved<T>, M> {
 
     /// Removes `key` and returns its value, or `None` if `key` is not held.
     ///
-    /// A key that was removed is dead. Its place gets the next generation and is the first free one; a place with the
-    /// generation `u32::MAX` is retired.
+    /// A key that was removed is dead. Its slot gets the next generation and is the first free slot. A slot with the generation
+    /// `u32::MAX` is retired instead.
     #[inline]
     pub fn remove(&mut self, key: SlotMapKey) -> Option<T>
         ensures step { SlotMapRemove self.old key self.new result }
@@ -274,7 +274,8 @@ impl<T, M: SlotMapStorage<MaybeMoved<T>>> MetaSlotMap<T, MaybeMoved<T>, M> {
         Some(key)
     }
 
-    /// Does what [`MetaSlotMap::remove`] does, and raises `touches` by 1 to 20 if the index of `key` is in range, whatever the capacity.
+    /// Does what [`MetaSlotMap::remove`] does, and raises `touches` by 1 to 20 if the index of `key` is in range, whatever the
+    /// capacity.
     #[inline]
     pub fn remove_counted(&mut self, key: SlotMapKey, touches: &mut Touches) -> Option<T>
         ensures step { SlotMapRemove self.old key self.new result }
@@ -290,7 +291,7 @@ impl<T, M: SlotMapStorage<MaybeMoved<T>>> MetaSlotMap<T, MaybeMoved<T>, M> {
     }
 }
 
-/// Drops the values, that of the least index first. O(capacity).
+/// Drops the values, the value of the least index first. O(capacity).
 impl<T: Drop, C: Content<T> + Drop, M: SlotMapStorage<C>> Drop for MetaSlotMap<T, C, M> {
     fn drop(self) {
         let MetaSlotMap {
@@ -309,8 +310,8 @@ pub fn dead_keys_law<T>()
     ensures { (map : SlotMapState T) → DeadAreNotHeld map }
 {}
 
-/// A key that was held is dead once its map was cleared or drained, and a dead one stays dead, whatever the map. This function
-/// does nothing: its contract is the law.
+/// A key that was held is dead once its map was cleared or drained, and a dead key stays dead, whatever the map. This function does
+/// nothing: its contract is the law.
 pub fn cleared_keys_law<T>()
     ensures killed { (map : SlotMapState T) (key : SlotKey) → IsSlotMapFormed map
         → IsSome (slot_map_value map key) → IsDead (slot_map_clear map) key }

@@ -1,4 +1,4 @@
-//! The places of a slot map: what is in each, and its word.
+//! The slots of a slot map: the content of each, and its word.
 ghost use Rattle.std.specs.Prelude.{◌≡◌, ◌+◌, ◌<◌, ◌≤◌, ◌↔◌, length, take, drop, Some, None, IsTrue, IsSome, IfOk, option_map};
 ghost use Rattle.std.specs.Borrow.{sem, Lends};
 ghost use Rattle.std.specs.Result.{IfErr, result_ok};
@@ -15,7 +15,7 @@ use ix_tables::{MaybeMoved, Table, Touches};
 impl<T, M: SlotMapStorage<MaybeMoved<T>>> MetaSlotMap<T, MaybeMoved<T>, M> {
     ghost use Rattle.ix_slotmap.specs.contracts.slotmap.meta_slot_map.MetaSlotMap.{the_row};
 
-    /// Returns the key of a place that is not retired.
+    /// Returns the key of a slot that is not retired.
     #[inline]
     pub(crate) fn key_of(&self, index: usize, touches: &mut Touches) -> SlotMapKey
         requires within { index < length self.now.slots.values }
@@ -26,7 +26,7 @@ impl<T, M: SlotMapStorage<MaybeMoved<T>>> MetaSlotMap<T, MaybeMoved<T>, M> {
         SlotMapKey::new(index, self.generation(index, touches))
     }
 
-    /// Returns the generation of a place that is not retired.
+    /// Returns the generation of a slot that is not retired.
     #[inline]
     pub(crate) fn generation(&self, index: usize, touches: &mut Touches) -> u32
         requires within { index < length self.now.slots.values }
@@ -51,7 +51,7 @@ impl<T, M: SlotMapStorage<MaybeMoved<T>>> MetaSlotMap<T, MaybeMoved<T>, M> {
         index < self.capacity() && self.words.get(index, touches) == 2 * key.generation() as u64 + 1
     }
 
-    /// Returns `true` if a value is in a place.
+    /// Returns `true` if a value is in a slot.
     #[inline]
     pub(crate) fn has_value(&self, index: usize, touches: &mut Touches) -> bool
         requires within { index < length self.now.slots.values }
@@ -61,7 +61,7 @@ impl<T, M: SlotMapStorage<MaybeMoved<T>>> MetaSlotMap<T, MaybeMoved<T>, M> {
         self.words.get(index, touches) % 2 == 1
     }
 
-    /// Returns `true` if a place is free.
+    /// Returns `true` if a slot is free.
     #[inline]
     pub(crate) fn is_free(&self, index: usize, touches: &mut Touches) -> bool
         requires within { index < length self.now.slots.values }
@@ -72,7 +72,7 @@ impl<T, M: SlotMapStorage<MaybeMoved<T>>> MetaSlotMap<T, MaybeMoved<T>, M> {
         word % 2 == 0 && word < RETIRED
     }
 
-    /// Returns `true` if a place is retired.
+    /// Returns `true` if a slot is retired.
     #[inline]
     pub(crate) fn is_retired(&self, index: usize, touches: &mut Touches) -> bool
         requires within { index < length self.now.slots.values }
@@ -82,7 +82,7 @@ impl<T, M: SlotMapStorage<MaybeMoved<T>>> MetaSlotMap<T, MaybeMoved<T>, M> {
         self.words.get(index, touches) == RETIRED
     }
 
-    /// Returns the least place from `start` on that has a value; there is one.
+    /// Returns the least slot from `start` on that has a value. There must be one.
     #[inline]
     pub(crate) fn held_from(&self, start: usize) -> usize
         requires { 0 < length (held_entries self.now (entries_from start (drop start self.now.slots.values))) }
@@ -105,7 +105,7 @@ impl<T, M: SlotMapStorage<MaybeMoved<T>>> MetaSlotMap<T, MaybeMoved<T>, M> {
         index
     }
 
-    /// Returns the greatest place before `end` that has a value; there is one.
+    /// Returns the greatest slot before `end` that has a value. There must be one.
     #[inline]
     pub(crate) fn held_before(&self, end: usize) -> usize
         requires within { end ≤ length self.now.slots.values }
@@ -128,7 +128,7 @@ impl<T, M: SlotMapStorage<MaybeMoved<T>>> MetaSlotMap<T, MaybeMoved<T>, M> {
         place
     }
 
-    /// Returns the value in a place.
+    /// Returns the value in a slot.
     #[inline]
     pub(crate) fn value_at(&self, index: usize) -> &T
         requires { IsSome (place_value self.now index) }
@@ -137,8 +137,8 @@ impl<T, M: SlotMapStorage<MaybeMoved<T>>> MetaSlotMap<T, MaybeMoved<T>, M> {
         self.slots.get_unchecked(SlotTableKey::new(index)).get()
     }
 
-    /// Inserts a value in the first free place and returns that place with its generation. Returns `value` as the error if no
-    /// place is free.
+    /// Inserts a value in the first free slot and returns that slot with its generation. Returns `value` as the error if no slot is
+    /// free.
     #[inline]
     pub(crate) fn fill_first(
         &mut self,
@@ -166,7 +166,7 @@ impl<T, M: SlotMapStorage<MaybeMoved<T>>> MetaSlotMap<T, MaybeMoved<T>, M> {
         }
     }
 
-    /// Inserts a value in a free place, and returns the generation of that place.
+    /// Inserts a value in a free slot, and returns the generation of that slot.
     #[inline]
     pub(crate) fn fill(&mut self, index: usize, value: T, touches: &mut Touches) -> u32
         requires { IsFree self.old.slots index }
@@ -183,11 +183,11 @@ impl<T, M: SlotMapStorage<MaybeMoved<T>>> MetaSlotMap<T, MaybeMoved<T>, M> {
         (self.words.raise(index, 1, touches) / 2) as u32
     }
 
-    /// Removes the key of a place that holds a value, and returns the value.
+    /// Removes the key of a slot that holds a value, and returns the value.
     #[inline]
     pub(crate) fn remove_held(&mut self, index: usize, touches: &mut Touches) -> T
         requires held { IsSome (place_value self.old index) }
-        // Each place is retired once, so that their number fits.
+        // Each slot is retired once, so that the number of retired slots fits.
         requires fits { length self.old.slots.values ≤ 18446744073709551615 }
         ensures step { SlotMapRemove self.old (key_at self.old index) self.new (Some result) }
         ensures value { place_value self.old index ≡ Some result }
@@ -196,7 +196,7 @@ impl<T, M: SlotMapStorage<MaybeMoved<T>>> MetaSlotMap<T, MaybeMoved<T>, M> {
         ensures rises { touches.old ≤ touches.new }
     {
         let place = SlotTableKey::new(index);
-        // Raised first, so that the generation is compared once: after the greatest one comes the word of a retired place.
+        // Raised first, so that the generation is compared once: after the greatest one comes the word of a retired slot.
         if self.words.raise(index, 1, touches) == RETIRED {
             self.retired += 1;
             return self.slots.get_unchecked_mut_counted(place, touches).take();
@@ -206,7 +206,7 @@ impl<T, M: SlotMapStorage<MaybeMoved<T>>> MetaSlotMap<T, MaybeMoved<T>, M> {
             .into_item()
     }
 
-    /// Returns a mutable reference to the value in a place.
+    /// Returns a mutable reference to the value in a slot.
     #[inline]
     pub(crate) fn value_mut(&mut self, index: usize) -> &mut T
         requires { IsSome (place_value self.old index) }

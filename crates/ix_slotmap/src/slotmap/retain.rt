@@ -1,4 +1,4 @@
-//! The calls of a slot map that go through all of its values.
+//! The methods of a slot map that iterate over all of its values.
 ghost use Rattle.std.specs.Prelude.{◌≡◌, ◌≢◌, ◌+◌, ◌<◌, ◌≤◌, ◌↔◌, ◌⊎◌, ℕ, length, map, None, IsSome, Bool, option_map};
 ghost use Rattle.std.specs.List.{FoldsTo};
 ghost use Rattle.std.specs.Map.{keys_of};
@@ -11,10 +11,10 @@ use crate::slotmap::{Keys, MetaSlotMap, SlotMapKey, SlotMapStorage, Values};
 use ix_tables::{MaybeMoved, Touches};
 
 impl<T, M: SlotMapStorage<MaybeMoved<T>>> MetaSlotMap<T, MaybeMoved<T>, M> {
-    /// Removes all values and drops them, that of the least index first. O(capacity).
+    /// Removes all values and drops them, the value of the least index first. O(capacity).
     ///
-    /// The map is as [`MetaSlotMap::remove`] of each held key in turn leaves it: each of these keys is dead, and the place
-    /// whose value was dropped last is the first free one, if it is not retired.
+    /// The map is as if [`MetaSlotMap::remove`] was called with each held key in turn. Each of these keys is dead. The slot whose
+    /// value was dropped last is the first free slot, if it is not retired.
     pub fn clear(&mut self)
     where
         T: Drop,
@@ -24,7 +24,7 @@ impl<T, M: SlotMapStorage<MaybeMoved<T>>> MetaSlotMap<T, MaybeMoved<T>, M> {
         ensures dead { (key : SlotKey) → IsDead self.old key → IsDead self.new key }
         ensures capacity { length self.new.slots.values ≡ length self.old.slots.values }
         ensures count { slot_map_len self.new ≡ 0 }
-        // Each place is free then, or retired.
+        // Each slot is free then, or retired.
         ensures room { retired_count self.new + length self.new.slots.free ≡ length self.old.slots.values }
         ensures grows { length self.old.slots.free ≤ length self.new.slots.free }
         ensures known { M.Slots.Items.Table.IsLen (length self.old.slots.values) }
@@ -63,7 +63,7 @@ impl<T, M: SlotMapStorage<MaybeMoved<T>>> MetaSlotMap<T, MaybeMoved<T>, M> {
         requires { IsCallableOnEach F.step F.pre f (slot_map_entries self.old) }
         ensures calls { (last : F) × FoldsTo (ChangesItem slot_map_set F.step)
             (f, self.old) (slot_map_entries self.old) (last, self.new) }
-        // A closure that computes a new value of the old one, and stays as it was, computes each.
+        // If the closure computes a new value from the old one and does not change itself, each key has its new value.
         ensures mapped { (change : T → T) → ComputesValue F.step f (λ key. change) → (key : SlotKey)
             → slot_map_value self.new key ≡ option_map change (slot_map_value self.old key) }
         ensures keys { (key : SlotKey) →
@@ -83,7 +83,7 @@ impl<T, M: SlotMapStorage<MaybeMoved<T>>> MetaSlotMap<T, MaybeMoved<T>, M> {
         }
     }
 
-    /// Keeps the keys for which `f` returns `true`, and removes the others, as [`MetaSlotMap::remove`] does, and drops their
+    /// Keeps the keys for which `f` returns `true`. Removes the other keys, as [`MetaSlotMap::remove`] does, and drops their
     /// values. O(capacity), with one call for each value.
     ///
     /// Calls `f` with each held key in rising order of the indexes and a mutable reference to its value. A key for which it returns
@@ -94,10 +94,10 @@ impl<T, M: SlotMapStorage<MaybeMoved<T>>> MetaSlotMap<T, MaybeMoved<T>, M> {
         requires { IsCallableOnEach F.step F.pre f (slot_map_entries self.old) }
         ensures calls { (last : F) × FoldsTo (RetainsItem slot_map_set slot_map_remove F.step)
             (f, self.old) (slot_map_entries self.old) (last, self.new) }
-        // A closure that computes a test of the value, and stays as it was, keeps the values that pass it.
+        // If the closure computes a test and changes neither the value nor itself, the values that pass the test are kept.
         ensures filtered { (test : T → Bool) → ComputesTest F.step f (λ key. test) → (key : SlotKey)
             → slot_map_value self.new key ≡ option_filter test (slot_map_value self.old key) }
-        // A key that was held still is, or it is dead.
+        // A key that was held still is held, or it is dead.
         ensures removed { (key : SlotKey) → IsSome (slot_map_value self.old key)
             → IsSome (slot_map_value self.new key) ⊎ IsDead self.new key }
         ensures dead { (key : SlotKey) → IsDead self.old key → IsDead self.new key }
@@ -117,7 +117,7 @@ impl<T, M: SlotMapStorage<MaybeMoved<T>>> MetaSlotMap<T, MaybeMoved<T>, M> {
         }
     }
 
-    /// Removes the key of a place and returns its value, or `None` if no value is there.
+    /// Removes the key of a slot and returns its value, or `None` if no value is there.
     #[inline]
     fn remove_at(&mut self, index: usize) -> Option<T>
         requires within { index < length self.old.slots.values }

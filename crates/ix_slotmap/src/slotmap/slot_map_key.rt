@@ -8,7 +8,7 @@ use ix_tables::MaybeMoved;
 use std::fmt;
 use std::marker::Model;
 
-/// A key of a slot map: the index of a place and a generation. Contracts see both numbers.
+/// A key of a slot map: the index of a slot and a generation. Contracts see both numbers.
 ///
 /// A key can have any two numbers. A map has a value for those of its keys that are held. Keys are ordered by their index,
 /// and then by their generation.
@@ -33,7 +33,7 @@ impl Model for SlotMapKey {
 }
 
 impl SlotMapKey {
-    /// Creates a key of the place `index` with this generation. O(1).
+    /// Creates a key of the slot `index` with this generation. O(1).
     #[inline]
     pub fn new(index: usize, generation: u32) -> Self
         ensures { result ≡ record { index = index; generation = generation } }
@@ -41,7 +41,7 @@ impl SlotMapKey {
         SlotMapKey { index, generation }
     }
 
-    /// Returns the index of the place, from 0. O(1).
+    /// Returns the index of the slot, from 0. O(1).
     #[inline]
     pub fn index(&self) -> usize
         ensures { result ≡ self.now.index }

@@ -5,8 +5,8 @@ use std::alloc::Allocator;
 
 /// Where a slot map has its memory: [`Inline`] or a [`Heap`].
 ///
-/// It says in which slot table the places lie, each with a `C`, and in which array the generations. A function that takes a slot
-/// map of any storage has one parameter for it, `M: SlotMapStorage<MaybeMoved<T>>`.
+/// It names the slot table, in which each slot can have a `C`, and the array of the generations. A function that accepts a slot map
+/// in any storage has one parameter for it, `M: SlotMapStorage<MaybeMoved<T>>`.
 pub trait SlotMapStorage<C> {
     /// The storage of the slot table.
     type Slots: Storage<C>;

@@ -5,7 +5,7 @@ use crate::slotmap::{Content, WordTable};
 use ix_slottable::slottable::{MetaSlotTable, SlotTableKey, Storage};
 use ix_tables::{Array, Touches};
 
-/// Drops the values in the places before `end`, that of the least index first. O(`end`).
+/// Drops the values in the slots before `end`, the value of the least index first. O(`end`).
 pub(crate) fn drop_values<T: Drop, C: Content<T>, M: Storage<C>, G: Array<u64>>(
     slots: &mut MetaSlotTable<C, M>,
     words: &WordTable<G>,

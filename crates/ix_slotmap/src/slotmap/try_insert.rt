@@ -1,4 +1,4 @@
-//! The calls of a slot map that insert a value and hand back what they don't keep.
+//! The methods of a slot map that insert a value, and return the values that they do not keep.
 ghost use Rattle.std.specs.Prelude.{◌≡◌, ◌+◌, ◌<◌, ◌≤◌, IfOk, IsSome, length, option_map};
 ghost use Rattle.std.specs.Result.{IfErr, result_ok};
 ghost use Rattle.ix_slotmap.specs.Generations.{greatest_generation, generation_at, place_value, slot_map_len};
@@ -10,9 +10,9 @@ use ix_tables::{MaybeMoved, Touches};
 use std::mem;
 
 impl<T, M: SlotMapStorage<MaybeMoved<T>>> MetaSlotMap<T, MaybeMoved<T>, M> {
-    /// Inserts `value` in the first free place and returns the key of that place, or hands `value` back. Drops nothing.
+    /// Inserts `value` in the first free slot and returns the key of that slot. Drops nothing.
     ///
-    /// Returns `value` as the error if no place is free.
+    /// Returns `value` as the error if no slot is free.
     #[inline]
     pub fn try_insert(&mut self, value: T) -> Result<SlotMapKey, T>
         ensures step { SlotMapInsert self.old value self.new (result_ok result) }
@@ -23,12 +23,10 @@ impl<T, M: SlotMapStorage<MaybeMoved<T>>> MetaSlotMap<T, MaybeMoved<T>, M> {
         Ok(SlotMapKey::new(place.value(), generation))
     }
 
-    /// Inserts `value` in the place `index` and returns its key, and the value that was there, or `None` if the place was
-    /// free.
+    /// Inserts `value` in the slot `index` and returns its key, and the value that was there, or `None` if the slot was free.
     ///
-    /// The key of a value that was there is dead, and the new key has the next generation. Returns `value` as the error if
-    /// `index` is out of range, if the place is retired, and if a value is there with the generation `u32::MAX`. Drops
-    /// nothing.
+    /// If a value was there, its key is dead, and the new key has the next generation. Returns `value` as the error if `index` is
+    /// out of range, the slot is retired, or it holds a value with the generation `u32::MAX`. Drops nothing.
     #[inline]
     pub fn try_insert_at(&mut self, index: usize, value: T) -> Result<(SlotMapKey, Option<T>), T>
         ensures step { SlotMapInsertAt self.old index value self.new
@@ -70,8 +68,8 @@ impl<T, M: SlotMapStorage<MaybeMoved<T>>> MetaSlotMap<T, MaybeMoved<T>, M> {
         Ok((SlotMapKey::new(index, generation), Some(replaced)))
     }
 
-    /// Replaces the value in a place, whose generation is less than the greatest. Returns the next generation, which the place
-    /// has then, and the old value.
+    /// Replaces the value in a slot, whose generation is less than the greatest. Returns the next generation, which the slot has
+    /// then, and the old value.
     #[inline]
     fn replace(&mut self, index: usize, value: T, touches: &mut Touches) -> (u32, T)
         requires held { IsSome (place_value self.old index) }

@@ -42,7 +42,7 @@ impl<'a, T, M: SlotMapStorage<MaybeMoved<T>>> Iterator for Values<'a, T, M> {
 
     ghost remaining = { item_count (λ rest. rest) };
 
-    /// Returns the next value, or `None` after the last one. O(the number of places without a value before it).
+    /// Returns the next value, or `None` after the last one. O(the number of slots without a value before it).
     #[inline]
     fn next(&mut self) -> Option<&'a T> {
         match self.items.next() {
@@ -65,7 +65,7 @@ impl<'a, T, M: SlotMapStorage<MaybeMoved<T>>> Iterator for Values<'a, T, M> {
 impl<'a, T, M: SlotMapStorage<MaybeMoved<T>>> DoubleEndedIterator for Values<'a, T, M> {
     ghost next_back_gives = { YieldsLastBy (λ value. value.now) (λ rest. rest) };
 
-    /// Returns the last value that is still to come, or `None` if there is none. O(the number of places without a value after
+    /// Returns the last value that is still to come, or `None` if there is none. O(the number of slots without a value after
     /// it).
     #[inline]
     fn next_back(&mut self) -> Option<&'a T> {

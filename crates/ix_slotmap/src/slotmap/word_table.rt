@@ -1,18 +1,18 @@
-//! An array with a word for each place of a slot map.
+//! An array with a word for each slot of a slot map.
 ghost use Rattle.std.specs.Prelude.{◌≡◌, ◌+◌, ◌<◌, ◌≤◌, length, slice_set};
 ghost use Rattle.ix_slotmap.specs.inner.Words.{word_at};
 
 use ix_tables::{Array, Counted, Touches};
 use std::marker::Model;
 
-/// The word of each place of a slot map: twice its generation, and one more if a value is there. Contracts see the list of
-/// them.
+/// The words of the slots of a slot map. A word is twice the slot's generation, and one more if a value is there. Contracts see the
+/// list of words.
 #[derive(Drop)]
 pub(crate) struct WordTable<G: Array<u64>> {
     words: Counted<G>,
 }
 
-/// The word of a retired place.
+/// The word of a retired slot.
 pub(crate) const RETIRED: u64 = 8_589_934_592;
 
 impl<G: Array<u64>> Model for WordTable<G> {
@@ -37,7 +37,7 @@ impl<G: Array<u64>> WordTable<G> {
         }
     }
 
-    /// Overwrites an array of as many places with the words of `other`, and wraps it. O(the number of places).
+    /// Overwrites an array of as many slots with the words of `other`, and wraps it. O(the number of slots).
     pub(crate) fn copy_of<H: Array<u64>>(mut array: G, other: &WordTable<H>) -> Self
         requires { length (G.items array) ≡ length other.now }
         ensures { result ≡ other.now }
@@ -48,7 +48,7 @@ impl<G: Array<u64>> WordTable<G> {
         WordTable::new(array)
     }
 
-    /// Returns the word of a place.
+    /// Returns the word of a slot.
     #[inline]
     pub(crate) fn get(&self, place: usize, touches: &mut Touches) -> u64
         requires { place < length self.now }
@@ -58,7 +58,7 @@ impl<G: Array<u64>> WordTable<G> {
         *self.words.item(place, touches)
     }
 
-    /// Adds `more` to the word of a place, and returns what it is then.
+    /// Adds `more` to the word of a slot, and returns the new word.
     #[inline]
     pub(crate) fn raise(&mut self, place: usize, more: u64, touches: &mut Touches) -> u64
         requires within { place < length self.old }

@@ -1,10 +1,10 @@
--- How a slot table keeps its free keys: a doubly linked list in a table of links. No clause of a public call cites this.
+-- How a slot table keeps its free keys: a doubly linked list in a table of links. No clause of a public method cites this.
 use Rattle.std.specs.Prelude.{◌≡◌, ◌≢◌, ℕ, zero, suc, ◌+◌, ◌-◌, ◌<◌, ◌≤◌, List, [], ◌∷◌, ◌++◌, length, nat_eq, count_by, if◌then◌else◌, Option, Some, None, IsSome, option_map, unwrap_or, ◌⊎◌, slice_set}
 use Rattle.ix_tables.specs.Places.{place_at, IsHeldAt}
 use Rattle.ix_slottable.specs.declared.slottable.link.Link.{Link}
 use Rattle.ix_slottable.specs.SlotTableState.{SlotTableState, held_count, IsWellFormed}
 
--- the number for no key: no table has a place of this number
+-- the number for no key: no table has a key of this number
 abbrev pub no_key : ℕ
 no_key = 18446744073709551615
 
@@ -63,7 +63,7 @@ links_insert_first links key first = links_set_previous (slice_set links key (So
 abbrev pub first_after_remove : ℕ → Link → ℕ
 first_after_remove first link = if nat_eq link.previous no_key then link.next else first
 
--- every place holds a link, and no key is the number for no key
+-- every slot holds a link, and no key is the number for no key
 pub record IsLinkTable (links : List (Option Link)) : Type 0 where
   pub within : length links ≤ no_key
   pub held : (key : ℕ) → key < length links → IsHeldAt links key
@@ -83,7 +83,7 @@ IsRisingList capacity links =
     (length links ≡ capacity) × ((key : ℕ) → key < capacity → place_at links key ≡ Some (free_link (if nat_eq key 0 then no_key else key - 1) (if nat_eq (key + 1) capacity then no_key else key + 1)))
 
 module _ {T : Type 0} where
-  -- what contracts see of the two tables and the first free key
+  -- the slot state that contracts see of the two tables and the first free key
   abbrev pub slots_of : List (Option T) → List (Option Link) → ℕ → SlotTableState T
   slots_of values links first = record { values = values; free = links_keys_from (length links) links first }
 
@@ -97,7 +97,7 @@ module _ {T : Type 0} where
   MatchesLink value key None = ⊥
   MatchesLink value key (Some link) = (link.previous ≢ key → value ≡ None) × (link.previous ≡ key → IsSome value)
 
-  -- the links say which places hold a value
+  -- the links say which slots hold a value
   pub record MatchesLinks (values : List (Option T)) (links : List (Option Link)) : Type 0 where
     pub lengths : length links ≡ length values
     pub each : (key : ℕ) → key < length links → MatchesLink (place_at values key) key (place_at links key)

@@ -1,4 +1,4 @@
--- A range of keys, from both ends of which an iterator goes. No clause of a public call cites this.
+-- A range of keys that an iterator visits from both ends. No clause of a public method cites this.
 use Rattle.std.specs.Prelude.{◌≡◌, ℕ, ◌≤◌, List, length}
 
 -- the first key of the range, the one after its last, and the number of the items in it

@@ -9,8 +9,8 @@ use crate::slottable::{FixedSizeSlotTable, MetaSlotTable, SlotTable, SlotTableKe
 use std::alloc::{AllocError, Allocator};
 
 impl<T, M: Storage<T>> MetaSlotTable<T, M> {
-    /// Puts clones of the values of `other` at their keys in an empty table of the same capacity, whose free keys are then those
-    /// of `other`, in the same order. Returns the error of the first clone that fails, and keeps those already made.
+    /// Inserts clones of the values of `other` at their keys in an empty table of the same capacity. The free keys are then the
+    /// free keys of `other`, in the same order. Returns the error of the first clone that fails, and keeps the clones already made.
     fn fill_with_clones<N: Storage<T>>(
         &mut self,
         other: &MetaSlotTable<T, N>,
@@ -26,7 +26,7 @@ impl<T, M: Storage<T>> MetaSlotTable<T, M> {
         Ok(())
     }
 
-    /// Does what [`MetaSlotTable::fill_with_clones`] does, but for the order of the free keys.
+    /// Does what [`MetaSlotTable::fill_with_clones`] does, except for the order of the free keys.
     fn put_clones<N: Storage<T>>(&mut self, other: &MetaSlotTable<T, N>) -> Result<(), AllocError>
     where
         T: Clone,
@@ -47,7 +47,7 @@ impl<T, M: Storage<T>> MetaSlotTable<T, M> {
         Ok(())
     }
 
-    /// Takes over the order of the free keys of `other`, which are the same. O(capacity).
+    /// Copies the order of the free keys of `other`, which has the same free keys. O(capacity).
     #[doc(hidden)]
     pub fn copy_free_keys<N: Storage<T>>(&mut self, other: &MetaSlotTable<T, N>)
         requires capacity { length self.old.values ≡ length other.now.values }
@@ -69,7 +69,7 @@ impl<T: Clone, const CAPACITY: usize> Clone for FixedSizeSlotTable<T, CAPACITY> 
     /// Creates a table that holds clones of the values at the same keys, and has the same free keys in the same order.
     /// O(`CAPACITY`).
     ///
-    /// Returns the error of the first clone that fails, and drops those already made.
+    /// Returns the error of the first clone that fails, and drops the clones already made.
     fn clone(&self) -> Result<Self, AllocError> {
         prove!(self.capacity() == CAPACITY);
         let mut copy = FixedSizeSlotTable::<T, CAPACITY>::default();
@@ -79,11 +79,11 @@ impl<T: Clone, const CAPACITY: usize> Clone for FixedSizeSlotTable<T, CAPACITY> 
 }
 
 impl<T: Clone, A: Allocator + Copy> SlotTable<T, A> {
-    /// Creates a table of the same capacity that holds clones of the values at the same keys, and has the same free keys in the
-    /// same order, in memory of `alloc`.
+    /// Creates a table of the same capacity in memory of `alloc`, which holds clones of the values at the same keys. It has the
+    /// same free keys in the same order.
     ///
-    /// O(`capacity`), with at most three allocations and `len` clones. Returns `AllocError` if an allocation or a clone fails;
-    /// nothing stays allocated then.
+    /// O(`capacity`), with at most three allocations and `len` clones. Returns `AllocError` if an allocation or a clone fails.
+    /// Nothing stays allocated then.
     pub fn try_clone_in<B: Allocator + Copy>(&self, alloc: B) -> Result<SlotTable<T, B>, AllocError>
         requires { AreEqualClones T.is_clone }
         ensures value { IfOk result (λ map. map ≡ self.now) }

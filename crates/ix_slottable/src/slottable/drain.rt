@@ -9,11 +9,10 @@ use crate::slottable::{MetaSlotTable, SlotTableKey, Storage};
 use std::fmt::{self, Debug, Formatter, Write};
 use std::iter::FusedIterator;
 
-/// An iterator that removes the values of a slot table, each with its key, in rising order of the keys, as
-/// [`MetaSlotTable::drain`] returns it.
+/// An iterator that removes the values of a slot table, each with its key, in rising order of the keys. [`MetaSlotTable::drain`]
+/// returns it.
 ///
-/// The values that are still to come when it is dropped are dropped with it, that of the least key first, and the table is
-/// empty then.
+/// Dropping it drops the values that are still to come, the value of the least key first. The table is empty then.
 pub struct Drain<'a, T, M: Storage<T>> {
     map: &'a mut MetaSlotTable<T, M>,
     /// No key below this one has a value.
@@ -25,30 +24,30 @@ impl<T, M: Storage<T>> MetaSlotTable<T, M> {
     ghost use Rattle.ix_slottable.specs.Draining.{DrainingKeepsAlong};
     ghost use Rattle.ix_slottable.specs.SlotTableDrain.{drain_items, drain_left, drain_lender};
 
-    /// Returns an iterator that removes all values, each with its key, in rising order of the keys. The values that are not
-    /// taken are dropped with it, and the table is as [`MetaSlotTable::clear`] leaves it then. O(1), and O(capacity) for all of
-    /// its items together.
+    /// Returns an iterator that removes all values, each with its key, in rising order of the keys. Dropping the iterator drops the
+    /// values that are still to come. The table is then as [`MetaSlotTable::clear`] leaves it. O(1), and O(capacity) for all of its
+    /// items together.
     #[inline]
     pub fn drain(&mut self) -> Drain<'_, T, M>
     where
         T: Drop,
         ensures items { drain_items result ≡ entries self.old }
         ensures left { drain_left result ≡ slot_table_clear self.old }
-        // What is left has no value, and every key is free.
+        // The table that is left has no value, and every key is free.
         ensures count { held_count (slot_table_clear self.old) ≡ 0 }
         ensures room { length (slot_table_clear self.old).free ≡ length self.old.values }
-        // With these two a caller knows what the map is once the iterator is dropped.
+        // With these two clauses a caller knows the state of the table once the iterator is dropped.
         ensures same_reference { drain_lender result ≡ self.entry.ghost_name }
         ensures stays { DrainingKeepsAlong drain_items drain_lender drain_left result }
         ensures known { M.Items.Table.IsLen (length self.old.values) }
     {
-        // Names the number of values, by which the check knows how many keys are free.
+        // Names the number of values, so that the check knows how many keys are free.
         let _len = self.len();
         Drain { map: self, key: 0 }
     }
 }
 
-/// Drops the values that are still to come, that of the least key first. The table is empty then. O(capacity).
+/// Drops the values that are still to come, the value of the least key first. The table is empty then. O(capacity).
 impl<T: Drop, M: Storage<T>> Drop for Drain<'_, T, M> {
     ghost use Rattle.ix_slottable.specs.SlotTableDrain.{drain_left};
 
@@ -105,7 +104,7 @@ impl<T: Drop, M: Storage<T>> ExactSizeIterator for Drain<'_, T, M> {
 
 impl<T: Drop, M: Storage<T>> FusedIterator for Drain<'_, T, M> {}
 
-/// Prints a list of the items that are still to come, each the number of its key and its value. O(capacity).
+/// Prints a list of the items that are still to come, each as the number of its key and its value. O(capacity).
 impl<T: Debug, M: Storage<T>> Debug for Drain<'_, T, M> {
     fn fmt<W: Write>(&self, f: &mut Formatter<W>) -> fmt::Result {
         self.map.iter().fmt(f)

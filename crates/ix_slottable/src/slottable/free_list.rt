@@ -1,4 +1,4 @@
-//! The list of free keys, which is doubly linked: steps on its table of links.
+//! Steps on the table of links, which holds the doubly linked list of free keys.
 ghost use Rattle.std.specs.Prelude.{◌≡◌, ◌+◌, ◌<◌, ◌≤◌, length, Some, None, replicate, slice_set};
 ghost use Rattle.std.specs.List.{range_with_len};
 ghost use Rattle.ix_tables.specs.Places.{IsHeldAt};
@@ -113,7 +113,7 @@ pub(crate) fn insert_first<L: Table<Link>>(
     set_previous(links, first, key, touches);
 }
 
-/// Returns the first of the list after a key that had this link is removed.
+/// Returns the first key of the list after a key that had this link is removed.
 #[inline]
 pub(crate) fn first_after_remove(first: usize, link: Link) -> usize
     ensures { result ≡ first_after_remove first link }
@@ -142,7 +142,7 @@ pub(crate) fn link_all<L: Table<Link>>(links: &mut Counted<L>, len: usize) -> us
     if len == 0 { NO_KEY } else { 0 }
 }
 
-/// Makes the links those of `others`, of which there are as many. O(the number of links).
+/// Copies the links of `others`, which has as many links. O(the number of links).
 pub(crate) fn copy_links<L: Table<Link>, M: Table<Link>>(
     links: &mut Counted<L>,
     others: &Counted<M>,

@@ -5,7 +5,7 @@ ghost use Rattle.ix_slottable.specs.SlotTableState.{IsHeld, value_at};
 use crate::slottable::{MetaSlotTable, SlotTableKey, Storage};
 use std::ops::Index;
 
-/// `table[key]` is the value at `key`, which has to have one; [`MetaSlotTable::get`] takes any key. O(1).
+/// `table[key]` is the value at `key`, which has to have one. [`MetaSlotTable::get`] accepts any key. O(1).
 impl<T, M: Storage<T>> Index<SlotTableKey> for MetaSlotTable<T, M> {
     type Output = T;
 

@@ -9,11 +9,11 @@ use std::fmt::{self, Debug, Formatter, Write};
 use std::iter::FusedIterator;
 use std::marker::Model;
 
-/// An iterator that removes the values of a slot table, each with its key, in rising order of the keys, as `into_iter`
-/// returns it. Contracts see the items that are still to come.
+/// An iterator that removes the values of a slot table, each with its key, in rising order of the keys, as `into_iter` returns it.
+/// Contracts see the items that are still to come.
 ///
-/// It has the table's memory. The values that are still to come when it is dropped are dropped with it, that of the least key
-/// first, in O(capacity) time.
+/// It owns the table's memory. Dropping it drops the values that are still to come, the value of the least key first, in
+/// O(capacity) time.
 #[derive(Drop)]
 pub struct IntoIter<T, M: Storage<T>> {
     map: MetaSlotTable<T, M>,
@@ -95,7 +95,7 @@ impl<T: Drop, M: Storage<T>> ExactSizeIterator for IntoIter<T, M> {
 
 impl<T: Drop, M: Storage<T>> FusedIterator for IntoIter<T, M> {}
 
-/// Prints a list of the items that are still to come, each the number of its key and its value. O(capacity).
+/// Prints a list of the items that are still to come, each as the number of its key and its value. O(capacity).
 impl<T: Debug, M: Storage<T>> Debug for IntoIter<T, M> {
     fn fmt<W: Write>(&self, f: &mut Formatter<W>) -> fmt::Result {
         self.map.iter().fmt(f)

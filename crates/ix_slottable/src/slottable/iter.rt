@@ -138,7 +138,7 @@ impl<'a, T, M: Storage<T>> Clone for Iter<'a, T, M> {
     }
 }
 
-/// Prints a list of the items that are still to come, each the number of its key and its value. O(capacity).
+/// Prints a list of the items that are still to come, each as the number of its key and its value. O(capacity).
 impl<'a, T: Debug, M: Storage<T>> Debug for Iter<'a, T, M> {
     fn fmt<W: Write>(&self, f: &mut Formatter<W>) -> fmt::Result {
         let mut list = f.debug_list();

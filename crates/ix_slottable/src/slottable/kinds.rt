@@ -1,4 +1,4 @@
-//! The kinds of slot tables: stored inline, in memory of an allocator, and made in two steps.
+//! The kinds of slot tables: stored inline, in memory of an allocator, and initialised in two phases.
 ghost use Rattle.std.specs.Prelude.{◌≡◌, ℕ, ◌≤◌, None, length, IfOk, IsOk};
 ghost use Rattle.std.specs.Mem.{type_size};
 ghost use Rattle.ix_tables.specs.Memory.{no_memory};
@@ -53,10 +53,10 @@ pub type SlotTable<T, A = Global> = MetaSlotTable<T, Heap<A>>;
 impl<T: Drop, A: Allocator + Copy> SlotTable<T, A> {
     ghost use Rattle.ix_slottable.specs.contracts.slottable.link.Link as link;
 
-    /// Returns how much memory a table of this capacity takes from its allocator when it is made.
+    /// Returns the memory that a table of this capacity allocates from its allocator when it is made.
     ///
-    /// This is the memory of a table of values and of a table of links. A table of capacity 0 takes no block. Does not allocate.
-    /// O(1).
+    /// This is the memory of a table of values and of a table of links. A table of capacity 0 needs no allocation. This function
+    /// does not allocate. O(1).
     #[inline]
     pub fn memory_size(capacity: usize) -> MemorySize
         ensures value { result ≡ slot_table_memory (type_size T.row) (type_size link.the_row) capacity }
@@ -71,8 +71,8 @@ impl<T: Drop, A: Allocator + Copy> SlotTable<T, A> {
 
     /// Creates an empty table with `capacity` keys.
     ///
-    /// O(`capacity`), with at most three allocations. Returns `AllocError` if one fails, and if the values would take more
-    /// than `isize::MAX` bytes; nothing stays allocated then. A capacity of 0 needs no memory.
+    /// O(`capacity`), with at most three allocations. Returns `AllocError` if an allocation fails, or if the values would take more
+    /// than `isize::MAX` bytes. Nothing stays allocated then. A capacity of 0 needs no memory.
     pub fn new(alloc: A, capacity: usize) -> Result<Self, AllocError>
         ensures value { IfOk result (λ map. map ≡ slot_table_new capacity) }
         ensures empty { IfOk result (λ map. (key : ℕ) → value_at map key ≡ None) }
@@ -86,15 +86,15 @@ impl<T: Drop, A: Allocator + Copy> SlotTable<T, A> {
     }
 }
 
-/// A slot table that is made in two steps: first its capacity, as an [`UninitSlotTable`], and later its memory, allocated
-/// from `A`.
+/// A slot table that is initialised in two phases: first its capacity, as an [`UninitSlotTable`], and later its memory, which
+/// `init` allocates from `A`.
 ///
 /// This is `RelocatableSlotMap` of iceoryx2-bb-container, whose keys have no generation.
 pub type RelocatableSlotTable<T, A = Global> = SlotTable<T, A>;
 
 impl<T: Drop, A: Allocator + Copy> RelocatableSlotTable<T, A> {
     /// Creates an uninitialised table with `capacity` keys. Does not allocate. O(1).
-    /// The allocator is the one that `init` is given, whatever `A` is here.
+    /// The allocator is the one that is passed to `init`, whatever `A` is here.
     #[inline]
     pub fn new_uninit(capacity: usize) -> UninitSlotTable<T>
         ensures { result ≡ capacity }

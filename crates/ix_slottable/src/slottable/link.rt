@@ -4,7 +4,7 @@ ghost use Rattle.ix_slottable.specs.inner.FreeList.{held_link};
 
 /// A key's neighbours in the list of free keys of its table.
 ///
-/// Links are made by slot tables alone. A user names this type to make a table of links for
+/// Only slot tables make links. Name this type to make a table of links for
 /// [`MetaSlotTable::from_tables`](crate::MetaSlotTable::from_tables).
 #[derive(Clone, Copy, Debug, Default)]
 pub struct Link {
@@ -29,7 +29,7 @@ impl Link {
         }
     }
 
-    /// Returns `true` if this, the link of `key`, is that of a free key.
+    /// Returns `true` if this link, which is the link of `key`, is the link of a free key.
     #[inline]
     pub(crate) fn is_free(&self, key: usize) -> bool
         ensures free { result ≡ true → self.now.previous ≢ key }

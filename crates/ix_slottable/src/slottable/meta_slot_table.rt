@@ -18,16 +18,16 @@ use ix_tables::{Counted, Table, Touches};
 use std::fmt::{self, Debug, Formatter, Write};
 use std::marker::{Model, PhantomData};
 
-/// A table from keys that it chooses itself to values, with its memory in a storage `M`. Contracts see the value or nothing at
-/// each key, and the free keys in their order.
+/// A table from keys that it chooses itself to values, with its memory in a storage `M`. Contracts see an optional value for each
+/// key, and the free keys in their order.
 ///
-/// The keys are the numbers from 0 to one below the capacity. A key that has a value is held, any other is free. The
-/// free keys are a list, in rising order at first: [`MetaSlotTable::insert`] removes the first key of the list, and
-/// [`MetaSlotTable::remove`] makes a key the first. A key out of range, up to `usize::MAX`, is an ordinary case, for
-/// which calls return `false` or `None`.
+/// The keys are the numbers from 0 to one below the capacity. A key that has a value is held, any other key is free. The free keys
+/// are a list, in rising order at first. [`MetaSlotTable::insert`] removes the first key of the list, and [`MetaSlotTable::remove`]
+/// makes a key the first. A key out of range, up to `usize::MAX`, is an ordinary case: methods return `false`, `None` or `Err` for
+/// it.
 ///
-/// Each call takes O(1) time unless its docs say otherwise. No call allocates but those that make a table. A table that is
-/// dropped drops its values, that of the least key first, in O(capacity) time.
+/// Each method takes O(1) time unless its docs say otherwise. Only the functions that make a table allocate. Dropping a table drops
+/// its values, the value of the least key first, in O(capacity) time.
 ///
 /// This is `MetaSlotMap` of iceoryx2-bb-container, whose keys have no generation.
 pub struct MetaSlotTable<T, M: Storage<T>> {
@@ -56,7 +56,7 @@ impl<T, M: Storage<T>> Model for MetaSlotTable<T, M> {
 impl<T, S: Table<T>, L: Table<Link>> MetaSlotTable<T, (S, L)> {
     /// Creates an empty table over two tables of the same length, which is the capacity. O(capacity).
     ///
-    /// Every place of both tables is empty. A table of any kind will do, one of your own too.
+    /// Every slot of both tables must be empty. The tables can be of any kind, also of your own.
     pub fn from_tables(values: S, links: L) -> Self
         requires values { IsVacant (S.places values) }
         requires links { L.places links ≡ replicate (length (S.places values)) None }
@@ -92,7 +92,7 @@ impl<T, M: Storage<T>> MetaSlotTable<T, M> {
     #[inline]
     pub fn capacity(&self) -> usize
         ensures value { result ≡ length self.now.values }
-        // The capacity of an inline table is that of its type: every method says so.
+        // The type of an inline table fixes its capacity: every method says so.
         ensures known { M.Items.Table.IsLen (length self.now.values) }
     {
         self.values.len()
@@ -104,11 +104,11 @@ impl<T, M: Storage<T>> MetaSlotTable<T, M> {
     pub fn len(&self) -> usize
         ensures value { result ≡ held_count self.now }
         ensures rest { held_count self.now + length self.now.free ≡ length self.now.values }
-        // This holds of every map, whatever calls were made.
+        // This holds of every table, whatever methods were called.
         ensures formed { IsWellFormed self.now }
         ensures known { M.Items.Table.IsLen (length self.now.values) }
     {
-        // Names the capacity, for what is known of it.
+        // Names the capacity, so that the check knows its contract.
         let _capacity = self.values.len();
         self.len
     }
@@ -180,7 +180,7 @@ impl<T, M: Storage<T>> MetaSlotTable<T, M> {
         self.get_counted(key, &mut Touches::new())
     }
 
-    /// Returns a reference to the value at `key`, which has one.
+    /// Returns a reference to the value at `key`, which must be held.
     #[must_use]
     #[inline]
     pub fn get_unchecked(&self, key: SlotTableKey) -> &T
@@ -206,7 +206,7 @@ impl<T, M: Storage<T>> MetaSlotTable<T, M> {
         self.get_mut_counted(key, &mut Touches::new())
     }
 
-    /// Returns a mutable reference to the value at `key`, which has one.
+    /// Returns a mutable reference to the value at `key`, which must be held.
     #[inline]
     pub fn get_unchecked_mut(&mut self, key: SlotTableKey) -> &mut T
         requires { IsHeld self.old key }
@@ -230,8 +230,7 @@ impl<T, M: Storage<T>> MetaSlotTable<T, M> {
         Iter::new(self)
     }
 
-    /// Inserts `value` at the first free key and returns that key; or drops `value` and returns `None` if the table is
-    /// full.
+    /// Inserts `value` at the first free key and returns that key. Drops `value` and returns `None` if the table is full.
     #[must_use]
     #[inline]
     pub fn insert(&mut self, value: T) -> Option<SlotTableKey>
@@ -243,8 +242,8 @@ impl<T, M: Storage<T>> MetaSlotTable<T, M> {
         self.insert_counted(value, &mut Touches::new())
     }
 
-    /// Inserts `value` at `key` and returns `true`; a value that is there already is dropped. Drops `value` and returns
-    /// `false` if `key` is out of range.
+    /// Inserts `value` at `key` and returns `true`. A value that is there already is dropped. Drops `value` and returns `false` if
+    /// `key` is out of range.
     #[must_use]
     #[inline]
     pub fn insert_at(&mut self, key: SlotTableKey, value: T) -> bool
@@ -256,7 +255,7 @@ impl<T, M: Storage<T>> MetaSlotTable<T, M> {
         self.insert_at_counted(key, value, &mut Touches::new())
     }
 
-    /// Inserts `value` at `key`, which is free.
+    /// Inserts `value` at `key`, which must be free.
     #[inline]
     pub fn insert_at_unchecked(&mut self, key: SlotTableKey, value: T)
         requires { IsFree self.old key }
@@ -275,7 +274,7 @@ impl<T, M: Storage<T>> MetaSlotTable<T, M> {
         self.remove_counted(key, &mut Touches::new())
     }
 
-    /// Removes the value at `key`, which has one, and returns it. The key becomes the first free key.
+    /// Removes the value at `key`, which must be held, and returns it. The key becomes the first free key.
     #[inline]
     pub fn remove_unchecked(&mut self, key: SlotTableKey) -> T
         requires { IsHeld self.old key }
@@ -312,7 +311,7 @@ impl<T, M: Storage<T>> MetaSlotTable<T, M> {
         if key >= self.capacity() {
             return None;
         }
-        // A full map has no free key, so that its links need not be looked at.
+        // A full table has no free key, so that its links need not be looked at.
         if self.first != NO_KEY && self.is_free(key, touches) {
             return None;
         }
@@ -434,7 +433,7 @@ impl<T, M: Storage<T>> MetaSlotTable<T, M> {
         ensures rises { touches.old ≤ touches.new }
     {
         let key = key.value();
-        // The link first: the caller has just read it.
+        // Writes the link first, because the caller has just read it.
         insert_first(&mut self.links, key, self.first, touches);
         let value = self.values.take(key, touches);
         self.first = key;
@@ -458,7 +457,7 @@ fn drop_all<T: Drop, S: Table<T>, L: Table<Link>>(values: &mut Counted<S>, links
     }
 }
 
-/// Drops the values, that of the least key first.
+/// Drops the values, the value of the least key first.
 impl<T: Drop, M: Storage<T>> Drop for MetaSlotTable<T, M> {
     fn drop(self) {
         let MetaSlotTable {

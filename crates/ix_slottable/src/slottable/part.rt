@@ -1,7 +1,7 @@
 //! The parts of values.
 ghost use Rattle.std.specs.Prelude.{◌≡◌};
 
-/// A part of a value `T`, as one of its fields.
+/// A part of a value `T`, such as one of its fields.
 pub trait Part<T> {
     /// The type of the part.
     type Of;

@@ -1,4 +1,4 @@
-//! The calls of a slot table that go through all of its values.
+//! The methods of a slot table that iterate over all of its values.
 ghost use Rattle.std.specs.Prelude.{◌≡◌, ◌↔◌, ℕ, ◌+◌, ◌≤◌, length, map, replicate, None, Bool, option_map};
 ghost use Rattle.std.specs.List.{FoldsTo};
 ghost use Rattle.std.specs.Map.{keys_of};
@@ -9,10 +9,10 @@ ghost use Rattle.ix_slottable.specs.SlotTableCalls.{IsCallableOnEach, ComputesTe
 use crate::slottable::{Keys, MetaSlotTable, SlotTableKey, Storage, Values};
 
 impl<T, M: Storage<T>> MetaSlotTable<T, M> {
-    /// Removes all values and drops them, that of the least key first. Every key is free then. O(capacity).
+    /// Removes all values and drops them, the value of the least key first. Every key is free then. O(capacity).
     ///
-    /// The free keys are in the order that [`MetaSlotTable::remove`] of each key in turn leaves, so the key whose value was
-    /// dropped last is the first free key.
+    /// The free keys are in the same order as if [`MetaSlotTable::remove`] was called with each key in turn. So the key whose value
+    /// was dropped last is the first free key.
     pub fn clear(&mut self)
     where
         T: Drop,
@@ -54,7 +54,7 @@ impl<T, M: Storage<T>> MetaSlotTable<T, M> {
         requires { IsCallableOnEach F.step F.pre f (entries self.old) }
         ensures calls { (last : F) × FoldsTo (ChangesItem slot_table_set F.step)
             (f, self.old) (entries self.old) (last, self.new) }
-        // A closure that computes a new value of the old one, and stays as it was, computes each.
+        // If the closure computes a new value from the old one and does not change itself, each key has its new value.
         ensures mapped { (change : T → T) → ComputesValue F.step f (λ key. change) → (key : ℕ)
             → value_at self.new key ≡ option_map change (value_at self.old key) }
         ensures keys { (key : ℕ) → IsHeld self.new key ↔ IsHeld self.old key }
@@ -81,12 +81,12 @@ impl<T, M: Storage<T>> MetaSlotTable<T, M> {
         requires { IsCallableOnEach F.step F.pre f (entries self.old) }
         ensures calls { (last : F) × FoldsTo (RetainsItem slot_table_set slot_table_remove F.step)
             (f, self.old) (entries self.old) (last, self.new) }
-        // A closure that computes a test of the value, and stays as it was, keeps the values that pass it.
+        // If the closure computes a test and changes neither the value nor itself, the values that pass the test are kept.
         ensures filtered { (test : T → Bool) → ComputesTest F.step f (λ key. test) → (key : ℕ)
             → value_at self.new key ≡ option_filter test (value_at self.old key) }
         ensures capacity { length self.new.values ≡ length self.old.values }
         ensures count { held_count self.new ≤ held_count self.old }
-        // As many keys are free as were, and those that are no longer held.
+        // The number of free keys grows by the number of keys that are no longer held.
         ensures room { held_count self.new + length self.new.free ≡ held_count self.old + length self.old.free }
         ensures known { M.Items.Table.IsLen (length self.old.values) }
     {

@@ -1,4 +1,4 @@
-//! The steps of which the calls of a slot table are made.
+//! The steps that the methods of a slot table consist of.
 ghost use Rattle.std.specs.Prelude.{◌≡◌, ◌≢◌, ◌+◌, ◌<◌, ◌≤◌, [], length, take, drop, true, false};
 ghost use Rattle.ix_slottable.specs.SlotTableState.{IsHeld, IsKey, IsFree, held_count, entries_from};
 ghost use Rattle.ix_slottable.specs.SlotTableSteps.{slot_table_fill, slot_table_insert};
@@ -33,7 +33,7 @@ impl<T, M: Storage<T>> MetaSlotTable<T, M> {
         self.links.get(key, touches).is_free(key)
     }
 
-    /// Returns the least held key that is `start` or greater; there is one.
+    /// Returns the least held key that is `start` or greater. There must be one.
     #[doc(hidden)]
     #[inline]
     pub fn held_from(&self, start: usize) -> usize
@@ -44,7 +44,7 @@ impl<T, M: Storage<T>> MetaSlotTable<T, M> {
             ≡ entries_from start (drop start self.now.values) }
     {
         let mut touches = Touches::new();
-        // Asked once before the loop: LLVM makes slower code of a loop that is the whole of a loop's body.
+        // Asked once before the loop: LLVM makes slower code if a loop is the whole body of another loop.
         if !self.is_free(start, &mut touches) {
             return start;
         }
@@ -55,7 +55,7 @@ impl<T, M: Storage<T>> MetaSlotTable<T, M> {
         key
     }
 
-    /// Returns the greatest held key that is less than `end`; there is one.
+    /// Returns the greatest held key that is less than `end`. There must be one.
     #[doc(hidden)]
     #[inline]
     pub fn held_before(&self, end: usize) -> usize

@@ -6,10 +6,10 @@ use std::marker::PhantomData;
 
 /// Where a container has its memory: [`Inline`], a [`Heap`], or two tables of your own as a tuple.
 ///
-/// It says in which tables the items of a container lie, and the links of its free places. A function that takes a container of
+/// It names the table of a container's values and the table of the links of its free slots. A function that accepts a container in
 /// any storage has one parameter for it, `M: Storage<T>`.
 pub trait Storage<T> {
-    /// The table of items.
+    /// The table of values.
     type Items: Table<T>;
 
     /// The table of links.
@@ -36,7 +36,7 @@ impl<T: Drop, A: Allocator> Storage<T> for Heap<A> {
     type Links = FilledHeapTable<Link, A>;
 }
 
-/// A table of items and a table of links, of any kind.
+/// A table of values and a table of links, of any kind.
 impl<T, S: Table<T>, L: Table<Link>> Storage<T> for (S, L) {
     type Items = S;
 

@@ -1,4 +1,4 @@
-//! The calls of a slot table that insert a value and hand back what they don't keep.
+//! The methods of a slot table that insert a value, and return the values that they do not keep.
 ghost use Rattle.std.specs.Prelude.{◌≡◌, ◌+◌, ◌≤◌, IfOk, Some, length};
 ghost use Rattle.std.specs.Result.{IfErr, is_ok, result_ok};
 ghost use Rattle.ix_slottable.specs.SlotTableState.{value_at, IsHeld, held_count};
@@ -9,7 +9,7 @@ use ix_tables::Touches;
 use std::mem;
 
 impl<T, M: Storage<T>> MetaSlotTable<T, M> {
-    /// Inserts `value` at the first free key and returns that key, or hands `value` back. Drops nothing.
+    /// Inserts `value` at the first free key and returns that key. Drops nothing.
     ///
     /// Returns `value` as the error if the table is full.
     #[inline]

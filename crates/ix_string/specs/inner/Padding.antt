@@ -1,4 +1,4 @@
--- How a string of a fixed capacity lies in its bytes.
+-- The layout of a string of a fixed capacity in its bytes.
 use Rattle.std.specs.Prelude.{ℕ, ◌≡◌, ◌≤◌, List, length, take}
 use Rattle.ix_string.specs.Text.{IsText, padded_text}
 

@@ -1,4 +1,4 @@
-//! Strings that are made of bytes, in memory of an allocator, and how much of it a string takes.
+//! Creating strings from bytes in memory of an allocator, and the amount of memory that a string allocates.
 ghost use Rattle.std.specs.Prelude.{◌≡◌, ℕ, ◌≤◌};
 ghost use Rattle.ix_tables.specs.Memory.{items_memory, no_memory};
 ghost use Rattle.ix_string.specs.Creation.{HeapStringFromBytes};
@@ -10,11 +10,11 @@ use ix_vector::PolymorphicVec;
 use std::alloc::Allocator;
 
 impl<K: HeapStringKind, A: Allocator> HeapString<K, A> {
-    /// Creates a string that holds the bytes and has no room for more: its capacity is their number. O(`bytes.len()`),
-    /// with one allocation from `alloc`, and with none if `bytes` is empty.
+    /// Creates a string that holds the bytes and has no room for more: its capacity is their number. O(`bytes.len()`), with one
+    /// allocation from `alloc`, or none if `bytes` is empty.
     ///
     /// Returns [`StringCreationError::InvalidCharacter`] if one of the bytes is 0 or above 127, and otherwise
-    /// [`StringCreationError::OutOfMemory`] if there is no memory for them. Nothing stays allocated then.
+    /// [`StringCreationError::OutOfMemory`] if the allocation fails. Nothing stays allocated then.
     pub fn try_from_bytes(alloc: A, bytes: &[u8]) -> Result<Self, StringCreationError>
         ensures { HeapStringFromBytes bytes.now result }
     {
@@ -26,8 +26,8 @@ impl<K: HeapStringKind, A: Allocator> HeapString<K, A> {
         Ok(string)
     }
 
-    /// Creates a string that holds the bytes of `text` and has no room for more: its capacity is their number.
-    /// O(`text.len()`), with one allocation from `alloc`, and with none if `text` is empty.
+    /// Creates a string that holds the bytes of `text` and has no room for more: its capacity is their number. O(`text.len()`),
+    /// with one allocation from `alloc`, or none if `text` is empty.
     ///
     /// Returns the errors of [`HeapString::try_from_bytes`].
     #[inline]
@@ -37,10 +37,10 @@ impl<K: HeapStringKind, A: Allocator> HeapString<K, A> {
         HeapString::try_from_bytes(alloc, text.as_bytes())
     }
 
-    /// Returns how much memory a string of this capacity takes from its allocator when it is made.
+    /// Returns the amount of memory that a string of this capacity allocates when it is made.
     ///
-    /// This is one block of as many bytes, and none if the capacity is 0. An allocator that rounds each block up takes more than
-    /// these bytes ([`MemorySize`]).
+    /// This is one allocation of that many bytes, or none if the capacity is 0. An allocator that rounds allocations up uses more
+    /// bytes than this ([`MemorySize`]).
     ///
     /// Does not allocate. O(1).
     #[inline]

@@ -1,4 +1,4 @@
-//! The error of making a string of bytes in memory of an allocator.
+//! The error of creating a string from bytes in memory of an allocator.
 ghost use Rattle.std.specs.Prelude.{◌≡◌, Some};
 ghost use Rattle.ix_string.specs.declared.string.creation_error.StringCreationError.TheVariants.{OutOfMemory};
 
@@ -6,16 +6,16 @@ use std::alloc::AllocError;
 use std::error::Error;
 use std::fmt;
 
-/// The error of making a string of bytes in memory of an allocator. Nothing stays allocated.
+/// The error of creating a string from bytes in memory of an allocator. Nothing stays allocated.
 #[derive(Clone, Copy, PartialEq, Eq, Debug)]
 pub enum StringCreationError {
     /// A byte is 0 or above 127.
     InvalidCharacter,
-    /// There is no memory for the bytes.
+    /// The allocation for the bytes failed.
     OutOfMemory,
 }
 
-/// Memory that is refused becomes [`StringCreationError::OutOfMemory`].
+/// A failed allocation becomes [`StringCreationError::OutOfMemory`].
 impl From<AllocError> for StringCreationError {
     ghost from_gives = { λ _ result. result ≡ OutOfMemory };
 

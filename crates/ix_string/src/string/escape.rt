@@ -59,8 +59,8 @@ impl fmt::Debug for EscapedByte {
 
 /// Returns the text that `byte` is printed as. Does not allocate. O(1).
 ///
-/// That is `\t`, `\r` and `\n` for the bytes 9, 13 and 10, the byte itself for those from 32 to 127, a backslash and a quote too,
-/// and `\x` and two lower-case hexadecimal digits for every other byte.
+/// The bytes 9, 13 and 10 are printed as `\t`, `\r` and `\n`. A byte from 32 to 127 is printed as itself, a backslash and a quote
+/// too. Every other byte is printed as `\x` and two lower-case hexadecimal digits.
 #[inline]
 #[must_use]
 pub fn escape_byte(byte: u8) -> EscapedByte
@@ -117,10 +117,10 @@ impl fmt::Display for Escaped<'_> {
     }
 }
 
-/// Returns the bytes as a text that can be printed, in memory of `alloc`: the text of each, as [`escape_byte`] returns it.
+/// Returns the bytes as printable text in memory of `alloc`: the text of each byte, as [`escape_byte`] returns it.
 /// O(`bytes.len()`).
 ///
-/// Returns `AllocError` if there is no memory for the text.
+/// Returns `AllocError` if an allocation for the text fails.
 ///
 /// This is `as_escaped_string` of iceoryx2-bb-container.
 pub fn as_escaped_string(alloc: Global, bytes: &[u8]) -> Result<std::string::String, AllocError>

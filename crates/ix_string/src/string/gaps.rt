@@ -1,4 +1,4 @@
-//! Moves within a buffer of bytes that begins with a text: a gap is opened or closed.
+//! Moves within a buffer of bytes that begins with a string: a gap is opened or closed.
 ghost use Rattle.std.specs.Prelude.{◌≡◌, ◌+◌, ◌-◌, ◌≤◌, ◌++◌, length, take, drop, replicate};
 ghost use Rattle.std.specs.List.{insert_slice, remove_range};
 

@@ -21,11 +21,12 @@ use std::fmt;
 use std::hash::{Hash, Hasher};
 use std::marker::{Model, PhantomData};
 
-/// A string in memory of the allocator `A`. It is allocated when the string is made, and deallocated when the
-/// string is dropped. Contracts see the string as a bounded list.
+/// A string in memory of the allocator `A`. The memory is allocated when the string is made, and deallocated when the string is
+/// dropped. Contracts see the string as a bounded list.
 ///
-/// The two kinds `K` have names of their own, [`PolymorphicString`](crate::PolymorphicString) and
-/// [`RelocatableString`](crate::RelocatableString). The first one has `try_clone`, which asks for an allocator that is `Copy`.
+/// The two kinds `K` have type aliases, [`PolymorphicString`](crate::PolymorphicString) and
+/// [`RelocatableString`](crate::RelocatableString). A polymorphic string has `try_clone`, which requires an allocator that is
+/// `Copy`.
 #[derive(Drop)]
 pub struct HeapString<K, A: Allocator = Global> {
     pub(crate) bytes: PolymorphicVec<u8, A>,
@@ -148,7 +149,7 @@ impl<K, A: Allocator> PartialOrd for HeapString<K, A> {
     }
 }
 
-/// The bytes are fed to the hasher in one write.
+/// Feeds the bytes to the hasher in one write.
 impl<K, A: Allocator> Hash for HeapString<K, A> {
     ghost hash_input = { λ string. string.items ∷ [] };
 

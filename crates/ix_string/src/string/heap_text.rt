@@ -1,4 +1,4 @@
-//! Heap strings as texts: what is written to them, and what they lend.
+//! Writing formatted text to heap strings, and borrowing them as string slices and bytes.
 ghost use Rattle.std.specs.Prelude.{◌≡◌, ◌↔◌, length, IsOk, OnErr};
 ghost use Rattle.ix_tables.specs.Bounded.{IsWithin};
 ghost use Rattle.ix_vector.specs.VectorSteps.{HasRoomFor, vec_extend};
@@ -29,7 +29,7 @@ impl<K: HeapStringKind, A: Allocator> fmt::Write for HeapString<K, A> {
     }
 }
 
-/// Lends the bytes as a text, as [`String::as_str`] does.
+/// Lends the bytes as a string slice, as [`String::as_str`] does.
 impl<K: HeapStringKind, A: Allocator> AsStr for HeapString<K, A> {
     ghost text = { λ string. string.items };
 
@@ -55,7 +55,7 @@ impl<K: HeapStringKind, A: Allocator> AsSlice<u8> for HeapString<K, A> {
     }
 }
 
-/// Has the calls of `str` that the trait [`String`] does not have, as `trim` and `parse`.
+/// Has the methods of `str` that the trait [`String`] does not have, such as `trim` and `parse`.
 impl<K: HeapStringKind, A: Allocator> DerefStr for HeapString<K, A> {
     ghost deref_gives = { λ string text. text ≡ string.items };
 

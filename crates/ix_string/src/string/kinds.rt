@@ -52,8 +52,8 @@ pub type PolymorphicString<A = Global> = HeapString<Polymorphic, A>;
 impl<A: Allocator> PolymorphicString<A> {
     /// Creates an empty string with room for `capacity` bytes.
     ///
-    /// O(1), with at most one allocation. Returns `AllocError` if it fails, and if the bytes would be more than
-    /// `isize::MAX`; nothing stays allocated then. A capacity of 0 needs no memory.
+    /// O(1), with at most one allocation. A capacity of 0 allocates nothing. Returns `AllocError` if the allocation fails, or if
+    /// the bytes would be more than `isize::MAX`. Nothing stays allocated then.
     pub fn new(alloc: A, capacity: usize) -> Result<Self, AllocError>
         ensures value { IfOk result (λ string. string ≡ bounded_new capacity) }
         ensures memory { capacity ≡ 0 → IsOk result }
@@ -66,7 +66,7 @@ impl<A: Allocator + Copy> PolymorphicString<A> {
     /// Creates a string with the same bytes and the same capacity. Allocates once from the string's allocator, or not
     /// at all if the capacity is 0. O(`len`).
     ///
-    /// Returns `AllocError` if there is no memory.
+    /// Returns `AllocError` if the allocation fails.
     pub fn try_clone(&self) -> Result<Self, AllocError>
         ensures value { IfOk result (λ string. string ≡ self.now) }
         ensures memory { self.now.capacity ≡ 0 → IsOk result }
@@ -78,7 +78,7 @@ impl<A: Allocator + Copy> PolymorphicString<A> {
     }
 }
 
-/// A string that can be made in two steps: an [`UninitString`] has a capacity, and its `init` allocates the memory from the
+/// A string that can be initialised in two phases: an [`UninitString`] has a capacity, and its `init` allocates the memory from the
 /// allocator `A`.
 ///
 /// This is `RelocatableString` of iceoryx2-bb-container.
@@ -86,7 +86,7 @@ pub type RelocatableString<A = Global> = HeapString<Relocatable, A>;
 
 impl<A: Allocator> RelocatableString<A> {
     /// Creates an uninitialised string for `capacity` bytes. Does not allocate. O(1).
-    /// The allocator is the one that `init` is given, whatever `A` is here.
+    /// The allocator is the one that is passed to `init`, whatever `A` is here.
     #[inline]
     pub fn new_uninit(capacity: usize) -> UninitString
         ensures { result ≡ capacity }

@@ -1,10 +1,10 @@
-//! The error of a change that a string refuses.
+//! The error of creating or changing a string.
 ghost use Rattle.std.specs.Prelude.{Some};
 
 use std::error::Error;
 use std::fmt;
 
-/// The error of a change that a string refuses. The string is left unchanged.
+/// The error of creating or changing a string. A change that returns it leaves the string unchanged.
 ///
 /// This is `StringModificationError` of iceoryx2-bb-container.
 #[derive(Clone, Copy, PartialEq, Eq, Debug)]

@@ -1,4 +1,4 @@
-//! The length of a text that ends with a zero.
+//! The length of a string that ends with a zero.
 ghost use Rattle.std.specs.Prelude.{◌≡◌, min};
 ghost use Rattle.ix_string.specs.Text.{nul_position};
 

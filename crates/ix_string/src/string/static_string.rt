@@ -10,11 +10,10 @@ use crate::string::text::is_text;
 use crate::string::{String, StringModificationError, strnlen};
 use std::marker::Model;
 
-/// A string of at most `CAPACITY` bytes that is stored inline, can be copied and does not allocate. Contracts see
-/// it as the list of its bytes: `string` in a contract is that list, with no field `items`, and `bounded` of [`String`] has
-/// the bytes and the capacity.
+/// A string of at most `CAPACITY` bytes that is stored inline, can be copied and does not allocate. Contracts see it as the list of
+/// its bytes: `string` in a contract is that list, with no field `items`. `bounded` of [`String`] has the bytes and the capacity.
 ///
-/// `CAPACITY` can be any number, 0 too. The unused ones of its `CAPACITY` bytes are zeros.
+/// `CAPACITY` can be any number, including 0. The unused bytes of the `CAPACITY` bytes are zeros.
 ///
 /// This is `StaticString` of iceoryx2-bb-container.
 #[derive(Clone, Copy)]
@@ -63,8 +62,8 @@ impl<const CAPACITY: usize> StaticString<CAPACITY> {
         CAPACITY
     }
 
-    /// Creates a string that holds the first `n` bytes, without checking that `bytes` fits, that it has `n` bytes, and that
-    /// those are from 1 to 127. O(`CAPACITY`).
+    /// Creates a string that holds the first `n` bytes. Does not check that `bytes` fits, that it has `n` bytes, and that those are
+    /// from 1 to 127. O(`CAPACITY`).
     pub fn from_bytes_unchecked_restricted(bytes: &[u8], n: usize) -> Self
         requires room { length bytes.now ≤ CAPACITY }
         requires kept { n ≤ length bytes.now }
@@ -140,7 +139,7 @@ impl<const CAPACITY: usize> StaticString<CAPACITY> {
 
     /// Returns the bytes. O(1).
     ///
-    /// [`String::as_bytes`] is the same call of the trait.
+    /// [`String::as_bytes`] is the same method of the trait.
     #[inline]
     #[must_use]
     pub fn as_bytes_const(&self) -> &[u8]

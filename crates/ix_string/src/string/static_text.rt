@@ -1,4 +1,4 @@
-//! Fixed strings as texts: what is written to them, and what they lend.
+//! Writing formatted text to fixed strings, and borrowing them as string slices and bytes.
 ghost use Rattle.std.specs.Prelude.{◌≡◌, ◌+◌, ◌≤◌, ◌↔◌, ◌++◌, length, IsOk, OnErr};
 ghost use Rattle.ix_string.specs.Text.{IsText};
 
@@ -26,7 +26,7 @@ impl<const CAPACITY: usize> fmt::Write for StaticString<CAPACITY> {
     }
 }
 
-/// Lends the bytes as a text, as [`String::as_str`] does.
+/// Lends the bytes as a string slice, as [`String::as_str`] does.
 impl<const CAPACITY: usize> AsStr for StaticString<CAPACITY> {
     ghost text = { λ string. string };
 
@@ -52,7 +52,7 @@ impl<const CAPACITY: usize> AsSlice<u8> for StaticString<CAPACITY> {
     }
 }
 
-/// Has the calls of `str` that the trait [`String`] does not have, as `trim` and `parse`.
+/// Has the methods of `str` that the trait [`String`] does not have, such as `trim` and `parse`.
 impl<const CAPACITY: usize> DerefStr for StaticString<CAPACITY> {
     ghost deref_gives = { λ string text. text ≡ string };
 

@@ -112,7 +112,7 @@ impl<const CAPACITY: usize> PartialOrd for StaticString<CAPACITY> {
     }
 }
 
-/// The bytes are fed to the hasher in one write.
+/// Feeds the bytes to the hasher in one write.
 impl<const CAPACITY: usize> Hash for StaticString<CAPACITY> {
     ghost hash_input = { λ string. string ∷ [] };
 

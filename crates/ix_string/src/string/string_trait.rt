@@ -20,11 +20,11 @@ use std::str;
 /// A list of bytes from 1 to 127, with a capacity that their number does not exceed. Contracts see it as a bounded
 /// list.
 ///
-/// The room for `capacity` bytes is there once the string is made: no call of this trait allocates. A call that
-/// is refused leaves the string unchanged. Lengths and indexes are counted in bytes, and indexes start at 0.
+/// The room for `capacity` bytes is there once the string is made, so no method of this trait allocates. A method that returns an
+/// error, `None` or `false` leaves the string unchanged. Lengths and indexes are counted in bytes, and indexes start at 0.
 ///
-/// Strings are compared and hashed by their bytes, those in allocated memory whatever their capacities, and `Display`
-/// prints the bytes escaped, as [`as_escaped_string`](crate::as_escaped_string) does.
+/// Strings are compared and hashed by their bytes. For strings in allocated memory, the capacities do not matter. `Display` prints
+/// the bytes escaped, as [`as_escaped_string`](crate::as_escaped_string) does.
 ///
 /// This is `String` of iceoryx2-bb-container.
 pub trait String: Debug + Display + Eq + Ord + Hash {
@@ -67,7 +67,7 @@ pub trait String: Debug + Display + Eq + Ord + Hash {
         ensures refused { OnFalse result (self.new ≡ self.old) }
         ensures no_bytes { n ≡ 0 → self.new ≡ self.old };
 
-    /// Returns the bytes as a text. O(1).
+    /// Returns the bytes as a string slice. O(1).
     #[inline]
     #[must_use]
     final fn as_str(&self) -> &str
@@ -315,7 +315,8 @@ pub trait String: Debug + Display + Eq + Ord + Hash {
     fn remove_if<F: FnMut(u8) -> bool>(&mut self, f: F)
         requires { IsCallableAtText F.step F.pre (bounded self.old).items f }
         ensures string { Retains F.step f (bounded self.old).items (bounded self.new).items }
-        // A closure that computes whether a byte is kept, and stays as it was, leaves those that are.
+        // If `f` returns `true` exactly for the bytes that do not pass `kept`, and stays as it was, the bytes that pass `kept` are
+        // left.
         ensures filtered { (kept : ℕ → Bool)
             → ((byte : ℕ) (removed : Bool) (next : F) → F.step f byte removed next
             → (not removed ≡ kept byte) × (next ≡ f))
@@ -324,15 +325,16 @@ pub trait String: Debug + Display + Eq + Ord + Hash {
         ensures refused { (bounded self.new).items ≡ (bounded self.old).items
             → self.new ≡ self.old };
 
-    /// Removes the bytes for which `f` returns `true`: this is [`String::remove_if`], whose name says so. The `retain` of
-    /// std keeps those bytes instead. O(`len`).
+    /// Removes the bytes for which `f` returns `true`, as [`String::remove_if`] does. The `retain` of std keeps those bytes
+    /// instead. O(`len`).
     ///
     /// This is `retain` of iceoryx2-bb-container, whose code does this and whose documentation says the contrary.
     #[inline]
     final fn retain<F: FnMut(u8) -> bool>(&mut self, f: F)
         requires { IsCallableAtText F.step F.pre (bounded self.old).items f }
         ensures string { Retains F.step f (bounded self.old).items (bounded self.new).items }
-        // A closure that computes whether a byte is kept, and stays as it was, leaves those that are.
+        // If `f` returns `true` exactly for the bytes that do not pass `kept`, and stays as it was, the bytes that pass `kept` are
+        // left.
         ensures filtered { (kept : ℕ → Bool)
             → ((byte : ℕ) (removed : Bool) (next : F) → F.step f byte removed next
             → (not removed ≡ kept byte) × (next ≡ f))
@@ -344,8 +346,8 @@ pub trait String: Debug + Display + Eq + Ord + Hash {
         self.remove_if(f);
     }
 
-    /// Copies the bytes and then a zero to the start of `out`, and returns how many bytes that is, `len + 1`. Returns
-    /// `None`, and leaves `out` unchanged, if `out` is shorter. The rest of `out` is left unchanged. O(`len`).
+    /// Copies the bytes and then a zero to the start of `out`, and returns the number of copied bytes, `len + 1`. Returns `None`,
+    /// and leaves `out` unchanged, if `out` is shorter. The rest of `out` is left unchanged. O(`len`).
     #[must_use]
     final fn copy_with_nul(&self, out: &mut [u8]) -> Option<usize>
         ensures variant { IsSome result ↔ (length (bounded self.now).items < length out.old) }

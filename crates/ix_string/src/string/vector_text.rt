@@ -1,4 +1,4 @@
-//! The changes of a text in a vector of bytes.
+//! Changes of a string in a vector of bytes.
 ghost use Rattle.std.specs.Prelude.{◌≡◌, ◌+◌, ◌≤◌, ◌-◌, length, slice_range};
 ghost use Rattle.ix_vector.specs.VectorSteps.{HasRoomFor, vec_extend};
 ghost use Rattle.ix_string.specs.Retain.{IsCallableAtText, Retains};
@@ -16,7 +16,7 @@ pub(crate) fn insert_into<V: Vector<u8>>(vector: &mut V, idx: usize, bytes: &[u8
     ensures { V.bounded vector.new ≡ text_insert_slice (V.bounded vector.old) idx bytes.now }
 {
     let len = vector.len();
-    // A vector grows by appending alone, so the bytes that will lie past its present end are appended first.
+    // A vector grows only by appending, so the bytes that will lie past its present end are appended first.
     let below_end = bytes.len().min(len - idx);
     let Ok(()) = vector.extend_from_slice_unchecked(&bytes[below_end..]) else {
         unreachable!()

@@ -1,4 +1,4 @@
--- What contracts see of a place that has the bytes of an item at all times.
+-- The view that contracts have of a place that has the bytes of an item at all times.
 use Rattle.std.specs.Prelude.{Bool, true, false, Option, Some, None}
 
 -- the item, if the place holds it

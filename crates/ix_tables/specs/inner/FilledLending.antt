@@ -1,4 +1,4 @@
--- What a place that has the bytes of an item at all times is once a `&mut` to its item ends.
+-- A place that has the bytes of an item at all times, after a `&mut` to its item ends.
 use Rattle.std.specs.Prelude.{Option, Some}
 use Rattle.std.specs.Borrow.{Fml, RattleType, MutBor, Lends}
 use Rattle.ix_tables.specs.contracts.cells.filled.Filled.{the_row}

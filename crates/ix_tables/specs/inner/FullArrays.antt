@@ -1,4 +1,4 @@
--- What a full `ArrayVec`, or a row of places, is once a `&mut` into one place ends.
+-- A full `ArrayVec`, or a row of places, after a `&mut` into one place ends.
 use Rattle.std.specs.Prelude.{ℕ, List, slice_set}
 use Rattle.std.specs.Borrow.{Fml, RattleType, MutBor, Lends, Array, unit}
 use Rattle.arrayvec.specs.ArrayVec.{ArrayVec, with_item}

@@ -1,4 +1,4 @@
--- What the item of a `Some` is once a `&mut` to it ends.
+-- The item of a `Some` after a `&mut` to it ends.
 use Rattle.std.specs.Prelude.{Option, Some}
 use Rattle.std.specs.contracts.option.Option as option
 use Rattle.std.specs.Borrow.{Fml, RattleType, MutBor, Lends}

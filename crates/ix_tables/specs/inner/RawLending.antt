@@ -1,4 +1,4 @@
--- What a row in raw memory is once a `&mut` to one of its items ends.
+-- A row in raw memory after a `&mut` to one of its items ends.
 use Rattle.std.specs.Prelude.{ℕ, slice_set, Some}
 use Rattle.std.specs.Borrow.{Fml, RattleType, MutBor, Lends}
 use Rattle.ix_tables.specs.inner.RawRows.{with_places}

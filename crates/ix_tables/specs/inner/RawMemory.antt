@@ -1,4 +1,4 @@
--- What a row of places in raw memory owns and lends, where its items have the type T.
+-- The ownership and sharing of a row of places in raw memory, where its items have the type T.
 use Rattle.std.specs.Prelude.{ℕ, ◌+◌, ◌*◌, ◌^◌, List, [], ◌∷◌, length, Option, Some, None}
 use Rattle.std.specs.Mem.{type_size}
 use base.Fraction.{full_share}

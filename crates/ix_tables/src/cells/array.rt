@@ -5,10 +5,10 @@ ghost use Rattle.ix_tables.specs.Lending.{table_lends};
 
 /// A fixed row of places that each hold an item.
 ///
-/// Places are indexed from 0. Where a place of a [`Table`](crate::Table) may be empty, one of an array never is: an item is
+/// Places are indexed from 0. A place of a [`Table`](crate::Table) may be empty. A place of an array always holds an item, which is
 /// overwritten, not removed.
 ///
-/// Every call is O(1) and does not allocate.
+/// Every method is O(1) and does not allocate.
 pub trait Array<T>: Sized {
     /// The item in each place.
     ghost items: { Self → List T };
@@ -16,7 +16,8 @@ pub trait Array<T>: Sized {
     /// The array with another item in a place.
     ghost with_item: { Self → ℕ → T → Self };
 
-    /// What is known of the number of places of every such array: of an inline one its capacity, of others nothing.
+    /// A fact about the number of places that holds for every such array. For an inline array, the number is its capacity. For
+    /// other arrays, the fact is trivial.
     ghost IsLen: { ℕ → Type 0 } = { λ _. Unit {0} };
 
     /// Returns the number of places.
@@ -35,6 +36,6 @@ pub trait Array<T>: Sized {
         ensures* writes_back { sem 𝓛 (table_lends Self.row T.row with_item self.entry i result) }
         ensures value { result.now ≡ slice_index_or (items self.old) i result.now };
 
-    /// Another item in a place changes that place alone.
+    /// Replacing the item in a place changes that place alone.
     ghost items_with_item: { (s : Self) (i : ℕ) (x : T) → items (with_item s i x) ≡ slice_set (items s) i x };
 }

@@ -35,8 +35,8 @@ impl Count {
 
 /// A counter of the calls on [`Counted`] tables, of size zero. Contracts see its number.
 ///
-/// Only the calls of a [`Counted`] table raise it, so a contract can bound the work of a function by it. Nothing is
-/// counted at run time.
+/// Only calls on a [`Counted`] table or array raise it, so a contract can bound the work of a function by it. Nothing is counted at
+/// run time.
 #[derive(Drop)]
 pub struct Touches {
     count: Count,
@@ -82,10 +82,11 @@ impl fmt::Debug for Touches {
     }
 }
 
-/// A table or an array whose calls raise a [`Touches`]: each by one, and [`Counted::get_mut`] and [`Counted::item_mut`] by two,
-/// since their caller may read and write the item. Contracts see the table or array itself.
+/// A table or an array that counts in a [`Touches`] how often its places are accessed. Each access adds one, except
+/// [`Counted::get_mut`] and [`Counted::item_mut`], which add two: their caller may read and write the item. Contracts see the table
+/// or array itself.
 ///
-/// No call allocates. Each is O(1), but for [`Table::end`], which may look at each place.
+/// No method allocates. Each is O(1), except [`Table::end`], which may look at each place.
 #[derive(Drop)]
 pub struct Counted<S> {
     table: S,

@@ -9,10 +9,10 @@ use std::alloc::{AllocError, Allocator, Global};
 use std::fmt;
 use std::marker::Model;
 
-/// A table that allocates its places from `A` when it is made, in one block, and never after, and deallocates them when it is
-/// dropped. It is for items that are `Copy`.
+/// A table that allocates its places from `A` in one block when it is made, and deallocates them when it is dropped. It never
+/// allocates after it is made. It is for items that are `Copy`.
 ///
-/// A place has the bytes of an item at all times, and nothing beside them: whether it holds that item only contracts see.
+/// A place has the bytes of an item at all times, and no other bytes. Only contracts see whether it holds that item.
 #[derive(Drop)]
 pub struct FilledHeapTable<T, A: Allocator = Global> {
     places: Vec<Filled<T>, A>,
@@ -27,10 +27,10 @@ impl<T, A: Allocator> Model for FilledHeapTable<T, A> {
 }
 
 impl<T: Copy, A: Allocator> FilledHeapTable<T, A> {
-    /// Returns how much memory a table of `len` places takes from its allocator when it is made.
+    /// Returns the amount of memory that a table of `len` places allocates when it is made.
     ///
-    /// This is a block of as many items, and none if `len` is 0. An allocator that rounds each block up takes more than these
-    /// bytes ([`MemorySize`]).
+    /// This is one allocation of `len` items, or none if `len` is 0. An allocator that rounds allocations up uses more bytes than
+    /// this ([`MemorySize`]).
     ///
     /// Does not allocate. O(1).
     #[inline]
@@ -45,7 +45,7 @@ impl<T: Copy, A: Allocator> FilledHeapTable<T, A> {
 
     /// Creates a table of `len` empty places, which have the bytes of `filler`.
     ///
-    /// O(`len`), with at most one allocation. Returns `AllocError` if it fails, and if the places would take more than
+    /// O(`len`), with at most one allocation. Returns `AllocError` if the allocation fails, or if the places would take more than
     /// `isize::MAX` bytes.
     pub fn new(alloc: A, len: usize, filler: T) -> Result<Self, AllocError>
         ensures value { IfOk result (λ table. table ≡ replicate len None) }
@@ -59,7 +59,7 @@ impl<T: Copy, A: Allocator> FilledHeapTable<T, A> {
     }
 }
 
-/// Prints the type's name and the number of places. A table can't be asked which of them hold an item.
+/// Prints the type's name and the number of places. No method tells which of them hold an item.
 impl<T, A: Allocator> fmt::Debug for FilledHeapTable<T, A> {
     fn fmt<W: fmt::Write>(&self, f: &mut fmt::Formatter<W>) -> fmt::Result {
         f.debug_struct("FilledHeapTable")

@@ -10,9 +10,9 @@ use std::{array, fmt};
 
 /// A table of `CAP` places that is stored inline and does not allocate, for items that are `Copy`.
 ///
-/// A place has the bytes of an item at all times, and nothing beside them: whether it holds that item only contracts see. So
-/// a place takes as many bytes as an item, where one of an [`InlineTable`](crate::InlineTable) takes up to twice as many, and a
-/// table that is dropped visits no place.
+/// A place has the bytes of an item at all times, and no other bytes. Only contracts see whether it holds that item. So a place
+/// takes as many bytes as an item. A place of an [`InlineTable`](crate::InlineTable) takes up to twice as many. Dropping the table
+/// visits no place.
 #[derive(Drop)]
 pub struct FilledInlineTable<T, const CAP: usize> {
     places: ArrayVec<Filled<T>, CAP>,
@@ -39,7 +39,7 @@ impl<T: Copy, const CAP: usize> FilledInlineTable<T, CAP> {
     }
 }
 
-/// Prints the type's name and the number of places. A table can't be asked which of them hold an item.
+/// Prints the type's name and the number of places. No method tells which of them hold an item.
 impl<T, const CAP: usize> fmt::Debug for FilledInlineTable<T, CAP> {
     fn fmt<W: fmt::Write>(&self, f: &mut fmt::Formatter<W>) -> fmt::Result {
         let _places = &self.places;

@@ -8,8 +8,8 @@ use std::alloc::{AllocError, Allocator, Global};
 use std::fmt;
 use std::marker::Model;
 
-/// An array that allocates its places from `A` when it is made, in one block, and never after, and deallocates them when it is
-/// dropped.
+/// An array that allocates its places from `A` in one block when it is made, and deallocates them when it is dropped. It never
+/// allocates after it is made.
 #[derive(Drop)]
 pub struct HeapArray<T, A: Allocator = Global> {
     places: Vec<T, A>,
@@ -24,10 +24,10 @@ impl<T, A: Allocator> Model for HeapArray<T, A> {
 }
 
 impl<T: Copy, A: Allocator> HeapArray<T, A> {
-    /// Returns how much memory an array of `len` places takes from its allocator when it is made.
+    /// Returns the amount of memory that an array of `len` places allocates when it is made.
     ///
-    /// This is a block of as many items, and none if `len` is 0. An allocator that rounds each block up takes more than these
-    /// bytes ([`MemorySize`]).
+    /// This is one allocation of `len` items, or none if `len` is 0. An allocator that rounds allocations up uses more bytes than
+    /// this ([`MemorySize`]).
     ///
     /// Does not allocate. O(1).
     #[inline]
@@ -42,7 +42,7 @@ impl<T: Copy, A: Allocator> HeapArray<T, A> {
 
     /// Creates an array of `len` places that each hold `item`.
     ///
-    /// O(`len`), with at most one allocation. Returns `AllocError` if it fails, and if the places would take more than
+    /// O(`len`), with at most one allocation. Returns `AllocError` if the allocation fails, or if the places would take more than
     /// `isize::MAX` bytes.
     pub fn new(alloc: A, len: usize, item: T) -> Result<Self, AllocError>
         ensures value { IfOk result (λ array. array ≡ replicate len item) }

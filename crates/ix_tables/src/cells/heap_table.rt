@@ -8,7 +8,8 @@ use std::alloc::{AllocError, Allocator, Global};
 use std::fmt;
 use std::marker::Model;
 
-/// A table that allocates its places from `A` when it is made, and never after, and deallocates them when it ends.
+/// A table that allocates its places from `A` when it is made, and deallocates them when it ends. It never allocates after it is
+/// made.
 pub struct HeapTable<T, A: Allocator = Global> {
     slots: RawSlots<T, A>,
 }
@@ -22,10 +23,10 @@ impl<T, A: Allocator> Model for HeapTable<T, A> {
 }
 
 impl<T: Drop, A: Allocator> HeapTable<T, A> {
-    /// Returns how much memory a table of `len` places takes from its allocator when it is made.
+    /// Returns the amount of memory that a table of `len` places allocates when it is made.
     ///
-    /// This is a block of the places, if they have bytes, and a block of their marks; no block if `len` is 0. An allocator that
-    /// rounds each block up takes more than these bytes ([`MemorySize`]).
+    /// This is one allocation of the places, if they have bytes, and one of their marks. There is none if `len` is 0. An allocator
+    /// that rounds allocations up uses more bytes than this ([`MemorySize`]).
     ///
     /// Does not allocate. O(1).
     #[inline]
@@ -40,8 +41,8 @@ impl<T: Drop, A: Allocator> HeapTable<T, A> {
 
     /// Creates a table of `len` empty places.
     ///
-    /// O(`len`), with at most two allocations, one of the places and one of their marks. Returns `AllocError` if one fails,
-    /// and if the places would take more than `isize::MAX` bytes; nothing stays allocated then.
+    /// O(`len`), with at most two allocations, one of the places and one of their marks. Returns `AllocError` if an allocation
+    /// fails, or if the places would take more than `isize::MAX` bytes. Nothing stays allocated then.
     pub fn new(alloc: A, len: usize) -> Result<Self, AllocError>
         ensures value { IfOk result (λ table. table ≡ replicate len None) }
         ensures memory { len ≡ 0 → IsOk result }
@@ -51,7 +52,7 @@ impl<T: Drop, A: Allocator> HeapTable<T, A> {
     }
 }
 
-/// Prints the type's name and the number of places. A table can't be asked which of them hold an item.
+/// Prints the type's name and the number of places. No method tells which of them hold an item.
 impl<T, A: Allocator> fmt::Debug for HeapTable<T, A> {
     fn fmt<W: fmt::Write>(&self, f: &mut fmt::Formatter<W>) -> fmt::Result {
         f.debug_struct("HeapTable")

@@ -5,7 +5,7 @@ ghost use Rattle.ix_tables.specs.inner.HeldItem.{option_lends};
 
 use std::mem::align_of;
 
-/// Returns a reference to the value of a `Some`, without a look at which variant it is. O(1).
+/// Returns a reference to the value of a `Some`, without checking the variant. O(1).
 #[inline]
 pub(crate) fn item<T>(place: &Option<T>) -> &T
     requires { IsSome place.now }
@@ -18,7 +18,7 @@ pub(crate) fn item<T>(place: &Option<T>) -> &T
     }
 }
 
-/// Returns a mutable reference to the value of a `Some`, without a look at which variant it is. O(1).
+/// Returns a mutable reference to the value of a `Some`, without checking the variant. O(1).
 #[inline]
 pub(crate) fn item_mut<T>(place: &mut Option<T>) -> &mut T
     requires { IsSome place.old }

@@ -53,7 +53,7 @@ impl<T: Drop, const CAP: usize> Default for InlineTable<T, CAP> {
     }
 }
 
-/// Prints the type's name and the number of places. A table can't be asked which of them hold an item.
+/// Prints the type's name and the number of places. No method tells which of them hold an item.
 impl<T, const CAP: usize> fmt::Debug for InlineTable<T, CAP> {
     fn fmt<W: fmt::Write>(&self, f: &mut fmt::Formatter<W>) -> fmt::Result {
         let _places = &self.places;

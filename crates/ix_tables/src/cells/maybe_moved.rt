@@ -6,11 +6,11 @@ ghost use Rattle.ix_tables.specs.HeldItem.{moved_lends};
 use std::marker::{Move, Owns, Send, Sync};
 use std::mem::ManuallyDrop;
 
-/// An item, or the bytes of one that was moved out. Nothing at run time says which: whoever owns it knows. Contracts see
-/// the item, or nothing.
+/// An item, or the bytes of an item that was moved out. Nothing at run time says which; its owner knows. Contracts see the item, or
+/// nothing.
 ///
-/// It takes the bytes of an item. An item that is in it when it is dropped is leaked, so its owner moves the item out before.
-/// Each call is O(1).
+/// It takes as many bytes as an item. Dropping it leaks an item that is still in it, so its owner moves the item out before. Each
+/// method is O(1).
 // An `Option` would have to be cleared where its item is taken. Here nothing is written.
 pub struct MaybeMoved<T> {
     item: T,
@@ -58,7 +58,7 @@ impl<T> MaybeMoved<T> {
         ensures value { self.old ≡ Some result }
         ensures place { self.new ≡ None }
     {
-        // SAFETY: whoever calls this sees from now on that there is no item.
+        // SAFETY: the caller sees from now on that there is no item.
         unsafe { (&raw const self.item).read() }
     }
 
@@ -81,7 +81,7 @@ impl<T> MaybeMoved<T> {
         requires { self.now ≡ None }
         ensures { result ≡ None }
     {
-        // SAFETY: there is no item that could be had twice.
+        // SAFETY: there is no item that could be duplicated.
         unsafe { (self as *const MaybeMoved<T>).read() }
     }
 

@@ -1,4 +1,4 @@
-//! Places in raw memory, beside a mark for each.
+//! Places in raw memory, with a mark for each.
 ghost use Rattle.std.specs.Prelude.{◌≡◌, ℕ, ◌≤◌, ◌*◌, length, replicate, Some, None, false, slice_set, IfOk, IsOk};
 ghost use Rattle.std.specs.Borrow.{sem};
 ghost use Rattle.std.specs.Mem.{type_size};
@@ -13,11 +13,10 @@ use std::marker::Model;
 use std::mem::size_of;
 use std_alloc::room::may_hold;
 
-/// A fixed row of places, each empty or holding one item, in memory that is allocated from `A` when it is made, and
-/// never after.
+/// A fixed row of places, each empty or holding one item. Its memory is allocated from `A` when it is made, and never after.
 ///
-/// Places are indexed from 0. A place takes the bytes of an item and one byte more, its mark. Contracts see the content of
-/// each place. The owner takes every item out before it consumes the row by [`RawSlots::end`]; a row can't be dropped.
+/// Places are indexed from 0. A place takes the bytes of an item and one more byte for its mark. Contracts see the content of each
+/// place. The owner takes every item out before it consumes the row by [`RawSlots::end`]. A row can't be dropped.
 pub struct RawSlots<T, A: Allocator = Global> {
     ptr: RowPtr<T>,
     row: RowOwner<T>,
@@ -41,10 +40,10 @@ impl<T, A: Allocator> Model for RawSlots<T, A> {
 impl<T, A: Allocator> RawSlots<T, A> {
     ghost use Rattle.ix_tables.specs.Lending.{raw_slots_lends};
 
-    /// Returns how much memory a row of `len` places takes from its allocator when it is made.
+    /// Returns the amount of memory that a row of `len` places allocates when it is made.
     ///
-    /// This is a block of the places, if they have bytes, and a block of their marks; no block if `len` is 0. An allocator that
-    /// rounds each block up takes more than these bytes ([`MemorySize`]).
+    /// This is one allocation of the places, if they have bytes, and one of their marks. There is none if `len` is 0. An allocator
+    /// that rounds allocations up uses more bytes than this ([`MemorySize`]).
     ///
     /// Does not allocate. O(1).
     #[inline]
@@ -64,9 +63,9 @@ impl<T, A: Allocator> RawSlots<T, A> {
 
     /// Creates a row of `len` empty places.
     ///
-    /// O(`len`), with at most two allocations, one of the places and one of their marks. A `len` of 0 needs no memory, and
-    /// items of size zero need it for the marks alone. Returns `AllocError` if an allocation fails, and for any `len` whose
-    /// places would take more than `isize::MAX` bytes; nothing stays allocated then.
+    /// O(`len`), with at most two allocations, one of the places and one of their marks. If `len` is 0 there is none, and for items
+    /// of size zero only the marks are allocated. Returns `AllocError` if an allocation fails, or if the places would take more
+    /// than `isize::MAX` bytes. Nothing stays allocated then.
     pub fn new(alloc: A, len: usize) -> Result<Self, AllocError>
         ensures value { IfOk result (λ slots. slots ≡ replicate len None) }
         ensures memory { len ≡ 0 → IsOk result }

@@ -1,4 +1,4 @@
-//! Containers that are made in two steps: first with a capacity, then with memory.
+//! Containers with two-phase initialisation: first with a capacity, then with memory.
 ghost use Rattle.std.specs.Prelude.{◌≡◌, ℕ, IfOk, IfErr, Some, codes, ⊤};
 
 use std::alloc::AllocError;
@@ -6,8 +6,8 @@ use std::error::Error;
 use std::fmt;
 use std::marker::Model;
 
-/// The error of [`RelocatableContainer::init`]: there is no memory for the capacity. It holds the uninitialised container,
-/// and contracts see it as that container.
+/// The error of [`RelocatableContainer::init`]: the memory for the capacity cannot be allocated. It holds the uninitialised
+/// container, and contracts see it as that container.
 #[derive(Drop)]
 pub struct InitError<U> {
     uninit: U,
@@ -60,7 +60,7 @@ impl<U> fmt::Debug for InitError<U> {
 
 impl<U: Drop> Error for InitError<U> {}
 
-/// Drops the uninitialised container. So `init(alloc)?` is at home in a function that returns `AllocError`.
+/// Drops the uninitialised container. So a function that returns `AllocError` can use `init(alloc)?`.
 impl<U: Drop> From<InitError<U>> for AllocError {
     ghost from_gives = { λ _ _. ⊤ };
 
@@ -71,10 +71,10 @@ impl<U: Drop> From<InitError<U>> for AllocError {
     }
 }
 
-/// A container that is made in two steps: first uninitialised with a capacity, then initialised with memory of an
+/// A container with two-phase initialisation. It is made uninitialised with a capacity, and `init` allocates its memory from an
 /// allocator `A`.
 ///
-/// An uninitialised container offers [`RelocatableContainer::init`] alone.
+/// The only method of an uninitialised container is [`RelocatableContainer::init`].
 ///
 /// This is `RelocatableContainer` of iceoryx2-bb-container.
 pub trait RelocatableContainer<A>: Sized {
@@ -93,7 +93,7 @@ pub trait RelocatableContainer<A>: Sized {
 
     /// Allocates from `alloc` and returns the empty container.
     ///
-    /// Returns `self` in an [`InitError`] if an allocation fails or the capacity is too great; nothing stays allocated then.
+    /// Returns `self` in an [`InitError`] if an allocation fails or the capacity is too great. Nothing stays allocated then.
     fn init(self, alloc: A) -> Result<Self::Ready, InitError<Self>>
         ensures value { IfOk result (is_empty_with (capacity_of self)) }
         ensures refused { IfErr result (λ error. error ≡ self) };

@@ -9,10 +9,10 @@ pub const MAX_FIXED_CAPACITY: usize = 4_294_967_295;
 
 /// A fixed row of places, each empty or holding one item.
 ///
-/// Places are indexed from 0. A table can't be asked whether a place holds an item: its owner knows. The owner takes
-/// every item out before it consumes the table by [`Table::end`]; no table but a filled one can be dropped.
+/// Places are indexed from 0. No method of a table tells whether a place holds an item: its owner knows. The owner takes every item
+/// out before it consumes the table by [`Table::end`]. Only a filled table can be dropped.
 ///
-/// Every call is O(1) and does not allocate, but `end`, which may take O(`len`): an inline table drops its places.
+/// Every method is O(1) and does not allocate. Only `end` may take O(`len`), since an inline table drops its places.
 pub trait Table<T>: Sized {
     /// The content of each place.
     ghost places: { Self → List (Option T) };
@@ -20,7 +20,8 @@ pub trait Table<T>: Sized {
     /// The table with another item in a held place.
     ghost with_item: { Self → ℕ → T → Self };
 
-    /// What is known of the number of places of every such table: of an inline one its capacity, of others nothing.
+    /// A fact about the number of places that holds for every such table. For an inline table, the number is its capacity. For
+    /// other tables, the fact is trivial.
     ghost IsLen: { ℕ → Type 0 } = { λ _. Unit {0} };
 
     /// Returns the number of places.
@@ -54,7 +55,7 @@ pub trait Table<T>: Sized {
     fn end(self)
         requires { IsVacant (places self) };
 
-    /// Another item in a place changes that place alone.
+    /// Replacing the item in a place changes that place alone.
     ghost places_with_item: { (s : Self) (i : ℕ) (x : T)
         → places (with_item s i x) ≡ slice_set (places s) i (Some x) };
 }

@@ -6,7 +6,7 @@ use std::alloc::AllocError;
 use std::fmt;
 use std::marker::{Model, PhantomData};
 
-/// The containers of one kind, one type for each allocator `A`: what [`Uninit`] initialises.
+/// The containers of one kind, with one type for each allocator `A`. [`Uninit`] initialises them.
 pub trait ContainerFamily<A> {
     /// The container in memory of an `A`.
     type Container;
@@ -23,7 +23,7 @@ pub trait ContainerFamily<A> {
 
 /// An uninitialised container of the family `F`: a capacity, and no memory yet. Contracts see it as that capacity.
 ///
-/// It offers [`RelocatableContainer::init`] alone.
+/// Its only method is [`RelocatableContainer::init`].
 #[derive(Drop)]
 pub struct Uninit<F> {
     capacity: usize,

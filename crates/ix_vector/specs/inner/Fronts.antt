@@ -1,4 +1,4 @@
--- The places of a full array, the first of which are the items of a vector.
+-- The places of a full array. The first of them are the items of a vector.
 use Rattle.std.specs.Prelude.{ℕ, ◌≡◌, ◌≤◌, List, length}
 
 -- len of the places come first

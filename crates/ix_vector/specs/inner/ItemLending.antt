@@ -1,4 +1,4 @@
--- What a vector is once a `&mut` to one of its items ends: as it was, with the last value behind the reference r at index i.
+-- A vector after a `&mut` to one of its items ends: as it was, with the last value behind the reference r at index i.
 use Rattle.std.specs.Prelude.{ℕ, List, slice_set}
 use Rattle.std.specs.Borrow.{Fml, RattleType, MutBor, Lends}
 use Rattle.std.specs.declared.alloc.Allocator.{Ghosts}

@@ -1,10 +1,10 @@
-//! Items that move from one vector to another.
+//! Elements that move from one vector to another.
 ghost use Rattle.std.specs.Prelude.{◌≡◌, ◌-◌, ◌≤◌, ◌++◌, length, take, drop, reverse};
 ghost use Rattle.ix_vector.specs.VectorSteps.{HasRoomFor, vec_extend, vec_truncate};
 
 use crate::vector::Vector;
 
-/// Moves the items of `from` from index `at` on to the end of `to`, in their order. Moves each of them twice.
+/// Moves the elements of `from` from index `at` on to the end of `to`, in their order. Moves each of them twice.
 pub(crate) fn move_tail<T: Drop, V: Vector<T>, W: Vector<T>>(from: &mut V, at: usize, to: &mut W)
     requires at { at ≤ length (V.bounded from.old).items }
     requires room { HasRoomFor (length (V.bounded from.old).items - at) (W.bounded to.old) }
@@ -16,7 +16,7 @@ pub(crate) fn move_tail<T: Drop, V: Vector<T>, W: Vector<T>>(from: &mut V, at: u
     pop_into(from, at, to);
 }
 
-/// Moves the items of `from` from index `at` on to the end of `to`, the last one first.
+/// Moves the elements of `from` from index `at` on to the end of `to`, the last one first.
 fn pop_into<T: Drop, V: Vector<T>, W: Vector<T>>(from: &mut V, at: usize, to: &mut W)
     requires at { at ≤ length (V.bounded from.old).items }
     requires room { HasRoomFor (length (V.bounded from.old).items - at) (W.bounded to.old) }
@@ -31,7 +31,7 @@ fn pop_into<T: Drop, V: Vector<T>, W: Vector<T>>(from: &mut V, at: usize, to: &m
     }
 }
 
-/// Reverses the items from index `at` on.
+/// Reverses the elements from index `at` on.
 #[inline]
 pub(crate) fn reverse_from<T>(items: &mut [T], at: usize)
     requires { at ≤ length items.old }

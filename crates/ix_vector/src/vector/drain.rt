@@ -10,11 +10,10 @@ use std::fmt::{self, Debug, Formatter, Write};
 use std::iter::FusedIterator;
 use std::marker::PhantomData;
 
-/// An iterator that removes the items of a vector, from the first to the last, as [`Vector::drain`] returns it.
+/// An iterator that removes the elements of a vector, from the first to the last, as [`Vector::drain`] returns it.
 ///
-/// The items that are still to come when it is dropped are dropped with it, the next one first, and the vector is empty
-/// then.
-// The vector holds the items the last one first, so that the next one can be popped.
+/// Dropping it drops the elements that are still to come, the next one first. The vector is empty then.
+// The vector holds the elements in reverse order, so that the next one can be popped.
 pub struct Drain<'a, T: Drop, V: Vector<T>> {
     vector: &'a mut V,
     of: PhantomData<T>,
@@ -23,7 +22,7 @@ pub struct Drain<'a, T: Drop, V: Vector<T>> {
 impl<'a, T: Drop, V: Vector<T>> Drain<'a, T, V> {
     ghost use Rattle.ix_vector.specs.VectorDrain.{drain_lender, DrainKeepsAlong};
 
-    /// Returns an iterator that removes all items of `vector`, from the first to the last.
+    /// Returns an iterator that removes all elements of `vector`, from the first to the last.
     #[inline]
     pub(crate) fn new(vector: &'a mut V) -> Self
         ensures items { drain_items V.bounded result ≡ (V.bounded vector.old).items }
@@ -39,7 +38,7 @@ impl<'a, T: Drop, V: Vector<T>> Drain<'a, T, V> {
     }
 }
 
-/// Drops the items that are still to come, the next one first. The vector is empty then. O(the number of items).
+/// Drops the elements that are still to come, the next one first. The vector is empty then. O(the number of elements).
 impl<T: Drop, V: Vector<T>> Drop for Drain<'_, T, V> {
     fn drop(self)
         ensures { V.bounded self.exit.0.now ≡ bounded_new (drain_capacity V.bounded self.entry) }
@@ -56,13 +55,13 @@ impl<T: Drop, V: Vector<T>> Iterator for Drain<'_, T, V> {
 
     ghost remaining = { item_count (drain_items V.bounded) };
 
-    /// Removes the first item and returns it, or `None` if there is none. O(1).
+    /// Removes the first element and returns it, or `None` if there is none. O(1).
     #[inline]
     fn next(&mut self) -> Option<T> {
         self.vector.pop()
     }
 
-    /// Returns the number of items that are still to come, as both bounds. O(1).
+    /// Returns the number of elements that are still to come, as both bounds. O(1).
     #[inline]
     fn size_hint(&self) -> (usize, Option<usize>)
         ensures value { result
@@ -76,7 +75,7 @@ impl<T: Drop, V: Vector<T>> Iterator for Drain<'_, T, V> {
 }
 
 impl<T: Drop, V: Vector<T>> ExactSizeIterator for Drain<'_, T, V> {
-    /// Returns the number of items that are still to come. O(1).
+    /// Returns the number of elements that are still to come. O(1).
     #[inline]
     fn len(&self) -> usize {
         self.vector.len()
@@ -85,7 +84,7 @@ impl<T: Drop, V: Vector<T>> ExactSizeIterator for Drain<'_, T, V> {
 
 impl<T: Drop, V: Vector<T>> FusedIterator for Drain<'_, T, V> {}
 
-/// Prints a list of the items that are still to come. O(the number of items).
+/// Prints a list of the elements that are still to come. O(the number of elements).
 impl<T: Drop + Debug, V: Vector<T>> Debug for Drain<'_, T, V> {
     fn fmt<W: Write>(&self, f: &mut Formatter<W>) -> fmt::Result {
         f.debug_list().entries(self.vector.iter().rev()).finish()

@@ -1,18 +1,18 @@
-//! Shifts of the items of a slice by one place.
+//! Shifts of the elements of a slice by one place.
 ghost use Rattle.std.specs.Prelude.{◌≡◌, ◌+◌, ◌-◌, ◌<◌, List, [], ◌∷◌, ◌++◌, length, take, drop, slice_range};
 ghost use Rattle.std.specs.List.{remove_range};
 ghost use Rattle.core.specs.Mem.Slots.{slots_items, slots_len, IsFull, Refills};
 
 use core::slots::{Slots, with_slots};
 
-/// Moves the last item of a slice to its front, and each other item one place to the right. Moves each item once.
+/// Moves the last element of a slice to its front, and each other element one place to the right. Moves each element once.
 #[inline]
 fn last_to_front<T>(items: &mut [T])
     requires { 0 < length items.old }
     ensures { items.new ≡ drop (length items.old - 1) items.old
         ++ take (length items.old - 1) items.old }
 {
-    // SAFETY: every place holds an item again once the last one is put.
+    // SAFETY: every place holds an element again once the last one is put.
     unsafe { with_slots(items, &mut (), (), put_last_first) }
 }
 
@@ -30,13 +30,13 @@ fn put_last_first<T>(mut row: Slots<T>, state: (), _argument: ()) -> (Slots<T>, 
     (row, state, ())
 }
 
-/// Moves the first item of a slice to its end, and each other item one place to the left. Moves each item once.
+/// Moves the first element of a slice to its end, and each other element one place to the left. Moves each element once.
 #[inline]
 fn first_to_end<T>(items: &mut [T])
     requires { 0 < length items.old }
     ensures { items.new ≡ drop 1 items.old ++ take 1 items.old }
 {
-    // SAFETY: every place holds an item again once the first one is put.
+    // SAFETY: every place holds an element again once the first one is put.
     unsafe { with_slots(items, &mut (), (), put_first_last) }
 }
 
@@ -53,7 +53,7 @@ fn put_first_last<T>(mut row: Slots<T>, state: (), _argument: ()) -> (Slots<T>, 
     (row, state, ())
 }
 
-/// Moves the last item to `index`, shifting all items from there on to the right.
+/// Moves the last element to `index`, shifting all elements from there on to the right.
 #[inline]
 pub(crate) fn move_last_to<T>(items: &mut [T], index: usize)
     requires { index < length items.old }
@@ -63,7 +63,7 @@ pub(crate) fn move_last_to<T>(items: &mut [T], index: usize)
     last_to_front(&mut items[index..]);
 }
 
-/// Moves the item at `index` to the end, shifting all later items to the left.
+/// Moves the element at `index` to the end, shifting all later elements to the left.
 #[inline]
 pub(crate) fn move_to_end<T>(items: &mut [T], index: usize)
     requires { index < length items.old }

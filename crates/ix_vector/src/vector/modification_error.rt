@@ -1,19 +1,19 @@
-//! The error of calls that change a vector.
+//! The error of methods that change a vector.
 ghost use Rattle.std.specs.Prelude.{Some};
 
 use std::error::Error;
 use std::fmt;
 
-/// The error of calls that change a vector. The vector is unchanged when it is returned.
+/// The error of methods that change a vector. The vector is unchanged when a method returns it.
 ///
 /// This is `VectorModificationError` of iceoryx2-bb-container, with [`VectorModificationError::OutOfMemory`] added.
 #[derive(Clone, Copy, PartialEq, Eq, Debug)]
 pub enum VectorModificationError {
     /// The index is greater than the length.
     OutOfBounds,
-    /// There would be more items than the capacity.
+    /// There would be more elements than the capacity.
     InsertWouldExceedCapacity,
-    /// Cloning an item failed because there was no memory.
+    /// An allocation failed while an element was cloned.
     OutOfMemory,
 }
 

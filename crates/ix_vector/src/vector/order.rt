@@ -1,4 +1,4 @@
-//! The order of vectors, and what they feed to a hasher.
+//! The order of vectors, and their hash.
 ghost use Rattle.std.specs.Cmp.{on_po, on_total};
 ghost use Rattle.std.specs.Cmp.Lexicographic.{slice_cmp, slice_partial_cmp, lists_po, lists_total, lists_agrees, lists_ties};
 ghost use Rattle.std.specs.Hash as fed;
@@ -9,7 +9,7 @@ use std::alloc::Allocator;
 use std::cmp::Ordering;
 use std::hash::{Hash, Hasher};
 
-/// Vectors are compared by the first items that are not equal, and otherwise the shorter one is less.
+/// Vectors are compared by the first elements that are not equal, and otherwise the shorter one is less.
 impl<T: Default + PartialOrd, const CAPACITY: usize> PartialOrd for StaticVec<T, CAPACITY> {
     ghost partial_cmp = { slice_partial_cmp T.partial_cmp };
 
@@ -21,7 +21,7 @@ impl<T: Default + PartialOrd, const CAPACITY: usize> PartialOrd for StaticVec<T,
     }
 }
 
-/// Vectors are compared by the first items that are not equal, and otherwise the shorter one is less.
+/// Vectors are compared by the first elements that are not equal, and otherwise the shorter one is less.
 impl<T: Default + Ord, const CAPACITY: usize> Ord for StaticVec<T, CAPACITY> {
     ghost cmp = { slice_cmp T.cmp };
 
@@ -37,7 +37,7 @@ impl<T: Default + Ord, const CAPACITY: usize> Ord for StaticVec<T, CAPACITY> {
     }
 }
 
-/// Feeds what a slice of the items feeds: their number, and then each item. Equal vectors feed the same.
+/// Feeds the hasher the same as a slice of the elements does: their number, and then each element. Equal vectors feed the same.
 impl<T: Default + Hash, const CAPACITY: usize> Hash for StaticVec<T, CAPACITY> {
     ghost hash_input = { fed.slice T.hash_input };
 
@@ -49,7 +49,7 @@ impl<T: Default + Hash, const CAPACITY: usize> Hash for StaticVec<T, CAPACITY> {
     }
 }
 
-/// Vectors are compared by the first items that are not equal, and otherwise the shorter one is less. Their capacities do
+/// Vectors are compared by the first elements that are not equal, and otherwise the shorter one is less. Their capacities do
 /// not matter.
 impl<T: PartialOrd, A: Allocator> PartialOrd for PolymorphicVec<T, A> {
     ghost partial_cmp = { λ vector other.
@@ -63,7 +63,7 @@ impl<T: PartialOrd, A: Allocator> PartialOrd for PolymorphicVec<T, A> {
     }
 }
 
-/// Vectors are compared by the first items that are not equal, and otherwise the shorter one is less. Their capacities do
+/// Vectors are compared by the first elements that are not equal, and otherwise the shorter one is less. Their capacities do
 /// not matter.
 impl<T: Ord, A: Allocator> Ord for PolymorphicVec<T, A> {
     ghost cmp = { λ vector other. slice_cmp T.cmp vector.items other.items };
@@ -81,8 +81,8 @@ impl<T: Ord, A: Allocator> Ord for PolymorphicVec<T, A> {
     }
 }
 
-/// Feeds what a slice of the items feeds: their number, and then each item. Equal vectors feed the same, whatever their
-/// capacities.
+/// Feeds the hasher the same as a slice of the elements does: their number, and then each element. Equal vectors feed the same,
+/// whatever their capacities.
 impl<T: Hash, A: Allocator> Hash for PolymorphicVec<T, A> {
     ghost hash_input = { λ vector. fed.slice T.hash_input vector.items };
 

@@ -23,7 +23,7 @@ use std::{fmt, slice, vec};
 /// bounded list.
 ///
 /// `A` is the global allocator, a `&Bump` of `bumpalo`, a `&LocalHeap` of `linked_list_allocator`, or any other. The
-/// items are dropped from the last to the first.
+/// elements are dropped from the last to the first.
 ///
 /// This is `PolymorphicVec` of iceoryx2-bb-container.
 pub struct PolymorphicVec<T, A: Allocator = Global> {
@@ -47,11 +47,11 @@ impl<T, A: Allocator> Model for PolymorphicVec<T, A> {
 }
 
 impl<T: Drop, A: Allocator> PolymorphicVec<T, A> {
-    /// Creates an empty vector with room for `capacity` items.
+    /// Creates an empty vector with room for `capacity` elements.
     ///
-    /// O(1), with at most one allocation. Returns `AllocError` if it fails, and if the items would take more than
-    /// `isize::MAX` bytes or, at size zero, be more than `isize::MAX`; nothing stays allocated then. A capacity of 0 needs
-    /// no memory.
+    /// O(1), with at most one allocation. A capacity of 0 allocates nothing. Returns `AllocError` if the allocation fails, or if
+    /// the elements would take more than `isize::MAX` bytes. For elements of size zero, also returns `AllocError` if there would be
+    /// more than `isize::MAX` of them. Nothing stays allocated then.
     pub fn new(alloc: A, capacity: usize) -> Result<Self, AllocError>
         ensures value { IfOk result (λ vector. vector ≡ bounded_new capacity) }
         ensures memory { capacity ≡ 0 → IsOk result }
@@ -61,10 +61,10 @@ impl<T: Drop, A: Allocator> PolymorphicVec<T, A> {
         })
     }
 
-    /// Returns how much memory a vector of this capacity takes from its allocator when it is made.
+    /// Returns the amount of memory that a vector of this capacity allocates when it is made.
     ///
-    /// This is one block, and none if the capacity is 0. The block of items of size zero has no bytes. An allocator that rounds
-    /// each block up takes more than these bytes ([`MemorySize`]).
+    /// This is one allocation, or none if the capacity is 0. The allocation for elements of size zero has no bytes. An allocator
+    /// that rounds allocations up uses more bytes than this ([`MemorySize`]).
     ///
     /// Does not allocate. O(1).
     #[inline]
@@ -79,10 +79,10 @@ impl<T: Drop, A: Allocator> PolymorphicVec<T, A> {
         MemorySize::of_items::<T>(capacity)
     }
 
-    /// Creates a full vector whose item `n` is `f(n)`.
+    /// Creates a full vector whose element `n` is `f(n)`.
     ///
-    /// Calls `f` at 0, 1, .. in this order, `capacity` times, once the memory is allocated. Returns `AllocError` without
-    /// calling `f` if the allocation fails, as for [`PolymorphicVec::new`].
+    /// Calls `f` at 0, 1, .. in this order, `capacity` times, after the memory is allocated. Returns `AllocError` without calling
+    /// `f` if the allocation fails, as for [`PolymorphicVec::new`].
     pub fn from_fn<F: FnMut(usize) -> T>(
         alloc: A,
         capacity: usize,
@@ -93,7 +93,7 @@ impl<T: Drop, A: Allocator> PolymorphicVec<T, A> {
         ensures full { IfOk result (λ vector. IsFull vector) }
         ensures items { IfOk result
             (λ vector. (last : F) × ResultsFrom F.step 0 f vector.items last) }
-        // A closure that computes an item of its number, and stays as it was, computes each.
+        // If each call of `f` returns `item` of its argument and leaves `f` unchanged, element `n` is `item n`.
         ensures computed { (item : ℕ → T) → Computes F.step f item
             → IfOk result (λ vector. vector.items ≡ map item (range_with_len 0 capacity)) }
         ensures memory { capacity ≡ 0 → IsOk result }
@@ -120,9 +120,9 @@ impl<T, A: Allocator> PolymorphicVec<T, A> {
 }
 
 impl<T: Clone, A: Allocator + Copy> PolymorphicVec<T, A> {
-    /// Creates a vector of the same capacity that holds clones of the items, in memory of the same allocator.
+    /// Creates a vector of the same capacity that holds clones of the elements, in memory of the same allocator.
     ///
-    /// O(`len`) clones. Returns `AllocError` if an allocation or a clone fails; nothing stays allocated then.
+    /// O(`len`) clones. Returns `AllocError` if an allocation or a clone fails. Nothing stays allocated then.
     pub fn try_clone(&self) -> Result<Self, AllocError>
         requires { AreEqualClones T.is_clone }
         ensures value { IfOk result (λ vector. vector ≡ self.now) }
@@ -185,7 +185,7 @@ impl<T: Drop, A: Allocator> Vector<T> for PolymorphicVec<T, A> {
         (Prim.search (arith, common_steps)) };
 }
 
-/// Drops the items, the last one first.
+/// Drops the elements, the last one first.
 impl<T: Drop, A: Allocator> Drop for PolymorphicVec<T, A> {
     fn drop(mut self) {
         self.clear();
@@ -193,8 +193,8 @@ impl<T: Drop, A: Allocator> Drop for PolymorphicVec<T, A> {
     }
 }
 
-/// Yields the items by value, from the first to the last; O(1), without an allocation. The items that are left when the
-/// iterator is dropped are dropped with it, the first one first.
+/// Yields the elements by value, from the first to the last. O(1), without an allocation. Dropping the iterator drops the elements
+/// that are left, the first one first.
 impl<T: Drop, A: Allocator> IntoIterator for PolymorphicVec<T, A> {
     type Item = T;
 
@@ -214,7 +214,7 @@ impl<T: Drop, A: Allocator> IntoIterator for PolymorphicVec<T, A> {
     }
 }
 
-/// Yields references to the items, as [`Vector::iter`] does.
+/// Yields references to the elements, as [`Vector::iter`] does.
 impl<'a, T: Drop, A: Allocator> IntoIterator for &'a PolymorphicVec<T, A> {
     type Item = &'a T;
 
@@ -230,7 +230,7 @@ impl<'a, T: Drop, A: Allocator> IntoIterator for &'a PolymorphicVec<T, A> {
     }
 }
 
-/// Yields mutable references to the items, as [`Vector::iter_mut`] does.
+/// Yields mutable references to the elements, as [`Vector::iter_mut`] does.
 impl<'a, T: Drop, A: Allocator> IntoIterator for &'a mut PolymorphicVec<T, A> {
     type Item = &'a mut T;
 
@@ -251,7 +251,7 @@ impl<'a, T: Drop, A: Allocator> IntoIterator for &'a mut PolymorphicVec<T, A> {
     }
 }
 
-/// Compares the items, whatever the capacities.
+/// Compares the elements, whatever the capacities.
 impl<T: PartialEq, A: Allocator> PartialEq for PolymorphicVec<T, A> {
     ghost eq = { λ vector other. pointwise T.eq vector.items other.items };
 
@@ -266,7 +266,7 @@ impl<T: Eq, A: Allocator> Eq for PolymorphicVec<T, A> {
     ghost laws = { on_equiv (λ vector. vector.items) (lists_equiv T.Eq.laws) };
 }
 
-/// Prints the items as a list.
+/// Prints the elements as a list.
 impl<T: Drop + fmt::Debug, A: Allocator> fmt::Debug for PolymorphicVec<T, A> {
     fn fmt<W: fmt::Write>(&self, f: &mut fmt::Formatter<W>) -> fmt::Result {
         f.debug_list().entries(self.as_slice()).finish()

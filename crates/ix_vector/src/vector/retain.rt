@@ -1,12 +1,12 @@
-//! Items of a slice that are kept: they are moved to its front.
+//! Moving the elements of a slice that are kept to its front.
 ghost use Rattle.std.specs.Prelude.{◌≡◌, ◌-◌, ◌<◌, ◌≤◌, List, length, take, not, true, slice_index_or};
 ghost use Rattle.std.specs.Fn.{CalledAt};
 ghost use Rattle.std.specs.List.{dedup};
 ghost use Rattle.std.specs.List.Retain.{IsFiltered};
 ghost use Rattle.ix_tables.specs.Calls.{IsCallableOnEach};
 
-/// Calls `f` with each item in turn, and moves those for which it returns `true` to the front, in their order. Returns how
-/// many they are. The others follow them.
+/// Calls `f` with each element in turn, and moves those for which it returns `true` to the front, in their order. Returns their
+/// number. The others follow them.
 pub(crate) fn keep_in_front<T, F: FnMut(&T) -> bool>(items: &mut [T], mut f: F) -> usize
     requires { IsCallableOnEach F.FnMut items.old f }
     ensures len { length items.new ≡ length items.old }
@@ -22,7 +22,7 @@ pub(crate) fn keep_in_front<T, F: FnMut(&T) -> bool>(items: &mut [T], mut f: F) 
     kept
 }
 
-/// Returns a reference to item `i`.
+/// Returns a reference to element `i`.
 #[inline]
 fn item_at<T>(items: &[T], i: usize) -> &T
     requires { i < length items.now }
@@ -31,8 +31,8 @@ fn item_at<T>(items: &[T], i: usize) -> &T
     &items[i]
 }
 
-/// Moves the items that do not equal the one that was kept before them to the front, in their order. Returns how many
-/// they are. The others follow them.
+/// Moves the elements that do not equal the one that was kept before them to the front, in their order. Returns their number. The
+/// others follow them.
 pub(crate) fn unlike_in_front<T: PartialEq>(items: &mut [T]) -> usize
     ensures len { length items.new ≡ length items.old }
     ensures kept { take result items.new ≡ dedup T.eq items.old }
@@ -47,7 +47,7 @@ pub(crate) fn unlike_in_front<T: PartialEq>(items: &mut [T]) -> usize
     kept
 }
 
-/// Returns `true` if `item` does not equal the last of the first `kept` items, or these are none.
+/// Returns `true` if `item` does not equal the last of the first `kept` elements, or if there are none.
 #[inline]
 fn is_unlike_last<T: PartialEq>(item: &T, items: &[T], kept: usize) -> bool
     requires { kept ≤ length items.now }

@@ -1,4 +1,4 @@
-//! The calls of slices on vectors.
+//! The methods of slices on vectors.
 ghost use Rattle.std.specs.Prelude.{◌≡◌, ◌≤◌, length};
 ghost use Rattle.std.specs.Borrow.{sem};
 ghost use Rattle.ix_tables.specs.Bounded.{IsWithin};
@@ -9,7 +9,7 @@ use std::alloc::Allocator;
 use std::convert::AsSlice;
 use std::ops::{DerefSlice, DerefSliceMut};
 
-/// Has the calls of `[T]` that the trait [`Vector`] does not have, as `contains` and `binary_search`, and `vector[i]`.
+/// Has the methods of `[T]` that the trait [`Vector`] does not have, such as `contains` and `binary_search`, and `vector[i]`.
 impl<T: Default + Drop, const CAPACITY: usize> DerefSlice for StaticVec<T, CAPACITY> {
     type Elem = T;
 
@@ -24,7 +24,7 @@ impl<T: Default + Drop, const CAPACITY: usize> DerefSlice for StaticVec<T, CAPAC
     }
 }
 
-/// Has the calls of `[T]` that change items, as `swap` and `sort`, and `vector[i] = item`.
+/// Has the methods of `[T]` that change elements, such as `swap` and `sort`, and `vector[i] = item`.
 impl<T: Default + Drop, const CAPACITY: usize> DerefSliceMut for StaticVec<T, CAPACITY> {
     #[inline]
     fn deref_mut(&mut self) -> &mut [T]
@@ -49,7 +49,7 @@ impl<T: Default + Drop, const CAPACITY: usize> AsSlice<T> for StaticVec<T, CAPAC
     }
 }
 
-/// Has the calls of `[T]` that the trait [`Vector`] does not have, as `contains` and `binary_search`, and `vector[i]`.
+/// Has the methods of `[T]` that the trait [`Vector`] does not have, such as `contains` and `binary_search`, and `vector[i]`.
 impl<T: Drop, A: Allocator> DerefSlice for PolymorphicVec<T, A> {
     type Elem = T;
 
@@ -64,7 +64,7 @@ impl<T: Drop, A: Allocator> DerefSlice for PolymorphicVec<T, A> {
     }
 }
 
-/// Has the calls of `[T]` that change items, as `swap` and `sort`, and `vector[i] = item`.
+/// Has the methods of `[T]` that change elements, such as `swap` and `sort`, and `vector[i] = item`.
 impl<T: Drop, A: Allocator> DerefSliceMut for PolymorphicVec<T, A> {
     #[inline]
     fn deref_mut(&mut self) -> &mut [T]

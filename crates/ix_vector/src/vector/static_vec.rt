@@ -20,14 +20,13 @@ use std::alloc::AllocError;
 use std::marker::Model;
 use std::{fmt, mem, slice};
 
-/// A vector of at most `CAPACITY` items that is stored inline and does not allocate. Contracts see it as the list of
-/// its items: `vector` in a contract is that list, with no field `items`, and `bounded` of [`Vector`] has the items and the
-/// capacity.
+/// A vector of at most `CAPACITY` elements that is stored inline and does not allocate. Contracts see it as the list of its
+/// elements: `vector` in a contract is that list, with no field `items`. `bounded` of [`Vector`] has the elements and the capacity.
 ///
-/// The items are dropped from the last to the first.
+/// The elements are dropped from the last to the first.
 ///
 /// This is `StaticVec` of iceoryx2-bb-container.
-// The `ArrayVec` is always full: its first `len` places hold the items, the others hold defaults.
+// The `ArrayVec` is always full: its first `len` places hold the elements, the others hold defaults.
 pub struct StaticVec<T: Default, const CAPACITY: usize> {
     places: ArrayVec<T, CAPACITY>,
     len: usize,
@@ -87,7 +86,7 @@ impl<T: Default, const CAPACITY: usize> StaticVec<T, CAPACITY> {
         }
     }
 
-    /// Returns the maximum number of items. O(1).
+    /// Returns the maximum number of elements. O(1).
     #[inline]
     #[must_use]
     pub const fn capacity() -> usize
@@ -101,8 +100,8 @@ impl<T: Default + Drop, const CAPACITY: usize> StaticVec<T, CAPACITY> {
     /// Creates a vector that holds the items of `iter`, in the order in which they come. `CAPACITY` is at most
     /// [`MAX_FIXED_CAPACITY`]. O(`CAPACITY`).
     ///
-    /// Returns [`VectorModificationError::InsertWouldExceedCapacity`] if more than `CAPACITY` items come. All that came and
-    /// the iterator are dropped then.
+    /// Returns [`VectorModificationError::InsertWouldExceedCapacity`] if `iter` yields more than `CAPACITY` items. All items that
+    /// it yielded, and the iterator, are dropped then.
     pub fn try_from_iter<U: IntoIterator<Item = T>>(
         iter: U,
     ) -> Result<Self, VectorModificationError>
@@ -122,7 +121,7 @@ impl<T: Default + Drop, const CAPACITY: usize> StaticVec<T, CAPACITY> {
 }
 
 impl<T: Default + Drop, const CAPACITY: usize> StaticVec<T, CAPACITY> {
-    /// Moves the items from index `at` on to a new vector of the same capacity, in their order, and returns it.
+    /// Moves the elements from index `at` on to a new vector of the same capacity, in their order, and returns it.
     /// O(`CAPACITY`).
     ///
     /// Returns [`VectorModificationError::OutOfBounds`], and leaves the vector unchanged, if `at` is greater than the length.
@@ -143,7 +142,7 @@ impl<T: Default + Drop, const CAPACITY: usize> StaticVec<T, CAPACITY> {
 }
 
 impl<T: Default + Clone, const CAPACITY: usize> StaticVec<T, CAPACITY> {
-    /// Appends clones of the items. If cloning fails, drops the clones already made.
+    /// Appends clones of the elements. If cloning fails, drops the clones already made.
     #[inline(always)]
     fn append_clones(&mut self, items: &[T]) -> Result<(), AllocError>
         requires { length self.old + length items.now ≤ CAPACITY }
@@ -243,7 +242,7 @@ impl<T: Default, const CAPACITY: usize> Default for StaticVec<T, CAPACITY> {
     }
 }
 
-/// Drops the items, the last one first.
+/// Drops the elements, the last one first.
 impl<T: Default + Drop, const CAPACITY: usize> Drop for StaticVec<T, CAPACITY> {
     fn drop(mut self) {
         self.clear();
@@ -251,11 +250,11 @@ impl<T: Default + Drop, const CAPACITY: usize> Drop for StaticVec<T, CAPACITY> {
     }
 }
 
-/// The items of a [`StaticVec`] by value, as `into_iter` returns them.
+/// The elements of a [`StaticVec`] by value, as `into_iter` returns them.
 pub type StaticVecIntoIter<T, const CAPACITY: usize> = arrayvec::IntoIter<T, CAPACITY>;
 
-/// Yields the items by value, from the first to the last; O(`CAPACITY`). The items that are left when the iterator is
-/// dropped are dropped with it, the first one first.
+/// Yields the elements by value, from the first to the last. O(`CAPACITY`). Dropping the iterator drops the elements that are left,
+/// the first one first.
 impl<T: Default + Drop, const CAPACITY: usize> IntoIterator for StaticVec<T, CAPACITY> {
     type Item = T;
 
@@ -275,7 +274,7 @@ impl<T: Default + Drop, const CAPACITY: usize> IntoIterator for StaticVec<T, CAP
     }
 }
 
-/// Yields references to the items, as [`Vector::iter`] does.
+/// Yields references to the elements, as [`Vector::iter`] does.
 impl<'a, T: Default + Drop, const CAPACITY: usize> IntoIterator for &'a StaticVec<T, CAPACITY> {
     type Item = &'a T;
 
@@ -291,7 +290,7 @@ impl<'a, T: Default + Drop, const CAPACITY: usize> IntoIterator for &'a StaticVe
     }
 }
 
-/// Yields mutable references to the items, as [`Vector::iter_mut`] does.
+/// Yields mutable references to the elements, as [`Vector::iter_mut`] does.
 impl<'a, T: Default + Drop, const CAPACITY: usize> IntoIterator for &'a mut StaticVec<T, CAPACITY> {
     type Item = &'a mut T;
 
@@ -321,11 +320,11 @@ impl<T: Default + Clone, const CAPACITY: usize> TryFrom<&[T]> for StaticVec<T, C
     ghost try_from_gives = { λ items result.
         StaticVecFromSlice CAPACITY T.is_clone T.is_infallible items.now result };
 
-    /// Creates a vector that holds clones of the items.
+    /// Creates a vector that holds clones of `items`.
     ///
-    /// O(`CAPACITY`), with `items.len()` clones. Returns [`VectorModificationError::InsertWouldExceedCapacity`] without
-    /// cloning if there are more items than `CAPACITY`, or `CAPACITY` is greater than [`MAX_FIXED_CAPACITY`], and
-    /// [`VectorModificationError::OutOfMemory`] if cloning an item fails.
+    /// O(`CAPACITY`), with `items.len()` clones. Returns [`VectorModificationError::InsertWouldExceedCapacity`] without cloning if
+    /// there are more elements than `CAPACITY`, or `CAPACITY` is greater than [`MAX_FIXED_CAPACITY`]. Returns
+    /// [`VectorModificationError::OutOfMemory`] if cloning an element fails.
     fn try_from(items: &[T]) -> Result<Self, VectorModificationError> {
         if CAPACITY > MAX_FIXED_CAPACITY {
             return Err(VectorModificationError::InsertWouldExceedCapacity);
@@ -350,7 +349,7 @@ impl<T: Default + Clone, const CAPACITY: usize, const N: usize> TryFrom<&[T; N]>
     ghost try_from_gives = { λ items result.
         StaticVecFromSlice CAPACITY T.is_clone T.is_infallible items.now result };
 
-    /// Does what the conversion of a slice of the array does.
+    /// Creates a vector as the conversion from a slice of the array does.
     fn try_from(items: &[T; N]) -> Result<Self, VectorModificationError> {
         Self::try_from(items.as_slice())
     }
@@ -364,9 +363,9 @@ impl<T: Default + Drop, const CAPACITY: usize, const N: usize> TryFrom<[T; N]>
 
     ghost try_from_gives = { λ items result. StaticVecFromArray CAPACITY items result };
 
-    /// Creates a vector that holds the items of the array. O(`CAPACITY`).
+    /// Creates a vector that holds the elements of the array. O(`CAPACITY`).
     ///
-    /// Returns the array as the error if it has more items than `CAPACITY`.
+    /// Returns the array as the error if it has more elements than `CAPACITY`.
     fn try_from(mut items: [T; N]) -> Result<Self, [T; N]> {
         if N > CAPACITY {
             return Err(items);
@@ -384,7 +383,7 @@ impl<T: Default + Clone, const CAPACITY: usize> Clone for StaticVec<T, CAPACITY>
 
     ghost is_infallible = { AreInfallible T.is_infallible };
 
-    /// Creates a vector that holds clones of the items. O(`CAPACITY`).
+    /// Creates a vector that holds clones of the elements. O(`CAPACITY`).
     ///
     /// Returns the error of the first clone that fails.
     fn clone(&self) -> Result<Self, AllocError> {
@@ -408,7 +407,7 @@ impl<T: Default + Eq, const CAPACITY: usize> Eq for StaticVec<T, CAPACITY> {
     ghost laws = { lists_equiv T.Eq.laws };
 }
 
-/// Prints the items as a list.
+/// Prints the elements as a list.
 impl<T: Default + fmt::Debug, const CAPACITY: usize> fmt::Debug for StaticVec<T, CAPACITY> {
     fn fmt<W: fmt::Write>(&self, f: &mut fmt::Formatter<W>) -> fmt::Result {
         f.debug_list().entries(self.items()).finish()

@@ -23,37 +23,37 @@ use crate::vector::{Drain, VectorModificationError};
 use std::alloc::AllocError;
 use std::slice;
 
-/// A contiguous list of at most [`capacity`](Vector::capacity) items. Contracts see it as a bounded list.
+/// A contiguous list of at most [`capacity`](Vector::capacity) elements. Contracts see it as a bounded list.
 ///
-/// The memory for all items is there once the vector is made, so no call allocates, except that cloning an item may. A
-/// call that returns an error leaves the vector unchanged, and drops an item that was passed to it, but for
-/// [`try_push`](Vector::try_push) and [`try_insert`](Vector::try_insert), which hand it back. Indexes start at 0.
+/// The memory for all elements is there once the vector is made, so no method allocates, except that cloning an element may. A
+/// method that returns an error leaves the vector unchanged, and drops an element that was passed to it. Only
+/// [`try_push`](Vector::try_push) and [`try_insert`](Vector::try_insert) return that element instead. Indexes start at 0.
 ///
 /// This is `Vector` of iceoryx2-bb-container.
 pub trait Vector<T: Drop> {
-    /// The items, and the capacity.
+    /// The elements, and the capacity.
     ghost bounded: { Self → Bounded T };
 
-    /// The vector with its items overwritten by others.
+    /// The vector with its elements overwritten by others.
     ghost with_slice: { Self → List T → Self };
 
-    /// The vector with the item at an index replaced, if there is one.
+    /// The vector with the element at an index replaced, if there is one.
     ghost with_item: { Self → ℕ → T → Self };
 
-    /// Returns the items as a slice. O(1).
+    /// Returns the elements as a slice. O(1).
     #[must_use]
     fn as_slice(&self) -> &[T]
         ensures value { result.now ≡ (bounded self.now).items }
         ensures within { IsWithin (bounded self.now) };
 
-    /// Returns the items as a mutable slice. O(1).
+    /// Returns the elements as a mutable slice. O(1).
     #[must_use]
     fn as_mut_slice(&mut self) -> &mut [T]
         ensures* writes_back { sem 𝓛 (vec_lends Self.row T.row with_slice self.entry result) }
         ensures value { result.now ≡ (bounded self.old).items }
         ensures within { IsWithin (bounded self.old) };
 
-    /// Returns an iterator over references to the items, from the first to the last. O(1).
+    /// Returns an iterator over references to the elements, from the first to the last. O(1).
     #[inline]
     #[must_use]
     final fn iter(&self) -> slice::Iter<'_, T>
@@ -63,7 +63,7 @@ pub trait Vector<T: Drop> {
         self.as_slice().iter()
     }
 
-    /// Returns an iterator over mutable references to the items, from the first to the last. O(1).
+    /// Returns an iterator over mutable references to the elements, from the first to the last. O(1).
     #[inline]
     #[must_use]
     final fn iter_mut(&mut self) -> slice::IterMut<'_, T>
@@ -74,9 +74,9 @@ pub trait Vector<T: Drop> {
         self.as_mut_slice().iter_mut()
     }
 
-    /// Returns a reference to the item at `index`, or `None` if `index` is out of bounds. O(1).
+    /// Returns a reference to the element at `index`, or `None` if `index` is out of bounds. O(1).
     ///
-    /// This hides the slice's `get`. For a range of items, call `vector.as_slice().get(1..3)`.
+    /// This hides the slice's `get`. For a range of elements, call `vector.as_slice().get(1..3)`.
     #[inline]
     #[must_use]
     final fn get(&self, index: usize) -> Option<&T>
@@ -87,24 +87,24 @@ pub trait Vector<T: Drop> {
         self.as_slice().get(index)
     }
 
-    /// Returns a mutable reference to the item at `index`, or `None` if `index` is out of bounds. O(1).
+    /// Returns a mutable reference to the element at `index`, or `None` if `index` is out of bounds. O(1).
     ///
-    /// This hides the slice's `get_mut`. For a range of items, call `vector.as_mut_slice().get_mut(1..3)`.
+    /// This hides the slice's `get_mut`. For a range of elements, call `vector.as_mut_slice().get_mut(1..3)`.
     #[must_use]
     fn get_mut(&mut self, index: usize) -> Option<&mut T>
         ensures* writes_back { sem 𝓛 (LendsIf Self.row T.row self.entry result
             (with_item self.old index) self.old) }
         ensures value { option_copied_mut result ≡ slice_get (bounded self.old).items index }
         ensures bounds { IsSome result ↔ (index < length (bounded self.old).items) }
-        // Whatever item is written, the vector has it, and each other item is as it was.
+        // Whatever element is written, the vector has it, and each other element is as it was.
         ensures holds { (written : T) → bounded (with_item self.old index written)
             ≡ with_items (bounded self.old) (slice_set (bounded self.old).items index written) }
-        // An item that is written as it was leaves the vector as it was.
+        // Writing back the same element leaves the vector as it was.
         ensures unchanged { (item : T) → option_copied_mut result ≡ Some item
             → with_item self.old index item ≡ self.old }
         ensures within { IsWithin (bounded self.old) };
 
-    /// Returns a reference to the first item, or `None` if the vector is empty. O(1).
+    /// Returns a reference to the first element, or `None` if the vector is empty. O(1).
     #[inline]
     #[must_use]
     final fn first(&self) -> Option<&T>
@@ -115,7 +115,7 @@ pub trait Vector<T: Drop> {
         self.get(0)
     }
 
-    /// Returns a mutable reference to the first item, or `None` if the vector is empty. O(1).
+    /// Returns a mutable reference to the first element, or `None` if the vector is empty. O(1).
     #[inline]
     #[must_use]
     final fn first_mut(&mut self) -> Option<&mut T>
@@ -132,7 +132,7 @@ pub trait Vector<T: Drop> {
         self.get_mut(0)
     }
 
-    /// Returns a reference to the last item, or `None` if the vector is empty. O(1).
+    /// Returns a reference to the last element, or `None` if the vector is empty. O(1).
     #[inline]
     #[must_use]
     final fn last(&self) -> Option<&T>
@@ -143,7 +143,7 @@ pub trait Vector<T: Drop> {
         self.as_slice().last()
     }
 
-    /// Returns a mutable reference to the last item, or `None` if the vector is empty. O(1).
+    /// Returns a mutable reference to the last element, or `None` if the vector is empty. O(1).
     #[inline]
     #[must_use]
     final fn last_mut(&mut self) -> Option<&mut T>
@@ -163,18 +163,18 @@ pub trait Vector<T: Drop> {
         self.get_mut(last)
     }
 
-    /// Returns the maximum number of items. O(1).
+    /// Returns the maximum number of elements. O(1).
     #[must_use]
     fn capacity(&self) -> usize
         ensures { result ≡ (bounded self.now).capacity };
 
-    /// Returns the number of items. O(1).
+    /// Returns the number of elements. O(1).
     #[must_use]
     fn len(&self) -> usize
         ensures value { result ≡ length (bounded self.now).items }
         ensures within { IsWithin (bounded self.now) };
 
-    /// Returns `true` if the vector has no items. O(1).
+    /// Returns `true` if the vector has no elements. O(1).
     #[inline]
     #[must_use]
     final fn is_empty(&self) -> bool
@@ -184,7 +184,7 @@ pub trait Vector<T: Drop> {
         self.len() == 0
     }
 
-    /// Returns `true` if there are as many items as the capacity. A vector of capacity 0 is both empty and full. O(1).
+    /// Returns `true` if there are as many elements as the capacity. A vector of capacity 0 is both empty and full. O(1).
     #[inline]
     #[must_use]
     final fn is_full(&self) -> bool
@@ -196,7 +196,7 @@ pub trait Vector<T: Drop> {
         self.len() == self.capacity()
     }
 
-    /// Returns how many more items there is room for. O(1).
+    /// Returns how many more elements fit. O(1).
     #[inline]
     #[must_use]
     final fn remaining_capacity(&self) -> usize
@@ -212,7 +212,7 @@ pub trait Vector<T: Drop> {
         ensures { bounded self.new
             ≡ with_items (bounded self.old) ((bounded self.old).items ++ item ∷ []) };
 
-    /// Removes the last item and returns it, or `None` if the vector is empty. O(1).
+    /// Removes the last element and returns it, or `None` if the vector is empty. O(1).
     fn pop(&mut self) -> Option<T>
         ensures value { result ≡ vec_last (bounded self.old) }
         ensures vector { bounded self.new ≡ vec_pop (bounded self.old) }
@@ -235,7 +235,7 @@ pub trait Vector<T: Drop> {
         Err(VectorModificationError::InsertWouldExceedCapacity)
     }
 
-    /// Appends `item` at the end, or hands it back. O(1).
+    /// Appends `item` at the end, or returns it if the vector is full. O(1).
     ///
     /// Returns `Err` with `item`, and leaves the vector unchanged, if the vector is full.
     #[inline]
@@ -253,7 +253,7 @@ pub trait Vector<T: Drop> {
         Ok(())
     }
 
-    /// Inserts `item` at `index`, shifting all later items to the right. O(`len - index`).
+    /// Inserts `item` at `index`, shifting all later elements to the right. O(`len - index`).
     ///
     /// Returns [`VectorModificationError::InsertWouldExceedCapacity`] if the vector is full, and otherwise
     /// [`VectorModificationError::OutOfBounds`] if `index` is greater than the length.
@@ -269,9 +269,9 @@ pub trait Vector<T: Drop> {
         }
     }
 
-    /// Inserts `item` at `index` as [`Vector::insert`] does, or hands it back. O(`len - index`).
+    /// Inserts `item` at `index` as [`Vector::insert`] does, or returns it with the error. O(`len - index`).
     ///
-    /// Returns the errors of that call, each together with `item`.
+    /// Returns the errors of [`Vector::insert`], each together with `item`.
     final fn try_insert(
         &mut self,
         index: usize,
@@ -296,7 +296,7 @@ pub trait Vector<T: Drop> {
         Ok(())
     }
 
-    /// Removes the item at `index` and returns it, shifting all later items to the left. Returns `None` if `index` is out
+    /// Removes the element at `index` and returns it, shifting all later elements to the left. Returns `None` if `index` is out
     /// of bounds. O(`len - index`).
     final fn remove(&mut self, index: usize) -> Option<T>
         ensures value { result ≡ slice_get (bounded self.old).items index }
@@ -311,8 +311,8 @@ pub trait Vector<T: Drop> {
         None
     }
 
-    /// Removes the item at `index` and returns it; the last item takes its place. Returns `None` if `index` is out of
-    /// bounds. O(1).
+    /// Removes the element at `index` and returns it. The last element takes its place. Returns `None` if `index` is out of bounds.
+    /// O(1).
     final fn swap_remove(&mut self, index: usize) -> Option<T>
         ensures value { result ≡ slice_get (bounded self.old).items index }
         ensures vector { IfSome result (λ item. bounded self.new
@@ -328,7 +328,7 @@ pub trait Vector<T: Drop> {
         None
     }
 
-    /// Moves all items of `other` to the end of the vector, in their order. `other` is empty then. O(`other.len()`).
+    /// Moves all elements of `other` to the end of the vector, in their order. `other` is empty then. O(`other.len()`).
     ///
     /// Returns [`VectorModificationError::InsertWouldExceedCapacity`], and leaves both unchanged, if there is no room for
     /// all of them.
@@ -350,7 +350,7 @@ pub trait Vector<T: Drop> {
         Ok(())
     }
 
-    /// Shortens the vector, keeping the first `n` items and dropping the rest, the last one first. Does nothing if `n` is
+    /// Shortens the vector, keeping the first `n` elements and dropping the rest, the last one first. Does nothing if `n` is
     /// greater than or equal to the length. O(`len - n`).
     fn truncate(&mut self, n: usize)
         ensures { bounded self.new ≡ vec_truncate (bounded self.old) n }
@@ -360,15 +360,15 @@ pub trait Vector<T: Drop> {
         }
     }
 
-    /// Keeps the items for which `f` returns `true`, in their order, and drops the others. O(`len`).
+    /// Keeps the elements for which `f` returns `true`, in their order, and drops the others. O(`len`).
     ///
-    /// Calls `f` with each item, from the first to the last. The others are dropped after the last call, in any order.
+    /// Calls `f` with each element, from the first to the last. The others are dropped after the last call, in any order.
     final fn retain<F: FnMut(&T) -> bool>(&mut self, f: F)
         requires { IsCallableOnEach F.FnMut (bounded self.old).items f }
         ensures items { IsFiltered (CalledAt F.FnMut) f
             (bounded self.old).items (bounded self.new).items }
         ensures count { length (bounded self.new).items ≤ length (bounded self.old).items }
-        // A closure that computes a test, and stays as it was, keeps the items that pass it.
+        // If `f` computes `test` and stays as it was, the elements that pass `test` are kept.
         ensures filtered { (test : T → Bool) → Computes (CalledAt F.FnMut) f test
             → (bounded self.new).items ≡ filter test (bounded self.old).items }
         ensures capacity { (bounded self.new).capacity ≡ (bounded self.old).capacity }
@@ -377,8 +377,8 @@ pub trait Vector<T: Drop> {
         self.truncate(kept);
     }
 
-    /// Removes and drops each item that equals the one before it, so that of equal items in a row the first stays. They are
-    /// dropped in any order. O(`len`).
+    /// Removes and drops each element that equals the one before it, so the first of equal elements in a row stays. The removed
+    /// elements are dropped in any order. O(`len`).
     final fn dedup(&mut self)
     where
         T: PartialEq,
@@ -389,28 +389,28 @@ pub trait Vector<T: Drop> {
         self.truncate(kept);
     }
 
-    /// Returns an iterator that removes all items, from the first to the last. O(`len`).
+    /// Returns an iterator that removes all elements, from the first to the last. O(`len`).
     #[inline]
     final fn drain(&mut self) -> Drain<'_, T, Self>
         ensures items { drain_items bounded result ≡ (bounded self.old).items }
         ensures capacity { drain_capacity bounded result ≡ (bounded self.old).capacity }
-        // With these two a caller knows that the vector is empty once the iterator is dropped.
+        // With these two clauses a caller knows that the vector is empty once the iterator is dropped.
         ensures same_reference { drain_lender bounded result ≡ self.entry.ghost_name }
         ensures stays { DrainKeepsAlong bounded result }
     {
         Drain::new(self)
     }
 
-    /// Removes and drops all items, the last one first. O(`len`).
+    /// Removes and drops all elements, the last one first. O(`len`).
     final fn clear(&mut self)
         ensures { bounded self.new ≡ with_items (bounded self.old) [] }
     {
         self.truncate(0);
     }
 
-    /// Appends clones of all items of `other`, for which there is room. O(`other.len()`) clones.
+    /// Appends clones of all elements of `other`, for which there is room. O(`other.len()`) clones.
     ///
-    /// Returns `AllocError` if cloning an item fails; the clones already made are dropped.
+    /// Returns `AllocError` if cloning an element fails. The clones already made are dropped then.
     fn extend_from_slice_unchecked(&mut self, other: &[T]) -> Result<(), AllocError>
     where
         T: Clone,
@@ -433,11 +433,12 @@ pub trait Vector<T: Drop> {
         Ok(())
     }
 
-    /// Appends clones of all items of `other`. O(`other.len()`) clones.
+    /// Appends clones of all elements of `other`. O(`other.len()`) clones.
     ///
-    /// Returns [`VectorModificationError::InsertWouldExceedCapacity`] without cloning if there is no room for all of them,
-    /// and [`VectorModificationError::OutOfMemory`] if cloning an item fails; the clones already made are dropped.
-    // Always inlined, as what it calls in fixed vectors: LLVM copies blocks where it sees that the two slices lie apart.
+    /// Returns [`VectorModificationError::InsertWouldExceedCapacity`] without cloning if there is no room for all of them. Returns
+    /// [`VectorModificationError::OutOfMemory`] if cloning an element fails; the clones already made are dropped then.
+    // Always inlined, like the function that it calls in fixed vectors: LLVM copies blocks where it sees that the two slices lie
+    // apart.
     #[inline(always)]
     final fn extend_from_slice(&mut self, other: &[T]) -> Result<(), VectorModificationError>
     where
@@ -463,8 +464,8 @@ pub trait Vector<T: Drop> {
 
     /// Appends the items of `iter`, in the order in which they come. O(the number of items).
     ///
-    /// Returns [`VectorModificationError::InsertWouldExceedCapacity`] if an item comes for which there is no room. That item
-    /// and the iterator are dropped, and the items that were appended before it, the last one first.
+    /// Returns [`VectorModificationError::InsertWouldExceedCapacity`] if `iter` yields an item for which there is no room. That
+    /// item and the iterator are dropped. The items that were appended before it are dropped too, the last one first.
     final fn extend_from_iter<U: IntoIterator<Item = T>>(
         &mut self,
         iter: U,
@@ -488,10 +489,10 @@ pub trait Vector<T: Drop> {
         Ok(())
     }
 
-    /// Resizes the vector to `n` items: truncates it, or appends clones of `item`. O(`len - n`), or O(`n - len`) clones.
+    /// Resizes the vector to `n` elements: truncates it, or appends clones of `item`. O(`len - n`), or O(`n - len`) clones.
     ///
-    /// Returns [`VectorModificationError::InsertWouldExceedCapacity`] if `n` is greater than the capacity, and
-    /// [`VectorModificationError::OutOfMemory`] if cloning `item` fails; the clones already made are dropped.
+    /// Returns [`VectorModificationError::InsertWouldExceedCapacity`] if `n` is greater than the capacity. Returns
+    /// [`VectorModificationError::OutOfMemory`] if cloning `item` fails; the clones already made are dropped then.
     final fn resize(&mut self, n: usize, item: T) -> Result<(), VectorModificationError>
     where
         T: Clone,
@@ -523,7 +524,7 @@ pub trait Vector<T: Drop> {
         Ok(())
     }
 
-    /// Resizes the vector to `n` items: truncates it, or appends results of `f` in the order of its calls. O(`len - n`), or
+    /// Resizes the vector to `n` elements: truncates it, or appends results of `f` in the order of its calls. O(`len - n`), or
     /// `n - len` calls.
     ///
     /// Returns [`VectorModificationError::InsertWouldExceedCapacity`] without calling `f` if `n` is greater than the
@@ -533,14 +534,14 @@ pub trait Vector<T: Drop> {
         n: usize,
         mut f: F,
     ) -> Result<(), VectorModificationError>
-        // Of a refused call, and of one that truncates, it asks nothing.
+        // If the method returns an error or truncates, it requires nothing of `f`.
         requires { n ≤ (bounded self.old).capacity
             → IsCallableTimes F.step F.pre (n - length (bounded self.old).items) f }
         ensures value { result ≡ vec_resize_result (bounded self.old) n }
         ensures len { OnOk result (length (bounded self.new).items ≡ n) }
         ensures vector { OnOk result (AppendsResults F.step (take n (bounded self.old).items)
             (bounded self.new).items f) }
-        // A closure that always returns one item, and stays as it was, resizes the vector with it.
+        // If `f` always returns `item` and stays as it was, the vector is resized with `item`.
         ensures computed { (item : T)
             → ((x : T) (next : F) → F.step f x next → (x ≡ item) × (next ≡ f))
             → OnOk result (bounded self.new ≡ vec_resize (bounded self.old) n item) }
@@ -561,7 +562,7 @@ pub trait Vector<T: Drop> {
         Ok(())
     }
 
-    /// Overwriting all items changes nothing else.
+    /// Overwriting all elements changes nothing else.
     ghost bounded_with_slice: { (vector : Self) (xs : List T)
         → length xs ≡ length (bounded vector).items
         → bounded (with_slice vector xs) ≡ with_items (bounded vector) xs };

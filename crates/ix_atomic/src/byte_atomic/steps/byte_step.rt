@@ -1,4 +1,4 @@
-//! What plain and versioned steps share: the bytes that they store and load.
+//! The common part of plain and versioned steps: the bytes that they store and load.
 ghost use Rattle.std.specs.Prelude.{◌≡◌, ℕ, ◌<◌, ◌↔◌, List, length, Option, Some, IsTrue, true, slice_index, filter_map};
 ghost use Rattle.ix_atomic.specs.declared.byte_atomic.steps.plain.Act.{Act};
 ghost use Rattle.ix_atomic.specs.ByteActs.{AreLegal};

@@ -6,7 +6,7 @@ ghost use Rattle.ix_atomic.specs.Operations.{AreReadsAndWrites, IsFinishedRead, 
 
 use crate::byte_atomic::steps::byte_step::{ByteStep, acts_are_legal};
 
-/// What a step does to a byte.
+/// A store or a load of a byte.
 #[derive(Clone, Copy, Debug, PartialEq, Eq)]
 pub enum Act {
     /// The byte is stored at the place.
@@ -17,13 +17,13 @@ pub enum Act {
 
 /// A step of an operation.
 ///
-/// Steps with the same number are one operation. A write is an operation that stores each place once and loads nothing,
-/// a read is one that loads each place once and stores nothing. Either may be unfinished.
+/// Steps with the same number are one operation. A write is an operation that stores each place once and loads nothing. A read is
+/// an operation that loads each place once and stores nothing. Either may be unfinished.
 #[derive(Clone, Copy, Debug, PartialEq, Eq)]
 pub struct Step {
     /// The number of the operation.
     pub op: u64,
-    /// What the step does.
+    /// The store or load of the step.
     pub act: Act,
 }
 
@@ -37,8 +37,8 @@ impl ByteStep for Step {
 
 /// Returns `true` if `steps` are legal, in this order, on a value whose first bytes are `first`.
 ///
-/// They are if each place is less than the length of `first`, and each load has the byte that was stored at its place
-/// last, or the byte of `first` if none was. O(n * m) for n bytes and m steps.
+/// They are legal if each place is less than the length of `first`, and each load has the byte that was stored at its place last.
+/// If none was stored there, the load has the byte of `first`. O(n * m) for n bytes and m steps.
 #[must_use]
 pub fn replay(first: &[u8], steps: &[Step]) -> bool
     ensures { IsTrue result ↔ IsLegal first.now steps.now }
@@ -46,14 +46,14 @@ pub fn replay(first: &[u8], steps: &[Step]) -> bool
     acts_are_legal(first, steps)
 }
 
-/// States what a read loads that overlaps no write. This function does nothing: its contract is the law.
+/// States which bytes a read loads if it overlaps no write. This function does nothing: its contract is the law.
 ///
-/// It is about steps that [`replay`] accepts, and whose operations are all reads or writes, finished or not: a
-/// finished read that overlaps no write loads the bytes of the last write before it, if that write overlaps no other
-/// write. If no write is before it, it loads the first bytes.
+/// The law is about steps that [`replay`] accepts, and whose operations are all reads or writes, finished or not. A finished read
+/// that overlaps no write loads the bytes of the last write before it, if that write overlaps no other write. If no write is before
+/// the read, the read loads the first bytes.
 ///
-/// An operation lasts from its first step to its last one, but a write that still misses a place lasts to the end of the
-/// list. Two operations overlap if both last at some step.
+/// An operation lasts from its first step to its last one. But a write that still misses a place lasts to the end of the list. Two
+/// operations overlap if both last at some step.
 pub fn plain_read_law()
     ensures last_write { (first : List ℕ) (steps : List Step) (read write place byte : ℕ)
         → IsLegal first steps → AreReadsAndWrites first steps

@@ -35,15 +35,15 @@ impl ByteStep for VersionedStep {
 
 /// Returns `true` if `steps` are legal, in this order, on a value whose first bytes, at version 0, are `first`.
 ///
-/// They are if
+/// They are legal if
 ///
 /// - the writer's steps are writes, one after another: a [`VersionedStep::Begin`], a [`VersionedStep::Store`] at each
 ///   place from 0 to the last one of `first`, a [`VersionedStep::End`]. The last write may be cut short anywhere;
 /// - each loaded version is that of its moment: each begin and each end raises it by one, so it is twice the number of
 ///   ends, and one more during a write;
-/// - each byte is loaded from a place less than the length of `first`, and is the one that was stored there last, or that
-///   of `first`;
-/// - no write begins at a version that [`next_versions`](super::next_versions) refuses.
+/// - each byte is loaded from a place less than the length of `first`. It is the byte that was stored there last, or that of
+///   `first`;
+/// - no write begins at a version for which [`next_versions`](super::next_versions) returns an error.
 ///
 /// O(n * m) for n bytes and m steps.
 #[must_use]
@@ -55,11 +55,11 @@ pub fn replay_versioned(first: &[u8], steps: &[VersionedStep]) -> bool
         && acts_are_legal(first, steps)
 }
 
-/// Returns whether the writer's steps are writes of `len` bytes, of which the last may be cut short.
+/// Returns whether the writer's steps are writes of `len` bytes. The last write may be cut short.
 fn writes_are_in_turn(len: usize, steps: &[VersionedStep]) -> bool
     ensures { result ≡ are_in_turn len None steps.now }
 {
-    // How many bytes the write in progress has stored.
+    // The number of bytes that the write in progress has stored.
     let mut stored: Option<usize> = None;
     for step in steps {
         match (*step, stored) {
@@ -94,11 +94,12 @@ fn versions_are_right(steps: &[VersionedStep]) -> bool
     true
 }
 
-/// States what a reader has loaded between two loads of the same even version. This function does nothing: its contract is the law.
+/// States which bytes a reader has loaded between two loads of the same even version. This function does nothing: its contract is
+/// the law.
 ///
-/// It is about steps that [`replay_versioned`] accepts: where a reader loads the even version 2 * k, then the byte of each
-/// place in rising order, then the version 2 * k again, the bytes are the value of the write whose end made that version,
-/// or the first value at version 0. That is item k of a list: the first value, then the written ones in their order.
+/// The law is about steps that [`replay_versioned`] accepts. Suppose that a reader loads the even version 2 * k, then the byte of
+/// each place in rising order, then the version 2 * k again. Then the bytes are the value of the write whose end made that version,
+/// or the first value at version 0. That is element k of a list: the first value, then the written ones in their order.
 pub fn versioned_read_law()
     ensures { (first : List ℕ) (steps : List VersionedStep) (values : List (List ℕ)) (reader k : ℕ)
         (bytes : List ℕ)

@@ -8,7 +8,7 @@ use std::fmt;
 /// The greatest even version: no write can begin at it.
 const LAST_VERSION: u64 = 18_446_744_073_709_551_614;
 
-/// The error of a write at the greatest even version of a `u64`: there is none for its end.
+/// The error of a write at the greatest even version of a `u64`: no even version is left for its end.
 #[derive(Clone, Copy, Debug, PartialEq, Eq)]
 pub struct VersionsUsedUp;
 

@@ -42,7 +42,7 @@ pub(crate) trait MakesInline<const N: usize>: Named {
 pub(crate) trait MakesIn<A: Allocator>: Named {
     type Made: Served + Drop;
 
-    /// Returns an empty container, or `None` if there is no memory.
+    /// Returns an empty container, or `None` if the allocation fails.
     fn make(self, alloc: A, capacity: usize) -> Option<Self::Made>
         ensures { IfSome result (λ made.
             IsEmptyContainer Self.Made.reply Self.Made.after Self.Made.shown

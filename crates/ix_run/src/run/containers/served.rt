@@ -11,7 +11,7 @@ use crate::run::replies::ReplyKey;
 use crate::run::{Reply, ScriptFault};
 use std::io::Write;
 
-/// A container that runs the commands which lines spell, and shows what it holds.
+/// A container that runs the commands which lines spell, and prints its contents.
 pub(crate) trait Served {
     /// The type of the keys in replies.
     type Key: ReplyKey;
@@ -24,10 +24,10 @@ pub(crate) trait Served {
     /// The text of the reply to the command that a line spells, if any.
     ghost reply: { Model → List ℕ → Option (List ℕ) };
 
-    /// The model after it.
+    /// The model after the command.
     ghost after: { Model → List ℕ → Model };
 
-    /// What `show` prints.
+    /// The text that `show` prints.
     ghost shown: { Model → List ℕ };
 
     /// Runs the command that the line spells, and returns the reply, or `None` if it spells none.
@@ -37,7 +37,7 @@ pub(crate) trait Served {
             ≡ reply (model self.old) line.now }
         ensures model { model self.new ≡ after (model self.old) line.now };
 
-    /// Appends what `show` prints, without a line feed.
+    /// Appends the text that `show` prints, without a line feed.
     fn show<W: Write>(&self, replies: &mut ReplyWriter<'_, W>) -> Result<(), ScriptFault>
         ensures { WriteResult W.contents replies.old (shown (model self.now)) replies.new result };
 }
@@ -55,7 +55,7 @@ fn show_line<C: Served, W: Write>(
     replies.append(b"\n")
 }
 
-/// Does what a line asks, and appends the reply. The line is `None` if it is too long.
+/// Serves a line, and appends the reply. The line is `None` if it is too long.
 #[inline(always)]
 pub(crate) fn answer<C: Served, W: Write>(
     container: &mut C,

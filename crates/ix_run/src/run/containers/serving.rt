@@ -69,7 +69,7 @@ pub(crate) fn serve<C: Served + Drop, R: Read, W: Write>(
     reply_to_lines(&mut container, lines, replies)
 }
 
-/// Does what [`serve`] does with the container, or writes the pending replies and stops if it was not made.
+/// Does the same as [`serve`] with the container, or writes the pending replies and stops if it was not made.
 pub(crate) fn serve_made<C: Served + Drop, R: Read, W: Write>(
     made: Option<C>,
     lines: &mut LineReader<'_, R>,

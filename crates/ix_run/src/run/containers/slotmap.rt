@@ -55,14 +55,14 @@ impl<M: SlotMapStorage<MaybeMoved<u64>>> Served for MetaSlotMap<u64, MaybeMoved<
     }
 }
 
-/// The slot maps that headers name, with the generation of their places at first, if the header says it.
+/// The slot maps that headers name, with the generation of their slots at first, if the header says it.
 #[derive(Drop)]
 pub(crate) struct SlotMaps {
     pub(crate) start: Option<u32>,
 }
 
 impl SlotMaps {
-    /// Returns the generation of the places at first: 0 if the header does not say it.
+    /// Returns the generation of the slots at first: 0 if the header does not say it.
     fn generation(&self) -> u32
         ensures { result ≡ first_generation self.now.start }
     {

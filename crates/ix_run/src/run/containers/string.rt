@@ -60,7 +60,7 @@ impl ReplyPart for ShownByte {
     fn put_into(self, replies: &mut ReplyBuffer) {
         let escaped = escape_byte(self.0);
         match escaped.as_str().as_bytes() {
-            // Texts of so many bytes are put without a call.
+            // A text of this length is put without a function call.
             [byte] => replies.put(&[*byte]),
             [first, second] => replies.put(&[*first, *second]),
             bytes => replies.put(bytes),

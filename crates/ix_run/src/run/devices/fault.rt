@@ -1,18 +1,18 @@
-//! Why a script stops, and how the program reports it.
+//! The errors that stop a script, and their report by the program.
 ghost use Rattle.std.specs.Prelude.{◌≡◌, Some};
 ghost use Rattle.ix_run.specs.Outcome.{outcome_status, fault_text};
 
 use std::error::Error;
 use std::fmt;
 
-/// Why a script stopped.
+/// The error that stopped a script.
 #[derive(Clone, Copy, PartialEq, Eq, Debug)]
 pub enum ScriptFault {
     /// A read failed, or the input has no end.
     Read,
-    /// A write or the flush failed, or a write took no byte.
+    /// A write or the flush failed, or a write accepted no byte.
     Write,
-    /// There was no memory for a container.
+    /// The allocation of a container failed.
     OutOfMemory,
 }
 
@@ -32,7 +32,7 @@ impl fmt::Display for ScriptFault {
 
 impl Error for ScriptFault {}
 
-/// Returns the exit status of the program: 0 without a fault, 1 after a read or write fault, 2 if there was no memory. O(1).
+/// Returns the exit status of the program: 0 without an error, 1 after a read or write error, 2 if the allocation failed. O(1).
 pub fn exit_status(outcome: &Result<(), ScriptFault>) -> u8
     ensures { result ≡ outcome_status outcome.now }
 {
@@ -43,7 +43,7 @@ pub fn exit_status(outcome: &Result<(), ScriptFault>) -> u8
     }
 }
 
-/// Returns the line that names a fault on standard error, without a line feed. O(1).
+/// Returns the line that names an error on standard error, without a line feed. O(1).
 pub fn fault_line(fault: &ScriptFault) -> &'static str
     ensures { result.now ≡ fault_text fault.now }
 {

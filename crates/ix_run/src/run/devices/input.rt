@@ -8,7 +8,7 @@ use memchr::memchr;
 use std::io::{ErrorKind, Read};
 use std::simd::prelude::*;
 
-/// As many bytes are looked at in one step before the others, since most lines are shorter.
+/// The number of bytes that are searched first, in one step, because most lines are shorter.
 const NEAR_LEN: usize = 32;
 
 /// Returns the index of the first line feed, if it is near.
@@ -29,7 +29,7 @@ fn near_line_end(bytes: &[u8]) -> Option<usize>
     Some(ends.trailing_zeros() as usize)
 }
 
-/// Returns the index of the first line feed, near or far. It is a call, so that the code of the caller stays small.
+/// Returns the index of the first line feed, near or far. It is not inlined, so that the code of the caller stays small.
 #[inline(never)]
 fn far_line_end(bytes: &[u8]) -> Option<usize>
     ensures found { IfSome result (λ at. (at < length bytes.now) × IsOneLine (take at bytes.now)

@@ -10,7 +10,7 @@ use crate::run::devices::partial_line::PartialLine;
 use std::io::Read;
 use std::marker::Model;
 
-/// The last piece that was read, and the current line: where it lies in the piece, or, if it came in several pieces, its
+/// The last piece that was read, and the current line. The line is a range of the piece, or, if it came in several pieces, its
 /// bytes.
 #[derive(Drop)]
 pub(crate) struct LineBuffer {
@@ -44,7 +44,7 @@ impl Model for LineBuffer {
 }
 
 impl LineBuffer {
-    /// Returns a buffer into which nothing was read.
+    /// Returns an empty buffer, into which nothing was read.
     pub(crate) fn new() -> LineBuffer
         ensures rest { result.rest ≡ [] }
         ensures fuel { result.fuel ≡ MAX_TRIES * (BUFFER_LEN + 1) }

@@ -9,7 +9,7 @@ use crate::run::devices::line_buffer::LineBuffer;
 use crate::run::devices::reply_writer::ReplyWriter;
 use std::io::{Read, Write};
 
-/// A reader, and what was read from it last.
+/// A reader, and the piece that was read from it last.
 #[derive(Drop)]
 pub(crate) struct LineReader<'r, R> {
     reader: &'r mut R,
@@ -41,8 +41,8 @@ impl<'r, R: Read> LineReader<'r, R> {
         self.buffer.line()
     }
 
-    /// Takes the next line, and returns `false` if there is none. The last one may lack a line feed. All pending replies
-    /// are written before a read; nothing is read after the end of the input.
+    /// Takes the next line, and returns `false` if there is none. The last line may lack a line feed. All pending replies are
+    /// written before a read. Nothing is read after the end of the input.
     #[inline(always)]
     pub(crate) fn next_line<W: Write>(
         &mut self,

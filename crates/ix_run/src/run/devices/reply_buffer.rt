@@ -5,7 +5,7 @@ ghost use Rattle.ix_run.specs.declared.run.devices.limits.TheConstants.{BUFFER_L
 use crate::run::devices::limits::{BUFFER_LEN, MAX_DIGITS, MAX_REPLY_LEN};
 use std::marker::Model;
 
-/// What is appended at once: at most [`MAX_REPLY_LEN`] bytes.
+/// A part of a reply that is appended at once: at most [`MAX_REPLY_LEN`] bytes.
 pub(crate) trait ReplyPart {
     /// Its bytes.
     ghost text: { Self → List ℕ };
@@ -99,7 +99,7 @@ impl ReplyBuffer {
     {
         let mut digits = [0u8; 2 * MAX_DIGITS];
         let start = itoa::write_digits(number, &mut digits, MAX_DIGITS);
-        // Always as many bytes are copied, so that this is no call.
+        // The number of copied bytes is constant, so that no function is called.
         self.put_first(&digits[start..start + MAX_DIGITS], MAX_DIGITS - start);
     }
 }

@@ -21,8 +21,8 @@ pub enum Container {
     Vector,
     /// `table`: a slot table of numbers.
     SlotTable,
-    /// `slot`: a slot map of numbers. The number is the generation of its places at first, if the header ends by `at G`.
-    /// Without the number, that generation is 0.
+    /// `slot`: a slot map of numbers. The number is the generation of its slots at first, if the header ends by `at G`. Without the
+    /// number, that generation is 0.
     SlotMap(Option<u32>),
     /// `flat`: a flat map from numbers to numbers.
     FlatMap,
@@ -33,17 +33,17 @@ pub enum Container {
 /// A capacity that a header may name for a fixed kind.
 #[derive(Clone, Copy, PartialEq, Eq, Debug)]
 pub enum FixedCapacity {
-    /// 0 items.
+    /// 0 elements.
     Zero,
-    /// 1 item.
+    /// 1 element.
     One,
-    /// 3 items.
+    /// 3 elements.
     Three,
-    /// 8 items.
+    /// 8 elements.
     Eight,
 }
 
-/// Where a header asks the items to be stored, and their maximum number.
+/// The storage of the elements that a header asks for, and their maximum number.
 #[derive(Clone, Copy, PartialEq, Eq, Debug)]
 pub enum Storage {
     /// `fixed S`: inline. S is 0, 1, 3 or 8.
@@ -59,11 +59,11 @@ pub enum Storage {
 pub struct Header {
     /// The container that is made.
     pub container: Container,
-    /// Where its items are stored, and their maximum number.
+    /// The storage of its elements, and their maximum number.
     pub storage: Storage,
 }
 
-/// Returns the header that `line` is: a container, and its storage; or `None` for any other line. O(length).
+/// Returns the header that `line` is, or `None` for any other line. A header is a container and its storage. O(length).
 #[tactic(auto, using(crate::proofs::Headers::header_of_text, crate::proofs::Headers::header_of_header_text))]
 pub fn read_header(line: &[u8]) -> Option<Header>
     ensures value { result ≡ header_of line.now }
@@ -128,8 +128,8 @@ fn storage_named(name: &[u8], number: &[u8]) -> Option<Storage>
     None
 }
 
-/// Returns the container, with the generation of a slot map's places at first if the words that are left say it. Any other
-/// word that is left is refused.
+/// Returns the container, with the generation of a slot map's slots at first if the words that are left say it. Returns `None` for
+/// any other word that is left.
 fn started(container: Container, rest: Option<&[u8]>) -> Option<Container>
     ensures { result ≡ container_with_start container (words_after (option_copied rest.entry)) }
 {
@@ -147,7 +147,7 @@ fn started(container: Container, rest: Option<&[u8]>) -> Option<Container>
     }
 }
 
-/// Returns a slot map with the generation of its places at first, if the words say it.
+/// Returns a slot map with the generation of its slots at first, if the words say it.
 fn starting_at(word: &[u8], rest: Option<&[u8]>) -> Option<Container>
     ensures { (start : Option ℕ) → result
         ≡ container_with_start (container.SlotMap start) (word.now ∷ words_after (option_copied rest.entry)) }

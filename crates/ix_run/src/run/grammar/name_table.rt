@@ -1,4 +1,4 @@
-//! Tables of names, and what stands after a name.
+//! Tables of names, and the words after a name.
 ghost use Rattle.std.specs.Prelude.{ℕ, ◌≡◌, ◌≤◌, ◌*◌, List, [], None, MatchOption, length, bytes_eq};
 ghost use Rattle.std.specs.Option.{option_map, option_and_then, option_copied};
 ghost use Rattle.std.specs.Map.{lookup};
@@ -11,7 +11,7 @@ use crate::run::grammar::words::{
     one_number, two_numbers,
 };
 
-/// What stands after the name of a command.
+/// The words that a command takes after its name.
 #[derive(Clone, Copy)]
 pub(crate) enum Takes {
     Nothing,
@@ -24,8 +24,7 @@ pub(crate) enum Takes {
     NumberAndBytes,
 }
 
-/// Returns the value beside the name in `table` that is the first word of `line`, and what stands behind the space after
-/// that word.
+/// Returns the value beside the name in `table` that is the first word of `line`, and the rest behind the space after that word.
 #[inline(always)]
 pub(crate) fn split_name<'a, V: Copy>(
     table: &[(&[u8], V)],
@@ -43,7 +42,7 @@ pub(crate) fn split_name<'a, V: Copy>(
     None
 }
 
-/// Returns the numbers, with zeros for those that are missing, if `takes` is what is left: at most two numbers.
+/// Returns the numbers, with zeros for those that are missing, if the rest is what `takes` says: at most two numbers.
 #[inline]
 pub(crate) fn read_numbers(takes: Takes, rest: Option<&[u8]>) -> Option<(u64, u64)>
     ensures { result ≡ option_and_then {U = ℕ × ℕ} (numbers_taken takes (λ n m. (n, m)))
@@ -57,7 +56,7 @@ pub(crate) fn read_numbers(takes: Takes, rest: Option<&[u8]>) -> Option<(u64, u6
     }
 }
 
-/// Returns what stands beside the name that `line` begins with, and the numbers after that name, as the table says.
+/// Returns the command beside the name that `line` begins with, and the numbers after that name, as the table says.
 #[inline(always)]
 pub(crate) fn read_by_table<C: Copy>(
     table: &[(&[u8], (Takes, C))],

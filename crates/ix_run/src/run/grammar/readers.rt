@@ -1,4 +1,4 @@
-//! Lines as commands: what the line of each container asks.
+//! Lines as commands: a reader for the lines of each container.
 
 mod flatmap;
 mod queue;

@@ -94,7 +94,7 @@ fn value_of_digits(word: &[u8]) -> Option<u64>
     }
 }
 
-/// Does what [`read_number`] does.
+/// Does the same as [`read_number`].
 #[inline]
 pub(crate) fn number_in(word: &[u8]) -> Option<u64>
     ensures { result ≡ number_of word.now }
@@ -103,15 +103,16 @@ pub(crate) fn number_in(word: &[u8]) -> Option<u64>
         return None;
     }
     let value = value_of_digits(word);
-    // After the digits, since a byte that was loaded before them would cost eight more instructions.
+    // This test is after the digits, because a byte that was loaded before them would cost eight more instructions.
     if word[0] == b'0' && word.len() > 1 {
         return None;
     }
     value
 }
 
-/// Returns the number whose decimal text `word` is, from 0 to 18,446,744,073,709,551,615 and without leading zeros; or
-/// `None` for any other word. O(length).
+/// Returns the number whose decimal text `word` is, or `None` for any other word. O(length).
+///
+/// The number is from 0 to 18,446,744,073,709,551,615, and its text has no leading zeros.
 #[tactic(auto, using(crate::proofs::Numbers::number_of_text, crate::proofs::Numbers::number_of_decimal))]
 pub fn read_number(word: &[u8]) -> Option<u64>
     ensures value { result ≡ number_of word.now }

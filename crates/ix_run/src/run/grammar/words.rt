@@ -24,7 +24,7 @@ fn word_len(bytes: &[u8], separator: u8) -> usize
     len
 }
 
-/// Returns the first word of `bytes`, and what stands behind the space after it.
+/// Returns the first word of `bytes`, and the rest behind the space after it.
 #[tactic(auto, using(crate::proofs::Words::words_split))]
 #[inline]
 pub(crate) fn split_word(bytes: &[u8]) -> (&[u8], Option<&[u8]>)
@@ -67,8 +67,7 @@ fn begins_with(line: &[u8], name: &[u8]) -> bool
     true
 }
 
-/// Returns what stands behind the space after `name`, if `line` begins with that word, or `Some(None)` if `name` is the
-/// whole line.
+/// Returns the rest behind the space after `name`, if `line` begins with that word, or `Some(None)` if `name` is the whole line.
 #[inline(always)]
 pub(crate) fn after_name<'a>(line: &'a [u8], name: &[u8]) -> Option<Option<&'a [u8]>>
     requires { list_any is_space name.now ≡ false }

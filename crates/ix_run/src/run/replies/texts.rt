@@ -44,7 +44,7 @@ pub(crate) trait ReplyKey: Copy {
         ensures len { length replies.new ≤ length replies.old + MAX_KEY_LEN };
 }
 
-/// A place.
+/// An index, or a key of a slot table.
 impl ReplyKey for usize {
     ghost text = { λ number. decimal number };
 
@@ -64,7 +64,7 @@ impl ReplyKey for u64 {
     }
 }
 
-/// The index and the generation of a place, with a colon between.
+/// The index and the generation of a key, with a colon between.
 impl ReplyKey for SlotMapKey {
     ghost use Rattle.ix_run.specs.Words.{key_text};
 

@@ -1,7 +1,7 @@
 //! The changes of a semantic string.
 //!
-//! `truncate` asks the rules first. `insert_bytes`, `remove`, `strip_prefix` and `strip_suffix` change the text and undo a
-//! refused change; `remove_range` and `remove_if` change a copy.
+//! `truncate` checks the rules first. `insert_bytes`, `remove`, `strip_prefix` and `strip_suffix` change the string, and undo the
+//! change if the rules do not accept it. `remove_range` and `remove_if` change a copy.
 ghost use Rattle.std.specs.Prelude.{◌≡◌, ◌-◌, ◌≤◌, [], ◌∷◌, ◌++◌, List, ℕ, length, take, drop, remove, true, false, Some, Ok, OnOk, OnErr, slice_get};
 ghost use Rattle.std.specs.List.{insert_slice};
 ghost use Rattle.ix_string.specs.Retain.{IsCallableAtText, Retains};
@@ -14,8 +14,8 @@ use crate::semantic_string::{Rules, Semantic, SemanticStringError};
 use ix_string::{StaticString, String};
 
 impl<R: Rules<CAPACITY>, const CAPACITY: usize> Semantic<R, CAPACITY> {
-    /// Inserts `byte` at index `idx`, which is at most the length, shifting all later bytes to the right.
-    /// O(`len - idx`) beside the rules.
+    /// Inserts `byte` at index `idx`, which is at most the length, shifting all later bytes to the right. O(`len - idx`) plus the
+    /// time of the rules.
     ///
     /// Returns the errors of [`Semantic::insert_bytes`].
     #[inline]
@@ -30,11 +30,10 @@ impl<R: Rules<CAPACITY>, const CAPACITY: usize> Semantic<R, CAPACITY> {
     }
 
     /// Inserts `bytes` at index `idx`, which is at most the length, shifting all later bytes to the right.
-    /// O(`len - idx + bytes.len()`) beside the rules.
+    /// O(`len - idx + bytes.len()`) plus the time of the rules.
     ///
-    /// Returns [`SemanticStringError::ExceedsMaximumLength`] if the bytes do not fit, and otherwise
-    /// [`SemanticStringError::InvalidContent`] if one of them is 0 or above 127, or if the rules do not accept the whole
-    /// text.
+    /// Returns [`SemanticStringError::ExceedsMaximumLength`] if the bytes do not fit. Otherwise, returns
+    /// [`SemanticStringError::InvalidContent`] if one of them is 0 or above 127, or if the rules do not accept the whole string.
     pub fn insert_bytes(&mut self, idx: usize, bytes: &[u8]) -> Result<(), SemanticStringError>
         requires { idx ≤ length self.old }
         ensures value { SemanticResult CAPACITY R.rules
@@ -50,8 +49,8 @@ impl<R: Rules<CAPACITY>, const CAPACITY: usize> Semantic<R, CAPACITY> {
         Ok(())
     }
 
-    /// Inserts `bytes` at index `idx`, shifting all later bytes to the right, without checking that the whole text is
-    /// accepted. O(`len - idx + bytes.len()`).
+    /// Inserts `bytes` at index `idx`, shifting all later bytes to the right, without checking that the whole string is accepted.
+    /// O(`len - idx + bytes.len()`).
     pub fn insert_bytes_unchecked(&mut self, idx: usize, bytes: &[u8])
         requires index { idx ≤ length self.old }
         requires accepted { IsAccepted CAPACITY R.rules (insert_slice self.old idx bytes.now) }
@@ -60,7 +59,7 @@ impl<R: Rules<CAPACITY>, const CAPACITY: usize> Semantic<R, CAPACITY> {
         self.text.insert_bytes_unchecked(idx, bytes);
     }
 
-    /// Removes the last byte and returns it, or `Ok(None)` if the string is empty. O(1) beside the rules.
+    /// Removes the last byte and returns it, or `Ok(None)` if the string is empty. O(1) plus the time of the rules.
     ///
     /// Returns [`SemanticStringError::InvalidContent`] if the rules do not accept the other bytes.
     pub fn pop(&mut self) -> Result<Option<u8>, SemanticStringError>
@@ -76,7 +75,7 @@ impl<R: Rules<CAPACITY>, const CAPACITY: usize> Semantic<R, CAPACITY> {
         self.remove(len - 1)
     }
 
-    /// Appends `byte`. O(1) beside the rules.
+    /// Appends `byte`. O(1) plus the time of the rules.
     ///
     /// Returns the errors of [`Semantic::insert_bytes`].
     #[inline]
@@ -88,7 +87,7 @@ impl<R: Rules<CAPACITY>, const CAPACITY: usize> Semantic<R, CAPACITY> {
         self.push_bytes(&[byte])
     }
 
-    /// Appends `bytes`. O(`bytes.len()`) beside the rules.
+    /// Appends `bytes`. O(`bytes.len()`) plus the time of the rules.
     ///
     /// Returns the errors of [`Semantic::insert_bytes`].
     #[inline]
@@ -100,8 +99,8 @@ impl<R: Rules<CAPACITY>, const CAPACITY: usize> Semantic<R, CAPACITY> {
         self.insert_bytes(self.len(), bytes)
     }
 
-    /// Removes the byte at index `idx`, shifting all later bytes to the left, and returns it, or `Ok(None)` if `idx` is out
-    /// of bounds. O(`len - idx`) beside the rules.
+    /// Removes the byte at index `idx`, shifting all later bytes to the left, and returns it, or `Ok(None)` if `idx` is out of
+    /// bounds. O(`len - idx`) plus the time of the rules.
     ///
     /// Returns [`SemanticStringError::InvalidContent`] if the rules do not accept the other bytes.
     pub fn remove(&mut self, idx: usize) -> Result<Option<u8>, SemanticStringError>
@@ -121,9 +120,9 @@ impl<R: Rules<CAPACITY>, const CAPACITY: usize> Semantic<R, CAPACITY> {
         Ok(removed)
     }
 
-    /// Removes the `n` bytes from index `idx` on, shifting all later bytes to the left. Changes nothing, and returns `Ok` once
-    /// the rules are asked, if there are fewer than `n` bytes from `idx` on, or if `idx` is greater than the length.
-    /// O(`CAPACITY`) beside the rules.
+    /// Removes the `n` bytes from index `idx` on, shifting all later bytes to the left. Changes nothing if there are fewer than `n`
+    /// bytes from `idx` on, or if `idx` is greater than the length. It then still checks the rules, and returns `Ok`. O(`CAPACITY`)
+    /// plus the time of the rules.
     ///
     /// Returns [`SemanticStringError::InvalidContent`] if the rules do not accept the other bytes.
     pub fn remove_range(&mut self, idx: usize, n: usize) -> Result<(), SemanticStringError>
@@ -137,8 +136,8 @@ impl<R: Rules<CAPACITY>, const CAPACITY: usize> Semantic<R, CAPACITY> {
         self.become_if_accepted(candidate)
     }
 
-    /// Removes each byte for which `f` returns `true`, keeping the order of the others. `f` is called once for each byte,
-    /// from the last to the first. O(`CAPACITY`) beside the rules.
+    /// Removes each byte for which `f` returns `true`, keeping the order of the others. `f` is called once for each byte, from the
+    /// last to the first. O(`CAPACITY`) plus the time of the rules.
     ///
     /// Returns [`SemanticStringError::InvalidContent`] if the rules do not accept the kept bytes.
     pub fn remove_if<F: FnMut(u8) -> bool>(&mut self, f: F) -> Result<(), SemanticStringError>
@@ -152,8 +151,8 @@ impl<R: Rules<CAPACITY>, const CAPACITY: usize> Semantic<R, CAPACITY> {
         self.become_if_accepted(candidate)
     }
 
-    /// Removes the bytes for which `f` returns `true`: this is [`Semantic::remove_if`], whose name says so. The `retain` of
-    /// std keeps those bytes instead. O(`CAPACITY`) beside the rules.
+    /// Removes the bytes for which `f` returns `true`, as [`Semantic::remove_if`] does. The `retain` of std keeps those bytes
+    /// instead. O(`CAPACITY`) plus the time of the rules.
     ///
     /// Returns the error of [`Semantic::remove_if`].
     #[inline]
@@ -166,8 +165,8 @@ impl<R: Rules<CAPACITY>, const CAPACITY: usize> Semantic<R, CAPACITY> {
         self.remove_if(f)
     }
 
-    /// Removes `bytes` from the start of the string and returns `Ok(true)`. Returns `Ok(false)` if the string does not start
-    /// with them. O(`len`) beside the rules.
+    /// Removes `bytes` from the start of the string and returns `Ok(true)`. Returns `Ok(false)` if the string does not start with
+    /// them. O(`len`) plus the time of the rules.
     ///
     /// Returns [`SemanticStringError::InvalidContent`] if the rules do not accept the other bytes.
     pub fn strip_prefix(&mut self, bytes: &[u8]) -> Result<bool, SemanticStringError>
@@ -187,8 +186,8 @@ impl<R: Rules<CAPACITY>, const CAPACITY: usize> Semantic<R, CAPACITY> {
         Ok(true)
     }
 
-    /// Removes `bytes` from the end of the string and returns `Ok(true)`. Returns `Ok(false)` if the string does not end with
-    /// them. O(`bytes.len()`) beside the rules.
+    /// Removes `bytes` from the end of the string and returns `Ok(true)`. Returns `Ok(false)` if the string does not end with them.
+    /// O(`bytes.len()`) plus the time of the rules.
     ///
     /// Returns [`SemanticStringError::InvalidContent`] if the rules do not accept the other bytes.
     pub fn strip_suffix(&mut self, bytes: &[u8]) -> Result<bool, SemanticStringError>
@@ -210,8 +209,8 @@ impl<R: Rules<CAPACITY>, const CAPACITY: usize> Semantic<R, CAPACITY> {
         Ok(true)
     }
 
-    /// Shortens the string, keeping the first `n` bytes. Does nothing if `n` is greater than or equal to the length.
-    /// O(`len - n`) beside the rules.
+    /// Shortens the string, keeping the first `n` bytes. Does nothing if `n` is greater than or equal to the length. O(`len - n`)
+    /// plus the time of the rules.
     ///
     /// Returns [`SemanticStringError::InvalidContent`] if the rules do not accept the first `n` bytes.
     pub fn truncate(&mut self, n: usize) -> Result<(), SemanticStringError>
@@ -227,7 +226,7 @@ impl<R: Rules<CAPACITY>, const CAPACITY: usize> Semantic<R, CAPACITY> {
         Ok(())
     }
 
-    /// Replaces the text by `candidate` if the rules accept it.
+    /// Replaces the string by `candidate` if the rules accept it.
     fn become_if_accepted(
         &mut self,
         candidate: StaticString<CAPACITY>,

@@ -72,7 +72,7 @@ fn have_same_bytes<R: Rules<CAPACITY>, const CAPACITY: usize>(
 ) -> bool
     ensures { result ≡ text_eq left.now right.now }
 {
-    // std compares texts of at most 32 bytes as four numbers, without a call, and longer ones slower than bytes.
+    // std compares string slices of at most 32 bytes as four numbers, without a call, and longer ones slower than bytes.
     if CAPACITY <= 32 {
         left.text.as_str() == right.text.as_str()
     } else {
@@ -142,7 +142,7 @@ impl<R: Rules<CAPACITY>, const CAPACITY: usize> PartialOrd for Semantic<R, CAPAC
     }
 }
 
-/// The bytes of the normal form are fed to the hasher in one write.
+/// Feeds the bytes of the normal form to the hasher in one write.
 impl<R: Rules<CAPACITY>, const CAPACITY: usize> Hash for Semantic<R, CAPACITY> {
     ghost hash_input = { λ string. R.rules.normal_form string ∷ [] };
 

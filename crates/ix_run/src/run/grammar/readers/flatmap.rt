@@ -20,8 +20,9 @@ const COMMANDS: [(&[u8], (Takes, MapCommand<u64, u64>)); 9] = [
     (b"full", (Takes::Nothing, MapCommand::Full)),
 ];
 
-/// Returns the command of a flat map that `line` spells: the name and the numbers, with one space before each number, as
-/// the commands say; or `None` for any other line. O(length).
+/// Returns the command of a flat map that `line` spells, or `None` for any other line. O(length).
+///
+/// A line spells the name and the numbers, as the commands say, with one space before each number.
 #[inline]
 pub fn read_map_command(line: &[u8]) -> Option<MapCommand<u64, u64>>
     ensures value { result ≡ command_of map_forms line.now }

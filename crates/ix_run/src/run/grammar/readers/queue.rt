@@ -22,8 +22,9 @@ const COMMANDS: [(&[u8], (Takes, QueueCommand<u64>)); 11] = [
     (b"full", (Takes::Nothing, QueueCommand::Full)),
 ];
 
-/// Returns the command of a queue that `line` spells: the name and the numbers, with one space before each number, as the
-/// commands say; or `None` for any other line. O(length).
+/// Returns the command of a queue that `line` spells, or `None` for any other line. O(length).
+///
+/// A line spells the name and the numbers, as the commands say, with one space before each number.
 #[inline(always)]
 pub fn read_queue_command(line: &[u8]) -> Option<QueueCommand<u64>>
     ensures value { result ≡ command_of queue_forms line.now }

@@ -54,9 +54,10 @@ const KEY_NAMES: [(&[u8], (Takes, KeyName)); 4] = [
     (b"contains", (Takes::Nothing, KeyName::Contains)),
 ];
 
-/// Returns the command of a slot map that `line` spells: the name, the key if there is one, and the numbers, with one space
-/// before each, as the commands say; or `None` for any other line. A key is an index and a generation with a colon between.
-/// O(length).
+/// Returns the command of a slot map that `line` spells, or `None` for any other line. O(length).
+///
+/// A line spells the name, the key if there is one, and the numbers, as the commands say, with one space before each. A key is an
+/// index and a generation with a colon between.
 #[inline]
 pub fn read_slot_map_command(line: &[u8]) -> Option<SlotMapCommand<u64>>
     ensures value { result ≡ slot_map_command_of line.now }
@@ -105,8 +106,8 @@ fn read_key_command(line: &[u8]) -> Option<SlotMapCommand<u64>>
     Some(key_named(name, key, value))
 }
 
-/// Returns what the command that `line` names takes after its key, which command it is, and what stands behind the space
-/// after its name.
+/// Returns the words that the command of `line` takes after its key, the command's name, and the rest behind the space after its
+/// name.
 #[inline(always)]
 fn split_key_form<'a>(line: &'a [u8]) -> Option<((Takes, KeyName), Option<&'a [u8]>)>
     ensures { MatchOption result

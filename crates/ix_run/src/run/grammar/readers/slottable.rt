@@ -26,8 +26,9 @@ const COMMANDS: [(&[u8], (Takes, SlotTableCommand<u64>)); 12] = [
     (b"full", (Takes::Nothing, SlotTableCommand::Full)),
 ];
 
-/// Returns the command of a slot table that `line` spells: the name and the numbers, with one space before each number, as
-/// the commands say; or `None` for any other line. O(length).
+/// Returns the command of a slot table that `line` spells, or `None` for any other line. O(length).
+///
+/// A line spells the name and the numbers, as the commands say, with one space before each number.
 #[inline]
 pub fn read_slot_table_command(line: &[u8]) -> Option<SlotTableCommand<u64>>
     ensures value { result ≡ command_of slot_table_forms line.now }

@@ -35,7 +35,7 @@ enum StringName {
     Full,
 }
 
-/// The names of the first commands, and what each takes. There are two tables, since the compiler unrolls short ones alone.
+/// The names of the first commands, and what each takes. There are two tables, because the compiler unrolls only short ones.
 const NAMES: [(&[u8], (Takes, StringName)); 9] = [
     (b"push", (Takes::Byte, StringName::Push)),
     (b"append", (Takes::Bytes, StringName::Append)),
@@ -68,8 +68,10 @@ const OTHER_NAMES: [(&[u8], (Takes, StringName)); 10] = [
     (b"full", (Takes::Nothing, StringName::Full)),
 ];
 
-/// Returns the command of a string that `line` spells: the name and the numbers, with one space before each number, as
-/// the commands say; or `None` for any other line. The bytes of a list are put in `bytes`. O(length).
+/// Returns the command of a string that `line` spells, or `None` for any other line. O(length).
+///
+/// A line spells the name and the numbers, as the commands say, with one space before each number. The bytes of a list are put in
+/// `bytes`.
 pub fn read_string_command<'a>(
     line: &[u8],
     bytes: &'a mut [u8; MAX_NUMBERS],
@@ -83,7 +85,7 @@ pub fn read_string_command<'a>(
     Some(command_named(name, first, second, byte, bytes))
 }
 
-/// Returns what the command that `line` names takes, which command it is, and what stands behind the space after its name.
+/// Returns the words that the command of `line` takes, the command's name, and the rest behind the space after its name.
 #[inline(always)]
 fn split_form<'a>(line: &'a [u8]) -> Option<((Takes, StringName), Option<&'a [u8]>)>
     ensures { MatchOption result

@@ -30,7 +30,7 @@ enum VectorName {
     Full,
 }
 
-/// The names of the first commands, and what each takes. There are two tables, since the compiler unrolls short ones alone.
+/// The names of the first commands, and what each takes. There are two tables, because the compiler unrolls only short ones.
 const NAMES: [(&[u8], (Takes, VectorName)); 7] = [
     (b"push", (Takes::Number, VectorName::Push)),
     (b"insert", (Takes::TwoNumbers, VectorName::Insert)),
@@ -52,14 +52,16 @@ const OTHER_NAMES: [(&[u8], (Takes, VectorName)); 7] = [
     (b"full", (Takes::Nothing, VectorName::Full)),
 ];
 
-/// Returns the command of a vector that `line` spells: the name and the numbers, with one space before each number, as
-/// the commands say; or `None` for any other line. The numbers of a list are put in `numbers`. O(length).
+/// Returns the command of a vector that `line` spells, or `None` for any other line. O(length).
+///
+/// A line spells the name and the numbers, as the commands say, with one space before each number. The numbers of a list are put in
+/// `numbers`.
 pub fn read_vector_command<'a>(
     line: &[u8],
     numbers: &'a mut [u64; MAX_NUMBERS],
 ) -> Option<VectorCommand<'a, u64>>
     requires within { length line.now ≤ MAX_LINE_LEN }
-    // The items of a list are the ones in the buffer, whatever their address.
+    // The elements of a list are the ones in the buffer, whatever their address.
     ensures value { option_map vector_plain result ≡ command_of vector_forms line.now }
 {
     let ((takes, name), rest) = split_form(line)?;
@@ -67,7 +69,7 @@ pub fn read_vector_command<'a>(
     Some(command_named(name, first, second, items))
 }
 
-/// Returns what the command that `line` names takes, which command it is, and what stands behind the space after its name.
+/// Returns the words that the command of `line` takes, the command's name, and the rest behind the space after its name.
 #[inline(always)]
 fn split_form<'a>(line: &'a [u8]) -> Option<((Takes, VectorName), Option<&'a [u8]>)>
     ensures { MatchOption result
