@@ -15,26 +15,31 @@ from reference.words import kit_table
 INDEX = "README.md"
 INTRODUCTION = """# Reference
 
-Made from the sources by `.ci/check --write`: the public items of each module, each with its contract. The
-[guide](../GUIDE.md#how-to-read-a-contract) explains how to read a contract; [CHOOSING.md](../CHOOSING.md) says which
-container to take, and which call.
+This reference lists the public items of each module, each with its contract. `.ci/check --write` makes it from the sources. The
+[guide](../GUIDE.md#how-to-read-a-contract) explains how to read a contract. [CHOOSING.md](../CHOOSING.md) helps you to choose a
+container and a method.
 
-A page begins with the main type of its module and the calls by task. A call has its signature and its docs first. "Errors" says
-when it returns one, "Conditions" what its caller owes, "Promises" what it ensures, and "Words" where the words of these are
-defined; those of the kit are [below](#words-of-contracts). What several calls promise alike is a record, whose fields follow. What
-stands under "Example" is the body of a test, which is handed the machine, `rt`. An example or a record that several calls of
-a page share stands at the first of them. In a program a `Result` has to be used, by `?`, `match` or `let _ = ..`.
+Each page begins with the main type of its module, and with a table of its methods by task. Each method has these parts:
 
-A line `impl<..>` shows the bounds of the calls below it. `T: Drop` says that a value of `T` may be let go: a type is so if it is
-`Copy`, or by `#[derive(Drop)]` or an `impl`. The `ghost` members of an impl are what contracts know of it. A type is `Send` if all
-that it is made of is, and so `Sync`: its items, its allocator, its closures; one that holds a `&` is `Send` if what that refers to
-is `Sync`.
+- its signature and its docs;
+- "Errors": when the method returns an error;
+- "Conditions": what must be true when you call the method;
+- "Promises": what is true when the method returns;
+- "Words": where the words of the conditions and promises are defined. The words of the kit are [below](#words-of-contracts);
+- "Example": the body of a test. The test is passed `rt`, the machine. In a program you must use a `Result`, by `?`, `match` or
+  `let _ = ..`.
 
-[Lemmas](lemmas.md) has the laws and lemmas for proofs of your own.
+If several methods of a page have the same example or the same record of promises, the page shows it at the first of them.
+
+A line `impl<..>` shows the bounds of the methods below it. `T: Drop` says that a value of `T` may be dropped. A type is `Drop` if it is
+`Copy`, derives `Drop`, or implements `Drop`. The `ghost` members of an impl are the facts that contracts use about the type. A type is
+`Send` or `Sync` if all of its parts are: its elements, its allocator, its closures. A type that has a `&T` is `Send` if `T` is `Sync`.
+
+[Lemmas](lemmas.md) has laws and lemmas for your own proofs.
 
 ## Modules
 
-A module with a path in the column "also" is re-exported there too, with all its items.
+If a module has a path in the column "also", all of its items are re-exported there.
 """
 
 
@@ -138,9 +143,9 @@ class Places:
             facade = facade_of(layout.module)
             also, title = f"`{facade[0]}`" if facade else "", title_of(layout.module)
             lines.append(f"| [`{title}`]({file}) | {also} | {first_sentence(docs_of(layout.module.path))} | {names} |")
-        lines += ["", "## Calls", "", "Each call of types, traits and modules, and whose it is. Of std's traits those of containers and their like are here;"]
-        lines += ["the others are in the table of traits of each page.", "", "| call | of |", "|---|---|"]
+        lines += ["", "## Calls", "", "This table lists the methods and functions of all types, traits and modules. It has the methods of std's traits for containers and similar types."]
+        lines += ["Each page lists the other impls of std's traits in its table of traits.", "", "| method or function | of |", "|---|---|"]
         for call, owners in sorted(self.listed.items()):
             lines.append(f"| `{call}` | {', '.join(f'[`{name}`]({link})' for name, link in owners)} |")
-        lines += ["", "## Words of contracts", "", "Words of the kit's logic that clauses use, beside those that the guide explains.", "", *kit_table()]
+        lines += ["", "## Words of contracts", "", "These words of the kit's logic stand in clauses. The guide explains the most frequent ones, which are not repeated here.", "", *kit_table()]
         return self.linked("\n".join(lines) + "\n", INDEX)

@@ -15,19 +15,20 @@ from crates import files, libraries_of_crates
 PAGE = "lemmas.md"
 INTRODUCTION = """# Laws and lemmas
 
-What proofs of your own may use. [PROVING.md](../PROVING.md) shows how to prove a function; most need none of these. "Goal" says what a
-law or a lemma closes.
+This page lists the laws and lemmas for your own proofs. [PROVING.md](../PROVING.md) shows how to prove a function. Most functions need none
+of them. "Goal" is the goal that a law or a lemma proves.
 
 ## Laws that a body calls
 
-The contract of such a function is the law, and it does nothing else, or returns what a call beside it returns. The checker takes facts
-from calls. So the body of your function calls it, as `dead_keys_law::<Service>();`, and needs no file of a proof.
+The contract of such a function states the law. The function does nothing else, or returns the result of the call beside it. The checker
+takes facts from calls. So call the function in the body of yours, as in `dead_keys_law::<Service>();`. You then need no proof file.
 """
 LEMMAS_INTRODUCTION = """## Lemmas
 
-A file of a proof imports a lemma by the line that stands above its statement; a source file writes `ghost use` for `use`, and a `;`.
-`#[tactic(auto, using(..))]` above a function gives the search one whose name has no hyphen, by its path, as
-`ix_atomic::specs::laws::HistoryLaws::latest_known`. Later versions keep the laws of `specs/laws`; they may change `proofs`.
+Above the statement of each lemma stands the line that imports it in a proof file. In a source file, write `ghost use` for `use`, and end
+the line with `;`. If a lemma's name has no hyphen, you can give it to the search: write `#[tactic(auto, using(..))]` above your function,
+with the lemma's path, such as `ix_atomic::specs::laws::HistoryLaws::latest_known`. Later versions keep the laws of `specs/laws`. They may
+change the lemmas of `proofs`.
 """
 GOALS = {
     ("ix_slottable", "default_key_law"): "`value_at table.now key ≡ None`, where `key` is `SlotTableKey::default()`",
