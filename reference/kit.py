@@ -15,7 +15,7 @@ KIT = (
     ("entry exit", "x.entry, x.exit", "a parameter that is a reference or has one, as it is passed, and when the call returns"),
     ("⟧ PartialEq", "⟦<T as Trait>⟧, T.Trait", "the `ghost` members that `T` has by a trait"),
     # Options, results and tests.
-    ("IsNone IsErr IsFalse", "IsNone x, IsErr x, IsFalse x", "`x` is `None`, `Err` of something, `false`"),
+    ("IsNone IsErr", "IsNone x, IsErr x", "`x` is `None`, `Err` of something"),
     ("IfNone OnSome OnErr OnTrue OnFalse", "IfNone x p, OnSome x p, OnErr x p, OnTrue x p, OnFalse x p",
      "`p` holds if `x` is `None`, `Some` of something, `Err` of something, `true`, `false`"),
     ("ForSome ForNone", "ForSome x (λ v. p), ForNone x p", "what `IfSome` and `IfNone` say, as an equation that a proof can use"),
@@ -24,8 +24,7 @@ KIT = (
     ("MatchOption", "MatchOption x p (λ v. q)", "`p` if `x` is `None`, and otherwise `q` of its value"),
     ("UnwrapsOrElse", "UnwrapsOrElse x (λ v. p) r", "`r` is the value of `x`, or one of which `p` holds if there is none"),
     ("is_some is_ok", "is_some x, is_ok x", "whether `x` is `Some`, `Ok` of something: a `Bool`"),
-    ("option_map option_zip unwrap_or ok_or result_ok then_some", "option_map f x, option_zip x y, unwrap_or x v, ok_or x e, result_ok x, then_some b v",
-     "what std's `map`, `zip`, `unwrap_or`, `ok_or`, `ok` and `then_some` return"),
+    ("option_map unwrap_or ok_or result_ok", "option_map f x, unwrap_or x v, ok_or x e, result_ok x", "what std's `map`, `unwrap_or`, `ok_or` and `ok` return"),
     ("option_copied option_copied_mut", "option_copied x, option_copied_mut x", "an option of a reference, with the value behind it in its place"),
     # Numbers and bytes.
     ("nat_le", "nat_le a b", "whether `a ≤ b`: a `Bool`"),

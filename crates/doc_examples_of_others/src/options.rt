@@ -75,14 +75,11 @@ fn another_value_in_place_of_none(rt: HostRuntime) {
     assert!(rt; nothing.unwrap_or_else(|| 443) == 443);
 }
 
-// Shows: RelocatableOption::map, RelocatableOption::map_or
+// Shows: RelocatableOption::map
 #[test]
 fn what_a_function_returns_of_the_value(rt: HostRuntime) {
     let port = RelocatableOption::Some(80u64);
     assert!(rt; port.map(|port| port / 2) == RelocatableOption::Some(40));
-    assert!(rt; port.map_or(0, |port| port / 4) == 20);
-    let nothing: RelocatableOption<u64> = RelocatableOption::None;
-    assert!(rt; nothing.map_or(0, |port| port / 4) == 0);
 }
 
 // Shows: RelocatableOption::inspect
@@ -94,26 +91,6 @@ fn the_value_is_looked_at_on_its_way(rt: HostRuntime) {
     assert!(rt; port == RelocatableOption::Some(80));
 }
 
-// Shows: RelocatableOption::and_then
-#[test]
-fn an_option_of_the_value(rt: HostRuntime) {
-    let half = |number: u64| match number % 2 {
-        0 => RelocatableOption::Some(number / 2),
-        _ => RelocatableOption::None,
-    };
-    assert!(rt; RelocatableOption::Some(80).and_then(half) == RelocatableOption::Some(40));
-    assert!(rt; RelocatableOption::Some(5).and_then(half) == RelocatableOption::None);
-}
-
-// Shows: RelocatableOption::filter, RelocatableOption::is_some_and
-#[test]
-fn a_value_that_is_tested(rt: HostRuntime) {
-    let port = RelocatableOption::Some(80u64);
-    assert!(rt; port.filter(|port| *port < 1024) == port);
-    assert!(rt; port.filter(|port| *port > 1024) == RelocatableOption::None);
-    assert!(rt; port.is_some_and(|port| port < 1024));
-}
-
 // Shows: RelocatableOption::ok_or
 #[test]
 fn none_becomes_an_error(rt: HostRuntime) {
@@ -121,15 +98,6 @@ fn none_becomes_an_error(rt: HostRuntime) {
     let nothing: RelocatableOption<u64> = RelocatableOption::None;
     assert!(rt; port.ok_or("no port") == Ok(80));
     assert!(rt; nothing.ok_or("no port") == Err("no port"));
-}
-
-// Shows: RelocatableOption::zip
-#[test]
-fn two_values_or_none(rt: HostRuntime) {
-    let port = RelocatableOption::Some(80);
-    assert!(rt; port.zip(RelocatableOption::Some('a')) == RelocatableOption::Some((80, 'a')));
-    let nothing: RelocatableOption<char> = RelocatableOption::None;
-    assert!(rt; port.zip(nothing) == RelocatableOption::None);
 }
 
 // Shows: RelocatableOption::replace, RelocatableOption::take

@@ -1,12 +1,11 @@
 //! Options: values that may be missing.
-ghost use Rattle.std.specs.Prelude.{◌≡◌, ◌↔◌, None, Some, IsTrue, IsSome, IsNone, IfSome, is_some, unwrap_or, option_copied, option_map};
+ghost use Rattle.std.specs.Prelude.{◌≡◌, ◌↔◌, None, Some, IsTrue, IsSome, IsNone, IfSome, is_some, unwrap_or, ok_or, option_copied, option_map};
 ghost use Rattle.std.specs.Borrow.{sem};
 ghost use Rattle.std.specs.Fn.{FnOnceReturnsAt, FnOnceTakesAt, FnOnceTakesAtMut};
 ghost use Rattle.std.specs.Option.{ForSome, ForNone, MatchOption, UnwrapsOrElse, option_copied_mut};
 ghost use Rattle.ix_relocatable_option.specs.Optional.{option_of, relocatable_of, relocatable_lends, TakesIf};
 
 mod conversions;
-mod made_of_values;
 mod order;
 
 use std::mem;
@@ -175,6 +174,17 @@ impl<T> RelocatableOption<T> {
         match self {
             RelocatableOption::Some(value) => RelocatableOption::Some(f(value)),
             RelocatableOption::None => RelocatableOption::None,
+        }
+    }
+
+    /// Returns the value as `Ok`, or `error` as `Err` if there is none. `error` is dropped if it is not returned.
+    #[inline]
+    pub fn ok_or<E: Drop>(self, error: E) -> Result<T, E>
+        ensures { result ≡ ok_or (option_of self) error }
+    {
+        match self {
+            RelocatableOption::Some(value) => Ok(value),
+            RelocatableOption::None => Err(error),
         }
     }
 

@@ -160,42 +160,21 @@ fn items_of_size_zero() -> Result<(), Fail> {
     findings.verdict()
 }
 
-/// Two options, both values if there are two, and how the first one compares with the second one.
-const PAIRS: &[(
-    RelocatableOption<u64>,
-    RelocatableOption<u64>,
-    RelocatableOption<(u64, u64)>,
-    Ordering,
-)] = &[
-    (
-        FOUR,
-        RelocatableOption::Some(5),
-        RelocatableOption::Some((4, 5)),
-        Less,
-    ),
-    (FOUR, FOUR, RelocatableOption::Some((4, 4)), Equal),
-    (
-        RelocatableOption::Some(5),
-        FOUR,
-        RelocatableOption::Some((5, 4)),
-        Greater,
-    ),
-    (FOUR, NOTHING, RelocatableOption::None, Greater),
-    (NOTHING, FOUR, RelocatableOption::None, Less),
-    (
-        NOTHING,
-        RelocatableOption::Some(0),
-        RelocatableOption::None,
-        Less,
-    ),
-    (NOTHING, NOTHING, RelocatableOption::None, Equal),
+/// Two options, and how the first one compares with the second one.
+const PAIRS: &[(RelocatableOption<u64>, RelocatableOption<u64>, Ordering)] = &[
+    (FOUR, RelocatableOption::Some(5), Less),
+    (FOUR, FOUR, Equal),
+    (RelocatableOption::Some(5), FOUR, Greater),
+    (FOUR, NOTHING, Greater),
+    (NOTHING, FOUR, Less),
+    (NOTHING, RelocatableOption::Some(0), Less),
+    (NOTHING, NOTHING, Equal),
 ];
 
 #[test]
-fn pairs_and_order() -> Result<(), Fail> {
+fn order() -> Result<(), Fail> {
     let findings = Findings::new();
-    for (row, (option, other, both, order)) in PAIRS.iter().enumerate() {
-        findings.expect_same_at(option.zip(*other), *both, row, "zip");
+    for (row, (option, other, order)) in PAIRS.iter().enumerate() {
         findings.expect_same_at(order_of(option, other), *order, row, "cmp");
         findings.expect_same_at(option.partial_cmp(other), Some(*order), row, "partial_cmp");
         findings.expect_same_at(*option < *other, *order == Less, row, "less");
