@@ -1,7 +1,6 @@
 //! An example of each method of a byte-wise atomic cell, of encodings, and of the words that bytes make.
 use ix_atomic::{
-    AtomicCopy, FixedSizeByteAtomic, MaybeTorn, RelocatableByteAtomic, UninitByteAtomic,
-    decode_array, decode_pair, decode_triple, encode_array, encode_pair, encode_triple, pack_word,
+    AtomicCopy, FixedSizeByteAtomic, MaybeTorn, RelocatableByteAtomic, UninitByteAtomic, pack_word,
     unpack_word,
 };
 use ix_string::StaticString;
@@ -54,33 +53,6 @@ fn a_cell_that_is_made_in_two_steps(rt: HostRuntime) -> Result<(), Fail> {
 fn bytes_that_were_read_may_be_no_value(rt: HostRuntime) {
     assert!(rt; MaybeTorn::<bool, 1>::new([1]).assume_consistent() == Some(true));
     assert!(rt; MaybeTorn::<bool, 1>::new([2]).assume_consistent() == None);
-}
-
-// Shows: ix_atomic::byte_atomic::encode_pair, ix_atomic::byte_atomic::decode_pair
-#[test]
-fn two_values_one_behind_the_other(rt: HostRuntime) {
-    let mut bytes = [0; 3];
-    encode_pair(&1u8, &258u16, &mut bytes);
-    assert!(rt; bytes == [1, 2, 1]);
-    assert!(rt; decode_pair::<u8, u16>(&bytes) == Some((1, 258)));
-}
-
-// Shows: ix_atomic::byte_atomic::encode_triple, ix_atomic::byte_atomic::decode_triple
-#[test]
-fn three_values_one_behind_the_other(rt: HostRuntime) {
-    let mut bytes = [0; 4];
-    encode_triple(&true, &7u8, &258u16, &mut bytes);
-    assert!(rt; bytes == [1, 7, 2, 1]);
-    assert!(rt; decode_triple::<bool, u8, u16>(&bytes) == Some((true, 7, 258)));
-}
-
-// Shows: ix_atomic::byte_atomic::encode_array, ix_atomic::byte_atomic::decode_array
-#[test]
-fn the_values_of_an_array(rt: HostRuntime) {
-    let mut bytes = [0; 4];
-    encode_array(&[1u16, 258], &mut bytes);
-    assert!(rt; bytes == [1, 0, 2, 1]);
-    assert!(rt; decode_array::<u16, 2>(&bytes) == Some([1, 258]));
 }
 
 // Shows: ix_atomic::byte_atomic::pack_word, ix_atomic::byte_atomic::unpack_word

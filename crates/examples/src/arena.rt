@@ -1,4 +1,4 @@
-//! Two containers in one arena, and an arena of just the size of a queue.
+//! Two containers in one arena, and an arena with room for one queue.
 ghost use Rattle.std.specs.Prelude.{◌≡◌, IfOk};
 ghost use Rattle.ix_cells.specs.Bounded.{bounded_new};
 
@@ -32,7 +32,7 @@ pub fn print_path(rt: &HostRuntime, connection: &Connection<'_>) -> io::Result<(
     Ok(())
 }
 
-/// Makes a queue in an arena of just its size, and returns how many numbers it has room for.
+/// Makes a queue in an arena that has room for this queue alone, and returns how many numbers the queue has room for.
 pub fn room_in_arena(alloc: Global, capacity: usize) -> Result<usize, AllocError>
     ensures { IfOk result (λ room. room ≡ capacity) }
 {

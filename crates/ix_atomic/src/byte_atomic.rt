@@ -24,8 +24,6 @@ pub use atomic_copy::AtomicCopy;
 pub use atomic_fields::{AtomicFields, Fields};
 pub use fixed_size_byte_atomic::FixedSizeByteAtomic;
 pub use maybe_torn::MaybeTorn;
-pub use pairs::{decode_pair, decode_triple, encode_pair, encode_triple};
 pub use relocatable_byte_atomic::{RelocatableByteAtomic, UninitByteAtomic};
 pub use ruled::{Ruled, ValueRule};
-pub use value_arrays::{decode_array, encode_array};
 pub use words::{pack_word, unpack_word};

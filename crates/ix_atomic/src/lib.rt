@@ -12,8 +12,7 @@ pub mod sequenced;
 pub use byte_atomic::steps::VersionsUsedUp;
 pub use byte_atomic::{
     AtomicCopy, AtomicFields, Fields, FixedSizeByteAtomic, MaybeTorn, RelocatableByteAtomic, Ruled,
-    UninitByteAtomic, ValueRule, decode_array, decode_pair, decode_triple, encode_array,
-    encode_pair, encode_triple, pack_word, unpack_word,
+    UninitByteAtomic, ValueRule, pack_word, unpack_word,
 };
 pub use sequenced::{
     Interfered, ReaderSeat, SequencedByteAtomic, TryWriteError, Unfinished, WriterSeat,

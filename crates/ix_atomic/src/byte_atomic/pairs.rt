@@ -8,7 +8,7 @@ use crate::byte_atomic::AtomicCopy;
 
 /// Writes the encoding of `first` to `out`, and behind it that of `second`. O(`out.len()`).
 #[inline]
-pub fn encode_pair<A: AtomicCopy, B: AtomicCopy>(first: &A, second: &B, out: &mut [u8])
+fn encode_pair<A: AtomicCopy, B: AtomicCopy>(first: &A, second: &B, out: &mut [u8])
     requires { length out.old ≡ A.SIZE + B.SIZE }
     ensures out { out.new ≡ A.encoding first.now ++ B.encoding second.now }
     ensures in_range { A.is_value first.now × B.is_value second.now }
@@ -19,9 +19,8 @@ pub fn encode_pair<A: AtomicCopy, B: AtomicCopy>(first: &A, second: &B, out: &mu
 }
 
 /// Returns the two values with these encodings, one behind the other, or `None` if there are none. O(`bytes.len()`).
-#[must_use]
 #[inline]
-pub fn decode_pair<A: AtomicCopy, B: AtomicCopy>(bytes: &[u8]) -> Option<(A, B)>
+fn decode_pair<A: AtomicCopy, B: AtomicCopy>(bytes: &[u8]) -> Option<(A, B)>
     requires { length bytes.now ≡ A.SIZE + B.SIZE }
     ensures { (pair : A × B) → (result ≡ Some pair)
         ↔ ((A.is_value pair.0 × B.is_value pair.1)
@@ -36,7 +35,7 @@ pub fn decode_pair<A: AtomicCopy, B: AtomicCopy>(bytes: &[u8]) -> Option<(A, B)>
 
 /// Writes the encodings of three values to `out`, one behind the other. O(`out.len()`).
 #[inline]
-pub fn encode_triple<A: AtomicCopy, B: AtomicCopy, C: AtomicCopy>(
+fn encode_triple<A: AtomicCopy, B: AtomicCopy, C: AtomicCopy>(
     first: &A,
     second: &B,
     third: &C,
@@ -53,9 +52,8 @@ pub fn encode_triple<A: AtomicCopy, B: AtomicCopy, C: AtomicCopy>(
 }
 
 /// Returns the three values with these encodings, one behind the other, or `None` if there are none. O(`bytes.len()`).
-#[must_use]
 #[inline]
-pub fn decode_triple<A: AtomicCopy, B: AtomicCopy, C: AtomicCopy>(bytes: &[u8]) -> Option<(A, B, C)>
+fn decode_triple<A: AtomicCopy, B: AtomicCopy, C: AtomicCopy>(bytes: &[u8]) -> Option<(A, B, C)>
     requires { length bytes.now ≡ A.SIZE + (B.SIZE + C.SIZE) }
     ensures { (triple : A × B × C) → (result ≡ Some triple)
         ↔ ((A.is_value triple.0 × B.is_value triple.1 × C.is_value triple.2)

@@ -8,7 +8,7 @@ use crate::byte_atomic::AtomicCopy;
 
 /// Writes the encodings of the values to `out`, one behind the other. O(`N + out.len()`).
 #[inline]
-pub fn encode_array<T: AtomicCopy, const N: usize>(values: &[T; N], out: &mut [u8])
+fn encode_array<T: AtomicCopy, const N: usize>(values: &[T; N], out: &mut [u8])
     requires { length out.old ≡ N * T.SIZE }
     ensures out { out.new ≡ flat_map T.encoding values.now }
     ensures in_range { All T.is_value values.now }
@@ -23,9 +23,8 @@ pub fn encode_array<T: AtomicCopy, const N: usize>(values: &[T; N], out: &mut [u
 
 /// Returns the `N` values with these encodings, one behind the other, or `None` if there are none. O(`N + bytes.len()`);
 /// the first one is decoded twice.
-#[must_use]
 #[inline]
-pub fn decode_array<T: AtomicCopy, const N: usize>(bytes: &[u8]) -> Option<[T; N]>
+fn decode_array<T: AtomicCopy, const N: usize>(bytes: &[u8]) -> Option<[T; N]>
     requires { length bytes.now ≡ N * T.SIZE }
     ensures { (values : List T) → (result ≡ Some values)
         ↔ (((length values ≡ N) × All T.is_value values)
