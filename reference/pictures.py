@@ -114,7 +114,7 @@ def answers():
     source = drawing.box(10, 100, 190, "src/cache.rt: put", CONTAINER)
     files = (
         ("proofs/cache/Cache/put/Invariants.antt", "invariant-loop-.., decreases-loop-..", "you choose what holds"),
-        ("proofs/cache/Cache/put/Answers.antt", "every other goal", "you prove it"),
+        ("proofs/cache/Cache/put/Answers.antt", "each other open goal", "you prove it"),
     )
     boxes = []
     for number, (name, goals, what) in enumerate(files):

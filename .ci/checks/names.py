@@ -25,7 +25,7 @@ WORDS = set("""
     Handles Wait allow anew axioms build dac8208d650f15bf holes incremental lemma libc statements trusted
     _counted CRATE FILE FUNCTION MODULE REV SUBJECT WHAT_IT_DOES_WRONG my_program
     inline_len
-    BoundedMap bounded_map CopyIn CopyInline IsCapacity LinkTable full state state_with_pair with_pair
+    BoundedMap bounded_map CopyIn CopyInline FlatCompared SlotState flat_insert slot_insert IsCapacity LinkTable full state state_with_pair with_pair
 """.split())
 # Words of upstream that this library does not have.
 UPSTREAM = set("""

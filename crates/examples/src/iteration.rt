@@ -1,6 +1,6 @@
 //! Vectors and iterators.
 ghost use Rattle.std.specs.Prelude.{◌≡◌, ◌+◌, ◌<◌, ◌++◌, length, IfOk, OnOk, OnErr, IsOkUnless};
-ghost use Rattle.ix_cells.specs.declared.vector.VectorModificationError.TheVariants.{InsertWouldExceedCapacity};
+ghost use Rattle.ix_vector.specs.declared.vector.modification_error.VectorModificationError.TheVariants.{InsertWouldExceedCapacity};
 
 use ix_cells::{PolymorphicVec, StaticVec, Vector, VectorModificationError};
 use std::alloc::Allocator;

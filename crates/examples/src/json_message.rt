@@ -2,7 +2,7 @@
 ghost use Rattle.std.specs.Prelude.{◌≡◌, IfOk, IfErr};
 ghost use Rattle.serde_json.specs.View.{view};
 ghost use Rattle.ix_names.specs.JsonTree.{option_read, list_read, i64_read};
-ghost use Rattle.ix_names.specs.declared.json.JsonFault.TheVariants.{OutOfMemory};
+ghost use Rattle.ix_json.specs.declared.json.json_fault.JsonFault.TheVariants.{OutOfMemory};
 
 use ix_cells::StaticVec;
 use ix_names::{JsonFault, JsonForm, RelocatableOption};

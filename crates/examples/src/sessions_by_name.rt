@@ -3,7 +3,7 @@ ghost use Rattle.std.specs.Prelude.{◌≡◌, ◌↔◌, ℕ, [], Some, None, E
 ghost use Rattle.std.specs.Bool.{OnFalse};
 ghost use Rattle.examples.specs.declared.sessions_by_name.Seen.{Seen};
 ghost use Rattle.ix_maps.specs.MapState.{map_value};
-ghost use Rattle.ix_maps.specs.declared.flatmap.MapError.TheVariants.{KeyAlreadyExists, IsFull};
+ghost use Rattle.ix_flatmap.specs.declared.map.map_error.MapError.TheVariants.{KeyAlreadyExists, IsFull};
 
 use ix_maps::{FixedSizeFlatMap, FixedSizeHashMap, KeyIndex, MapError, MetaMap, Pair, Storage};
 use std::hash::RandomState;

@@ -3,16 +3,12 @@
 //! Each is in its own crate, [`ix_vector`] and [`ix_tables`], which this crate re-exports.
 #![tactic(auto)]
 
-pub mod cells;
-pub mod vector;
-
-pub use cells::MAX_FIXED_CAPACITY;
 pub use ix_tables::{
     Array, ContainerFamily, Counted, FilledHeapTable, FilledInlineTable, HeapArray, HeapTable,
-    InitError, InlineArray, InlineTable, MaybeMoved, MemorySize, RawSlots, RelocatableContainer,
-    Table, Touches, Uninit,
+    InitError, InlineArray, InlineTable, MAX_FIXED_CAPACITY, MaybeMoved, MemorySize, RawSlots,
+    RelocatableContainer, Table, Touches, Uninit, cells,
 };
 pub use ix_vector::{
     PolymorphicVec, RelocatableVec, StaticVec, StaticVecIntoIter, UninitVec, VecFamily, Vector,
-    VectorModificationError,
+    VectorModificationError, vector,
 };

@@ -1,17 +1,3 @@
-pub mod FlatCalls
-pub mod FlatCompared
-pub mod FlatCopies
-pub mod FlatDrain
-pub mod FlatState
-pub mod FlatSteps
-pub mod Generations
-pub mod SlotCalls
-pub mod SlotCopies
-pub mod SlotDrain
-pub mod SlotMapCopies
-pub mod SlotMapSteps
-pub mod SlotState
-pub mod SlotSteps
 pub use Rattle.ix_tables.specs.Bounded
 pub use Rattle.ix_slottable.specs.Memory
 pub use Rattle.ix_queue.specs.QueueSteps
@@ -31,5 +17,8 @@ pub use Rattle.ix_slottable.specs.Draining
 pub use Rattle.ix_slottable.specs.SlotTableDrain
 pub use Rattle.ix_flatmap.specs.MapDrain
 pub use Rattle.ix_hashmap.specs.HashDrain
+pub use Rattle.ix_slotmap.specs.Generations
+pub use Rattle.ix_slotmap.specs.SlotMapSteps
+pub use Rattle.ix_slotmap.specs.SlotMapCopies
 pub use Rattle.ix_slotmap.specs.SlotMapDrain
 pub use Rattle.ix_flatmap.specs.laws

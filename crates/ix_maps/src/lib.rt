@@ -4,28 +4,24 @@
 //! [`ix_flatmap`] and [`ix_hashmap`].
 #![tactic(auto)]
 
-pub mod flatmap;
-pub mod hashmap;
-pub mod queue;
-pub mod slotmap;
-pub mod slottable;
-
 pub use ix_flatmap::{
     Bound, CallbackProgression, FixedSizeFlatMap, FlatMap, FlatMapError, FlatMapFamily, HeapIndex,
     HeapMap, InlineIndex, InlineMap, KeyIndex, Keyed, Keys, MapError, MetaFlatMap, MetaMap, Pair,
-    PairIndex, RelocatableFlatMap, UninitFlatMap, map,
+    PairIndex, RelocatableFlatMap, UninitFlatMap, flatmap, map,
 };
 pub use ix_hashmap::{
     Buckets, ChainLink, DefaultHashBuilder, FixedSizeHashMap, HashMap, HashMapFamily,
-    HashMapStorage, Hashed, MetaHashMap, RelocatableHashMap, UninitHashMap, WithHasher,
+    HashMapStorage, Hashed, MetaHashMap, RelocatableHashMap, UninitHashMap, WithHasher, hashmap,
 };
-pub use ix_queue::{FixedSizeQueue, MetaQueue, Queue, QueueFamily, RelocatableQueue, UninitQueue};
+pub use ix_queue::{
+    FixedSizeQueue, MetaQueue, Queue, QueueFamily, RelocatableQueue, UninitQueue, queue,
+};
 pub use ix_slotmap::{
     Content, FixedSizeSlotMap, MetaSlotMap, RelocatableSlotMap, SlotMap, SlotMapKey,
-    SlotMapStorage, UninitSlotMap,
+    SlotMapStorage, UninitSlotMap, slotmap,
 };
 pub use ix_slottable::{
     FixedSizeSlotTable, Heap, Inline, Link, MetaSlotTable, RelocatableSlotTable, SlotTable,
-    SlotTableFamily, SlotTableKey, Storage, UninitSlotTable,
+    SlotTableFamily, SlotTableKey, Storage, UninitSlotTable, slottable,
 };
 pub use ix_tables::RelocatableContainer;

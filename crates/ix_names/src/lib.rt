@@ -4,12 +4,9 @@
 //! Each is in its own crate, which this crate re-exports: [`ix_semantic_string`], [`ix_relocatable_option`] and [`ix_json`].
 #![tactic(auto)]
 
-pub mod json;
-pub mod semantic_string;
-
-pub use ix_json::{JsonFault, JsonFill, JsonForm, JsonItem};
+pub use ix_json::{JsonFault, JsonFill, JsonForm, JsonItem, json};
 pub use ix_relocatable_option::{RelocatableOption, relocatable_option};
 pub use ix_semantic_string::{
     DefaultText, GroupName, GroupNameRules, Rules, Semantic, SemanticStringError,
-    TrailingSlashRules,
+    TrailingSlashRules, semantic_string,
 };

@@ -1,2 +1,0 @@
--- `MapCalls` by its old name.
-pub use Rattle.ix_flatmap.specs.MapCalls.{CallAtKey, TakesKey}

@@ -1,2 +1,0 @@
--- `MapCopies` by its old name.
-pub use Rattle.ix_flatmap.specs.MapCopies.{PairIsClone, PairIsInfallible}

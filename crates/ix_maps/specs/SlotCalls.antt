@@ -1,2 +1,0 @@
--- `SlotTableCalls` by its old name.
-pub use Rattle.ix_slottable.specs.SlotTableCalls.{CalledOn, SomeCallOn, IsCallableOnEach, ChangesItem, RetainsItem}

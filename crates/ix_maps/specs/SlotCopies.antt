@@ -1,2 +1,0 @@
--- `SlotTableCopies` by its old names.
-pub use Rattle.ix_slottable.specs.SlotTableCopies.{IsCloneAt, SlotTableIsClone as SlotIsClone, SlotTableIsInfallible as SlotIsInfallible}

@@ -1,2 +1,0 @@
--- `SlotTableDrain` by its old name.
-pub use Rattle.ix_slottable.specs.SlotTableDrain.{drain_items, drain_left, drain_lender}
