@@ -29,6 +29,8 @@ HEAD = re.compile(r"\b(?:requires|ensures\*?)(?: \w+)? \{|\bghost (\w+)(?: =|:) 
 SYMBOL = re.compile(r"[^\w\s(){}\[\];,.:'\"\\]+")
 # A clause that is one word with what it is of.
 WHOLE = re.compile(r"\b(?:requires|ensures\*?)(?: \w+)? \{ ([A-Z]\w*) [^×⊎→↔≡{}]*\}")
+# A line of a file of definitions that imports definitions of the library.
+IMPORTED = re.compile(r"^use Rattle\.(ix_\w+)\.specs\.(?!declared|contracts)([\w.]+)\.\{([^}]*)\}", re.M)
 # What a reference has beside the value of its model, and a closure of what it may be called with.
 SUFFIXES = {"now", "old", "new", "entry", "exit", "ghost_name", "pre", "post", "row", "the_row"}
 
@@ -131,19 +133,36 @@ class Words:
         places, left = self.found(lines, rust, trait)
         for word in left:
             self.library.kit_words.setdefault(word, place)
+        for name, link, record in self.whole(lines):
+            places.update(words_of_record(record, link))
         return ["Words: " + ", ".join(f"[`{word}`]({link})" for word, link in places.items()) + ".", ""] if places else []
 
     def records(self, lines):
         """Returns the records that whole clauses are, each with its fields: those of the calls that promise alike."""
         found = []
+        for name, _, record in self.whole(lines):
+            found += [f"**`{name}`**", "", "```antt", *record.split("\n"), "```", ""]
+        return found
+
+    def whole(self, lines):
+        """Yields the name of each record that is a whole clause, the link to its file, and its text."""
         for name in dict.fromkeys(WHOLE.findall(" ".join(lines))):
             link = self.link(name)
             text = text_of(link.removeprefix("../../")) if link.endswith(".antt") else ""
             record = re.search(rf"^( *)pub record {name} .*\n(?:\1 +.*\n)*", text, re.M)
             if record:
-                fields = textwrap.dedent(record.group()).replace("pub ", "").rstrip("\n").split("\n")
-                found += [f"**`{name}`**", "", "```antt", *fields, "```", ""]
-        return found
+                yield name, link, textwrap.dedent(record.group()).replace("pub ", "").rstrip("\n")
+
+
+def words_of_record(record, link):
+    """Returns the words in the fields of a record that the library defines, each with the link to its file: the file of the record, or a file
+    from which that one imports the word."""
+    text = text_of(link.removeprefix("../../"))
+    homes = {name: link for name in re.findall(r"^ *(?:abbrev pub|pub record) (\w+)", text, re.M)}
+    for crate, path, names in IMPORTED.findall(text):
+        homes.update((name.strip(), f"../../crates/{crate}/specs/{path.replace('.', '/')}.antt") for name in names.split(","))
+    fields = re.sub(r"--.*|^ *\w+ :", "", record.partition("\n")[2], flags=re.M)
+    return {word: homes[word] for word in re.findall(r"(?<![\w.])[^\W\d][\w-]*", fields) if word in homes}
 
 
 def explained():
